@@ -1,0 +1,51 @@
+-- Strong Kleene logic (Kleene 1938): a value is known to be true, known to be false, or unknown, which is `None`.
+
+use Rattle.std.specs.Prelude.{ℕ, zero, suc, ◌+◌, ◌-◌, Bool, true, false, not, ◌&&◌, ◌||◌, Option, Some, None}
+
+-- some i below n has f, and every such i has f
+unfoldable pub some_below : ℕ → (ℕ → Bool) → Bool
+some_below zero f = false
+some_below (suc n) f = some_below n f || f n
+
+unfoldable pub every_below : ℕ → (ℕ → Bool) → Bool
+every_below zero f = true
+every_below (suc n) f = every_below n f && f n
+
+-- some i with lo ≤ i and i < hi has f, and every such i has f
+abbrev pub some_in : ℕ → ℕ → (ℕ → Bool) → Bool
+some_in lo hi f = some_below (hi - lo) (λ k. f (lo + k))
+
+abbrev pub every_in : ℕ → ℕ → (ℕ → Bool) → Bool
+every_in lo hi f = every_below (hi - lo) (λ k. f (lo + k))
+
+-- the same over what is known: false and unknown is false, true and unknown is unknown
+unfoldable pub k_not : Option Bool → Option Bool
+k_not None = None
+k_not (Some v) = Some (not v)
+
+unfoldable pub k_and : Option Bool → Option Bool → Option Bool
+k_and (Some true) y = y
+k_and (Some false) y = Some false
+k_and None (Some false) = Some false
+k_and None (Some true) = None
+k_and None None = None
+
+unfoldable pub k_or : Option Bool → Option Bool → Option Bool
+k_or x y = k_not (k_and (k_not x) (k_not y))
+
+abbrev pub k_implies : Option Bool → Option Bool → Option Bool
+k_implies x y = k_not (k_and x (k_not y))
+
+unfoldable pub k_some_below : ℕ → (ℕ → Option Bool) → Option Bool
+k_some_below zero f = Some false
+k_some_below (suc n) f = k_or (k_some_below n f) (f n)
+
+unfoldable pub k_every_below : ℕ → (ℕ → Option Bool) → Option Bool
+k_every_below zero f = Some true
+k_every_below (suc n) f = k_and (k_every_below n f) (f n)
+
+abbrev pub k_some_in : ℕ → ℕ → (ℕ → Option Bool) → Option Bool
+k_some_in lo hi f = k_some_below (hi - lo) (λ k. f (lo + k))
+
+abbrev pub k_every_in : ℕ → ℕ → (ℕ → Option Bool) → Option Bool
+k_every_in lo hi f = k_every_below (hi - lo) (λ k. f (lo + k))

@@ -1,0 +1,13 @@
+pub mod Atoms
+pub mod Formula
+pub mod Kleene
+pub mod Meaning
+pub mod Table
+pub mod Verdicts
+pub mod Settled
+pub mod Reports
+pub mod Lines
+pub mod Programs
+pub mod Subformulas
+pub mod Ranges
+pub mod Queues

@@ -1,0 +1,135 @@
+-- What the instructions of an observer program unfold to, and the rows that fit it.
+
+use Rattle.std.specs.Prelude.{ℕ, ◌≡◌, ◌⊎◌, pos, Option, Some, None, List, [], ◌∷◌, ◌++◌, length, map, slice_get, slice_index_or, All, FitsSigned}
+use Rattle.std.specs.Int.{w32}
+use Rattle.mltl_base.specs.declared.interval.Engine.{Engine}
+use Rattle.mltl_base.specs.declared.interval.Engine.TheVariants.{Ft, Pt}
+use Rattle.mltl_base.specs.declared.operators.BzOp as bz
+use Rattle.mltl_base.specs.declared.operators.FtOp as ft
+use Rattle.mltl_base.specs.declared.operators.PtOp as pt
+use Rattle.mltl_base.specs.declared.program.Out as out
+use Rattle.mltl_base.specs.declared.program.Program.{Program}
+use Rattle.mltl_base.specs.Atoms.{Row, Term, column, constant, negative, plus, minus, times, quotient, remainder, Atom, is_true, equal, less, at_most, in_column}
+use Rattle.mltl_base.specs.Formula.{Core, ctrue, catom, cnot, cand, cuntil, csince, plain}
+use Rattle.mltl_base.specs.Reports.{Output, formula, contract}
+
+-- what an instruction of the Booleanizer stands for: a whole number or a truth
+pub data Expression : Type 0 where
+  whole : Term → Expression
+  truth : Atom → Expression
+
+-- the whole number that stands at a place, and the truth: of another kind of place nothing is asked
+abbrev pub term_of : Option Expression → Term
+term_of (Some (whole e)) = e
+term_of (Some (truth a)) = constant (pos 0)
+term_of None = constant (pos 0)
+
+abbrev pub atom_of : Option Expression → Atom
+atom_of (Some (truth a)) = a
+atom_of (Some (whole e)) = is_true 0
+atom_of None = is_true 0
+
+-- the whole number of instruction n, over those before
+abbrev pub term_at : List Expression → ℕ → Term
+term_at before n = term_of (slice_get before n)
+
+-- the expression of an instruction, over those of the instructions before it
+abbrev pub expression_of : List Expression → bz.BzOp → Expression
+expression_of before (bz.TheVariants.Column c) = whole (column c)
+expression_of before (bz.TheVariants.IsTrue c) = truth (is_true c)
+expression_of before (bz.TheVariants.Const n) = whole (constant n)
+expression_of before (bz.TheVariants.Neg a) = whole (negative (term_at before a))
+expression_of before (bz.TheVariants.Add a b) = whole (plus (term_at before a) (term_at before b))
+expression_of before (bz.TheVariants.Sub a b) = whole (minus (term_at before a) (term_at before b))
+expression_of before (bz.TheVariants.Mul a b) = whole (times (term_at before a) (term_at before b))
+expression_of before (bz.TheVariants.Div a b) = whole (quotient (term_at before a) (term_at before b))
+expression_of before (bz.TheVariants.Rem a b) = whole (remainder (term_at before a) (term_at before b))
+expression_of before (bz.TheVariants.Eq a b) = truth (equal (term_at before a) (term_at before b))
+expression_of before (bz.TheVariants.Lt a b) = truth (less (term_at before a) (term_at before b))
+expression_of before (bz.TheVariants.Le a b) = truth (at_most (term_at before a) (term_at before b))
+
+-- the expressions of further instructions, after those before
+unfoldable pub expressions_after : List Expression → List bz.BzOp → List Expression
+expressions_after before [] = before
+expressions_after before (op ∷ ops) = expressions_after (before ++ expression_of before op ∷ []) ops
+
+-- the expressions of all instructions of the Booleanizer, in order
+abbrev pub expressions : List bz.BzOp → List Expression
+expressions ops = expressions_after [] ops
+
+-- the atoms that engines load, one for each instruction of the Booleanizer
+abbrev pub atoms : List bz.BzOp → List Atom
+atoms ops = map (λ e. atom_of (Some e)) (expressions ops)
+
+-- the core formula of instruction n, over those before
+abbrev pub core_at : List Core → ℕ → Core
+core_at before n = slice_index_or before n ctrue
+
+-- the formula of an instruction, over the atoms that are loaded and the formulas of the instructions before it
+abbrev pub formula_of : List Atom → List Core → ft.FtOp → Core
+formula_of loaded before ft.TheVariants.True = ctrue
+formula_of loaded before (ft.TheVariants.Load a) = catom (slice_index_or loaded a (is_true 0))
+formula_of loaded before (ft.TheVariants.Not a) = cnot (core_at before a)
+formula_of loaded before (ft.TheVariants.And a b) = cand (core_at before a) (core_at before b)
+formula_of loaded before (ft.TheVariants.Until a b i) = cuntil i (core_at before a) (core_at before b)
+
+abbrev pub past_formula_of : List Atom → List Core → pt.PtOp → Core
+past_formula_of loaded before pt.TheVariants.True = ctrue
+past_formula_of loaded before (pt.TheVariants.Load a) = catom (slice_index_or loaded a (is_true 0))
+past_formula_of loaded before (pt.TheVariants.Not a) = cnot (core_at before a)
+past_formula_of loaded before (pt.TheVariants.And a b) = cand (core_at before a) (core_at before b)
+past_formula_of loaded before (pt.TheVariants.Since a b i) = csince i (core_at before a) (core_at before b)
+
+-- the formulas of further instructions, after those before
+unfoldable pub formulas_after : List Atom → List Core → List ft.FtOp → List Core
+formulas_after loaded before [] = before
+formulas_after loaded before (op ∷ ops) = formulas_after loaded (before ++ formula_of loaded before op ∷ []) ops
+
+unfoldable pub past_formulas_after : List Atom → List Core → List pt.PtOp → List Core
+past_formulas_after loaded before [] = before
+past_formulas_after loaded before (op ∷ ops) = past_formulas_after loaded (before ++ past_formula_of loaded before op ∷ []) ops
+
+-- the formulas of all instructions of an engine, in order
+abbrev pub formulas : List Atom → List ft.FtOp → List Core
+formulas loaded ops = formulas_after loaded [] ops
+
+abbrev pub past_formulas : List Atom → List pt.PtOp → List Core
+past_formulas loaded ops = past_formulas_after loaded [] ops
+
+-- the formulas of an engine of a program
+abbrev pub cores_of : Program → Engine → List Core
+cores_of program Ft = formulas (atoms program.bz) program.ft
+cores_of program Pt = past_formulas (atoms program.bz) program.pt
+
+-- the formula that instruction i of an engine unfolds to
+abbrev pub formula_at : Program → Engine → ℕ → Core
+formula_at program engine i = core_at (cores_of program engine) i
+
+-- an output with its formulas
+abbrev pub output_of : Program → out.Out → Output
+output_of program (out.TheVariants.Formula engine i name) = formula (plain (formula_at program engine i))
+output_of program (out.TheVariants.Contract engine i j name) =
+    contract (plain (formula_at program engine i)) (plain (formula_at program engine j))
+
+-- the name of an output
+abbrev pub name_of : out.Out → List ℕ
+name_of (out.TheVariants.Formula engine i name) = name
+name_of (out.TheVariants.Contract engine i j name) = name
+
+-- the outputs of a program with their formulas, and their names
+abbrev pub outputs : Program → List Output
+outputs program = map (output_of program) program.outs
+
+abbrev pub output_names : Program → List (List ℕ)
+output_names program = map name_of program.outs
+
+-- what an instruction asks of a row: a truth is 0 or 1, a whole number has 32 bits with its sign
+abbrev pub FitsRow : Row → bz.BzOp → Type 0
+FitsRow row (bz.TheVariants.Column c) = FitsSigned w32 (in_column row c)
+FitsRow row (bz.TheVariants.IsTrue c) = (in_column row c ≡ pos 0) ⊎ (in_column row c ≡ pos 1)
+FitsRow row op = Unit {0}
+
+-- the row has a value of its kind in each column that the program reads
+pub record IsFit (program : Program) (row : Row) : Type 0 where
+  pub width : length row ≡ program.width
+  pub kinds : All (FitsRow row) program.bz

@@ -1,0 +1,104 @@
+-- The words of an output that are known, and the reports that a monitor makes of them.
+
+use Rattle.std.specs.Prelude.{ℕ, suc, ◌+◌, ◌-◌, ◌<◌, ◌≤◌, ◌≡◌, ◌==◌, Bool, true, false, if◌then◌else◌, MatchBool, max, Option, Some, None, List, [], ◌∷◌, ◌++◌, length, map, drop, replicate, slice_get}
+use Rattle.mltl_base.specs.declared.report.Word.{Word}
+use Rattle.mltl_base.specs.declared.report.Word.TheVariants.{True, False, Inactive, Invalid, Verified}
+use Rattle.mltl_base.specs.declared.report.Style.{Style}
+use Rattle.mltl_base.specs.declared.report.Style.TheVariants.{Each, Runs}
+use Rattle.mltl_base.specs.declared.report.Report.{Report}
+use Rattle.mltl_base.specs.Atoms.{Row}
+use Rattle.mltl_base.specs.Formula.{Formula, wpd}
+use Rattle.mltl_base.specs.Meaning.{sat}
+use Rattle.mltl_base.specs.Verdicts.{verdicts, known_front}
+
+-- an output: a formula, or a contract of two
+pub data Output : Type 0 where
+  formula : Formula → Output
+  contract : Formula → Formula → Output
+
+-- the word of a formula's verdict
+abbrev pub word_of : Bool → Word
+word_of true = True
+word_of false = False
+
+-- the status of a contract, from what is known of its two formulas
+abbrev pub status : Option Bool → Option Bool → Option Word
+status (Some false) y = Some Inactive
+status (Some true) (Some false) = Some Invalid
+status (Some true) (Some true) = Some Verified
+status _ _ = None
+
+-- the words of an output that are known after the rows
+unfoldable pub words : List Row → Output → List Word
+words rows (formula p) = map word_of (verdicts rows p)
+words rows (contract p q) = known_front (λ t. status (slice_get (verdicts rows p) t) (slice_get (verdicts rows q) t)) (length rows)
+
+-- the two words are one
+abbrev pub same_word : Word → Word → Bool
+same_word True True = true
+same_word False False = true
+same_word Inactive Inactive = true
+same_word Invalid Invalid = true
+same_word Verified Verified = true
+same_word _ _ = false
+
+-- the status of a contract, from the truths of its two formulas
+abbrev pub status_of : Bool → Bool → Word
+status_of false v = Inactive
+status_of true false = Invalid
+status_of true true = Verified
+
+-- the word of an output at time t, by the meaning of its formulas on the rows
+unfoldable pub meaning : List Row → Output → ℕ → Word
+meaning rows (formula p) t = word_of (sat rows p t)
+meaning rows (contract p q) t = status_of (sat rows p t) (sat rows q t)
+
+-- the worst-case propagation delay of an output
+abbrev pub delay : Output → ℕ
+delay (formula p) = wpd p
+delay (contract p q) = max (wpd p) (wpd q)
+
+-- each list of rows that begins with these, and is long enough to decide the output at t, gives it this word there
+abbrev pub IsSettled : List Row → Output → ℕ → Word → Type 0
+IsSettled rows o t w = (more : List Row) → t + delay o < length (rows ++ more) → meaning (rows ++ more) o t ≡ w
+
+-- the next word, if there is one, is the same
+abbrev pub goes_on : Word → List Word → Bool
+goes_on w [] = false
+goes_on w (v ∷ vs) = same_word w v
+
+-- the reports of an output's new words, the first of which is that of time t: one for each, or one for each longest
+-- stretch of one word, with its last time
+unfoldable pub of_words : Style → ℕ → ℕ → List Word → List Report
+of_words style k t [] = []
+of_words Each k t (w ∷ ws) = record { out = k; time = t; word = w } ∷ of_words Each k (suc t) ws
+of_words Runs k t (w ∷ ws) =
+    if goes_on w ws then of_words Runs k (suc t) ws else record { out = k; time = t; word = w } ∷ of_words Runs k (suc t) ws
+
+-- the reports that one further row brings, for each output in order, of which the first has the number k
+unfoldable pub of_row : Style → ℕ → List Output → List Row → Row → List Report
+of_row style k [] rows r = []
+of_row style k (o ∷ outs) rows r =
+    of_words style k (length (words rows o)) (drop (length (words rows o)) (words (rows ++ r ∷ []) o))
+    ++ of_row style (suc k) outs rows r
+
+-- the reports of further rows, row by row, after some rows were taken
+unfoldable pub reports_after : Style → List Output → List Row → List Row → List Report
+reports_after style outs rows [] = []
+reports_after style outs rows (r ∷ more) = of_row style 0 outs rows r ++ reports_after style outs (rows ++ r ∷ []) more
+
+-- the reports of all rows
+abbrev pub reports : Style → List Output → List Row → List Report
+reports style outs rows = reports_after style outs [] rows
+
+-- the words that the reports of output k tell, where those of the times below t were told before: a report tells its
+-- word of each time from there up to its own
+unfoldable pub told : ℕ → ℕ → List Report → List Word
+told k t [] = []
+told k t (r ∷ rs) =
+    if r.out == k then replicate (suc r.time - t) r.word ++ told k (suc r.time) rs else told k t rs
+
+-- the reports of output k speak of later and later times, from t on
+unfoldable pub IsRising : ℕ → ℕ → List Report → Type 0
+IsRising k t [] = Unit {0}
+IsRising k t (r ∷ rs) = MatchBool (r.out == k) ((t ≤ r.time) × IsRising k (suc r.time) rs) (IsRising k t rs)

@@ -1,0 +1,63 @@
+-- What of the verdicts holds whatever rows follow.
+
+use Rattle.std.specs.Prelude.{ℕ, ◌+◌, ◌<◌, ◌≤◌, ◌≡◌, Bool, List, ◌++◌, length}
+use Rattle.mltl_base.specs.Atoms.{Row}
+use Rattle.mltl_base.specs.Formula.{Formula, truth, falsity, atom, negation, conjunction, disjunction, implication, equivalence, finally, globally, until, release, once, historically, since, wpd}
+use Rattle.mltl_base.specs.Meaning.{sat}
+
+-- a list of verdicts begins a longer one
+abbrev pub IsPrefix : {X : Type 0} → List X → List X → Type 0
+IsPrefix {X} xs ys = (zs : List X) × (ys ≡ xs ++ zs)
+
+-- each list of rows that begins with these, and is long enough to decide the formula at t, gives it the value v there
+abbrev pub Settled : List Row → Formula → ℕ → Bool → Type 0
+Settled rows p t v = (more : List Row) → t + wpd p < length (rows ++ more) → sat (rows ++ more) p t ≡ v
+
+-- each interval runs upward
+abbrev pub IsOrdered : Formula → Type 0
+IsOrdered truth = Unit {0}
+IsOrdered falsity = Unit {0}
+IsOrdered (atom a) = Unit {0}
+IsOrdered (negation p) = IsOrdered p
+IsOrdered (conjunction p q) = IsOrdered p × IsOrdered q
+IsOrdered (disjunction p q) = IsOrdered p × IsOrdered q
+IsOrdered (implication p q) = IsOrdered p × IsOrdered q
+IsOrdered (equivalence p q) = IsOrdered p × IsOrdered q
+IsOrdered (finally i p) = (i.lo ≤ i.hi) × IsOrdered p
+IsOrdered (globally i p) = (i.lo ≤ i.hi) × IsOrdered p
+IsOrdered (until i p q) = (i.lo ≤ i.hi) × (IsOrdered p × IsOrdered q)
+IsOrdered (release i p q) = (i.lo ≤ i.hi) × (IsOrdered p × IsOrdered q)
+IsOrdered (once i p) = (i.lo ≤ i.hi) × IsOrdered p
+IsOrdered (historically i p) = (i.lo ≤ i.hi) × IsOrdered p
+IsOrdered (since i p q) = (i.lo ≤ i.hi) × (IsOrdered p × IsOrdered q)
+
+-- no operator of the future
+abbrev pub IsPast : Formula → Type 0
+IsPast truth = Unit {0}
+IsPast falsity = Unit {0}
+IsPast (atom a) = Unit {0}
+IsPast (negation p) = IsPast p
+IsPast (conjunction p q) = IsPast p × IsPast q
+IsPast (disjunction p q) = IsPast p × IsPast q
+IsPast (implication p q) = IsPast p × IsPast q
+IsPast (equivalence p q) = IsPast p × IsPast q
+IsPast (once i p) = IsPast p
+IsPast (historically i p) = IsPast p
+IsPast (since i p q) = IsPast p × IsPast q
+IsPast _ = ⊥
+
+-- no operator of the past
+abbrev pub IsFuture : Formula → Type 0
+IsFuture truth = Unit {0}
+IsFuture falsity = Unit {0}
+IsFuture (atom a) = Unit {0}
+IsFuture (negation p) = IsFuture p
+IsFuture (conjunction p q) = IsFuture p × IsFuture q
+IsFuture (disjunction p q) = IsFuture p × IsFuture q
+IsFuture (implication p q) = IsFuture p × IsFuture q
+IsFuture (equivalence p q) = IsFuture p × IsFuture q
+IsFuture (finally i p) = IsFuture p
+IsFuture (globally i p) = IsFuture p
+IsFuture (until i p q) = IsFuture p × IsFuture q
+IsFuture (release i p q) = IsFuture p × IsFuture q
+IsFuture _ = ⊥

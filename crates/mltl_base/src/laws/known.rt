@@ -1,0 +1,44 @@
+//! Known verdicts: they stay, they are settled, and they come between the best and the worst propagation delay.
+
+ghost use Rattle.mltl_base.specs.Atoms.{Row};
+ghost use Rattle.mltl_base.specs.Formula.{Core, Formula, bpd, plain, wpd};
+ghost use Rattle.mltl_base.specs.Meaning.{sat};
+ghost use Rattle.mltl_base.specs.Settled.{IsOrdered, IsPast, IsPrefix, Settled};
+ghost use Rattle.mltl_base.specs.Verdicts.{verdicts};
+ghost use Rattle.std.specs.Prelude.{◌≡◌, ℕ, ◌+◌, ◌-◌, ◌<◌, ◌≤◌, Bool, Some, List, ◌++◌, length, slice_get};
+
+/// The known verdicts of rows begin those of more rows.
+#[tactic(auto, using(crate::proofs::Prefixes::verdicts_begin))]
+pub fn verdicts_stay()
+    ensures begins { (rows more : List Row) (p : Formula) → IsPrefix (verdicts rows p) (verdicts (rows ++ more) p) }
+{}
+
+/// A known verdict is settled: whatever rows follow, it is the meaning of the formula. Its time is that of a row.
+#[tactic(auto, using(crate::proofs::Settling::verdict_settled, crate::proofs::Bounds::verdict_within))]
+pub fn verdicts_are_settled()
+    ensures settled { (rows : List Row) (p : Formula) (t : ℕ) (v : Bool) → slice_get (verdicts rows p) t ≡ Some v → Settled rows p t v }
+{}
+
+/// Each time below the number of rows less the worst delay is known, with the meaning of the formula.
+#[tactic(auto, using(crate::proofs::Settling::verdict_known))]
+pub fn verdicts_come_in_time()
+    ensures known { (rows : List Row) (p : Formula) (t : ℕ) →
+        t + wpd p < length rows → slice_get (verdicts rows p) t ≡ Some (sat rows p t) }
+{}
+
+/// The number of known verdicts lies between the number of rows less the worst delay and that less the best delay.
+#[tactic(auto, using(crate::proofs::Bounds::frontier_at_least, crate::proofs::Bounds::frontier_at_most))]
+pub fn frontier_lies_between()
+    ensures worst { (rows : List Row) (p : Formula) → length rows - wpd p ≤ length (verdicts rows p) }
+    ensures best { (rows : List Row) (p : Core) →
+        IsOrdered (plain p) → length (verdicts rows (plain p)) ≤ length rows - bpd p }
+{}
+
+/// A formula of the past is known at all times of the rows, with its meaning, and has no delay.
+#[tactic(auto, using(crate::proofs::Bounds::past_known, crate::proofs::Bounds::past_all, crate::proofs::Bounds::past_at_once))]
+pub fn past_is_known_at_once()
+    ensures known { (rows : List Row) (p : Formula) → IsPast p →
+        (t : ℕ) → t < length rows → slice_get (verdicts rows p) t ≡ Some (sat rows p t) }
+    ensures all { (rows : List Row) (p : Formula) → IsPast p → length (verdicts rows p) ≡ length rows }
+    ensures delay { (p : Formula) → IsPast p → wpd p ≡ 0 }
+{}

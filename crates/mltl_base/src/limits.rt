@@ -1,0 +1,32 @@
+//! The limits that compiler and monitor keep.
+
+/// The most bytes of a specification.
+pub const MAX_SPEC_BYTES: usize = 1_048_576;
+/// The most bytes of a program file.
+pub const MAX_PROGRAM_BYTES: usize = 16_777_216;
+/// The most bytes of a line, its newline among them.
+pub const MAX_LINE_BYTES: usize = 65_536;
+/// The most bytes of a word of a specification.
+pub const MAX_WORD_BYTES: usize = 64;
+/// The most tokens of one item of a specification.
+pub const MAX_ITEM_TOKENS: usize = 1_024;
+/// The greatest upper bound of an interval, in rows.
+pub const MAX_BOUND: u32 = 1_048_576;
+/// The most signals of a specification, and the greatest width of a program.
+pub const MAX_SIGNALS: u32 = 65_536;
+/// The greatest weight of what a specification unfolds to.
+pub const MAX_WEIGHT: u32 = 65_536;
+/// The most instructions of one part, at compiling.
+pub const MAX_INSTRUCTIONS: u32 = 65_536;
+/// The greatest worst-case propagation delay, in rows.
+pub const MAX_DELAY: u32 = 16_777_216;
+/// The most queue slots and boxes of a program together.
+pub const MAX_SLOTS: u32 = 16_777_216;
+/// The greatest number of a counting quantifier.
+pub const MAX_COUNT: u32 = 65_536;
+/// The most bytes of a program that is shown as text.
+pub const MAX_SHOWN_BYTES: usize = 1_048_576;
+/// The longest mission time, in lines of a trace.
+pub const MAX_MISSION: u64 = 1_099_511_627_776;
+/// The mission time of a stamped trace where none is given, in times.
+pub const TIMED_MISSION: u64 = 16_777_216;

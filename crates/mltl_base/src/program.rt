@@ -1,0 +1,57 @@
+//! Observer programs and their parts.
+
+use crate::{BzOp, Engine, FtOp, List, Name, PtOp};
+
+/// What a program reports: a formula, or an assume-guarantee contract of two formulas. The numbers are those of
+/// instructions of the engine.
+#[derive(Drop)]
+pub enum Out {
+    Formula(Engine, u32, Name),
+    Contract(Engine, u32, u32, Name),
+}
+
+/// The slots of the queue of each ft instruction, and the most boxes of each pt instruction.
+#[derive(Drop)]
+pub struct Sizes {
+    pub ft: List<u32>,
+    pub pt: List<u32>,
+}
+
+/// The instructions and outputs of a specification, without sizes.
+#[derive(Drop)]
+pub struct Graph {
+    pub bz: List<BzOp>,
+    pub ft: List<FtOp>,
+    pub pt: List<PtOp>,
+    pub outs: List<Out>,
+}
+
+/// A signal that a program stores: its name, whether it is a truth, and its column.
+#[derive(Drop)]
+pub struct StoredSignal {
+    pub name: Name,
+    pub truth: bool,
+    pub column: u32,
+}
+
+/// An observer program. One of version 1 stores no signals; in one of version 2 each column that an instruction reads
+/// is that of a stored signal.
+#[derive(Drop)]
+pub struct Program {
+    pub version: u32,
+    /// The number of columns of a row.
+    pub width: u32,
+    pub bz: List<BzOp>,
+    pub ft: List<FtOp>,
+    pub pt: List<PtOp>,
+    pub outs: List<Out>,
+    pub sizes: Sizes,
+    pub signals: List<StoredSignal>,
+}
+
+/// Where the signals stand in a row: the number of columns, and the column of each signal in order of declaration.
+#[derive(Drop)]
+pub struct Columns {
+    pub width: u32,
+    pub of_signal: List<u32>,
+}
