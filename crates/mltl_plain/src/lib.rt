@@ -1,0 +1,19 @@
+//! A plain and slow program that computes what the definitions of meaning say: known verdicts, words and reports.
+//!
+//! It keeps all rows and makes every list anew, so it serves as the yardstick of the engines, and of nothing else.
+#![tactic(auto)]
+
+pub mod formula;
+mod kleene;
+mod operators;
+pub mod report;
+pub mod values;
+pub mod verdict;
+
+pub use formula::{Atom, Formula, Output, Term};
+pub use report::{reports, words};
+pub use values::{holds, value};
+pub use verdict::{Fault, meaning, verdicts};
+
+#[cfg(test)]
+mod tests;
