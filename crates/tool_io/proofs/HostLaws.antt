@@ -1,0 +1,50 @@
+-- Laws of the counts of faults and of what is left: calls one after another.
+use Rattle.std.proofs.Common.{◌≡◌, ℕ, ◌≤◌, Option, List, refl, sym, ◌∙◌, subst}
+use Rattle.tool_io.specs.declared.host.Place.{Place}
+use Rattle.tool_io.specs.declared.host.Got as got
+use Rattle.tool_io.specs.Host.{Rose, RoseAt, NoFault, ReadCause, LeftAlone, LeftElsewhere}
+
+-- no call changes no count
+pub NoFault-none : (counts : Place → ℕ) → NoFault counts counts
+NoFault-none counts place = refl
+
+-- no fault and again none
+pub NoFault-then : (before between now : Place → ℕ) → NoFault before between → NoFault between now → NoFault before now
+NoFault-then before between now first second place = second place ∙ first place
+
+-- a fault behind calls without one
+pub RoseAt-after : (before between now : Place → ℕ) (place : Place) → NoFault before between → RoseAt between now place → RoseAt before now place
+RoseAt-after before between now place first second =
+    record {
+      rose = subst (λ n. Rose n (now place)) (first place) second.rose;
+      later = λ p. subst (λ n. n ≤ now p) (first p) (second.later p);
+      others = λ p other. second.others p other ∙ first p;
+    }
+
+-- a fault before calls without one
+pub RoseAt-before : (before between now : Place → ℕ) (place : Place) → RoseAt before between place → NoFault between now → RoseAt before now place
+RoseAt-before before between now place first second =
+    record {
+      rose = subst (λ n. Rose (before place) n) (sym (second place)) first.rose;
+      later = λ p. subst (λ n. before p ≤ n) (sym (second p)) (first.later p);
+      others = λ p other. second p ∙ first.others p other;
+    }
+
+-- what is left stays over no call, and over calls that let it stay
+pub LeftAlone-none : (left : Place → Option (List ℕ)) → LeftAlone left left
+LeftAlone-none left place = refl
+
+pub LeftAlone-then : (before between now : Place → Option (List ℕ)) → LeftAlone before between → LeftAlone between now → LeftAlone before now
+LeftAlone-then before between now first second place = second place ∙ first place
+
+pub LeftElsewhere-none : (left : Place → Option (List ℕ)) (place : Place) → LeftElsewhere left left place
+LeftElsewhere-none left place p other = refl
+
+pub LeftElsewhere-then : (before between now : Place → Option (List ℕ)) (place : Place) → LeftElsewhere before between place → LeftElsewhere between now place → LeftElsewhere before now place
+LeftElsewhere-then before between now place first second p other = second p other ∙ first p other
+
+-- a read that didn't fail changes no count
+pub NoFault-from_read : (result : got.Got) (before now : Place → ℕ) (place : Place) → (result ≡ got.TheVariants.Failed → ⊥) → ReadCause result before now place → NoFault before now
+NoFault-from_read (got.TheVariants.Bytes n) before now place unfailed cause = cause
+NoFault-from_read got.TheVariants.End before now place unfailed cause = cause
+NoFault-from_read got.TheVariants.Failed before now place unfailed cause = absurd (unfailed refl)

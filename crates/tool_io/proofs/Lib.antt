@@ -1,0 +1,12 @@
+pub mod BufferLaws
+pub mod CutLaws
+pub mod HostLaws
+pub mod LineLaws
+pub mod ListLaws
+pub mod LogLaws
+pub mod MemFilesLemmas
+pub mod MemHostLemmas
+pub mod Prompting
+pub mod Reading
+pub mod TapeLemmas
+pub mod WholeLaws

@@ -1,0 +1,50 @@
+-- How the fields of a LineCut stand for a cut, and what its steps do to it.
+use Rattle.std.specs.Prelude.{◌≡◌, ℕ, ◌+◌, ◌<◌, ◌≤◌, true, false, if◌then◌else◌, Option, Some, None, List, [], ◌∷◌, ◌++◌, length, take, drop}
+use Rattle.std.specs.List.{slice_range}
+use Rattle.tool_io.specs.declared.host.Place.{Place}
+use Rattle.tool_io.specs.declared.host.Got as got
+use Rattle.tool_io.specs.declared.line_cut.LineCut.TheInside.{Inside}
+use Rattle.tool_io.specs.Log.{Event, Took, Appends}
+use Rattle.tool_io.specs.Cutting.{Cutting, IsRow, next_number}
+
+-- the line that the last Row gave
+abbrev pub row_bytes : Inside → List ℕ
+row_bytes cut = slice_range cut.buffer.items cut.start cut.next
+
+-- the bytes behind that line
+abbrev pub rest_bytes : Inside → List ℕ
+rest_bytes cut = slice_range cut.buffer.items cut.next cut.end
+
+-- the cut that the fields stand for
+abbrev pub cut_of : Inside → Cutting
+cut_of cut = record {
+  pending = (if cut.kept then row_bytes cut else []) ++ rest_bytes cut;
+  row = if cut.row then Some (row_bytes cut) else None;
+  kept = cut.kept;
+  ended = cut.ended;
+  number = cut.number;
+}
+
+-- what the fields keep
+pub record HoldsRows (cut : Inside) : Type 0 where
+  pub room : length cut.buffer.items ≡ 65536
+  pub from : cut.start ≤ cut.next
+  pub to : cut.next ≤ cut.end
+  pub within : cut.end ≤ 65536
+  pub row : cut.row ≡ true → IsRow (row_bytes cut) (rest_bytes cut) cut.ended
+  pub kept : cut.kept ≡ true → cut.row ≡ true
+
+-- a read adds a piece to what is pending, or meets the end, or changes nothing
+abbrev pub FillsCut : got.Got → Cutting → Cutting → Option (List Event) → Option (List Event) → Place → Type 0
+FillsCut (got.TheVariants.Bytes n) old new before now place =
+    (piece : List ℕ) × (length piece ≡ n) × (0 < n) × (length old.pending + n ≤ 65536) × Appends before now (Took place piece ∷ []) × (new ≡ record old { pending = old.pending ++ piece })
+FillsCut got.TheVariants.End old new before now place = Appends before now (Took place [] ∷ []) × (new ≡ record old { ended = true })
+FillsCut got.TheVariants.Failed old new before now place = Appends before now [] × (new ≡ old)
+
+-- the first bytes are given as a row
+pub record CutsFront (len : ℕ) (old new : Cutting) : Type 0 where
+  pub row : new.row ≡ Some (take len old.pending)
+  pub pending : new.pending ≡ drop len old.pending
+  pub number : new.number ≡ next_number old
+  pub kept : new.kept ≡ false
+  pub ended : new.ended ≡ old.ended

@@ -1,0 +1,14 @@
+pub mod Buffer
+pub mod Filling
+pub mod Log
+pub mod Host
+pub mod Whole
+pub mod Cutting
+pub mod Counts
+pub mod Tape
+pub mod TapeInside
+pub mod Cursors
+pub mod MemFiles
+pub mod MemFilesInside
+pub mod MemHost
+pub mod RealHost

@@ -1,0 +1,43 @@
+-- How files in memory keep what each place reads: the file's index, and how many of its bytes are left.
+use Rattle.std.specs.Prelude.{ℕ, ◌-◌, ◌<◌, ◌≤◌, Option, Some, None, List, [], length, drop, slice_index_or}
+use Rattle.std.specs.Option.{option_map}
+use Rattle.tool_io.specs.declared.host.Place.{Place}
+use Rattle.tool_io.specs.declared.mem_files.Cursor.{Cursor}
+use Rattle.tool_io.specs.declared.mem_files.Cursors.{Cursors}
+use Rattle.tool_io.specs.declared.mem_files.MemFiles.TheInside.{Inside}
+use Rattle.tool_io.specs.Cursors.{cursor_at}
+use Rattle.tool_io.specs.MemFiles.{NamedBytes, Reading, Readings, Stored}
+
+-- the file at an index
+abbrev pub file_at : List NamedBytes → ℕ → NamedBytes
+file_at files i = slice_index_or files i (record { name = []; bytes = [] })
+
+-- what a cursor reads
+abbrev pub reading_of : List NamedBytes → Cursor → Reading
+reading_of files cursor =
+    let file = file_at files cursor.file in record { name = file.name; left = drop (length file.bytes - cursor.left) file.bytes }
+
+-- what all cursors read
+abbrev pub readings_of : List NamedBytes → Cursors → Readings
+readings_of files cursors = record {
+  spec = option_map (reading_of files) cursors.spec;
+  header = option_map (reading_of files) cursors.header;
+  program = option_map (reading_of files) cursors.program;
+  trace = option_map (reading_of files) cursors.trace;
+}
+
+abbrev pub stored_of : Inside → Stored
+stored_of inside = record { files = inside.files.items; readings = readings_of inside.files.items inside.cursors }
+
+-- a cursor names a file, and has no more bytes left than that file has
+pub record IsWithin (files : List NamedBytes) (cursor : Cursor) : Type 0 where
+  pub file : cursor.file < length files
+  pub left : cursor.left ≤ length (file_at files cursor.file).bytes
+
+-- so does each cursor that stands anywhere
+abbrev pub FitsIn : List NamedBytes → Option Cursor → Type 0
+FitsIn files None = Unit {0}
+FitsIn files (Some cursor) = IsWithin files cursor
+
+abbrev pub IsStored : Inside → Type 0
+IsStored inside = (place : Place) → FitsIn inside.files.items (cursor_at inside.cursors place)

@@ -1,0 +1,68 @@
+-- What a host over the system shows of itself: its counts of faults, and which places are attached.
+use Rattle.std.specs.Prelude.{ℕ, Bool, true, false, Option, None, List}
+use Rattle.tool_io.specs.declared.host.Place.{Place}
+use Rattle.tool_io.specs.declared.host.Place.TheVariants.{Spec, Header, Program, Trace, Out, Err}
+use Rattle.tool_io.specs.declared.host.Attached as attached
+use Rattle.tool_io.specs.declared.host.Got as got
+use Rattle.tool_io.specs.declared.host.Put as put
+use Rattle.tool_io.specs.declared.counts.Counts.{Counts}
+use Rattle.tool_io.specs.Log.{Event}
+use Rattle.tool_io.specs.Counts.{count_at, raised, no_counts}
+
+-- the counts of faults, and whether each place that is read is attached
+pub record Edge : Type 0 where
+  pub faults : Counts
+  pub spec : Bool
+  pub header : Bool
+  pub program : Bool
+  pub trace : Bool
+
+-- no faults, and nothing attached
+abbrev pub new_edge : Edge
+new_edge = record { faults = no_counts; spec = false; header = false; program = false; trace = false }
+
+-- whether a place is attached; Out and Err always stand at something
+abbrev pub is_open : Edge → Place → Bool
+is_open edge Spec = edge.spec
+is_open edge Header = edge.header
+is_open edge Program = edge.program
+is_open edge Trace = edge.trace
+is_open edge Out = true
+is_open edge Err = true
+
+-- a place was attached
+abbrev pub opened : Edge → Place → Edge
+opened edge Spec = record edge { spec = true }
+opened edge Header = record edge { header = true }
+opened edge Program = record edge { program = true }
+opened edge Trace = record edge { trace = true }
+opened edge Out = edge
+opened edge Err = edge
+
+-- a call of a place failed
+abbrev pub faulted : Edge → Place → Edge
+faulted edge place = record edge { faults = raised edge.faults place }
+
+abbrev pub faults_of : Edge → Place → ℕ
+faults_of edge place = count_at edge.faults place
+
+-- it tells no log
+abbrev pub no_log : Edge → Option (List Event)
+no_log edge = None
+
+-- it tells nothing of what is left
+abbrev pub none_left : Edge → Place → Option (List ℕ)
+none_left edge place = None
+
+abbrev pub after_attach : Edge → Place → attached.Attached → Edge
+after_attach edge place attached.TheVariants.Ready = opened edge place
+after_attach edge place attached.TheVariants.Failed = faulted edge place
+
+abbrev pub after_read : Edge → Place → got.Got → Edge
+after_read edge place got.TheVariants.Failed = faulted edge place
+after_read edge place got.TheVariants.End = edge
+after_read edge place (got.TheVariants.Bytes count) = edge
+
+abbrev pub after_write : Edge → Place → put.Put → Edge
+after_write edge place put.TheVariants.Failed = faulted edge place
+after_write edge place (put.TheVariants.Wrote count) = edge

@@ -1,0 +1,33 @@
+-- A log with the room that was reserved for it.
+use Rattle.std.specs.Prelude.{ℕ, ◌+◌, Bool, ◌&&◌, nat_lt, nat_le, List, [], ◌∷◌, ◌++◌, length}
+use Rattle.tool_io.specs.Log.{Event, Attached, Missed, Took, Gave}
+
+-- the events so far, and how many events and how many bytes in them there is room for
+pub record Taped : Type 0 where
+  pub events : List Event
+  pub most_events : ℕ
+  pub most_bytes : ℕ
+
+-- a log with nothing in it
+abbrev pub new_tape : ℕ → ℕ → Taped
+new_tape events bytes = record { events = []; most_events = events; most_bytes = bytes }
+
+-- the bytes of an event, its name among them
+abbrev pub event_bytes : Event → List ℕ
+event_bytes (Attached place name) = name
+event_bytes (Missed place name) = name
+event_bytes (Took place bytes) = bytes
+event_bytes (Gave place bytes) = bytes
+
+-- how many bytes stand in events
+abbrev pub bytes_in : List Event → ℕ
+bytes_in [] = 0
+bytes_in (event ∷ events) = length (event_bytes event) + bytes_in events
+
+-- whether one more event with so many bytes finds room
+abbrev pub has_room : Taped → ℕ → Bool
+has_room tape count = nat_lt (length tape.events) tape.most_events && nat_le (bytes_in tape.events + count) tape.most_bytes
+
+-- the log with one more event
+abbrev pub with_event : Taped → Event → Taped
+with_event tape event = record tape { events = tape.events ++ event ∷ [] }

@@ -1,0 +1,91 @@
+//! The places of a program, the answers of their calls, and what a host of them promises.
+
+ghost use Rattle.std.specs.Prelude.{ℕ, Option, List, ◌<◌, length};
+ghost use Rattle.tool_io.specs.declared.host.Place.{Place};
+ghost use Rattle.tool_io.specs.Log.{Event};
+ghost use Rattle.tool_io.specs.Host.{IsSource, IsSink, AttachCause, AttachLog, ReadRange, ReadCause, ReadLog, ReadLeft, WriteRange, WriteCause, WriteLog, LeftElsewhere, LeftAlone};
+
+/// Where bytes come from or go to. `Out` and `Err` are written, the others are read.
+#[derive(Clone, Copy, PartialEq, Eq, Debug)]
+pub enum Place {
+    /// A specification.
+    Spec,
+    /// The header of a trace.
+    Header,
+    /// A compiled program.
+    Program,
+    /// The rows of a trace.
+    Trace,
+    /// The output: verdict lines, or a compiled program.
+    Out,
+    /// Messages to the user.
+    Err,
+}
+
+/// How an attach ended.
+#[derive(Clone, Copy, PartialEq, Eq, Debug)]
+pub enum Attached {
+    /// The place stands at the name.
+    Ready,
+    /// It doesn't; the place's count of faults rose.
+    Failed,
+}
+
+/// How a read ended.
+#[derive(Clone, Copy, PartialEq, Eq, Debug)]
+pub enum Got {
+    /// So many bytes stand at the front of the slice, at least one.
+    Bytes(usize),
+    /// Nothing is left.
+    End,
+    /// The read failed; the place's count of faults rose.
+    Failed,
+}
+
+/// How a write ended.
+#[derive(Clone, Copy, PartialEq, Eq, Debug)]
+pub enum Put {
+    /// So many bytes from the front of the piece went out.
+    Wrote(usize),
+    /// The write failed; the place's count of faults rose.
+    Failed,
+}
+
+/// What a program reads from and writes to.
+///
+/// `faults` counts the failed calls of each place; a count never falls, and stays at 2^64 - 1 once it is there.
+/// `log`, where the host tells it, is the list of its events. `left`, where it is told, is what a place has still to
+/// be read. A call that fails raises the count of its place; every other call leaves all counts.
+/// `Out` and `Err` stand at the standard streams until they are attached elsewhere.
+pub trait Host {
+    ghost faults: { Self → Place → ℕ };
+
+    ghost log: { Self → Option (List Event) };
+
+    ghost left: { Self → Place → Option (List ℕ) };
+
+    /// Lets the place stand at the file of this name, or at what else the name means to the host.
+    fn attach(&mut self, place: Place, name: &str) -> Attached
+        ensures cause { AttachCause result (faults self.old) (faults self.new) place }
+        ensures log { AttachLog result (log self.old) (log self.new) place name.now }
+        ensures left { LeftElsewhere (left self.old) (left self.new) place };
+
+    /// Takes bytes of the place into the front of the slice.
+    fn read(&mut self, place: Place, into: &mut [u8]) -> Got
+        requires source { IsSource place }
+        requires room { 0 < length into.old }
+        ensures range { ReadRange result into.new }
+        ensures cause { ReadCause result (faults self.old) (faults self.new) place }
+        ensures log { ReadLog result (log self.old) (log self.new) place into.new }
+        ensures left { ReadLeft result (left self.old place) (left self.new place) into.new }
+        ensures elsewhere { LeftElsewhere (left self.old) (left self.new) place };
+
+    /// Sends a front of the piece to the place.
+    fn write(&mut self, place: Place, piece: &[u8]) -> Put
+        requires sink { IsSink place }
+        requires room { 0 < length piece.now }
+        ensures range { WriteRange result piece.now }
+        ensures cause { WriteCause result (faults self.old) (faults self.new) place }
+        ensures log { WriteLog result (log self.old) (log self.new) place piece.now }
+        ensures left { LeftAlone (left self.old) (left self.new) };
+}

@@ -1,0 +1,255 @@
+//! A stream of bytes, cut into lines.
+
+ghost use Rattle.std.specs.Prelude.{◌≡◌, ◌+◌, ◌-◌, ◌<◌, ◌≤◌, ◌==◌, None, false, Option, IsSome, IfOk, IfSome, IfNone, MatchOption, length, take, drop, position, slice_range};
+ghost use Rattle.tool_io.specs.Log.{OnLog};
+ghost use Rattle.tool_io.specs.Filling.{Fills};
+ghost use Rattle.tool_io.specs.Host.{IsSource, ReadCause, LeftElsewhere};
+ghost use Rattle.tool_io.specs.Cutting.{HasNoNewline, EndsLine, IsRow, fresh, keeps, row_of, line_text, IsReady, CutsLine, LineCause};
+
+use crate::host::{Got, Host, Place};
+use std::alloc::{AllocError, Global};
+use std::marker::Model;
+
+/// What the next line of a place is.
+#[derive(Clone, Copy, PartialEq, Eq, Debug)]
+pub enum Line {
+    /// One more line stands ready.
+    Row,
+    /// No byte is left.
+    End,
+    /// The first 65,536 bytes of the line hold no newline.
+    LongLine,
+    /// A read failed; the place's count of faults rose.
+    ReadFault,
+}
+
+/// How many bytes a line has at most, its newline among them: the size of the buffer.
+const LONGEST: usize = 65_536;
+
+/// A stream of bytes that is cut at its newlines, by one buffer of 65,536 bytes.
+///
+/// It takes memory where it is made and never again. It reads only where no whole line stands in the buffer.
+#[derive(Drop)]
+pub struct LineCut {
+    buffer: Vec<u8>,
+    /// Where the line of the last Row begins.
+    start: usize,
+    /// Where the bytes behind it begin, which aren't cut yet.
+    next: usize,
+    /// Where they end.
+    end: usize,
+    /// Whether the last answer was a Row.
+    row: bool,
+    /// Whether its line comes once more.
+    kept: bool,
+    /// Whether a read met the end.
+    ended: bool,
+    /// The number of the last line, from 1.
+    number: u64,
+}
+
+impl Model for LineCut {
+    ghost use Rattle.tool_io.specs.Cutting.{Cutting};
+
+    ghost Value = { Cutting };
+
+    ghost use Rattle.tool_io.specs.Buffer.{cut_of, HoldsRows};
+
+    ghost view = { cut_of };
+
+    ghost invariant = { HoldsRows };
+}
+
+/// The place of the first newline.
+fn first_newline(bytes: &[u8]) -> Option<usize>
+    ensures { result ≡ position (λ byte. byte == 10) bytes.now }
+{
+    bytes.iter().position(|byte| *byte == b'\n')
+}
+
+/// Moves the bytes from `next` to `end` to the front.
+fn move_to_front(buffer: &mut [u8], next: usize, end: usize)
+    requires order { next ≤ end }
+    requires within { end ≤ length buffer.old }
+    ensures { take (end - next) buffer.new ≡ slice_range buffer.old next end }
+{
+    if 0 < next {
+        buffer.copy_within(next..end, 0);
+    }
+}
+
+/// Reads behind the first `len` bytes.
+fn read_behind<H: Host>(host: &mut H, place: Place, buffer: &mut [u8], len: usize) -> Got
+    requires source { IsSource place }
+    requires room { len < length buffer.old }
+    ensures bytes { Fills result (take len buffer.old) buffer.new
+        (H.log host.old) (H.log host.new) place }
+    ensures cause { ReadCause result (H.faults host.old) (H.faults host.new) place }
+    ensures elsewhere { LeftElsewhere (H.left host.old) (H.left host.new) place }
+{
+    host.read(place, &mut buffer[len..])
+}
+
+impl LineCut {
+    ghost use Rattle.tool_io.specs.Buffer.{CutsFront, FillsCut};
+
+    /// A cut before the first byte, with room for the longest line.
+    pub fn make(alloc: Global) -> Result<LineCut, AllocError>
+        ensures { IfOk result (λ cut. cut ≡ fresh) }
+    {
+        Ok(LineCut {
+            buffer: vec![in alloc; 0; LONGEST]?,
+            start: 0,
+            next: 0,
+            end: 0,
+            row: false,
+            kept: false,
+            ended: false,
+            number: 0,
+        })
+    }
+
+    /// Cuts the next line off the bytes of the place, which it reads only where the buffer holds no whole line.
+    ///
+    /// A last line without a newline is a Row once the end was met. After `End` and `LongLine` every later call
+    /// answers the same; after `ReadFault` a later call tries again.
+    pub fn next_line<H: Host>(&mut self, host: &mut H, place: Place) -> Line
+        requires { IsSource place }
+        ensures cause { LineCause result (H.faults host.old) (H.faults host.new) place }
+        ensures ready { IsReady result self.new }
+        ensures log { OnLog (H.log host.old) (H.log host.new)
+            (CutsLine place self.old self.new result) }
+        ensures elsewhere { LeftElsewhere (H.left host.old) (H.left host.new) place }
+    {
+        if self.kept {
+            self.kept = false;
+            return Line::Row;
+        }
+        self.cut_next(host, place)
+    }
+
+    /// The line of the last Row, without its newline and without one carriage return before it.
+    pub fn line(&self) -> &[u8]
+        requires { IsSome self.now.row }
+        ensures { result.now ≡ line_text (row_of self.now) }
+    {
+        let raw = &self.buffer[self.start..self.next];
+        match raw {
+            [line @ .., b'\r', b'\n'] => line,
+            [line @ .., b'\n'] => line,
+            _ => raw,
+        }
+    }
+
+    /// The number of the last line, from 1; 0 before the first. A line that comes once more keeps its number.
+    pub fn number(&self) -> u64
+        ensures { result ≡ self.now.number }
+    {
+        self.number
+    }
+
+    /// Lets the next call give the line of the last Row once more.
+    pub fn keep(&mut self)
+        requires { IsSome self.old.row }
+        ensures { self.new ≡ keeps self.old }
+    {
+        self.kept = true;
+    }
+
+    /// How many bytes aren't cut yet.
+    fn pending_len(&self) -> usize
+        requires { self.now.kept ≡ false }
+        ensures len { result ≡ length self.now.pending }
+        ensures within { result ≤ 65536 }
+    {
+        self.end - self.next
+    }
+
+    /// The length of the first whole line, where the first `seen` bytes hold no newline.
+    fn line_len(&self, seen: usize) -> Option<usize>
+        requires plain { self.now.kept ≡ false }
+        requires within { seen ≤ length self.now.pending }
+        requires no_newline { HasNoNewline (take seen self.now.pending) }
+        ensures found { IfSome result (λ len.
+            (len ≤ length self.now.pending) × EndsLine (take len self.now.pending)) }
+        ensures not_found { IfNone result (HasNoNewline self.now.pending) }
+    {
+        let at = first_newline(&self.buffer[self.next + seen..self.end])?;
+        Some(seen + at + 1)
+    }
+
+    /// Gives the first bytes as a row.
+    fn cut(&mut self, len: usize)
+        requires plain { self.old.kept ≡ false }
+        requires within { len ≤ length self.old.pending }
+        requires row { IsRow (take len self.old.pending) (drop len self.old.pending)
+            self.old.ended }
+        ensures { CutsFront len self.old self.new }
+    {
+        self.start = self.next;
+        self.next += len;
+        self.row = true;
+        self.number = self.number.saturating_add(1);
+    }
+
+    /// Reads once behind the bytes that aren't cut yet, which move to the front before.
+    fn fill<H: Host>(&mut self, host: &mut H, place: Place) -> Got
+        requires source { IsSource place }
+        requires no_row { self.old.row ≡ None }
+        requires room { length self.old.pending < 65536 }
+        ensures bytes { FillsCut result self.old self.new (H.log host.old) (H.log host.new) place }
+        ensures cause { ReadCause result (H.faults host.old) (H.faults host.new) place }
+        ensures elsewhere { LeftElsewhere (H.left host.old) (H.left host.new) place }
+    {
+        let len = self.end - self.next;
+        let buffer: &mut [u8] = &mut self.buffer;
+        move_to_front(buffer, self.next, self.end);
+        let got = read_behind(host, place, buffer, len);
+        self.start = 0;
+        self.next = 0;
+        self.end = len;
+        match got {
+            Got::Bytes(n) => self.end += n,
+            Got::End => self.ended = true,
+            Got::Failed => {}
+        }
+        got
+    }
+
+    /// Cuts the next line, where the last one isn't kept.
+    fn cut_next<H: Host>(&mut self, host: &mut H, place: Place) -> Line
+        requires source { IsSource place }
+        requires plain { self.old.kept ≡ false }
+        ensures cause { LineCause result (H.faults host.old) (H.faults host.new) place }
+        ensures ready { IsReady result self.new }
+        ensures log { OnLog (H.log host.old) (H.log host.new)
+            (CutsLine place self.old self.new result) }
+        ensures elsewhere { LeftElsewhere (H.left host.old) (H.left host.new) place }
+    {
+        self.row = false;
+        let mut seen = 0;
+        loop {
+            if let Some(len) = self.line_len(seen) {
+                self.cut(len);
+                return Line::Row;
+            }
+            seen = self.pending_len();
+            if seen == LONGEST {
+                return Line::LongLine;
+            }
+            if self.ended {
+                if seen == 0 {
+                    return Line::End;
+                }
+                self.cut(seen);
+                return Line::Row;
+            }
+            if let Got::Failed = self.fill(host, place) {
+                return Line::ReadFault;
+            }
+        }
+    }
+}
+
+#[cfg(test)]
+mod tests;
