@@ -1,0 +1,76 @@
+-- How a text is cut into pieces: blanks, comments, words, numbers, signs, and bytes that begin none of these.
+use Rattle.std.specs.Str.{all_ascii_digits}
+use Rattle.std.specs.Prelude.{ℕ, IsTrue, ◌-◌, zero, suc, List, [], ◌∷◌, length, Bool, not, ◌||◌, ◌==◌, if◌then◌else◌, nat_eq, take, slice_index, codes, Option, Some, None}
+use Rattle.std.specs.List.{starts_with, prefix_len}
+use Rattle.std.specs.Char.{is_ascii_alphabetic, is_ascii_alphanumeric, is_ascii_digit}
+use Rattle.c2po_lexer.specs.Spelling.{sign_text, sign_at}
+use Rattle.c2po_lexer.specs.declared.token.Sign.{Sign}
+use Rattle.c2po_lexer.specs.declared.front.Front.{Front}
+use Rattle.c2po_lexer.specs.declared.front.Front.TheVariants as front
+
+-- space, tab, carriage return and newline
+abbrev pub is_blank : ℕ → Bool
+is_blank b = b == 32 || b == 9 || b == 13 || b == 10
+
+-- a word begins with a letter of ASCII or `_`
+abbrev pub begins_word : ℕ → Bool
+begins_word b = is_ascii_alphabetic b || b == 95
+
+-- and goes on with letters, digits and `_`
+abbrev pub is_in_word : ℕ → Bool
+is_in_word b = is_ascii_alphanumeric b || b == 95
+
+-- any byte but a newline
+abbrev pub is_in_line : ℕ → Bool
+is_in_line b = not (b == 10)
+
+-- a sign if there is one, else a byte that begins nothing
+abbrev pub sign_or_stray : Option Sign → Front
+sign_or_stray (Some s) = front.Sign s
+sign_or_stray None = front.Stray
+
+-- what a text begins with, as long as can be; a comment runs from `--` to the end of its line
+unfoldable pub front_of : List ℕ → Front
+front_of text =
+    if is_blank (slice_index text 0) then front.Blank
+    else (if starts_with nat_eq text (codes "--") then front.Comment (prefix_len is_in_line text)
+    else (if begins_word (slice_index text 0) then front.Word (prefix_len is_in_word text)
+    else (if is_ascii_digit (slice_index text 0) then front.Digits (prefix_len is_ascii_digit text)
+    else sign_or_stray (sign_at text))))
+
+-- how many bytes that is
+abbrev pub size_of : Front → ℕ
+size_of front.Blank = 1
+size_of (front.Comment n) = n
+size_of (front.Word n) = n
+size_of (front.Digits n) = n
+size_of (front.Sign s) = length (sign_text s)
+size_of front.Stray = 1
+
+-- the bytes of a number are digits
+abbrev pub HasDigitsAlone : Front → List ℕ → Type 0
+HasDigitsAlone (front.Digits n) bytes = IsTrue (all_ascii_digits bytes)
+HasDigitsAlone _ bytes = Unit {0}
+
+-- A piece of a text: what it is, where it starts, and its bytes.
+pub record Piece : Type 0 where
+  pub front : Front
+  pub start : ℕ
+  pub bytes : List ℕ
+
+-- the piece at the front of the rest of a text, of which the first `start` bytes are gone
+abbrev pub piece_at : ℕ → List ℕ → Piece
+piece_at start rest =
+    record { front = front_of rest; start = start; bytes = take (size_of (front_of rest)) rest }
+
+-- The pieces of the rest of a text, of which the first `start` bytes are gone. Its first `taken` bytes belong to the
+-- piece before.
+unfoldable pub pieces_from : (taken start : ℕ) → List ℕ → List Piece
+pieces_from taken start [] = []
+pieces_from zero start (b ∷ bs) =
+    piece_at start (b ∷ bs) ∷ pieces_from (size_of (front_of (b ∷ bs)) - 1) (suc start) bs
+pieces_from (suc taken) start (b ∷ bs) = pieces_from taken (suc start) bs
+
+-- the pieces of a text, in order
+abbrev pub pieces_of : List ℕ → List Piece
+pieces_of text = pieces_from 0 0 text

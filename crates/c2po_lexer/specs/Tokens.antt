@@ -1,0 +1,108 @@
+-- The tokens of a text, or its first fault.
+use Rattle.std.specs.Prelude.{◌≡◌, ℕ, ◌+◌, ◌-◌, ◌<◌, ◌≤◌, List, [], ◌∷◌, length, ◌==◌, if◌then◌else◌, nat_lt, take, drop, map, count_by, Option, Some, None, option_map, Result, Ok, Err, pos}
+use Rattle.std.specs.List.{AllPass}
+use Rattle.std.specs.Str.Parse.{digits_value}
+use Rattle.c2po_lexer.specs.Spelling.{keyword_text, keyword_of, sign_text}
+use Rattle.c2po_lexer.specs.Cut.{Piece, is_in_word, front_of, size_of, piece_at, pieces_of}
+use Rattle.c2po_lexer.specs.declared.token.Token.{Token}
+use Rattle.c2po_lexer.specs.declared.token.What.{What}
+use Rattle.c2po_lexer.specs.declared.token.What.TheVariants as what
+use Rattle.c2po_lexer.specs.declared.token.Keyword.{Keyword}
+use Rattle.c2po_lexer.specs.declared.fault.LexFault.{LexFault}
+use Rattle.c2po_lexer.specs.declared.fault.LexFault.TheVariants as fault
+use Rattle.c2po_lexer.specs.declared.front.Front.{Front}
+use Rattle.c2po_lexer.specs.declared.front.Front.TheVariants as front
+
+-- the value changed, the fault kept
+abbrev pub result_map : {A B : Type 0} → (A → B) → Result A LexFault → Result B LexFault
+result_map f (Ok x) = Ok (f x)
+result_map f (Err e) = Err e
+
+-- the line of a place in a text, counted from 1: one more than the newlines before it
+abbrev pub line_at : List ℕ → ℕ → ℕ
+line_at text place = 1 + count_by (λ b. b == 10) (take place text)
+
+-- a reserved word, or a name
+abbrev pub reserved_or_name : List ℕ → Option Keyword → What
+reserved_or_name word (Some k) = what.Reserved k
+reserved_or_name word None = what.Word word
+
+-- a word has at most 64 bytes
+abbrev pub word_of : ℕ → List ℕ → Result What LexFault
+word_of line word =
+    if nat_lt 64 (length word) then Err (fault.LongWord line)
+    else Ok (reserved_or_name word (keyword_of word))
+
+-- a number is at most 2 ^ 63 - 1
+abbrev pub number_of : ℕ → List ℕ → Result What LexFault
+number_of line digits =
+    if nat_lt 9223372036854775807 (digits_value 10 digits) then Err (fault.Number line)
+    else Ok (what.Number (pos (digits_value 10 digits)))
+
+-- What a piece is, if it is a token at all. Blanks and comments are none, and a byte that begins nothing is a fault.
+abbrev pub what_of : ℕ → Front → List ℕ → Result (Option What) LexFault
+what_of line front.Blank bytes = Ok None
+what_of line (front.Comment n) bytes = Ok None
+what_of line (front.Word n) bytes = result_map Some (word_of line bytes)
+what_of line (front.Digits n) bytes = result_map Some (number_of line bytes)
+what_of line (front.Sign s) bytes = Ok (Some (what.Sign s))
+what_of line front.Stray bytes = Err (fault.Letter line)
+
+-- the token of a piece, with its line and its span
+abbrev pub token_of : List ℕ → Piece → What → Token
+token_of text piece w =
+    record {
+      what = w;
+      line = line_at text piece.start;
+      start = piece.start;
+      end = piece.start + length piece.bytes;
+    }
+
+-- a token, none, or a fault
+abbrev pub reading_of : List ℕ → Piece → Result (Option Token) LexFault
+reading_of text piece =
+    result_map (option_map (token_of text piece)) (what_of (line_at text piece.start) piece.front piece.bytes)
+
+-- the same at a place where a piece starts, and how many bytes it takes
+abbrev pub reading_at : List ℕ → ℕ → Result (Option Token) LexFault
+reading_at text start = reading_of text (piece_at start (drop start text))
+
+abbrev pub size_at : List ℕ → ℕ → ℕ
+size_at text start = size_of (front_of (drop start text))
+
+-- a token comes before the others, and a fault is the first one
+abbrev pub before :
+    Result (Option Token) LexFault → Result (List Token) LexFault → Result (List Token) LexFault
+before (Err f) rest = Err f
+before (Ok None) rest = rest
+before (Ok (Some t)) rest = result_map (λ ts. t ∷ ts) rest
+
+-- all tokens, or the first fault
+unfoldable pub all_of : List (Result (Option Token) LexFault) → Result (List Token) LexFault
+all_of [] = Ok []
+all_of (reading ∷ rest) = before reading (all_of rest)
+
+-- the tokens of a text, or its first fault
+unfoldable pub tokens_of : List ℕ → Result (List Token) LexFault
+tokens_of text = all_of (map (reading_of text) (pieces_of text))
+
+-- the bytes of a token's span
+abbrev pub bytes_of : List ℕ → Token → List ℕ
+bytes_of text t = take (t.end - t.start) (drop t.start text)
+
+-- how a token is written
+abbrev pub IsWrittenAs : What → List ℕ → Type 0
+IsWrittenAs (what.Word name) bytes = name ≡ bytes
+IsWrittenAs (what.Reserved k) bytes = keyword_text k ≡ bytes
+IsWrittenAs (what.Number value) bytes = value ≡ pos (digits_value 10 bytes)
+IsWrittenAs (what.Sign s) bytes = sign_text s ≡ bytes
+
+-- tokens stand in order between two places of a text, and each has a byte or more
+abbrev pub AreInOrder : (from to : ℕ) → List Token → Type 0
+AreInOrder from to [] = from ≤ to
+AreInOrder from to (t ∷ ts) = (from ≤ t.start) × (t.start < t.end) × AreInOrder t.end to ts
+
+-- a name is made of letters of ASCII, digits and `_`
+abbrev pub HasPlainName : What → Type 0
+HasPlainName (what.Word name) = AllPass is_in_word name
+HasPlainName _ = Unit {0}

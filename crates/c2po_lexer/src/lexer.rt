@@ -1,0 +1,148 @@
+//! Tokens of a text, or its first fault.
+
+ghost use Rattle.std.specs.Prelude.{◌≡◌, ◌≢◌, ◌==◌, ◌<◌, ◌≤◌, ◌↔◌, ℕ, All, length, count_by, ◌+◌, ◌++◌, option_to_list, OnOk, IsSome, IfSome, IfOk, IfErr, IsTrue, Err, Ok, pos};
+ghost use Rattle.std.specs.Str.{all_ascii_digits};
+ghost use Rattle.std.specs.Str.Parse.{digits_value};
+ghost use Rattle.c2po_lexer.specs.Cut.{HasDigitsAlone};
+ghost use Rattle.c2po_lexer.specs.Tokens.{line_at, word_of, number_of, what_of, reading_at, size_at, tokens_of, HasPlainName, AreInOrder, IsWrittenAs, bytes_of};
+
+use crate::fault::LexFault;
+use crate::front::Front;
+use crate::token::{Keyword, Token, Tokens, What};
+use mltl_base::limits::{MAX_SPEC_BYTES, MAX_WORD_BYTES};
+use mltl_base::{List, Name};
+use std::alloc::Global;
+use std::str;
+
+// how many newlines these bytes have
+fn newlines(bytes: &[u8]) -> u32
+    requires { length bytes.now ≤ MAX_SPEC_BYTES }
+    ensures { result ≡ count_by (λ b. b == 10) bytes.now }
+{
+    bytes.iter().filter(|byte| **byte == b'\n').count() as u32
+}
+
+// the number that digits write, if it is small enough
+fn value_of(digits: &[u8]) -> Option<i64>
+    requires some { 1 ≤ length digits.now }
+    requires digits { IsTrue (all_ascii_digits digits.now) }
+    ensures limit { IsSome result ↔ (digits_value 10 digits.now ≤ 9223372036854775807) }
+    ensures value { IfSome result (λ value. value ≡ pos (digits_value 10 digits.now)) }
+{
+    match str::from_utf8(digits) {
+        Ok(text) => text.parse::<i64>().ok(),
+        Err(_) => unreachable!(),
+    }
+}
+
+fn number(line: u32, digits: &[u8]) -> Result<What, LexFault>
+    requires some { 1 ≤ length digits.now }
+    requires digits { IsTrue (all_ascii_digits digits.now) }
+    ensures { result ≡ number_of line digits.now }
+{
+    match value_of(digits) {
+        Some(value) => Ok(What::Number(value)),
+        None => Err(LexFault::Number(line)),
+    }
+}
+
+fn word(line: u32, word: &[u8]) -> Result<What, LexFault>
+    requires { 1 ≤ length word.now }
+    ensures { result ≡ word_of line word.now }
+{
+    if word.len() > MAX_WORD_BYTES {
+        return Err(LexFault::LongWord(line));
+    }
+    match Keyword::of(word) {
+        Some(keyword) => Ok(What::Reserved(keyword)),
+        None => Ok(What::Word(Name::of(word).unwrap())),
+    }
+}
+
+// what a piece of the text is, if it is a token at all
+fn read(line: u32, front: Front, bytes: &[u8]) -> Result<Option<What>, LexFault>
+    requires some { 1 ≤ length bytes.now }
+    requires digits { HasDigitsAlone front bytes.now }
+    ensures { result ≡ what_of line front bytes.now }
+{
+    match front {
+        Front::Blank | Front::Comment(_) => Ok(None),
+        Front::Word(_) => Ok(Some(word(line, bytes)?)),
+        Front::Digits(_) => Ok(Some(number(line, bytes)?)),
+        Front::Sign(sign) => Ok(Some(What::Sign(sign))),
+        Front::Stray => Err(LexFault::Letter(line)),
+    }
+}
+
+/// A place in a text: its line, counted from 1, and the number of bytes before it.
+#[derive(Clone, Copy)]
+struct Place {
+    line: u32,
+    start: usize,
+}
+
+// the token at a place, if a token stands there, and the place after it
+fn piece(text: &[u8], place: Place) -> Result<(Option<Token>, Place), LexFault>
+    requires limit { length text.now ≤ MAX_SPEC_BYTES }
+    requires inside { place.start < length text.now }
+    requires line { place.line ≡ line_at text.now place.start }
+    ensures token { IfOk result (λ r. reading_at text.now place.start ≡ Ok r.0) }
+    ensures next { IfOk result (λ r. r.1.start ≡ place.start + size_at text.now place.start) }
+    ensures line { IfOk result (λ r. r.1.line ≡ line_at text.now r.1.start) }
+    ensures inside { IfOk result (λ r. r.1.start ≤ length text.now) }
+    ensures some { 1 ≤ size_at text.now place.start }
+    ensures fault { IfErr result (λ fault. reading_at text.now place.start ≡ Err fault) }
+{
+    let rest = &text[place.start..];
+    let front = Front::of(rest);
+    let bytes = &rest[..front.size()];
+    let end = place.start + bytes.len();
+    let next = Place {
+        line: place.line + newlines(bytes),
+        start: end,
+    };
+    let token = read(place.line, front, bytes)?.map(|what| Token {
+        what,
+        line: place.line,
+        start: place.start as u32,
+        end: end as u32,
+    });
+    Ok((token, next))
+}
+
+// puts a token behind the others
+fn add(tokens: &mut Tokens, token: Option<Token>) -> Result<(), LexFault>
+    ensures added { OnOk result (tokens.new ≡ tokens.old ++ option_to_list token) }
+    ensures memory { IfErr result (λ fault. fault ≡ LexFault.Memory) }
+{
+    match token {
+        Some(token) => tokens.push(token).map_err(|_| LexFault::Memory),
+        None => Ok(()),
+    }
+}
+
+/// The tokens of a text of at most 1,048,576 bytes, or its first fault.
+///
+/// A word begins with a letter of ASCII or `_` and goes on with letters, digits and `_`; a number is made of decimal
+/// digits. At each place the longest match counts. Spaces, tabs, carriage returns, newlines and comments, which run from
+/// `--` to the end of their line and may hold any bytes, stand between tokens.
+///
+/// Errors: `Letter` at a byte outside a comment that begins no token, `LongWord` at a word of more than 64 bytes,
+/// `Number` at a number above 9,223,372,036,854,775,807, `Memory` where memory is wanting.
+pub fn lex(alloc: Global, text: &[u8]) -> Result<Tokens, LexFault>
+    requires { length text.now ≤ MAX_SPEC_BYTES }
+    ensures tokens { IfOk result (λ tokens. tokens_of text.now ≡ Ok tokens) }
+    ensures first_fault { IfErr result (λ fault. fault ≢ LexFault.Memory → tokens_of text.now ≡ Err fault) }
+    ensures written { IfOk result (All (λ token. IsWrittenAs token.what (bytes_of text.now token))) }
+    ensures spans { IfOk result (AreInOrder 0 (length text.now)) }
+    ensures names { IfOk result (All (λ token. HasPlainName token.what)) }
+{
+    let mut tokens = List::new(alloc);
+    let mut place = Place { line: 1, start: 0 };
+    while place.start < text.len() {
+        let (token, next) = piece(text, place)?;
+        add(&mut tokens, token)?;
+        place = next;
+    }
+    Ok(tokens)
+}
