@@ -1,0 +1,142 @@
+use Rattle.std.specs.Prelude.{ℕ, zero, suc, ◌+◌, Bool, ◌&&◌, List, [], ◌∷◌, ◌++◌, length, take, drop, map, codes, Option, Some, None, is_some, option_map, nat_eq, if◌then◌else◌}
+use Rattle.mltl_base.specs.declared.interval.Engine.{Engine}
+use Rattle.c2po_lexer.specs.declared.token.Sign.TheVariants as sign
+use Rattle.c2po_lexer.specs.declared.token.Keyword.TheVariants as keyword
+use Rattle.c2po_lexer.specs.declared.token.What.{What}
+use Rattle.c2po_lexer.specs.declared.token.What.TheVariants as what
+use Rattle.c2po_lexer.specs.declared.token.Token.{Token}
+use Rattle.c2po_tree.specs.ItemShape.{TypeShape, FieldShape, BodyShape, type_named, set_of, structure, input, define, formula, contract}
+use Rattle.c2po_tree.specs.Tokens.{is_sign, depth_after}
+use Rattle.c2po_tree.specs.Fronts.{◌>>=◌, past, name_at}
+use Rattle.c2po_tree.specs.Splitting.{tree_of, at_end}
+use Rattle.c2po_parse.specs.declared.section.Section.{Section}
+use Rattle.c2po_parse.specs.declared.section.Section.TheVariants.{Struct, Input, Define, Output}
+
+-- The forms of items, section by section.
+
+-- how a type at the front is read
+abbrev pub TypeReads : Type 0
+TypeReads = List Token → Option (TypeShape × List Token)
+
+-- a type is a name, `bool`, `int`, or `set<` type `>`
+abbrev pub type_in : TypeReads → What → List Token → Option (TypeShape × List Token)
+type_in read (what.Word x) ts = Some (type_named x, ts)
+type_in read (what.Reserved keyword.Bool) ts = Some (type_named (codes "bool"), ts)
+type_in read (what.Reserved keyword.Int) ts = Some (type_named (codes "int"), ts)
+type_in read (what.Reserved keyword.Set) ts = past sign.Less ts >>= λ us. read us >>= λ k.
+    past sign.Greater k.1 >>= λ vs. Some (set_of k.0, vs)
+type_in read _ ts = None
+
+abbrev pub type_step : TypeReads → TypeReads
+type_step read [] = None
+type_step read (t ∷ ts) = type_in read t.what ts
+
+-- the type at the front, with so many sets in one another at most
+unfoldable pub type_within : ℕ → TypeReads
+type_within zero ts = None
+type_within (suc n) ts = type_step (type_within n) ts
+
+-- the type at the front, and what follows it
+abbrev pub type_at : List Token → Option (TypeShape × List Token)
+type_at ts = type_within (length ts) ts
+
+-- how names with commas between them are read
+abbrev pub NamesRead : Type 0
+NamesRead = List Token → Option (List (List ℕ) × List Token)
+
+-- a comma leads to more names
+abbrev pub names_or : NamesRead → List ℕ → List Token → Option (List Token) → Option (List (List ℕ) × List Token)
+names_or read x ts None = Some (x ∷ [], ts)
+names_or read x ts (Some rest) = read rest >>= λ xs. Some (x ∷ xs.0, xs.1)
+
+unfoldable pub names_within : ℕ → NamesRead
+names_within zero ts = None
+names_within (suc n) ts = name_at ts >>= λ x. names_or (names_within n) x.0 x.1 (past sign.Comma x.1)
+
+-- names behind others
+abbrev pub names_behind : List (List ℕ) → Option (List (List ℕ) × List Token) → Option (List (List ℕ) × List Token)
+names_behind so_far o = option_map (λ xs. (so_far ++ xs.0, xs.1)) o
+
+-- the names at the front, one or more, and what follows them
+abbrev pub names_at : List Token → Option (List (List ℕ) × List Token)
+names_at ts = names_within (length ts) ts
+
+-- names and their type
+abbrev pub typed_at : List Token → Option (List (List ℕ) × TypeShape × List Token)
+typed_at ts = names_at ts >>= λ xs. past sign.Colon xs.1 >>= λ us. type_at us >>= λ k. Some (xs.0, k.0, k.1)
+
+-- a field for each name
+abbrev pub fields_of : List (List ℕ) → TypeShape → List FieldShape
+fields_of xs k = map (λ x. record { name = x; kind = k }) xs
+
+-- how fields are read up to the brace that closes them
+abbrev pub FieldsRead : Type 0
+FieldsRead = List Token → Option (List FieldShape × List Token)
+
+abbrev pub fields_or : FieldsRead → List FieldShape → List Token → Option (List Token) → Option (List FieldShape × List Token)
+fields_or read fs ts (Some rest) = Some (fs, rest)
+fields_or read fs ts None = read ts >>= λ gs. Some (fs ++ gs.0, gs.1)
+
+unfoldable pub fields_within : ℕ → FieldsRead
+fields_within zero ts = None
+fields_within (suc n) ts = typed_at ts >>= λ d. past sign.Semicolon d.2 >>= λ us.
+    fields_or (fields_within n) (fields_of d.0 d.1) us (past sign.RightCurly us)
+
+-- fields behind others
+abbrev pub fields_behind : List FieldShape → Option (List FieldShape × List Token) → Option (List FieldShape × List Token)
+fields_behind so_far o = option_map (λ fs. (so_far ++ fs.0, fs.1)) o
+
+-- the fields at the front, one list or more, their `}`, and what follows it
+abbrev pub fields_at : List Token → Option (List FieldShape × List Token)
+fields_at ts = fields_within (length ts) ts
+
+-- name `:` `{` fields `}`
+unfoldable pub struct_of : List Token → Option BodyShape
+struct_of ts = name_at ts >>= λ x. past sign.Colon x.1 >>= λ us. past sign.LeftCurly us >>= λ vs. fields_at vs >>= λ fs.
+    at_end (structure x.0 fs.0) fs.1
+
+-- names `:` type
+unfoldable pub input_of : List Token → Option BodyShape
+input_of ts = typed_at ts >>= λ d. at_end (input d.0 d.1) d.2
+
+-- name `:=` expression
+unfoldable pub define_of : List Token → Option BodyShape
+define_of ts = name_at ts >>= λ x. past sign.Becomes x.1 >>= λ us. tree_of us >>= λ e. Some (define x.0 e)
+
+-- a name and `:` at the front are a label
+abbrev pub labelled : List Token → Option (List ℕ × List Token) → Option (List ℕ) × List Token
+labelled ts None = (None, ts)
+labelled ts (Some x) = (Some x.0, x.1)
+
+unfoldable pub label_at : List Token → Option (List ℕ) × List Token
+label_at ts = labelled ts (name_at ts >>= λ x. past sign.Colon x.1 >>= λ us. Some (x.0, us))
+
+-- whether a token is a `=>` outside brackets
+abbrev pub is_promise : ℕ → What → Bool
+is_promise depth w = nat_eq depth 0 && is_sign sign.Promises w
+
+-- the place of the first `=>` outside brackets, counted from a place on, with so many brackets open before it
+unfoldable pub promise_at : ℕ → ℕ → List Token → Option ℕ
+promise_at place depth [] = None
+promise_at place depth (t ∷ ts) = if is_promise depth t.what then Some place
+    else promise_at (place + 1) (depth_after t.what depth) ts
+
+-- a formula, or a contract where the only `=>` outside brackets stands
+abbrev pub contract_of : Engine → Option (List ℕ) → List Token → List Token → Option BodyShape
+contract_of engine label left right = if is_some (promise_at 0 0 right) then None
+    else (tree_of left >>= λ e. tree_of right >>= λ f. Some (contract engine label e f))
+
+abbrev pub output_at : Engine → Option (List ℕ) → List Token → Option ℕ → Option BodyShape
+output_at engine label ts None = tree_of ts >>= λ e. Some (formula engine label e)
+output_at engine label ts (Some n) = contract_of engine label (take n ts) (drop (n + 1) ts)
+
+-- an optional label, and a formula or a contract
+unfoldable pub output_of : Engine → List Token → Option BodyShape
+output_of engine ts = let x = label_at ts in output_at engine x.0 x.1 (promise_at 0 0 x.1)
+
+-- the body of an item in a section
+abbrev pub body_of : Section → List Token → Option BodyShape
+body_of Struct ts = struct_of ts
+body_of Input ts = input_of ts
+body_of Define ts = define_of ts
+body_of (Output engine) ts = output_of engine ts

@@ -1,0 +1,51 @@
+use Rattle.std.specs.Prelude.{ℕ, Bool, true, false, List, [], ◌∷◌, ◌++◌, length, Option, Some, None, Result, Ok, Err, nat_lt, if◌then◌else◌}
+use Rattle.c2po_lexer.specs.declared.token.Token.{Token}
+use Rattle.c2po_tree.specs.ItemShape.{BodyShape, ItemShape}
+use Rattle.c2po_parse.specs.declared.fault.ParseFault.{ParseFault}
+use Rattle.c2po_parse.specs.declared.fault.ParseFault.TheVariants.{TooManyTokens, Grammar}
+use Rattle.c2po_parse.specs.declared.section.Section.{Section}
+use Rattle.c2po_parse.specs.Sections.{Piece, pieces}
+use Rattle.c2po_parse.specs.Forms.{body_of}
+
+-- The trees of a specification's items, or the fault of the first faulty item.
+
+-- what a piece says, where a `;` ends it within a section
+abbrev pub piece_body : Option Section → Bool → List Token → Option BodyShape
+piece_body None ended ts = None
+piece_body (Some section) true ts = body_of section ts
+piece_body (Some section) false ts = None
+
+abbrev pub with_line : ℕ → Option BodyShape → Result ItemShape ParseFault
+with_line line None = Err (Grammar line)
+with_line line (Some body) = Ok (record { line = line; body = body })
+
+-- the tree of a piece: too many tokens are the first fault, the want of a tree the second
+abbrev pub piece_tree : Piece → Result ItemShape ParseFault
+piece_tree p = if nat_lt 1024 (length p.tokens) then Err (TooManyTokens p.line)
+    else with_line p.line (piece_body p.section p.ended p.tokens)
+
+-- an item before the others
+abbrev pub with_first : ItemShape → Result (List ItemShape) ParseFault → Result (List ItemShape) ParseFault
+with_first item (Err fault) = Err fault
+with_first item (Ok items) = Ok (item ∷ items)
+
+-- the first fault decides
+abbrev pub first_or : Result ItemShape ParseFault → Result (List ItemShape) ParseFault → Result (List ItemShape) ParseFault
+first_or (Err fault) others = Err fault
+first_or (Ok item) others = with_first item others
+
+unfoldable pub trees : List Piece → Result (List ItemShape) ParseFault
+trees [] = Ok []
+trees (p ∷ ps) = first_or (piece_tree p) (trees ps)
+
+-- the trees of the items of a token list
+unfoldable pub spec_of : List Token → Result (List ItemShape) ParseFault
+spec_of ts = trees (pieces None 0 [] ts)
+
+-- items that were read, and then those of what is left within a section
+abbrev pub all_with : List ItemShape → Result (List ItemShape) ParseFault → Result (List ItemShape) ParseFault
+all_with items (Err fault) = Err fault
+all_with items (Ok others) = Ok (items ++ others)
+
+unfoldable pub reads_on : List ItemShape → Option Section → List Token → Result (List ItemShape) ParseFault
+reads_on items section ts = all_with items (trees (pieces section 0 [] ts))

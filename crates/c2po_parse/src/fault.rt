@@ -1,0 +1,29 @@
+//! Why a specification has no tree.
+
+ghost use Rattle.std.specs.Prelude.{◌≡◌};
+ghost use Rattle.c2po_parse.specs.declared.fault.ParseFault.TheVariants.{Memory};
+
+use std::alloc::AllocFailed;
+use thiserror::Error;
+
+/// The fault of the first faulty item, with its line, counted from 1.
+#[derive(Clone, Copy, PartialEq, Eq, Debug, Error)]
+pub enum ParseFault {
+    /// An item of more than 1,024 tokens.
+    #[error("line {0}: an item of more than 1024 tokens")]
+    TooManyTokens(u32),
+    /// An item that the grammar gives no tree.
+    #[error("line {0}: an item that the grammar doesn't know")]
+    Grammar(u32),
+    /// Memory is wanting.
+    #[error("out of memory")]
+    Memory,
+}
+
+impl<T: Drop> From<AllocFailed<T>> for ParseFault {
+    ghost from_gives = { λ _ e. e ≡ Memory };
+
+    fn from(_refused: AllocFailed<T>) -> ParseFault {
+        ParseFault::Memory
+    }
+}

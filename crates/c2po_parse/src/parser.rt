@@ -1,0 +1,144 @@
+//! The items of a specification, in the order of the text.
+
+ghost use Rattle.std.specs.Prelude.{◌≡◌, ◌≢◌, ◌<◌, ◌≤◌, ◌++◌, ◌∷◌, [], true, Ok, Err, length, map, All, IfOk, IfErr};
+ghost use Rattle.c2po_lexer.specs.Tokens.{HasPlainName};
+ghost use Rattle.c2po_tree.specs.Names.{ArePlainItems};
+ghost use Rattle.c2po_tree.specs.ItemShape.{item_shape, body_shape, spec_shape};
+ghost use Rattle.c2po_parse.specs.Sections.{pieces, begins_item, ended_of, tail_of};
+ghost use Rattle.c2po_parse.specs.Specification.{trees, with_first, reads_on, spec_of, with_line, piece_body};
+
+use crate::ParseFault;
+use crate::form::read_body;
+use crate::section::{Section, piece_end, section_begun};
+use c2po_lexer::{Token, Tokens};
+use c2po_tree::{Item, SpecTree, TreeFault};
+use mltl_base::List;
+use mltl_base::limits::MAX_ITEM_TOKENS;
+use std::alloc::Global;
+
+/// An item on a line from its tokens and what stands behind them.
+fn item_on(
+    alloc: Global,
+    line: u32,
+    section: Option<Section>,
+    ended: bool,
+    tokens: &[Token],
+) -> Result<Item, ParseFault>
+    requires { length tokens.now ≤ MAX_ITEM_TOKENS }
+    ensures item { IfOk result (λ item. with_line line (piece_body section ended tokens.now) ≡ Ok (item_shape item)) }
+    ensures fault { IfErr result (λ fault. fault ≢ ParseFault.Memory →
+        with_line line (piece_body section ended tokens.now) ≡ Err fault) }
+{
+    let Some(section) = section else {
+        return Err(ParseFault::Grammar(line));
+    };
+    if !ended {
+        return Err(ParseFault::Grammar(line));
+    }
+    match read_body(alloc, section, tokens) {
+        Ok(body) => Ok(Item { line, body }),
+        Err(TreeFault::NoTree) => Err(ParseFault::Grammar(line)),
+        Err(TreeFault::Memory) => Err(ParseFault::Memory),
+    }
+}
+
+/// Whether the first of these tokens ends an item, where it ends a piece; and what stands behind it.
+fn behind_end(tokens: &[Token]) -> (bool, &[Token])
+    ensures ended { result.0 ≡ ended_of tokens.now }
+    ensures tail { result.1.now ≡ tail_of tokens.now }
+{
+    match tokens {
+        [] => (false, tokens),
+        [first, tail @ ..] => (section_begun(&first.what).is_none(), tail),
+    }
+}
+
+/// The item at the front, whose first token begins no section, and what stands behind its `;`.
+fn item_at(
+    alloc: Global,
+    section: Option<Section>,
+    tokens: &[Token],
+) -> Result<(Item, &[Token]), ParseFault>
+    requires { begins_item tokens.now ≡ true }
+    ensures item { IfOk result (λ x. trees (pieces section 0 [] tokens.now)
+        ≡ with_first (item_shape x.0) (trees (pieces section 0 [] x.1.now))) }
+    ensures fault { IfErr result (λ fault. fault ≢ ParseFault.Memory →
+        trees (pieces section 0 [] tokens.now) ≡ Err fault) }
+    ensures shorter { IfOk result (λ x. length x.1.now < length tokens.now) }
+{
+    let line = tokens[0].line;
+    let end = piece_end(section, tokens);
+    let piece = &tokens[..end];
+    if piece.len() > MAX_ITEM_TOKENS {
+        return Err(ParseFault::TooManyTokens(line));
+    }
+    let (ended, rest) = behind_end(&tokens[end..]);
+    match item_on(alloc, line, section, ended, piece) {
+        Ok(item) => Ok((item, rest)),
+        Err(fault) => Err(fault),
+    }
+}
+
+/// Items with one more behind them.
+fn with_item(items: List<Item>, item: Item) -> Result<List<Item>, ParseFault>
+    ensures more { IfOk result (λ all. all ≡ items ++ item ∷ []) }
+    ensures only { IfErr result (λ fault. fault ≡ ParseFault.Memory) }
+{
+    let mut items = items;
+    items.push(item)?;
+    Ok(items)
+}
+
+/// What is left behind the section's word or the item at the front: the items so far, the section, the tokens.
+fn read_front(
+    alloc: Global,
+    items: List<Item>,
+    section: Option<Section>,
+    tokens: &[Token],
+) -> Result<(List<Item>, Option<Section>, &[Token]), ParseFault>
+    requires { 0 < length tokens.now }
+    ensures read { IfOk result (λ x. reads_on (map item_shape items) section tokens.now
+        ≡ reads_on (map item_shape x.0) x.1 x.2.now) }
+    ensures fault { IfErr result (λ fault. fault ≢ ParseFault.Memory →
+        reads_on (map item_shape items) section tokens.now ≡ Err fault) }
+    ensures shorter { IfOk result (λ x. length x.2.now < length tokens.now) }
+{
+    if let Some(next) = section_begun(&tokens[0].what) {
+        return Ok((items, Some(next), &tokens[1..]));
+    }
+    match item_at(alloc, section, tokens) {
+        Ok((item, rest)) => {
+            let items = with_item(items, item)?;
+            Ok((items, section, rest))
+        }
+        Err(fault) => Err(fault),
+    }
+}
+
+/// The trees of the items of a specification, or the fault of its first faulty item.
+///
+/// The words `STRUCT`, `INPUT`, `DEFINE`, `FTSPEC` and `PTSPEC` begin sections wherever they stand; within a section an
+/// item ends at each `;` outside braces. The tree of an expression is found by splitting its tokens at the loosest
+/// operator outside brackets, level by level; the tokens are gone through once, from the left.
+///
+/// Errors: `TooManyTokens` at an item of more than 1,024 tokens, else `Grammar` at an item that has no tree, each with
+/// the line of the item's first token, or of its `;` where it has no token; `Memory` where memory is wanting.
+pub fn parse(alloc: Global, tokens: &Tokens) -> Result<SpecTree, ParseFault>
+    // The trees of the definition, exactly where each item has one.
+    ensures tree { IfOk result (λ tree. spec_of tokens.now ≡ Ok (spec_shape tree)) }
+    ensures first_fault { IfErr result (λ fault. fault ≢ ParseFault.Memory → spec_of tokens.now ≡ Err fault) }
+
+    // Names stand in the tokens: where those are made of letters, digits and `_`, these are.
+    ensures names { All (λ token. HasPlainName token.what) tokens.now → IfOk result (λ tree. ArePlainItems (spec_shape tree)) }
+{
+    let mut items = List::new(alloc);
+    let mut section = None;
+    let mut rest = tokens.as_slice();
+    while !rest.is_empty() {
+        let (all, begun, left) = read_front(alloc, items, section, rest)?;
+        items = all;
+        section = begun;
+        rest = left;
+    }
+    Ok(SpecTree { items })
+}

@@ -1,0 +1,13 @@
+pub mod Rows
+pub mod Words
+pub mod Walks
+pub mod Heads
+pub mod Operators
+pub mod Starts
+pub mod Rules
+pub mod SplitSound
+pub mod ClimbSound
+pub mod ClimbComplete
+pub mod SplitComplete
+pub mod Agree
+pub mod PlainNames

@@ -1,0 +1,8 @@
+pub mod Shape
+pub mod ItemShape
+pub mod Names
+pub mod Gives
+pub mod Tokens
+pub mod Fronts
+pub mod Splitting
+pub mod Climbing

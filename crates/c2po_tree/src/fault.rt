@@ -1,0 +1,26 @@
+//! Why tokens have no tree.
+
+ghost use Rattle.c2po_tree.specs.declared.fault.TreeFault.TheVariants.{Memory};
+ghost use Rattle.std.specs.Prelude.{◌≡◌};
+
+use std::alloc::AllocFailed;
+use thiserror::Error;
+
+/// Why an expression wasn't read.
+#[derive(Clone, Copy, PartialEq, Eq, Debug, Error)]
+pub enum TreeFault {
+    /// The grammar has no tree for the tokens.
+    #[error("no expression")]
+    NoTree,
+    /// Memory is wanting.
+    #[error("out of memory")]
+    Memory,
+}
+
+impl<T: Drop> From<AllocFailed<T>> for TreeFault {
+    ghost from_gives = { λ _ e. e ≡ Memory };
+
+    fn from(_refused: AllocFailed<T>) -> TreeFault {
+        TreeFault::Memory
+    }
+}
