@@ -1,0 +1,5 @@
+pub mod Unfolding
+pub mod Thresholds
+pub mod Cells
+pub mod Ends
+pub mod Sharing

@@ -1,0 +1,59 @@
+-- Networks of gates: what each gate stands for, and what comes out of it.
+
+use Rattle.std.specs.Prelude.{◌≡◌, ℕ, ◌-◌, ◌<◌, Bool, false, not, ◌&&◌, ◌||◌, List, [], ◌∷◌, ◌++◌, length, slice_get, slice_index_or, Option, Some, fold}
+use Rattle.count_sets.specs.declared.gate.Gate.{Gate}
+use Rattle.count_sets.specs.declared.gate.Gate.TheVariants.{Truth, Body, Both, Either, Not}
+use Rattle.count_sets.specs.Counting.{Counted, truth, body, both, either, negation}
+
+abbrev pub formula_at : List Counted → ℕ → Counted
+formula_at formulas i = slice_index_or formulas i (truth false)
+
+-- what a gate stands for, over the formulas of the gates before it
+abbrev pub formula_of : List Counted → Gate → Counted
+formula_of earlier (Truth v) = truth v
+formula_of earlier (Body i) = body i
+formula_of earlier (Both a b) = both (formula_at earlier a) (formula_at earlier b)
+formula_of earlier (Either a b) = either (formula_at earlier a) (formula_at earlier b)
+formula_of earlier (Not a) = negation (formula_at earlier a)
+
+-- the formulas that the gates unfold to, in order
+unfoldable pub formulas : List Gate → List Counted
+formulas gates = fold (λ earlier gate. earlier ++ formula_of earlier gate ∷ []) [] gates
+
+abbrev pub truth_at : List Bool → ℕ → Bool
+truth_at truths i = slice_index_or truths i false
+
+-- what comes out of a gate, given the truth of each body and of each gate before it
+abbrev pub truth_of : List Bool → List Bool → Gate → Bool
+truth_of bodies earlier (Truth v) = v
+truth_of bodies earlier (Body i) = truth_at bodies i
+truth_of bodies earlier (Both a b) = truth_at earlier a && truth_at earlier b
+truth_of bodies earlier (Either a b) = truth_at earlier a || truth_at earlier b
+truth_of bodies earlier (Not a) = not (truth_at earlier a)
+
+-- what comes out of the gates, in order
+unfoldable pub truths : List Bool → List Gate → List Bool
+truths bodies gates = fold (λ earlier gate. earlier ++ truth_of bodies earlier gate ∷ []) [] gates
+
+-- the formula, and the truth, of the last gate
+abbrev pub last_formula : List Gate → Option Counted
+last_formula gates = slice_get (formulas gates) (length gates - 1)
+
+abbrev pub last_truth : List Bool → List Gate → Option Bool
+last_truth bodies gates = slice_get (truths bodies gates) (length gates - 1)
+
+-- gate i has earlier gates as operands, and bodies below n
+abbrev pub IsOver : ℕ → ℕ → Gate → Type 0
+IsOver n i (Truth v) = Unit {0}
+IsOver n i (Body k) = k < n
+IsOver n i (Both a b) = (a < i) × (b < i)
+IsOver n i (Either a b) = (a < i) × (b < i)
+IsOver n i (Not a) = a < i
+
+-- each gate of the list is so
+pub record IsNetwork (n : ℕ) (gates : List Gate) : Type 0 where
+  pub over : (i : ℕ) (gate : Gate) → slice_get gates i ≡ Some gate → IsOver n i gate
+
+-- equal gates are one gate
+pub record IsShared (gates : List Gate) : Type 0 where
+  pub once : (i j : ℕ) (gate : Gate) → slice_get gates i ≡ Some gate → slice_get gates j ≡ Some gate → i ≡ j

@@ -1,0 +1,30 @@
+-- The table of `least`, a row at a time: what its cells stand for.
+
+use Rattle.std.specs.Prelude.{◌≡◌, ℕ, ◌+◌, ◌*◌, ◌<◌, ◌≤◌, min, List, length, slice_get, slice_index, Some}
+use Rattle.count_sets.specs.declared.gate.Gate.{Gate}
+use Rattle.count_sets.specs.declared.gate.Gate.TheVariants.{Body, Not}
+use Rattle.count_sets.specs.declared.table.Plan.{Plan}
+use Rattle.count_sets.specs.Counting.{Counted, least}
+use Rattle.count_sets.specs.Gates.{formulas, formula_at, IsNetwork, IsShared}
+
+-- gate i is there and unfolds to a formula
+pub record Stands (gates : List Gate) (i : ℕ) (formula : Counted) : Type 0 where
+  pub within : i < length gates
+  pub is : formula_at (formulas gates) i ≡ formula
+
+-- row k of the table: cell j is the gate of `least j k`, wherever a later row of the plan asks for it
+pub record IsTable (plan : Plan) (k : ℕ) (gates : List Gate) (row : List ℕ) : Type 0 where
+  pub width : length row ≡ plan.highest + 1
+  pub cells : (j : ℕ) → j ≤ plan.highest → plan.lowest + k ≤ j + plan.bodies
+      → Stands gates (slice_index row j) (least j k)
+  pub formed : IsNetwork plan.bodies gates
+  pub size : length gates ≤ 2 + k * (1 + 2 * plan.highest)
+  pub last : 0 < k → slice_index row (min k plan.highest) + 1 ≡ length gates
+
+-- no gate of the table stands twice, since the cells of a row stand in order
+pub record IsRising (plan : Plan) (k : ℕ) (gates : List Gate) (row : List ℕ) : Type 0 where
+  pub shared : IsShared gates
+  pub bodies : (i b : ℕ) → slice_get gates i ≡ Some (Body b) → b < k
+  pub nots : (i a : ℕ) → slice_get gates i ≡ Some (Not a) → ⊥
+  pub rising : (j : ℕ) → j + 1 ≤ k → j + 1 ≤ plan.highest → plan.lowest + k ≤ j + plan.bodies
+      → slice_index row j < slice_index row (j + 1)

@@ -1,0 +1,120 @@
+//! The networks of counting quantifiers.
+
+ghost use Rattle.std.specs.Prelude.{◌≡◌, ℕ, ◌+◌, ◌*◌, ◌^◌, ◌<◌, ◌≤◌, min, List as Seq, Bool, Some, length, IfOk};
+ghost use Rattle.count_sets.specs.Counting.{counting, compares, true_count};
+ghost use Rattle.count_sets.specs.Gates.{last_formula, last_truth, IsNetwork, IsShared};
+
+use crate::gate::Gate;
+use crate::table::{Plan, Table, add};
+use mltl_base::{CountOp, List};
+use std::alloc::{AllocError, Global};
+
+/// The gates of a counting quantifier over `n` bodies with the number `m`, the result last.
+///
+/// Every place among the bodies counts, also where two of them are the same formula. The time is linear in the gates.
+/// The only error is want of memory.
+pub fn network(alloc: Global, op: CountOp, n: u32, m: u32) -> Result<List<Gate>, AllocError>
+    requires some { 1 ≤ n }
+    requires bodies { n ≤ 65536 }
+    requires number { m ≤ 65536 }
+    requires weight { 2 * n * (min m n + 1) + 4 ≤ 65536 }
+    // over any truths of the bodies the last gate says how the number of true ones compares to m
+    ensures counts { IfOk result (λ gates. (bodies : Seq Bool) → length bodies ≡ n
+        → last_truth bodies gates ≡ Some (compares op m (true_count bodies))) }
+    ensures unfolds { IfOk result (λ gates. last_formula gates ≡ Some (counting op n m)) }
+    // operands are earlier gates, bodies are below n
+    ensures formed { IfOk result (λ gates. IsNetwork n gates) }
+    // equal gates are one gate, and so are equal sub-networks
+    ensures shared { IfOk result (λ gates. IsShared gates) }
+    ensures size { IfOk result (λ gates. length gates ≤ n + 2 * n * (min m n + 1) + 4) }
+{
+    match op {
+        CountOp::Exactly => exactly(alloc, n, m),
+        CountOp::AtLeast => at_least(alloc, n, m),
+        CountOp::AtMost => at_most(alloc, n, m),
+    }
+}
+
+/// As many as `m`: `true` alone where none are asked for, `false` alone where there are fewer bodies.
+fn at_least(alloc: Global, n: u32, m: u32) -> Result<List<Gate>, AllocError>
+    requires some { 1 ≤ n }
+    requires weight { 2 * n * (min m n + 1) + 4 ≤ 65536 }
+    ensures formula { IfOk result (λ gates. last_formula gates ≡ Some (counting CountOp.AtLeast n m)) }
+    ensures formed { IfOk result (λ gates. IsNetwork n gates) }
+    ensures shared { IfOk result (λ gates. IsShared gates) }
+    ensures size { IfOk result (λ gates. length gates ≤ n + 2 * n * (min m n + 1) + 4) }
+{
+    if m == 0 || m > n {
+        let mut gates = List::new(alloc);
+        let _number = add(&mut gates, Gate::Truth(m == 0))?;
+        return Ok(gates);
+    }
+    let table = Table::of(
+        alloc,
+        Plan {
+            bodies: n,
+            lowest: m,
+            highest: m,
+        },
+    )?;
+    let Table { gates, row: _ } = table;
+    Ok(gates)
+}
+
+/// Not more than `m`: `!false` where there are no more bodies.
+fn at_most(alloc: Global, n: u32, m: u32) -> Result<List<Gate>, AllocError>
+    requires some { 1 ≤ n }
+    requires weight { 2 * n * (min m n + 1) + 4 ≤ 65536 }
+    ensures formula { IfOk result (λ gates. last_formula gates ≡ Some (counting CountOp.AtMost n m)) }
+    ensures formed { IfOk result (λ gates. IsNetwork n gates) }
+    ensures shared { IfOk result (λ gates. IsShared gates) }
+    ensures size { IfOk result (λ gates. length gates ≤ n + 2 * n * (min m n + 1) + 4) }
+{
+    if m >= n {
+        let mut gates = List::new(alloc);
+        let no = add(&mut gates, Gate::Truth(false))?;
+        let _number = add(&mut gates, Gate::Not(no))?;
+        return Ok(gates);
+    }
+    let table = Table::of(
+        alloc,
+        Plan {
+            bodies: n,
+            lowest: m + 1,
+            highest: m + 1,
+        },
+    )?;
+    let Table { mut gates, row } = table;
+    let _number = add(&mut gates, Gate::Not(row[m as usize + 1]))?;
+    Ok(gates)
+}
+
+/// As many as `m` and not more.
+fn exactly(alloc: Global, n: u32, m: u32) -> Result<List<Gate>, AllocError>
+    requires some { 1 ≤ n }
+    requires weight { 2 * n * (min m n + 1) + 4 ≤ 65536 }
+    ensures formula { IfOk result (λ gates. last_formula gates ≡ Some (counting CountOp.Exactly n m)) }
+    ensures formed { IfOk result (λ gates. IsNetwork n gates) }
+    ensures shared { IfOk result (λ gates. IsShared gates) }
+    ensures size { IfOk result (λ gates. length gates ≤ n + 2 * n * (min m n + 1) + 4) }
+{
+    if m > n {
+        let mut gates = List::new(alloc);
+        let no = add(&mut gates, Gate::Truth(false))?;
+        let within = add(&mut gates, Gate::Not(no))?;
+        let _number = add(&mut gates, Gate::Both(no, within))?;
+        return Ok(gates);
+    }
+    let table = Table::of(
+        alloc,
+        Plan {
+            bodies: n,
+            lowest: m,
+            highest: m + 1,
+        },
+    )?;
+    let Table { mut gates, row } = table;
+    let within = add(&mut gates, Gate::Not(row[m as usize + 1]))?;
+    let _number = add(&mut gates, Gate::Both(row[m as usize], within))?;
+    Ok(gates)
+}
