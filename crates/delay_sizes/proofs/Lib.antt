@@ -1,0 +1,4 @@
+pub mod BoxLaws
+pub mod DelayLaws
+pub mod FormulaLaws
+pub mod QueueLaws
