@@ -1,0 +1,9 @@
+pub mod Others
+pub mod Steps
+pub mod Numbers
+pub mod Entries
+pub mod Parts
+pub mod Headers
+pub mod NamedHeads
+pub mod Whole
+pub mod Fitting

@@ -1,0 +1,237 @@
+-- Reading the bytes of an observer program, with the first fault in the order in which faults are looked for.
+use Rattle.std.specs.Prelude.{◌≡◌, ◌+◌, ◌-◌, ◌&&◌, ◌||◌, ◌==◌, not, ℕ, ℤ, suc, zero, Bool, if◌then◌else◌, List, [], ◌∷◌, length, take, drop, map, slice_index, Option, Some, None, Result, Ok, Err, nat_lt, nat_le, nat_eq, codes}
+use Rattle.std.specs.Int.{w16, w32, w64, from_le_bytes, cast_signed, is_in_range}
+use Rattle.std.specs.List.{list_all, starts_with}
+use Rattle.std.specs.Option.{option_map_or}
+use Rattle.mltl_base.specs.declared.interval.Interval.{Interval}
+use Rattle.mltl_base.specs.declared.interval.Engine.{Engine}
+use Rattle.mltl_base.specs.declared.interval.Engine.TheVariants.{Ft, Pt}
+use Rattle.mltl_base.specs.declared.operators.BzOp.{BzOp}
+use Rattle.mltl_base.specs.declared.operators.BzOp.TheVariants as bz
+use Rattle.mltl_base.specs.declared.operators.FtOp.{FtOp}
+use Rattle.mltl_base.specs.declared.operators.FtOp.TheVariants as ft
+use Rattle.mltl_base.specs.declared.operators.PtOp.{PtOp}
+use Rattle.mltl_base.specs.declared.operators.PtOp.TheVariants as pt
+use Rattle.mltl_base.specs.declared.program.Out.{Out}
+use Rattle.mltl_base.specs.declared.program.Out.TheVariants.{Formula, Contract}
+use Rattle.mltl_base.specs.declared.program.StoredSignal.{StoredSignal}
+use Rattle.mltl_base.specs.declared.program.Program.{Program}
+use Rattle.obs_binary.specs.declared.head.OutHead.{OutHead}
+use Rattle.obs_binary.specs.declared.head.SignalHead.{SignalHead}
+use Rattle.obs_binary.specs.declared.header.Header.{Header}
+use Rattle.obs_binary.specs.declared.fault.ReadFault.{ReadFault}
+use Rattle.obs_binary.specs.declared.fault.ReadFault.TheVariants.{Short, Magic, Version, Reserved, Opcode, Trailing, NameBytes, SignalBytes, Memory}
+use Rattle.obs_binary.specs.Layout.{bz_entry, ft_entry, pt_entry, out_entry, signal_entry, header_len, body_len, is_letter}
+
+-- ---- numbers
+
+abbrev pub short_at : List ℕ → ℕ → ℕ
+short_at bytes k = from_le_bytes w16 (take 2 (drop k bytes))
+
+abbrev pub number_at : List ℕ → ℕ → ℕ
+number_at bytes k = from_le_bytes w32 (take 4 (drop k bytes))
+
+abbrev pub signed_at : List ℕ → ℕ → ℤ
+signed_at bytes k = cast_signed w64 (from_le_bytes w64 (take 8 (drop k bytes)))
+
+-- ---- reading
+
+-- what a call answered, seen by `view`, is what reading gives, unless memory ran out
+abbrev pub Fails : {Y : Type 0} → ReadFault → Result Y ReadFault → Type 0
+Fails Memory read = Unit {0}
+Fails fault read = read ≡ Err fault
+
+abbrev pub Gives : {X Y : Type 0} → (X → Y) → Result X ReadFault → Result Y ReadFault → Type 0
+Gives view (Ok x) read = read ≡ Ok (view x)
+Gives view (Err fault) read = Fails fault read
+
+-- one step after another, up to the first fault
+infixl 10 ◌>>=◌
+abbrev pub ◌>>=◌ : {A B : Type 0} → Result A ReadFault → (A → Result B ReadFault) → Result B ReadFault
+(Ok x) >>= f = f x
+(Err fault) >>= f = Err fault
+
+-- the first place, counted from `place` on, where the bytes of an entry aren't as they must be
+unfoldable pub first_other : ℕ → List ℕ → List ℕ → Option ℕ
+first_other place [] bytes = None
+first_other place (must ∷ musts) [] = Some place
+first_other place (must ∷ musts) (byte ∷ bytes) = if byte == must then first_other (suc place) musts bytes else Some place
+
+-- an entry that holds x, with the bytes behind it
+abbrev pub unless_other : {A : Type 0} → Option ℕ → A → Result A ReadFault
+unless_other None x = Ok x
+unless_other (Some place) x = Err (Reserved place)
+
+abbrev pub as_spelled : {X : Type 0} → ℕ → (X → List ℕ) → ℕ → List ℕ → Option X → Result (X × List ℕ) ReadFault
+as_spelled len spelled place bytes None = Err (Opcode place)
+as_spelled len spelled place bytes (Some x) = unless_other (first_other place (spelled x) (take len bytes)) (x, drop len bytes)
+
+-- The entry of `len` bytes in front of others. `content` is what its opcode and its fields say, if the opcode is of its
+-- part. An entry that isn't as its content is spelled has a byte other than 0 in a place without content, or an engine
+-- or a kind above 1. The file has `size` bytes, so the place of the entry is the number of those before it.
+unfoldable pub entry_at : {X : Type 0} → ℕ → (X → List ℕ) → (List ℕ → Option X) → ℕ → List ℕ → Result (X × List ℕ) ReadFault
+entry_at len spelled content size bytes = as_spelled len spelled (size - length bytes) bytes (content (take len bytes))
+
+-- so many entries, one after the other
+unfoldable pub each_at : {X : Type 0} → (List ℕ → Result (X × List ℕ) ReadFault) → ℕ → List ℕ → Result (List X × List ℕ) ReadFault
+each_at read zero bytes = Ok ([], bytes)
+each_at read (suc n) bytes = do
+  first ← read bytes
+  others ← each_at read n first.1
+  Ok (first.0 ∷ others.0, others.1)
+
+-- ---- what the opcode and the fields of an entry say
+
+unfoldable pub bz_content : List ℕ → Option BzOp
+bz_content bytes =
+    let opcode = slice_index bytes 0 in
+    let a = number_at bytes 4 in
+    let b = number_at bytes 8 in
+    if opcode == 0x01 then Some (bz.Column a)
+    else if opcode == 0x02 then Some (bz.IsTrue a)
+    else if opcode == 0x03 then Some (bz.Const (signed_at bytes 8))
+    else if opcode == 0x04 then Some (bz.Neg a)
+    else if opcode == 0x05 then Some (bz.Add a b)
+    else if opcode == 0x06 then Some (bz.Sub a b)
+    else if opcode == 0x07 then Some (bz.Mul a b)
+    else if opcode == 0x08 then Some (bz.Div a b)
+    else if opcode == 0x09 then Some (bz.Rem a b)
+    else if opcode == 0x0a then Some (bz.Eq a b)
+    else if opcode == 0x0b then Some (bz.Lt a b)
+    else if opcode == 0x0c then Some (bz.Le a b)
+    else None
+
+abbrev pub interval_at : List ℕ → Interval
+interval_at bytes = record { lo = number_at bytes 12; hi = number_at bytes 16 }
+
+unfoldable pub ft_content : List ℕ → Option (FtOp × ℕ)
+ft_content bytes =
+    let opcode = slice_index bytes 0 in
+    let a = number_at bytes 4 in
+    let b = number_at bytes 8 in
+    let size = number_at bytes 20 in
+    if opcode == 0x10 then Some (ft.True, size)
+    else if opcode == 0x11 then Some (ft.Load a, size)
+    else if opcode == 0x12 then Some (ft.Not a, size)
+    else if opcode == 0x13 then Some (ft.And a b, size)
+    else if opcode == 0x14 then Some (ft.Until a b (interval_at bytes), size)
+    else None
+
+unfoldable pub pt_content : List ℕ → Option (PtOp × ℕ)
+pt_content bytes =
+    let opcode = slice_index bytes 0 in
+    let a = number_at bytes 4 in
+    let b = number_at bytes 8 in
+    let size = number_at bytes 20 in
+    if opcode == 0x20 then Some (pt.True, size)
+    else if opcode == 0x21 then Some (pt.Load a, size)
+    else if opcode == 0x22 then Some (pt.Not a, size)
+    else if opcode == 0x23 then Some (pt.And a b, size)
+    else if opcode == 0x24 then Some (pt.Since a b (interval_at bytes), size)
+    else None
+
+abbrev pub engine_at : List ℕ → Engine
+engine_at bytes = if slice_index bytes 1 == 1 then Pt else Ft
+
+abbrev pub out_at : List ℕ → Option ℕ → OutHead
+out_at bytes right = record { engine = engine_at bytes; left = number_at bytes 4; right = right; name_len = number_at bytes 12 }
+
+unfoldable pub out_content : List ℕ → Option OutHead
+out_content bytes =
+    let opcode = slice_index bytes 0 in
+    if opcode == 0x30 then Some (out_at bytes None)
+    else if opcode == 0x31 then Some (out_at bytes (Some (number_at bytes 8)))
+    else None
+
+-- a signal has no opcode
+unfoldable pub signal_content : List ℕ → Option SignalHead
+signal_content bytes =
+    Some (record { column = number_at bytes 0; truth = slice_index bytes 4 == 1; name_len = slice_index bytes 5 })
+
+-- ---- names
+
+-- a name of `len` bytes stands in front: 1 to 64 letters, digits or `_`, none of them past the end
+abbrev pub is_name_in_front : ℕ → List ℕ → Bool
+is_name_in_front len bytes = is_in_range 1 64 len && nat_le len (length bytes) && list_all is_letter (take len bytes)
+
+-- The names of `heads`, one after the other, which take all bytes. The fault of head k comes where its name isn't one,
+-- and that of the number of heads where bytes are left over.
+unfoldable pub named : {H X : Type 0} → (H → ℕ) → (H → List ℕ → X) → (ℕ → ReadFault) → ℕ → List H → List ℕ → Result (List X) ReadFault
+named len_of with_name fault k [] bytes = if length bytes == 0 then Ok [] else Err (fault k)
+named len_of with_name fault k (head ∷ heads) bytes =
+    if is_name_in_front (len_of head) bytes
+    then (named len_of with_name fault (suc k) heads (drop (len_of head) bytes) >>= λ others. Ok (with_name head (take (len_of head) bytes) ∷ others))
+    else Err (fault k)
+
+abbrev pub out_of : OutHead → List ℕ → Out
+out_of head name = option_map_or (λ right. Contract head.engine head.left right name) head.right (Formula head.engine head.left name)
+
+abbrev pub signal_of : SignalHead → List ℕ → StoredSignal
+signal_of head name = record { name = name; truth = head.truth; column = head.column }
+
+abbrev pub outs_named : List OutHead → List ℕ → Result (List Out) ReadFault
+outs_named heads bytes = named (λ h. h.name_len) out_of NameBytes 0 heads bytes
+
+abbrev pub signals_named : List SignalHead → List ℕ → Result (List StoredSignal) ReadFault
+signals_named heads bytes = named (λ h. h.name_len) signal_of SignalBytes 0 heads bytes
+
+-- ---- headers and programs
+
+-- the numbers of a header of this version
+abbrev pub header_fields : ℕ → List ℕ → Header
+header_fields version bytes = record {
+  version = version;
+  width = number_at bytes 8;
+  bz = number_at bytes 12;
+  ft = number_at bytes 16;
+  pt = number_at bytes 20;
+  outs = number_at bytes 24;
+  name_bytes = number_at bytes 28;
+  signals = if version == 2 then number_at bytes 32 else 0;
+  signal_bytes = if version == 2 then number_at bytes 36 else 0;
+}
+
+-- the number of bytes that the header says
+abbrev pub said_len : Header → ℕ
+said_len h = header_len h.version + body_len h
+
+unfoldable pub header_at : List ℕ → Result Header ReadFault
+header_at bytes =
+    let version = short_at bytes 4 in
+    let header = header_fields version bytes in
+    if nat_lt (length bytes) 32 then Err Short
+    else if not (starts_with nat_eq bytes (codes "MLTL")) then Err Magic
+    else if not (version == 1 || version == 2) then Err Version
+    else if not (slice_index bytes 6 == 0) then Err (Reserved 6)
+    else if not (slice_index bytes 7 == 0) then Err (Reserved 7)
+    else if nat_lt (length bytes) (header_len version) then Err Short
+    else if nat_lt (length bytes) (said_len header) then Err Short
+    else if nat_lt (said_len header) (length bytes) then Err Trailing
+    else Ok header
+
+-- what stands behind the header of a file of `size` bytes
+unfoldable pub body_at : Header → ℕ → List ℕ → Result Program ReadFault
+body_at header size bytes = do
+  bz ← each_at (entry_at 24 bz_entry bz_content size) header.bz bytes
+  ft ← each_at (entry_at 24 ft_entry ft_content size) header.ft bz.1
+  pt ← each_at (entry_at 24 pt_entry pt_content size) header.pt ft.1
+  outs ← each_at (entry_at 24 out_entry out_content size) header.outs pt.1
+  signals ← each_at (entry_at 8 signal_entry signal_content size) header.signals outs.1
+  named_outs ← outs_named outs.0 (take header.name_bytes signals.1)
+  named_signals ← signals_named signals.0 (drop header.name_bytes signals.1)
+  Ok (record {
+    version = header.version;
+    width = header.width;
+    bz = bz.0;
+    ft = map (λ x. x.0) ft.0;
+    pt = map (λ x. x.0) pt.0;
+    outs = named_outs;
+    sizes = record { ft = map (λ x. x.1) ft.0; pt = map (λ x. x.1) pt.0 };
+    signals = named_signals;
+  })
+
+-- The program whose bytes these are, or the first fault.
+unfoldable pub program_at : List ℕ → Result Program ReadFault
+program_at bytes = do
+  header ← header_at bytes
+  body_at header (length bytes) (drop (header_len header.version) bytes)

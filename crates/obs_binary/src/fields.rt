@@ -1,0 +1,30 @@
+//! The numbers of a program file, which are little-endian.
+
+ghost use Rattle.std.specs.Prelude.{◌≡◌, ◌≤◌, ◌+◌, length};
+ghost use Rattle.obs_binary.specs.Reading.{number_at, signed_at, short_at};
+
+use byteorder::{ByteOrder, LittleEndian};
+
+/// The unsigned number of 32 bits at a place of the bytes.
+pub fn u32_at(bytes: &[u8], at: usize) -> u32
+    requires { at + 4 ≤ length bytes.now }
+    ensures { result ≡ number_at bytes.now at }
+{
+    LittleEndian::read_u32(&bytes[at..])
+}
+
+/// The signed number of 64 bits at a place of the bytes.
+pub fn i64_at(bytes: &[u8], at: usize) -> i64
+    requires { at + 8 ≤ length bytes.now }
+    ensures { result ≡ signed_at bytes.now at }
+{
+    LittleEndian::read_i64(&bytes[at..])
+}
+
+/// The unsigned number of 16 bits at a place of the bytes.
+pub(crate) fn u16_at(bytes: &[u8], at: usize) -> u16
+    requires { at + 2 ≤ length bytes.now }
+    ensures { result ≡ short_at bytes.now at }
+{
+    LittleEndian::read_u16(&bytes[at..])
+}

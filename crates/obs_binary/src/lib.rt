@@ -1,0 +1,20 @@
+//! Observer programs as bytes: the one spelling of each program, and its reading, in both versions of the layout.
+#![tactic(auto)]
+
+mod entry;
+mod fault;
+mod fields;
+mod head;
+mod header;
+mod instructions;
+mod names;
+mod reading;
+mod writing;
+
+pub use fault::ReadFault;
+pub use fields::{i64_at, u32_at};
+pub use reading::{one_program, read_program};
+pub use writing::write_program;
+
+#[cfg(test)]
+mod tests;

@@ -1,0 +1,91 @@
+//! The names of outputs and signals, which stand behind all entries.
+
+ghost use Rattle.std.specs.Prelude.{◌≡◌, ◌<◌, ◌^◌, ℕ, List as Items, length, MatchOption, false, true, take, drop};
+ghost use Rattle.std.specs.List.{list_all};
+ghost use Rattle.obs_binary.specs.Layout.{is_letter};
+ghost use Rattle.obs_binary.specs.Reading.{Gives, is_name_in_front, named};
+ghost use Rattle.obs_binary.specs.declared.fault.ReadFault.{ReadFault};
+
+use crate::fault::ReadFault;
+use mltl_base::{List, Name};
+use std::alloc::Global;
+
+/// What stands in an entry, without its name.
+pub(crate) trait Head: Sized {
+    /// The same with its name.
+    type Whole: Drop;
+
+    // The length of the name.
+    ghost name_len: { Self → ℕ };
+
+    // The same with its name.
+    ghost with_name: { Self → Items ℕ → Self.Whole };
+
+    // The fault of the name of a head, which is counted from 0.
+    ghost fault: { ℕ → ReadFault };
+
+    /// The length of the name.
+    fn name_len(&self) -> usize
+        ensures { result ≡ name_len self.now };
+
+    /// The same with its name.
+    fn with_name(&self, name: Name) -> Self::Whole
+        ensures { result ≡ with_name self.now name };
+
+    /// The fault of the name of head `k`.
+    fn fault(k: u32) -> ReadFault
+        ensures { result ≡ fault k };
+}
+
+fn is_letter(byte: u8) -> bool
+    ensures { result ≡ is_letter byte }
+{
+    byte.is_ascii_alphanumeric() || byte == b'_'
+}
+
+fn all_letters(bytes: &[u8]) -> bool
+    ensures { result ≡ list_all is_letter bytes.now }
+{
+    bytes.iter().all(|byte| is_letter(*byte))
+}
+
+/// The name of `len` bytes at the front, and the bytes behind it; `None` where no name of that length stands there.
+fn name_in_front(len: usize, bytes: &[u8]) -> Option<(Name, &[u8])>
+    ensures { MatchOption result (is_name_in_front len bytes.now ≡ false)
+        (λ found. (is_name_in_front len bytes.now ≡ true)
+        × (found.0 ≡ take len bytes.now) × (found.1.now ≡ drop len bytes.now)) }
+{
+    if bytes.len() < len {
+        return None;
+    }
+    let (front, behind) = bytes.split_at(len);
+    if !all_letters(front) {
+        return None;
+    }
+    let name = Name::of(front)?;
+    Some((name, behind))
+}
+
+/// The wholes of the heads, whose names take all bytes.
+pub(crate) fn named<H: Head>(
+    alloc: Global,
+    heads: &[H],
+    names: &[u8],
+) -> Result<List<H::Whole>, ReadFault>
+    requires { length heads.now < 2 ^ 32 }
+    ensures { Gives (λ wholes. wholes) result (named H.name_len H.with_name H.fault 0 heads.now names.now) }
+{
+    let mut wholes = List::new(alloc);
+    let mut rest = names;
+    for (k, head) in heads.iter().enumerate() {
+        let Some((name, behind)) = name_in_front(head.name_len(), rest) else {
+            return Err(H::fault(k as u32));
+        };
+        wholes.push(head.with_name(name))?;
+        rest = behind;
+    }
+    if !rest.is_empty() {
+        return Err(H::fault(heads.len() as u32));
+    }
+    Ok(wholes)
+}
