@@ -1,0 +1,89 @@
+-- Signals in other columns.
+use Rattle.std.proofs.Common.{◌≡◌, ℕ, ◌+◌, ◌<◌, ◌≤◌, ◌==◌, zero, suc, Bool, true, false, Option, Some, None, List, [], ◌∷◌, ◌++◌, All, length, take, drop, map, slice_get, slice_set, slice_index, slice_index_or, refl, ap, sym, ◌∙◌, arith, subst, inl, inr, eq-eqb, append_assoc}
+use Rattle.std.proofs.lemmas.Bool.Decides.{eqb_tells}
+use Rattle.std.proofs.lemmas.List.{drop_more, drop_all, take_more, map_more, set_at, length-map, length-take-le}
+use Rattle.mltl_base.specs.declared.program.StoredSignal.{StoredSignal}
+use Rattle.obs_verify.specs.Bound.{bound_signals, moved}
+
+pub moved_here : (signals : List StoredSignal) (columns : List ℕ) (c k : ℕ) (s : StoredSignal) → k < length signals → k < length columns → s ≡ slice_index_or signals k s → s.column ≡ c
+    → moved (drop k signals) (drop k columns) c ≡ slice_index columns k
+unfolding moved
+moved_here signals columns c k s inside wide is at =
+    ap (λ ss. moved ss (drop k columns) c) (drop_more signals k s inside) ∙ ap (λ ns. moved (slice_index_or signals k s ∷ drop (k + 1) signals) ns c) (drop_more columns k 0 wide)
+    ∙ rw (eq-eqb _ _ (ap (λ (x : StoredSignal). x.column) (sym is) ∙ at)) refl
+
+pub moved_more : (signals : List StoredSignal) (columns : List ℕ) (c k : ℕ) (s : StoredSignal) → k < length signals → k < length columns → s ≡ slice_index_or signals k s → (s.column ≡ c → ⊥)
+    → moved (drop k signals) (drop k columns) c ≡ moved (drop (k + 1) signals) (drop (k + 1) columns) c
+unfolding moved
+moved_more signals columns c k s inside wide is other =
+    ap (λ ss. moved ss (drop k columns) c) (drop_more signals k s inside) ∙ ap (λ ns. moved (slice_index_or signals k s ∷ drop (k + 1) signals) ns c) (drop_more columns k 0 wide)
+    ∙ elim (eqb_tells (slice_index_or signals k s).column c) [
+      | inl p ↦ absurd (other (ap (λ (x : StoredSignal). x.column) is ∙ p.1))
+      | inr p ↦ rw p.0 refl
+    ]
+
+no_columns : (signals : List StoredSignal) (c : ℕ) → moved signals [] c ≡ c
+unfolding moved
+no_columns [] c = refl
+no_columns (s ∷ signals) c = refl
+
+pub moved_past : (signals : List StoredSignal) (columns : List ℕ) (c k : ℕ) → length columns ≤ k → moved (drop k signals) (drop k columns) c ≡ c
+moved_past signals columns c k past = ap (λ ns. moved (drop k signals) ns c) (drop_all k columns past) ∙ no_columns (drop k signals) c
+
+pub moved_none : (signals : List StoredSignal) (columns : List ℕ) (c k : ℕ) → length signals ≤ k → moved (drop k signals) (drop k columns) c ≡ c
+unfolding moved
+moved_none signals columns c k past = ap (λ ss. moved ss (drop k columns) c) (drop_all k signals past)
+
+-- one member is changed at its place
+pub change_at : {X : Type 0} (front rest ys : List X) (x y : X) (i : ℕ) → length front ≡ i → ys ≡ front ++ x ∷ rest → slice_set ys i y ≡ front ++ y ∷ rest
+change_at front rest ys x y i long is = ap (λ zs. slice_set zs i y) is ∙ set_at front x rest y i long
+
+read_at : {X : Type 0} (front rest : List X) (x : X) → slice_get (front ++ x ∷ rest) (length front) ≡ Some x
+read_at [] rest x = refl
+read_at (y ∷ front) rest x = read_at front rest x
+
+pub mapped_more : {X : Type 0} (f : X → X) (xs ys : List X) (i : ℕ) (x : X) → i < length xs → ys ≡ map f (take i xs) ++ drop i xs → slice_get ys i ≡ Some x
+    → slice_set ys i (f x) ≡ map f (take (i + 1) xs) ++ drop (i + 1) xs
+mapped_more f xs ys i x inside done got =
+    let front : length (map f (take i xs)) ≡ i = length-map (take i xs) f ∙ length-take-le i xs (omega arith) in
+    let split : ys ≡ map f (take i xs) ++ slice_index_or xs i x ∷ drop (i + 1) xs = done ∙ ap (λ zs. map f (take i xs) ++ zs) (drop_more xs i x inside) in
+    let there : slice_get ys i ≡ Some (slice_index_or xs i x) = ap (λ zs. slice_get zs i) split ∙ ap (slice_get (map f (take i xs) ++ slice_index_or xs i x ∷ drop (i + 1) xs)) (sym front) ∙ read_at (map f (take i xs)) (drop (i + 1) xs) (slice_index_or xs i x) in
+    let same : x ≡ slice_index_or xs i x = cc in
+    change_at (map f (take i xs)) (drop (i + 1) xs) ys (slice_index_or xs i x) (f x) i front split
+    ∙ ap (λ z. map f (take i xs) ++ f z ∷ drop (i + 1) xs) same
+    ∙ sym (append_assoc (map f (take i xs)) (f (slice_index_or xs i x) ∷ []) (drop (i + 1) xs)) ∙ ap (λ zs. zs ++ drop (i + 1) xs) (sym (map_more f xs i x inside))
+
+pub length-bound_signals : (signals : List StoredSignal) (columns : List ℕ) → length (bound_signals signals columns) ≡ length signals
+unfolding bound_signals
+length-bound_signals [] columns = refl
+length-bound_signals (s ∷ signals) [] = refl
+length-bound_signals (s ∷ signals) (n ∷ columns) = ap suc (length-bound_signals signals columns)
+
+bound_push : (signals : List StoredSignal) (columns : List ℕ) (s : StoredSignal) (n : ℕ) → length signals ≡ length columns
+    → bound_signals (signals ++ s ∷ []) (columns ++ n ∷ []) ≡ bound_signals signals columns ++ (record s { column = n }) ∷ []
+unfolding bound_signals
+bound_push [] [] s n same = refl
+bound_push [] (m ∷ columns) s n same = absurd (omega arith)
+bound_push (t ∷ signals) [] s n same = absurd (omega arith)
+bound_push (t ∷ signals) (m ∷ columns) s n same = ap (λ ss. record t { column = m } ∷ ss) (bound_push signals columns s n (omega arith))
+
+pub bound_more : (signals now : List StoredSignal) (columns : List ℕ) (k n : ℕ) (s moved_signal : StoredSignal) → k < length columns → length columns ≡ length signals
+    → now ≡ bound_signals (take k signals) (take k columns) ++ drop k signals → slice_get now k ≡ Some s → n ≡ slice_index columns k → moved_signal ≡ record s { column = n }
+    → slice_set now k moved_signal ≡ bound_signals (take (k + 1) signals) (take (k + 1) columns) ++ drop (k + 1) signals
+bound_more signals now columns k n s moved_signal inside same done got new made =
+    let within : k < length signals = omega arith in
+    let fs : length (take k signals) ≡ k = length-take-le k signals (omega arith) in
+    let fc : length (take k columns) ≡ k = length-take-le k columns (omega arith) in
+    let front : length (bound_signals (take k signals) (take k columns)) ≡ k = length-bound_signals (take k signals) (take k columns) ∙ fs in
+    let old : StoredSignal = slice_index_or signals k s in
+    let split : now ≡ bound_signals (take k signals) (take k columns) ++ old ∷ drop (k + 1) signals = done ∙ ap (λ zs. bound_signals (take k signals) (take k columns) ++ zs) (drop_more signals k s within) in
+    let there : slice_get now k ≡ Some old = ap (λ zs. slice_get zs k) split ∙ ap (slice_get (bound_signals (take k signals) (take k columns) ++ old ∷ drop (k + 1) signals)) (sym front)
+    ∙ read_at (bound_signals (take k signals) (take k columns)) (drop (k + 1) signals) old in
+    let is : s ≡ old = cc in
+    let grown : bound_signals (take (k + 1) signals) (take (k + 1) columns) ≡ bound_signals (take k signals) (take k columns) ++ (record old { column = slice_index columns k }) ∷ [] =
+    ap (λ ss. bound_signals ss (take (k + 1) columns)) (take_more signals k s within) ∙ ap (bound_signals (take k signals ++ old ∷ [])) (take_more columns k 0 inside)
+    ∙ bound_push (take k signals) (take k columns) old (slice_index columns k) (fs ∙ sym fc) in
+    let put : moved_signal ≡ record old { column = slice_index columns k } = made ∙ ap (λ (x : StoredSignal). record x { column = n }) is ∙ ap (λ (m : ℕ). record old { column = m }) new in
+    change_at (bound_signals (take k signals) (take k columns)) (drop (k + 1) signals) now old moved_signal k front split
+    ∙ ap (λ (z : StoredSignal). bound_signals (take k signals) (take k columns) ++ z ∷ drop (k + 1) signals) put
+    ∙ sym (append_assoc (bound_signals (take k signals) (take k columns)) (record old { column = slice_index columns k } ∷ []) (drop (k + 1) signals)) ∙ ap (λ zs. zs ++ drop (k + 1) signals) (sym grown)

@@ -1,0 +1,145 @@
+-- Expressions, kinds and truths of a program whose reads of columns are changed by a function of instructions.
+use Rattle.std.proofs.Common.{◌≡◌, ℕ, ◌+◌, ◌<◌, zero, suc, Bool, true, false, Option, Some, None, List, [], ◌∷◌, ◌++◌, length, take, map, slice_get, slice_index_or, refl, ap, sym, ◌∙◌, arith, add-zero}
+use Rattle.std.proofs.lemmas.List.{map_push, take-map}
+use Rattle.mltl_base.specs.declared.operators.BzOp.{BzOp}
+use Rattle.mltl_base.specs.declared.operators.BzOp.TheVariants.{Column, IsTrue, Const, Neg, Add, Sub, Mul, Div, Rem, Eq, Lt, Le}
+use Rattle.mltl_base.specs.declared.program.StoredSignal.{StoredSignal}
+use Rattle.obs_verify.specs.declared.range.Range.{Range}
+use Rattle.mltl_base.specs.Atoms.{Term, column, constant, negative, plus, minus, times, quotient, remainder, Atom, is_true, equal, less, at_most}
+use Rattle.mltl_base.specs.Programs.{Expression, whole, truth, expression_of, expressions_after, expressions, term_at, term_of}
+use Rattle.obs_verify.specs.Ranges.{range, negation_of, sum_of, difference_of, product_of, quotient_of, remainder_of}
+use Rattle.obs_verify.specs.declared.fault.VerifyFault.{VerifyFault}
+use Rattle.obs_verify.specs.Bound.{bound_op, moved}
+use Rattle.obs_verify.specs.WellFormed.{first_in, is_truth, is_whole, or_else}
+
+slice_get-map : {X Y : Type 0} (f : X → Y) (xs : List X) (i : ℕ) → slice_get (map f xs) i ≡ elim (slice_get xs i) as (λ o. Option Y) [ None ↦ None | Some x ↦ Some (f x) ]
+slice_get-map f [] i = refl
+slice_get-map f (x ∷ xs) zero = refl
+slice_get-map f (x ∷ xs) (suc i) = slice_get-map f xs i
+
+-- a test of what stands at a place is kept by a map that keeps it of each member
+kept_test : {X : Type 0} (test : Option X → Bool) (f : X → X) → ((x : X) → test (Some (f x)) ≡ test (Some x)) → (xs : List X) (i : ℕ) → test (slice_get (map f xs) i) ≡ test (slice_get xs i)
+kept_test test f each [] i = refl
+kept_test test f each (x ∷ xs) zero = each x
+kept_test test f each (x ∷ xs) (suc i) = kept_test test f each xs i
+
+whole_kept : (signals : List StoredSignal) (columns : List ℕ) (op : BzOp) → is_whole (Some (bound_op signals columns op)) ≡ is_whole (Some op)
+whole_kept signals columns (Column c) = refl
+whole_kept signals columns (IsTrue c) = refl
+whole_kept signals columns (Const n) = refl
+whole_kept signals columns (Neg a) = refl
+whole_kept signals columns (Add a b) = refl
+whole_kept signals columns (Sub a b) = refl
+whole_kept signals columns (Mul a b) = refl
+whole_kept signals columns (Div a b) = refl
+whole_kept signals columns (Rem a b) = refl
+whole_kept signals columns (Eq a b) = refl
+whole_kept signals columns (Lt a b) = refl
+whole_kept signals columns (Le a b) = refl
+
+truth_kept : (signals : List StoredSignal) (columns : List ℕ) (op : BzOp) → is_truth (Some (bound_op signals columns op)) ≡ is_truth (Some op)
+truth_kept signals columns (Column c) = refl
+truth_kept signals columns (IsTrue c) = refl
+truth_kept signals columns (Const n) = refl
+truth_kept signals columns (Neg a) = refl
+truth_kept signals columns (Add a b) = refl
+truth_kept signals columns (Sub a b) = refl
+truth_kept signals columns (Mul a b) = refl
+truth_kept signals columns (Div a b) = refl
+truth_kept signals columns (Rem a b) = refl
+truth_kept signals columns (Eq a b) = refl
+truth_kept signals columns (Lt a b) = refl
+truth_kept signals columns (Le a b) = refl
+
+pub truth_at_kept : (signals : List StoredSignal) (columns : List ℕ) (ops : List BzOp) (a : ℕ) → is_truth (slice_get (map (bound_op signals columns) ops) a) ≡ is_truth (slice_get ops a)
+truth_at_kept signals columns ops a = kept_test is_truth (bound_op signals columns) (truth_kept signals columns) ops a
+
+pub whole_before_kept : (signals : List StoredSignal) (columns : List ℕ) (ops : List BzOp) (i a : ℕ)
+    → is_whole (slice_get (take i (map (bound_op signals columns) ops)) a) ≡ is_whole (slice_get (take i ops) a)
+whole_before_kept signals columns ops i a =
+    ap (λ os. is_whole (slice_get os a)) (take-map (bound_op signals columns) i ops) ∙ kept_test is_whole (bound_op signals columns) (whole_kept signals columns) (take i ops) a
+
+-- an expression over other columns
+over : (ℕ → ℕ) → Term → Term
+over g (column c) = column (g c)
+over g (constant n) = constant n
+over g (negative a) = negative (over g a)
+over g (plus a b) = plus (over g a) (over g b)
+over g (minus a b) = minus (over g a) (over g b)
+over g (times a b) = times (over g a) (over g b)
+over g (quotient a b) = quotient (over g a) (over g b)
+over g (remainder a b) = remainder (over g a) (over g b)
+
+atom_over : (ℕ → ℕ) → Atom → Atom
+atom_over g (is_true c) = is_true (g c)
+atom_over g (equal a b) = equal (over g a) (over g b)
+atom_over g (less a b) = less (over g a) (over g b)
+atom_over g (at_most a b) = at_most (over g a) (over g b)
+atom_over g a = a
+
+both_over : (ℕ → ℕ) → Expression → Expression
+both_over g (whole e) = whole (over g e)
+both_over g (truth a) = truth (atom_over g a)
+
+range_over : (g : ℕ → ℕ) (e : Term) → range (over g e) ≡ range e
+unfolding range over
+range_over g (column c) = refl
+range_over g (constant n) = refl
+range_over g (negative a) = ap negation_of (range_over g a)
+range_over g (plus a b) = ap (λ r. sum_of r (range (over g b))) (range_over g a) ∙ ap (sum_of (range a)) (range_over g b)
+range_over g (minus a b) = ap (λ r. difference_of r (range (over g b))) (range_over g a) ∙ ap (difference_of (range a)) (range_over g b)
+range_over g (times a b) = ap (λ r. product_of r (range (over g b))) (range_over g a) ∙ ap (product_of (range a)) (range_over g b)
+range_over g (quotient a b) = ap (λ r. quotient_of r (range (over g b))) (range_over g a) ∙ ap (quotient_of (range a)) (range_over g b)
+range_over g (remainder a b) = ap (λ r. remainder_of r (range (over g b))) (range_over g a) ∙ ap (remainder_of (range a)) (range_over g b)
+
+term_over : (g : ℕ → ℕ) (es : List Expression) (a : ℕ) → term_at (map (both_over g) es) a ≡ over g (term_at es a)
+unfolding both_over over
+term_over g [] a = refl
+term_over g (whole e ∷ es) zero = refl
+term_over g (truth t ∷ es) zero = refl
+term_over g (e ∷ es) (suc a) = term_over g es a
+
+expression_over : (signals : List StoredSignal) (columns : List ℕ) (before : List Expression) (op : BzOp)
+    → expression_of (map (both_over (moved signals columns)) before) (bound_op signals columns op) ≡ both_over (moved signals columns) (expression_of before op)
+unfolding both_over over atom_over
+expression_over signals columns before (Column c) = refl
+expression_over signals columns before (IsTrue c) = refl
+expression_over signals columns before (Const n) = refl
+expression_over signals columns before (Neg a) = ap (λ x. whole (negative x)) (term_over (moved signals columns) before a)
+expression_over signals columns before (Add a b) = let x = term_over (moved signals columns) before a in let y = term_over (moved signals columns) before b in cc
+expression_over signals columns before (Sub a b) = let x = term_over (moved signals columns) before a in let y = term_over (moved signals columns) before b in cc
+expression_over signals columns before (Mul a b) = let x = term_over (moved signals columns) before a in let y = term_over (moved signals columns) before b in cc
+expression_over signals columns before (Div a b) = let x = term_over (moved signals columns) before a in let y = term_over (moved signals columns) before b in cc
+expression_over signals columns before (Rem a b) = let x = term_over (moved signals columns) before a in let y = term_over (moved signals columns) before b in cc
+expression_over signals columns before (Eq a b) = let x = term_over (moved signals columns) before a in let y = term_over (moved signals columns) before b in cc
+expression_over signals columns before (Lt a b) = let x = term_over (moved signals columns) before a in let y = term_over (moved signals columns) before b in cc
+expression_over signals columns before (Le a b) = let x = term_over (moved signals columns) before a in let y = term_over (moved signals columns) before b in cc
+
+expressions_over : (signals : List StoredSignal) (columns : List ℕ) (before : List Expression) (ops : List BzOp)
+    → expressions_after (map (both_over (moved signals columns)) before) (map (bound_op signals columns) ops) ≡ map (both_over (moved signals columns)) (expressions_after before ops)
+unfolding expressions_after
+expressions_over signals columns before [] = refl
+expressions_over signals columns before (op ∷ ops) =
+    ap (λ es. expressions_after es (map (bound_op signals columns) ops))
+    (ap (λ e. map (both_over (moved signals columns)) before ++ e ∷ []) (expression_over signals columns before op) ∙ sym (map_push (both_over (moved signals columns)) before (expression_of before op)))
+    ∙ expressions_over signals columns (before ++ expression_of before op ∷ []) ops
+
+-- ranges stay
+pub range_kept : (signals : List StoredSignal) (columns : List ℕ) (ops : List BzOp) (i : ℕ)
+    → range (term_at (expressions (map (bound_op signals columns) ops)) i) ≡ range (term_at (expressions ops) i)
+range_kept signals columns ops i =
+    ap (λ es. range (term_at es i)) (expressions_over signals columns [] ops) ∙ ap range (term_over (moved signals columns) (expressions ops) i) ∙ range_over (moved signals columns) (term_at (expressions ops) i)
+
+-- no fault, where no member has one
+pub all_none : {X : Type 0} (rule : ℕ → X → Option VerifyFault) (xs : List X) (k : ℕ) → ((i : ℕ) (d : X) → i < length xs → rule (k + i) (slice_index_or xs i d) ≡ None) → first_in rule k xs ≡ None
+unfolding first_in
+all_none rule [] k each = refl
+all_none rule (x ∷ xs) k each =
+    ap (λ o. or_else o (first_in rule (suc k) xs)) (ap (λ n. rule n x) (sym (add-zero k)) ∙ each 0 x (omega arith))
+    ∙ all_none rule xs (suc k) (λ i d inside. let place : suc k + i ≡ k + suc i = omega arith in ap (λ n. rule n (slice_index_or xs i d)) place ∙ each (suc i) d (omega arith))
+
+-- rules that agree
+pub first_same : {X : Type 0} (rule rule' : ℕ → X → Option VerifyFault) → ((i : ℕ) (x : X) → rule i x ≡ rule' i x) → (xs : List X) (k : ℕ) → first_in rule k xs ≡ first_in rule' k xs
+unfolding first_in
+first_same rule rule' each [] k = refl
+first_same rule rule' each (x ∷ xs) k = ap (λ o. or_else o (first_in rule (suc k) xs)) (each k x) ∙ ap (or_else (rule' k x)) (first_same rule rule' each xs (suc k))

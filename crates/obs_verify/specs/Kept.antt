@@ -1,0 +1,15 @@
+-- What a checked program keeps.
+
+use Rattle.std.specs.Prelude.{ℕ, ◌≡◌, ◌≤◌, List, All}
+use Rattle.mltl_base.specs.declared.program.Program.{Program}
+use Rattle.mltl_base.specs.Queues.{best_delays, worst_delays}
+use Rattle.obs_verify.specs.Layout.{HasLayout}
+use Rattle.obs_verify.specs.WellFormed.{IsWellFormed}
+
+-- a well-formed program beside its delays
+pub record IsKept (program : Program) (bests worsts : List ℕ) : Type 0 where
+  pub layout : HasLayout program
+  pub well_formed : IsWellFormed program
+  pub best : bests ≡ best_delays program.ft
+  pub worst : worsts ≡ worst_delays program.ft
+  pub in_time : All (λ rows. rows ≤ 16777216) worsts

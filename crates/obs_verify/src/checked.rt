@@ -1,0 +1,90 @@
+//! Programs that were checked.
+
+ghost use Rattle.std.specs.Prelude.{◌≡◌, ◌≤◌, ◌<◌, All, IfOk, length};
+ghost use Rattle.mltl_base.specs.Queues.{best_delays, worst_delays};
+ghost use Rattle.obs_verify.specs.Bound.{AreDifferent, bound};
+ghost use Rattle.obs_verify.specs.Layout.{HasLayout};
+ghost use Rattle.obs_verify.specs.WellFormed.{IsAnswer, IsWellFormed, first_fault};
+
+use crate::columns::{move_reads, move_signals};
+use crate::fault::VerifyFault;
+use crate::rules::check_rules;
+use delay_sizes::Delays;
+use mltl_base::limits::{MAX_DELAY, MAX_SIGNALS};
+use mltl_base::{Columns, Program};
+use std::alloc::Global;
+use std::marker::Model;
+
+/// A well-formed program with its delays, which contracts see as the program.
+#[derive(Drop)]
+pub struct Checked {
+    program: Program,
+    delays: Delays,
+}
+
+impl Model for Checked {
+    ghost use Rattle.std.specs.Prelude.{◌≡◌, ◌≤◌, All};
+    ghost use Rattle.mltl_base.specs.declared.program.Program.{Program as Instructions};
+    ghost use Rattle.mltl_base.specs.Queues.{best_delays, worst_delays};
+    ghost use Rattle.obs_verify.specs.Kept.{IsKept};
+
+    ghost Value = { Instructions };
+
+    ghost view = { λ checked. checked.program };
+
+    ghost invariant = { λ checked. IsKept checked.program checked.delays.best checked.delays.worst };
+}
+
+impl Checked {
+    /// The program.
+    pub fn program(&self) -> &Program
+        ensures program { result.now ≡ self.now }
+        ensures well_formed { IsWellFormed self.now }
+        ensures layout { HasLayout self.now }
+    {
+        &self.program
+    }
+
+    /// The delays of its future-time instructions.
+    pub fn delays(&self) -> &Delays
+        ensures best { result.now.best ≡ best_delays self.now.ft }
+        ensures worst { result.now.worst ≡ worst_delays self.now.ft }
+        ensures in_time { All (λ rows. rows ≤ MAX_DELAY) result.now.worst }
+    {
+        &self.delays
+    }
+}
+
+/// The program as a checked one, or its first fault. It is dropped where it has one.
+pub fn verify(alloc: Global, program: Program) -> Result<Checked, VerifyFault>
+    requires { HasLayout program }
+    ensures answer { IsAnswer result (first_fault program) }
+    ensures kept { IfOk result (λ checked. checked ≡ program) }
+{
+    let delays = check_rules(alloc, &program)?;
+    Ok(Checked { program, delays })
+}
+
+/// The program over other rows: signal k moves to column k of the list, in its entry and in the instructions that read
+/// it. It takes no memory.
+pub fn rebind(checked: Checked, columns: &Columns) -> Checked
+    requires version { checked.version ≡ 2 }
+    requires one_each { length columns.now.of_signal ≡ length checked.signals }
+    requires below { All (λ column. column < columns.now.width) columns.now.of_signal }
+    requires different { AreDifferent columns.now.of_signal }
+    requires narrow { columns.now.width ≤ MAX_SIGNALS }
+    ensures { result ≡ bound checked columns.now.width columns.now.of_signal }
+{
+    let Checked {
+        mut program,
+        delays,
+    } = checked;
+    move_reads(
+        &mut program.bz,
+        program.signals.as_slice(),
+        columns.of_signal.as_slice(),
+    );
+    move_signals(&mut program.signals, columns.of_signal.as_slice());
+    program.width = columns.width;
+    Checked { program, delays }
+}

@@ -1,0 +1,117 @@
+//! Stored signals: each has a column of a row, and no column and no name stands twice.
+
+ghost use Rattle.std.specs.Prelude.{◌≡◌, ◌==◌, ◌≤◌, ◌<◌, nat_lt, ◌&&◌, vec_len, ◌^◌, ◌++◌, ◌∷◌, [], ◌||◌, ℕ, List, length, not, true, IfOk, OnOk};
+ghost use Rattle.std.specs.Bool.{OnTrue};
+ghost use Rattle.std.specs.List.{list_any};
+ghost use Rattle.std.specs.Str.{bytes_eq};
+ghost use Rattle.mltl_base.specs.declared.program.StoredSignal.{StoredSignal as Stored};
+ghost use Rattle.obs_verify.specs.declared.fault.VerifyFault.TheVariants.{Signal};
+ghost use Rattle.obs_verify.specs.Kinds.{AreKinds, AreNames, has_name};
+ghost use Rattle.obs_verify.specs.WellFormed.{IsAnswer, first_in, is_new_signal, signal_fault, unless};
+
+use crate::fault::VerifyFault;
+use mltl_base::{Name, Program, StoredSignal};
+use std::alloc::{AllocError, Global};
+use std::collections::HashSet;
+
+/// Which kinds of stored signals stand in a column.
+#[derive(Clone, Copy)]
+pub struct Kinds {
+    pub whole: bool,
+    pub truth: bool,
+}
+
+/// Puts a name into a set, and says whether it is new there.
+fn insert_name(alloc: Global, names: &mut HashSet<Vec<u8>>, name: &Name) -> Result<bool, AllocError>
+    ensures new { IfOk result (λ new. new ≡ not (has_name names.old name.now)) }
+    ensures grown { IfOk result (λ new. new ≡ true
+        → (bytes : List ℕ) → has_name names.new bytes ≡ (bytes_eq bytes name.now || has_name names.old bytes)) }
+{
+    let key = Vec::from_slice(alloc, name.bytes())?;
+    let is_new = names.insert(key)?;
+    Ok(is_new)
+}
+
+/// Whether stored signals have columns of a row, each column and each name once; with the kinds by column.
+pub fn check_signals(alloc: Global, program: &Program) -> Result<Vec<Kinds>, VerifyFault>
+    requires few { length program.now.signals < 2 ^ 32 }
+    ensures answer { IsAnswer result (first_in (signal_fault program.now) 0 program.now.signals) }
+    ensures long { IfOk result (λ kinds. vec_len kinds ≡ program.now.width) }
+    ensures kinds { IfOk result (λ kinds. AreKinds program.now.signals kinds.items) }
+{
+    let none = Kinds {
+        whole: false,
+        truth: false,
+    };
+    let mut kinds = vec![in alloc; none; program.width as usize]?;
+    note_signals(alloc, program, &mut kinds)?;
+    Ok(kinds)
+}
+
+fn note_signals(alloc: Global, program: &Program, kinds: &mut [Kinds]) -> Result<(), VerifyFault>
+    requires few { length program.now.signals < 2 ^ 32 }
+    requires same { length kinds.old ≡ program.now.width }
+    requires none { AreKinds [] kinds.old }
+    ensures answer { IsAnswer result (first_in (signal_fault program.now) 0 program.now.signals) }
+    ensures kinds { OnOk result (AreKinds program.now.signals kinds.new) }
+{
+    let mut names = HashSet::new(alloc);
+    for (k, signal) in program.signals.as_slice().iter().enumerate() {
+        check_signal(alloc, kinds, &mut names, k as u32, signal)?;
+        note_kind(kinds, signal);
+    }
+    Ok(())
+}
+
+/// Whether a signal is new beside those before; its name is then put to theirs.
+fn check_signal(
+    alloc: Global,
+    kinds: &[Kinds],
+    names: &mut HashSet<Vec<u8>>,
+    k: u32,
+    signal: &StoredSignal,
+) -> Result<(), VerifyFault>
+    ensures answer { (earlier : List Stored) → AreKinds earlier kinds.now → AreNames earlier names.old
+        → IsAnswer result (unless (is_new_signal (length kinds.now) earlier signal.now) (Signal k)) }
+    ensures names { OnOk result ((earlier : List Stored) → AreNames earlier names.old
+        → AreNames (earlier ++ signal.now ∷ []) names.new) }
+    ensures column { OnOk result (signal.now.column < length kinds.now) }
+{
+    if !is_free(kinds, signal) {
+        return Err(VerifyFault::Signal(k));
+    }
+    if !insert_name(alloc, names, &signal.name)? {
+        return Err(VerifyFault::Signal(k));
+    }
+    Ok(())
+}
+
+/// Whether the column of a signal is one of a row, and no signal before stands there.
+fn is_free(kinds: &[Kinds], signal: &StoredSignal) -> bool
+    ensures free { (earlier : List Stored) → AreKinds earlier kinds.now
+        → result ≡ (nat_lt signal.now.column (length kinds.now) && not (list_any (λ before. before.column == signal.now.column) earlier)) }
+    ensures column { OnTrue result (signal.now.column < length kinds.now) }
+{
+    if signal.column as usize >= kinds.len() {
+        return false;
+    }
+    is_empty(kinds[signal.column as usize])
+}
+
+fn is_empty(kinds: Kinds) -> bool
+    ensures { result ≡ (not kinds.whole && not kinds.truth) }
+{
+    !kinds.whole && !kinds.truth
+}
+
+/// Notes the kind of a signal at its column.
+fn note_kind(kinds: &mut [Kinds], signal: &StoredSignal)
+    requires { signal.now.column < length kinds.old }
+    ensures { (earlier : List Stored) → AreKinds earlier kinds.old → AreKinds (earlier ++ signal.now ∷ []) kinds.new }
+{
+    let here = kinds[signal.column as usize];
+    kinds[signal.column as usize] = Kinds {
+        whole: here.whole || !signal.truth,
+        truth: here.truth || signal.truth,
+    };
+}
