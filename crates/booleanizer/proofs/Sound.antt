@@ -1,0 +1,144 @@
+-- Sound instructions can be computed on every row that fits them.
+use Rattle.std.proofs.Common.{◌≡◌, ◌≢◌, ℕ, zero, suc, Bool, true, false, cond, not, List, [], ◌∷◌, ◌++◌, length, Option, Some, None, Ok, Err, refl, sym, subst, arith}
+use Rattle.std.specs.Prelude.{ℤ, pos, ◌≤ℤ◌, ◌&&◌, IsOk, FitsSigned, slice_get}
+use Rattle.std.specs.Ordering.{int_eq}
+use Rattle.std.specs.Int.{w64}
+use Rattle.std.specs.List.{AllByRecursion}
+use Rattle.std.proofs.lemmas.Int.{ints}
+use Rattle.std.proofs.lemmas.Bool.Decides.{Decides-int_eq}
+use Rattle.mltl_base.specs.declared.operators.BzOp.{BzOp}
+use Rattle.mltl_base.specs.declared.operators.BzOp.TheVariants.{Column, IsTrue, Const, Neg, Add, Sub, Mul, Div, Rem, Eq, Lt, Le}
+use Rattle.mltl_base.specs.Atoms.{Row, Term, negative, plus, minus, times, quotient, value}
+use Rattle.mltl_base.specs.Programs.{Expression, whole, truth, expression_of, term_at, term_of, FitsRow}
+use Rattle.mltl_base.specs.Ranges.{Range, Ranged, divisor, in_word, range, divides, over_divisor, divided, left_over, IsIn, FitsTerm}
+use Rattle.booleanizer.specs.Evaluation.{CanCompute, AllCompute}
+use Rattle.booleanizer.specs.Soundness.{IsSound, AreSound}
+
+-- ---- ranges
+
+record HasRange (r : Ranged) : Type 0 where
+  the : Range
+  is : r ≡ Ok the
+
+has-range : (r : Ranged) → IsOk r → HasRange r
+has-range (Ok x) h = record { the = x; is = refl }
+has-range (Err why) h = absurd cc
+
+record Divides (r : Ranged) : Type 0 where
+  the : Range
+  is : r ≡ Ok the
+  one : divides the ≡ true
+
+taken : (b : Bool) (r : Ranged) → IsOk (cond b r (Err divisor)) → b ≡ true
+taken true r h = refl
+taken false r h = absurd cc
+
+divides-of : (f : Range → ℤ → Range) (r s : Ranged) → IsOk (over_divisor f r s) → Divides s
+divides-of f (Err why) s h = absurd cc
+divides-of f (Ok r) (Err why) h = absurd cc
+divides-of f (Ok r) (Ok s) h = record { the = s; is = refl; one = taken (divides s) (in_word (f r s.least)) h }
+
+and-true : (a b : Bool) → (a && b) ≡ true → (a ≡ true) × (b ≡ true)
+and-true true b e = (refl, e)
+and-true false b e = absurd cc
+
+not-true : (b : Bool) → b ≡ true → not b ≡ true → ⊥
+not-true true e f = cc
+not-true false e f = cc
+
+not-zero : (s : Range) (z : ℤ) → divides s ≡ true → IsIn s z → z ≢ pos 0
+not-zero s z one lies e =
+    let parts = and-true (int_eq s.least s.greatest) (not (int_eq s.least (pos 0))) one in
+    let same : s.least ≡ s.greatest = (Decides-int_eq s.least s.greatest).0 parts.0 in
+    let low : s.least ≤ℤ pos 0 = subst (λ x. s.least ≤ℤ x) e lies.0 in
+    let high : pos 0 ≤ℤ s.least = subst (λ x. pos 0 ≤ℤ x) (sym same) (subst (λ x. x ≤ℤ s.greatest) e lies.1) in
+    let zero : s.least ≡ pos 0 = omega (arith, ints) in
+    not-true (int_eq s.least (pos 0)) ((Decides-int_eq s.least (pos 0)).1 zero) parts.1
+
+-- ---- what expressions ask of a row
+
+-- the whole number at a place asks nothing of the row that it hasn't
+abbrev Fitting : Row → Option Expression → Type 0
+Fitting row (Some (whole e)) = FitsTerm row e
+Fitting row (Some (truth a)) = Unit {0}
+Fitting row None = Unit {0}
+
+AllFitting : Row → List Expression → Type 0
+AllFitting row before = (a : ℕ) → Fitting row (slice_get before a)
+
+fitting-push : (row : Row) (before : List Expression) (e : Expression) → AllFitting row before → Fitting row (Some e) → AllFitting row (before ++ e ∷ [])
+unfolding AllFitting
+fitting-push row [] e all one zero = one
+fitting-push row [] e all one (suc a) = tt
+fitting-push row (x ∷ xs) e all one zero = all zero
+fitting-push row (x ∷ xs) e all one (suc a) = fitting-push row xs e (λ b. all (suc b)) one a
+
+term-fits-of : (row : Row) (o : Option Expression) → Fitting row o → FitsTerm row (term_of o)
+unfolding FitsTerm
+term-fits-of row (Some (whole e)) h = h
+term-fits-of row (Some (truth a)) h = tt
+term-fits-of row None h = tt
+
+term-fits : (row : Row) (before : List Expression) (a : ℕ) → AllFitting row before → FitsTerm row (term_at before a)
+unfolding AllFitting
+term-fits row before a all = term-fits-of row (slice_get before a) (all a)
+
+expression-fits : (row : Row) (before : List Expression) (op : BzOp) → AllFitting row before → FitsRow row op → Fitting row (Some (expression_of before op))
+unfolding FitsTerm
+expression-fits row before (Column c) all h = h
+expression-fits row before (IsTrue c) all h = tt
+expression-fits row before (Const n) all h = tt
+expression-fits row before (Neg a) all h = term-fits row before a all
+expression-fits row before (Add a b) all h = (term-fits row before a all, term-fits row before b all)
+expression-fits row before (Sub a b) all h = (term-fits row before a all, term-fits row before b all)
+expression-fits row before (Mul a b) all h = (term-fits row before a all, term-fits row before b all)
+expression-fits row before (Div a b) all h = (term-fits row before a all, term-fits row before b all)
+expression-fits row before (Rem a b) all h = (term-fits row before a all, term-fits row before b all)
+expression-fits row before (Eq a b) all h = tt
+expression-fits row before (Lt a b) all h = tt
+expression-fits row before (Le a b) all h = tt
+
+-- ---- sound instructions
+
+abbrev pub Lies : Type 0
+Lies = (row : Row) (e : Term) (r : Range) → FitsTerm row e → range e ≡ Ok r → IsIn r (value e row)
+
+abbrev pub FitsWord : Type 0
+FitsWord = (row : Row) (e : Term) (r : Range) → FitsTerm row e → range e ≡ Ok r → FitsSigned w64 (value e row)
+
+module _ (lies : Lies) (fits : FitsWord) (row : Row) where
+  word : (e : Term) → FitsTerm row e → IsOk (range e) → FitsSigned w64 (value e row)
+  word e f h = let r = has-range (range e) h in fits row e r.the f r.is
+
+  divisor-is : (g : Range → ℤ → Range) (a b : Term) → FitsTerm row b → IsOk (over_divisor g (range a) (range b)) → value b row ≢ pos 0
+  divisor-is g a b f h =
+      let d = divides-of g (range a) (range b) h in
+      not-zero d.the (value b row) d.one (lies row b d.the f d.is)
+
+  both : (before : List Expression) (a b : ℕ) → AllFitting row before → FitsTerm row (term_at before a) × FitsTerm row (term_at before b)
+  both before a b all = (term-fits row before a all, term-fits row before b all)
+
+  can : (before : List Expression) (op : BzOp) → AllFitting row before → IsSound (length row) before op → CanCompute row before op
+  unfolding FitsTerm value range
+  can before (Column c) all h = h
+  can before (IsTrue c) all h = h
+  can before (Const n) all h = tt
+  can before (Neg a) all h = (h.0, word (negative (term_at before a)) (term-fits row before a all) h.1)
+  can before (Add a b) all h = (h.0, word (plus (term_at before a) (term_at before b)) (both before a b all) h.1)
+  can before (Sub a b) all h = (h.0, word (minus (term_at before a) (term_at before b)) (both before a b all) h.1)
+  can before (Mul a b) all h = (h.0, word (times (term_at before a) (term_at before b)) (both before a b all) h.1)
+  can before (Div a b) all h = (h.0, divisor-is divided (term_at before a) (term_at before b) (term-fits row before b all) h.1, word (quotient (term_at before a) (term_at before b)) (both before a b all) h.1)
+  can before (Rem a b) all h = (h.0, divisor-is left_over (term_at before a) (term_at before b) (term-fits row before b all) h.1)
+  can before (Eq a b) all h = h
+  can before (Lt a b) all h = h
+  can before (Le a b) all h = h
+
+  all-can : (before : List Expression) (ops : List BzOp) → AllFitting row before → AllByRecursion (FitsRow row) ops → AreSound (length row) before ops → AllCompute row before ops
+  unfolding AreSound AllCompute
+  all-can before [] all f h = tt
+  all-can before (op ∷ ops) all f h =
+      (can before op all h.0, all-can (before ++ expression_of before op ∷ []) ops (fitting-push row before (expression_of before op) all (expression-fits row before op all f.0)) f.1 h.1)
+
+  pub sound-computes : (ops : List BzOp) → AllByRecursion (FitsRow row) ops → AreSound (length row) [] ops → AllCompute row [] ops
+  unfolding AllFitting
+  sound-computes ops f h = all-can [] ops (λ a. tt) f h

@@ -1,0 +1,7 @@
+use Rattle.std.proofs.lemmas.List.Elements.{recursion_from_All}
+use Rattle.mltl_base.specs.Programs.{FitsRow}
+use Rattle.booleanizer.proofs.Sound.{sound-computes}
+use Rattle.booleanizer.proofs.soundness.sound_instructions_compute.Goals as goal
+
+pub returns : goal.returns
+returns c = λ row ops fit sound. sound-computes c.values_lie_in_ranges.ensures.lies c.values_lie_in_ranges.ensures.fits row ops (recursion_from_All (FitsRow row) ops fit) sound

@@ -1,0 +1,57 @@
+//! The state of the Booleanizer.
+
+ghost use Rattle.std.specs.Prelude.{◌≡◌, ◌<◌, [], Some, List, ℤ, length, slice_get, IfOk};
+ghost use Rattle.mltl_base.specs.declared.operators.BzOp.{BzOp};
+ghost use Rattle.mltl_base.specs.Atoms.{Row, Atom, holds};
+ghost use Rattle.mltl_base.specs.Programs.{expressions, truth};
+ghost use Rattle.booleanizer.specs.Evaluation.{AllCompute, numbers_on};
+
+use crate::evaluation::evaluate;
+use mltl_base::BzOp;
+use std::alloc::{AllocError, Global};
+use std::marker::Model;
+
+/// The numbers of a program's instructions on the last row, which contracts see as the list of them: whole numbers, and
+/// truths as 1 and 0.
+#[derive(Drop)]
+pub struct Bz {
+    numbers: Vec<i64>,
+}
+
+impl Model for Bz {
+    ghost use Rattle.std.specs.Prelude.{List, ℤ};
+
+    ghost Value = { List ℤ };
+
+    ghost view = { λ bz. bz.numbers.items };
+}
+
+impl Bz {
+    /// The state for so many instructions. No row was given yet.
+    pub fn with_len(alloc: Global, len: usize) -> Result<Bz, AllocError>
+        ensures { IfOk result (λ bz. length bz ≡ len) }
+    {
+        Ok(Bz {
+            numbers: vec![in alloc; 0; len]?,
+        })
+    }
+
+    /// Computes all instructions on a row. It takes no memory.
+    pub fn compute(&mut self, ops: &[BzOp], row: &[i64])
+        requires len { length self.old ≡ length ops.now }
+        requires can { AllCompute row.now [] ops.now }
+        ensures computed { self.new ≡ numbers_on row.now ops.now }
+        ensures len { length self.new ≡ length ops.now }
+    {
+        evaluate(ops, row, &mut self.numbers);
+    }
+
+    /// The truth of an instruction on the last row.
+    pub fn truth(&self, i: u32) -> bool
+        requires { i < length self.now }
+        ensures { (row : Row) (ops : List BzOp) (atom : Atom) → self.now ≡ numbers_on row ops
+            → slice_get (expressions ops) i ≡ Some (truth atom) → result ≡ holds atom row }
+    {
+        self.numbers[i as usize] == 1
+    }
+}

@@ -1,0 +1,13 @@
+//! The Booleanizer: the whole numbers and the truths of a program's instructions on one row of a trace.
+#![tactic(auto)]
+
+mod bz;
+mod evaluation;
+mod soundness;
+
+pub use bz::Bz;
+pub use evaluation::evaluate;
+pub use soundness::sound_instructions_compute;
+
+#[cfg(test)]
+mod tests;
