@@ -1,0 +1,3 @@
+pub mod Going
+pub mod KleeneLaws
+pub mod Rules

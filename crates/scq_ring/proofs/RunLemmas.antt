@@ -1,0 +1,163 @@
+-- Runs that follow one another.
+use Rattle.std.proofs.Common.{◌≡◌, ℕ, ◌+◌, ◌-◌, ◌<◌, ◌≤◌, List, [], ◌∷◌, ◌++◌, length, get_or, arith, refl, false, subst, sym, ap, ◌∙◌, inl, inr, zero, suc}
+use Rattle.std.proofs.lemmas.Bool.Decides.{nat_tests}
+use Rattle.std.proofs.lemmas.Bool.{cases_lt}
+use Rattle.scq_ring.specs.declared.runs.Slot.{Slot}
+use Rattle.scq_ring.specs.Runs.{Belongs, Spans, frontier_of, low_of, runs_of, value_in}
+use Rattle.scq_ring.specs.declared.runs.Ring.{Ring}
+
+-- each run takes at least one time
+pub Spans-room : (low : ℕ) (runs : List Slot) (end : ℕ) → Spans low runs end → low + length runs ≤ end
+Spans-room low [] end s = omega arith
+Spans-room low (r ∷ rs) end s = omega (arith, Spans-room (r.upto + 1) rs end s.1)
+
+-- a run is added
+pub Spans-push : (low : ℕ) (runs : List Slot) (end : ℕ) (r : Slot) → Spans low runs end → end ≤ r.upto → Spans low (runs ++ r ∷ []) (r.upto + 1)
+Spans-push low [] end r s h = (omega arith, refl)
+Spans-push low (q ∷ qs) end r s h = (s.0, Spans-push (q.upto + 1) qs end r s.1 h)
+
+-- where the last run begins
+pub record Parted (low : ℕ) (runs : List Slot) (r : Slot) (end : ℕ) : Type 0 where
+  pub start : ℕ
+  pub before : Spans low runs start
+  pub nonempty : start ≤ r.upto
+  pub ends : r.upto + 1 ≡ end
+
+pub parted : (low : ℕ) (runs : List Slot) (r : Slot) (end : ℕ) → Spans low (runs ++ r ∷ []) end → Parted low runs r end
+parted low [] r end s = record { start = low; before = refl; nonempty = s.0; ends = s.1 }
+parted low (q ∷ qs) r end s =
+    let p = parted (q.upto + 1) qs r end s.1 in
+    record { start = p.start; before = (s.0, p.before); nonempty = p.nonempty; ends = p.ends }
+
+-- before the end of the first runs their verdicts count, and from there on those of the others
+pub value_in_before : (low : ℕ) (runs more : List Slot) (end t : ℕ) → Spans low runs end → low ≤ t → t < end → value_in (runs ++ more) t ≡ value_in runs t
+value_in_before low [] more end t s from to = absurd (omega arith)
+value_in_before low (r ∷ rs) more end t s from to = elim (cases_lt r.upto t) [
+  | inl past ↦ let rest = value_in_before (r.upto + 1) rs more end t s.1 (omega arith) to in grind (arith, nat_tests, rest)
+  | inr here ↦ grind (arith, nat_tests)
+]
+
+pub value_in_after : (low : ℕ) (runs more : List Slot) (end t : ℕ) → Spans low runs end → end ≤ t → value_in (runs ++ more) t ≡ value_in more t
+value_in_after low [] more end t s from = refl
+value_in_after low (r ∷ rs) more end t s from =
+    let room = Spans-room (r.upto + 1) rs end s.1 in
+    let rest = value_in_after (r.upto + 1) rs more end t s.1 from in
+    let past : r.upto < t = omega arith in
+    grind (arith, nat_tests, rest)
+
+-- a single run has its value up to its end
+pub value_in_one : (r : Slot) (t : ℕ) → t ≤ r.upto → value_in (r ∷ []) t ≡ r.value
+value_in_one r t h = grind (arith, nat_tests)
+
+-- what a run behind the others leaves
+pub record Pushed (low : ℕ) (old new : List Slot) (end : ℕ) (r : Slot) : Type 0 where
+  pub spans : Spans low new (r.upto + 1)
+  pub kept : (t : ℕ) → low ≤ t → t < end → value_in new t ≡ value_in old t
+  pub written : (t : ℕ) → end ≤ t → t ≤ r.upto → value_in new t ≡ r.value
+
+pub pushed : (low : ℕ) (old : List Slot) (end : ℕ) (r : Slot) → Spans low old end → end ≤ r.upto → (new : List Slot) → new ≡ old ++ r ∷ [] → Pushed low old new end r
+pushed low old end r s ahead new e = record {
+  spans = subst (λ (rs : List Slot). Spans low rs (r.upto + 1)) (sym e) (Spans-push low old end r s ahead);
+  kept = λ t from to. ap (λ (rs : List Slot). value_in rs t) e ∙ value_in_before low old (r ∷ []) end t s from to;
+  written = λ t from to. ap (λ (rs : List Slot). value_in rs t) e ∙ value_in_after low old (r ∷ []) end t s from ∙ value_in_one r t to;
+}
+
+-- what a longer last run leaves
+pub record Extended (low : ℕ) (old new : List Slot) (end upto : ℕ) : Type 0 where
+  pub spans : Spans low new (upto + 1)
+  pub kept : (t : ℕ) → low ≤ t → t < end → value_in new t ≡ value_in old t
+  pub written : (t : ℕ) → end ≤ t → t ≤ upto → value_in new t ≡ value_in old (end - 1)
+
+pub extended : (low : ℕ) (front : List Slot) (last : Slot) (end upto : ℕ) → Spans low (front ++ last ∷ []) end → end ≤ upto → (new : List Slot) → new ≡ front ++ record { upto = upto; value = last.value } ∷ [] → Extended low (front ++ last ∷ []) new end upto
+extended low front last end upto s ahead new e =
+    let p : Parted low front last end = parted low front last end s in
+    let r : Slot = record { upto = upto; value = last.value } in
+    let room : low + length front ≤ p.start = Spans-room low front p.start p.before in
+    let start_in : p.start ≤ upto = omega arith in
+    let q : Pushed low front new p.start r = pushed low front p.start r p.before start_in new e in
+    let old_after : (t : ℕ) → p.start ≤ t → t < end → value_in (front ++ last ∷ []) t ≡ last.value =
+    λ t from to. value_in_after low front (last ∷ []) p.start t p.before from ∙ value_in_one last t (omega arith) in
+    record {
+      spans = q.spans;
+      kept = λ t from to. elim (cases_lt t p.start) [
+        | inl before ↦ q.kept t from before ∙ sym (value_in_before low front (last ∷ []) p.start t p.before from before)
+        | inr after ↦ q.written t after (omega arith) ∙ sym (old_after t after to)
+      ];
+      written = λ t from to. q.written t (omega arith) to ∙ sym (old_after (end - 1) (omega arith) (omega arith));
+    }
+
+-- what is left without the first run
+pub record Shortened (low : ℕ) (first : Slot) (rest : List Slot) (end : ℕ) : Type 0 where
+  pub spans : Spans (first.upto + 1) rest end
+  pub rises : low ≤ first.upto
+  pub room : first.upto + 1 + length rest ≤ end
+  pub kept : (t : ℕ) → first.upto + 1 ≤ t → value_in rest t ≡ value_in (first ∷ rest) t
+
+pub shortened : (low : ℕ) (first : Slot) (rest : List Slot) (end : ℕ) → Spans low (first ∷ rest) end → Shortened low first rest end
+shortened low first rest end s = record {
+  spans = s.1;
+  rises = s.0;
+  room = Spans-room (first.upto + 1) rest end s.1;
+  kept = λ t from. let past : first.upto < t = omega arith in grind (arith, nat_tests);
+}
+
+-- past the end of a list of runs
+abbrev pub no_slot : Slot
+no_slot = record { upto = 0; value = false }
+
+-- each run ends at or after the low place, and before the end
+pub Spans-from : (low : ℕ) (runs : List Slot) (end : ℕ) → Spans low runs end → (k : ℕ) → k < length runs → low ≤ (get_or runs k no_slot).upto
+Spans-from low [] end s k k_in = absurd (omega arith)
+Spans-from low (r ∷ rs) end s zero k_in = s.0
+Spans-from low (r ∷ rs) end s (suc k) k_in =
+    let later : r.upto + 1 ≤ (get_or rs k no_slot).upto = Spans-from (r.upto + 1) rs end s.1 k (omega arith) in
+    omega arith
+
+pub Spans-upto : (low : ℕ) (runs : List Slot) (end : ℕ) → Spans low runs end → (k : ℕ) → k < length runs → (get_or runs k no_slot).upto < end
+Spans-upto low [] end s k k_in = absurd (omega arith)
+Spans-upto low (r ∷ rs) end s zero k_in = omega (arith, Spans-room (r.upto + 1) rs end s.1)
+Spans-upto low (r ∷ rs) end s (suc k) k_in = Spans-upto (r.upto + 1) rs end s.1 k (omega arith)
+
+-- the last run goes up to the end
+pub Spans-last : (low : ℕ) (runs : List Slot) (end : ℕ) → Spans low runs end → (k : ℕ) → k + 1 ≡ length runs → (get_or runs k no_slot).upto + 1 ≡ end
+Spans-last low [] end s k k_is = absurd (omega arith)
+Spans-last low (r ∷ []) end s zero k_is = s.1
+Spans-last low (r ∷ q ∷ qs) end s zero k_is = absurd (omega arith)
+Spans-last low (r ∷ rs) end s (suc k) k_is = Spans-last (r.upto + 1) rs end s.1 k (omega arith)
+
+-- runs end later and later
+pub Spans-rising : (low : ℕ) (runs : List Slot) (end : ℕ) → Spans low runs end → (j k : ℕ) → j ≤ k → k < length runs → (get_or runs j no_slot).upto ≤ (get_or runs k no_slot).upto
+Spans-rising low [] end s j k jk k_in = absurd (omega arith)
+Spans-rising low (r ∷ rs) end s zero zero jk k_in = omega arith
+Spans-rising low (r ∷ rs) end s zero (suc k) jk k_in =
+    let later : r.upto + 1 ≤ (get_or rs k no_slot).upto = Spans-from (r.upto + 1) rs end s.1 k (omega arith) in
+    omega arith
+Spans-rising low (r ∷ rs) end s (suc j) zero jk k_in = absurd (omega arith)
+Spans-rising low (r ∷ rs) end s (suc j) (suc k) jk k_in = Spans-rising (r.upto + 1) rs end s.1 j k (omega arith) (omega arith)
+
+-- the first run that reaches a time has its verdict, and that of the times up to the run's end
+pub value_in_first : (runs : List Slot) (k from : ℕ) → k < length runs → ((j : ℕ) → j < k → (get_or runs j no_slot).upto < from) → (t : ℕ) → from ≤ t → t ≤ (get_or runs k no_slot).upto → value_in runs t ≡ (get_or runs k no_slot).value
+value_in_first [] k from k_in below t t_from t_to = absurd (omega arith)
+value_in_first (r ∷ rs) zero from k_in below t t_from t_to = grind (arith, nat_tests)
+value_in_first (r ∷ rs) (suc k) from k_in below t t_from t_to =
+    let past : r.upto < from = below 0 (omega arith) in
+    let rest : value_in rs t ≡ (get_or rs k no_slot).value = value_in_first rs k from (omega arith) (λ j jk. below (suc j) (omega arith)) t t_from t_to in
+    grind (arith, nat_tests, rest)
+
+-- there is a run where some time is covered
+pub some_run : (low : ℕ) (runs : List Slot) (end : ℕ) → Spans low runs end → low < end → 0 < length runs
+some_run low [] end s h = absurd (omega arith)
+some_run low (r ∷ rs) end s h = omega arith
+
+-- the last run has the last verdict
+pub value_in_last : (low : ℕ) (front : List Slot) (last : Slot) (end : ℕ) → Spans low (front ++ last ∷ []) end → value_in (front ++ last ∷ []) (end - 1) ≡ last.value
+value_in_last low front last end s =
+    let p : Parted low front last end = parted low front last end s in
+    let nonempty : p.start ≤ last.upto = p.nonempty in
+    let ends : last.upto + 1 ≡ end = p.ends in
+    value_in_after low front (last ∷ []) p.start (end - 1) p.before (omega arith) ∙ value_in_one last (end - 1) (omega arith)
+
+-- no time from the frontier on was let go
+pub low_below_frontier : (ring : Ring) (slots : List Slot) → Belongs ring slots → low_of ring ≤ frontier_of ring
+unfolding low_of frontier_of
+low_below_frontier ring slots b = omega (arith, Spans-room ring.low (runs_of ring slots) ring.frontier b.spans)

@@ -1,0 +1,60 @@
+-- What a ring and its slots stand for: a frontier, a low place, and a verdict for each time from the low place to the frontier - 1.
+use Rattle.std.specs.Prelude.{◌≡◌, ℕ, ◌+◌, ◌-◌, ◌<◌, ◌≤◌, Bool, false, List, [], ◌∷◌, ◌++◌, length, take, drop, if◌then◌else◌, nat_le, nat_lt}
+use Rattle.scq_ring.specs.declared.runs.Ring.{Ring}
+use Rattle.scq_ring.specs.declared.runs.Slot.{Slot}
+use Rattle.scq_ring.specs.declared.runs.Seen.{Seen}
+use Rattle.scq_ring.specs.declared.runs.Seen.TheVariants.{Run, Nothing}
+
+-- the n members from place k on, going on at the front past the end
+abbrev pub window : {X : Type 0} → ℕ → ℕ → List X → List X
+window k n xs = take n (drop k xs ++ take k xs)
+
+-- the place of the member that stands k after place `oldest`, of n members in a ring
+abbrev pub place_of : ℕ → ℕ → ℕ → ℕ
+place_of oldest k n = if nat_lt k (n - oldest) then oldest + k else k - (n - oldest)
+
+-- the verdict at t is that of the first run that reaches up to t
+abbrev pub value_in : List Slot → ℕ → Bool
+value_in [] t = false
+value_in (run ∷ runs) t = if nat_le t run.upto then run.value else value_in runs t
+
+-- the runs cover the times from `low` to `end` - 1, one after another, and none is empty
+abbrev pub Spans : ℕ → List Slot → ℕ → Type 0
+Spans low [] end = low ≡ end
+Spans low (run ∷ runs) end = (low ≤ run.upto) × Spans (run.upto + 1) runs end
+
+-- the runs that are kept, oldest first
+abbrev pub runs_of : Ring → List Slot → List Slot
+runs_of ring slots = window ring.oldest ring.used slots
+
+-- the first time that has no verdict yet
+unfoldable pub frontier_of : Ring → ℕ
+frontier_of ring = ring.frontier
+
+-- the first time whose verdict is kept
+unfoldable pub low_of : Ring → ℕ
+low_of ring = ring.low
+
+-- the verdict at a time from the low place to the frontier - 1
+unfoldable pub verdict_at : Ring → List Slot → ℕ → Bool
+verdict_at ring slots t = value_in (runs_of ring slots) t
+
+-- the slots are those of the ring
+pub record Belongs (ring : Ring) (slots : List Slot) : Type 0 where
+  pub oldest_in : ring.oldest < length slots
+  pub used_in : ring.used ≤ length slots
+  pub spans : Spans ring.low (runs_of ring slots) ring.frontier
+
+-- what a read from time `from` on shows: all times up to `end` have the value; nothing exactly at or past the frontier
+abbrev pub Shows : Ring → List Slot → ℕ → Seen → Type 0
+Shows ring slots from (Run end value) =
+    (from ≤ end) × (end < frontier_of ring) × ((t : ℕ) → from ≤ t → t ≤ end → verdict_at ring slots t ≡ value)
+Shows ring slots from Nothing = frontier_of ring ≤ from
+
+-- the slot holds no verdict
+unfoldable pub IsClear : Slot → Type 0
+IsClear slot = (slot.upto ≡ 0) × (slot.value ≡ false)
+
+-- a ring without verdicts, which stands past the end of a list of rings
+unfoldable pub no_ring : Ring
+no_ring = record { frontier = 0; low = 0; oldest = 0; used = 0 }

@@ -1,0 +1,222 @@
+ghost use Rattle.std.specs.Prelude.{◌≡◌, ℕ, ◌+◌, ◌-◌, ◌^◌, ◌<◌, ◌≤◌, ◌↔◌, max, length, IsTrue, List, nat_lt, if◌then◌else◌, slice_index_or};
+ghost use Rattle.scq_ring.specs.Runs.{Belongs, IsClear, Shows, frontier_of, low_of, place_of, runs_of, verdict_at};
+ghost use Rattle.scq_ring.specs.declared.runs.Slot.{Slot};
+
+use crate::steps::Steps;
+use std::sync::ledger::Ledger;
+
+/// One place of a ring: the end of a run of times that have one verdict, and the verdict.
+#[derive(Clone, Copy, Debug)]
+pub struct Slot {
+    upto: u64,
+    value: bool,
+}
+
+impl Slot {
+    /// A slot that holds no verdict.
+    #[tactic(auto, unfolding(crate::specs::Runs::IsClear))]
+    pub fn clear() -> Slot
+        ensures clear { IsClear result }
+    {
+        Slot {
+            upto: 0,
+            value: false,
+        }
+    }
+}
+
+/// The verdicts of one operator by time, over slots that the caller lends to each call.
+///
+/// It has verdicts for the times from its low place to its frontier - 1.
+#[derive(Debug, Drop)]
+pub struct Ring {
+    frontier: u64,
+    low: u64,
+    oldest: usize,
+    used: usize,
+}
+
+/// What a read shows.
+#[derive(Clone, Copy, Debug, PartialEq, Eq)]
+pub enum Seen {
+    /// The last time of a run that begins where the read did, and its verdict.
+    Run(u64, bool),
+    /// No verdict yet.
+    Nothing,
+}
+
+/// The place of the member that stands `k` after place `oldest` of a ring of `len` members.
+fn place(oldest: usize, k: usize, len: usize) -> usize
+    requires oldest_in { oldest < len }
+    requires k_in { k ≤ len }
+    ensures place { result ≡ place_of oldest k len }
+    ensures within { k < len → result < len }
+{
+    let ahead = len - oldest;
+    if k < ahead { oldest + k } else { k - ahead }
+}
+
+impl Ring {
+    /// A ring without verdicts.
+    #[tactic(auto, unfolding(crate::specs::Runs::frontier_of, crate::specs::Runs::low_of))]
+    pub fn make() -> Ring
+        ensures frontier { frontier_of result ≡ 0 }
+        ensures low { low_of result ≡ 0 }
+        ensures belongs { (slots : List Slot) → 0 < length slots → Belongs result slots }
+    {
+        Ring {
+            frontier: 0,
+            low: 0,
+            oldest: 0,
+            used: 0,
+        }
+    }
+
+    /// The first time that has no verdict yet.
+    #[tactic(auto, unfolding(crate::specs::Runs::frontier_of))]
+    pub fn frontier(&self) -> u64
+        ensures frontier { result ≡ frontier_of self.now }
+    {
+        self.frontier
+    }
+
+    /// The first time whose verdict is kept.
+    #[tactic(auto, unfolding(crate::specs::Runs::low_of))]
+    pub fn low(&self) -> u64
+        ensures low { result ≡ low_of self.now }
+    {
+        self.low
+    }
+
+    /// Gives all times from the frontier to `upto` the verdict `value`, and counts one step.
+    ///
+    /// Where all slots hold runs and the value is another one than that of the last time, the oldest run is let go.
+    pub fn write<L: Ledger>(
+        &mut self,
+        slots: &mut [Slot],
+        upto: u64,
+        value: bool,
+        steps: &mut Steps<L>,
+    )
+        requires belongs { Belongs self.old slots.old }
+        requires ahead { frontier_of self.old ≤ upto }
+        requires in_time { upto < 2 ^ 41 }
+        ensures belongs { Belongs self.new slots.new }
+        ensures frontier { frontier_of self.new ≡ upto + 1 }
+
+        // What is kept: a write of the last verdict lets nothing go.
+        ensures rises { low_of self.old ≤ low_of self.new }
+        ensures bounded { low_of self.new ≤ max (low_of self.old) (upto + 1 - length slots.old) }
+        ensures stays { 0 < frontier_of self.old → value ≡ verdict_at self.old slots.old (frontier_of self.old - 1) → low_of self.new ≡ low_of self.old }
+
+        ensures kept { (t : ℕ) → low_of self.new ≤ t → t < frontier_of self.old → verdict_at self.new slots.new t ≡ verdict_at self.old slots.old t }
+        ensures written { (t : ℕ) → frontier_of self.old ≤ t → t ≤ upto → verdict_at self.new slots.new t ≡ value }
+        ensures step { steps.new ≡ steps.old + 1 }
+    {
+        steps.tick();
+        if self.continues(slots, value) {
+            self.extend(slots, upto);
+            return;
+        }
+        if self.used == slots.len() {
+            self.forget(slots);
+        }
+        self.add(slots, upto, value);
+    }
+
+    /// The verdict at time `from`, and a time up to which it stays the same; counts one step.
+    #[tactic(auto, unfolding(crate::specs::Runs::frontier_of, crate::specs::Runs::low_of))]
+    pub fn read<L: Ledger>(&self, slots: &[Slot], from: u64, steps: &mut Steps<L>) -> Seen
+        requires belongs { Belongs self.now slots.now }
+        requires kept { low_of self.now ≤ from }
+        ensures seen { Shows self.now slots.now from result }
+        ensures step { steps.new ≡ steps.old + 1 }
+    {
+        steps.tick();
+        if self.frontier <= from {
+            return Seen::Nothing;
+        }
+        let run = self.run_at(slots, from);
+        Seen::Run(run.upto, run.value)
+    }
+
+    /// Whether the newest run has this verdict.
+    fn continues(&self, slots: &[Slot], value: bool) -> bool
+        requires belongs { Belongs self.now slots.now }
+        ensures same { IsTrue result ↔ ((0 < self.now.used) × (value ≡ verdict_at self.now slots.now (frontier_of self.now - 1))) }
+    {
+        self.used > 0 && slots[place(self.oldest, self.used - 1, slots.len())].value == value
+    }
+
+    /// Moves the end of the newest run.
+    fn extend(&mut self, slots: &mut [Slot], upto: u64)
+        requires belongs { Belongs self.old slots.old }
+        requires some_run { 0 < self.old.used }
+        requires ahead { frontier_of self.old ≤ upto }
+        requires in_time { upto < 2 ^ 41 }
+        ensures belongs { Belongs self.new slots.new }
+        ensures frontier { frontier_of self.new ≡ upto + 1 }
+        ensures low { low_of self.new ≡ low_of self.old }
+        ensures kept { (t : ℕ) → low_of self.old ≤ t → t < frontier_of self.old → verdict_at self.new slots.new t ≡ verdict_at self.old slots.old t }
+        ensures written { (t : ℕ) → frontier_of self.old ≤ t → t ≤ upto → verdict_at self.new slots.new t ≡ verdict_at self.old slots.old (frontier_of self.old - 1) }
+    {
+        let newest = place(self.oldest, self.used - 1, slots.len());
+        slots[newest].upto = upto;
+        self.frontier = upto + 1;
+    }
+
+    /// Lets the oldest run go.
+    fn forget(&mut self, slots: &[Slot])
+        requires belongs { Belongs self.old slots.now }
+        requires some_run { 0 < self.old.used }
+        ensures belongs { Belongs self.new slots.now }
+        ensures frontier { frontier_of self.new ≡ frontier_of self.old }
+        ensures rises { low_of self.old ≤ low_of self.new }
+        ensures fewer { self.new.used + 1 ≡ self.old.used }
+        ensures bounded { low_of self.new + self.new.used ≤ frontier_of self.old }
+        ensures kept { (t : ℕ) → low_of self.new ≤ t → t < frontier_of self.old → verdict_at self.new slots.now t ≡ verdict_at self.old slots.now t }
+    {
+        self.low = slots[self.oldest].upto + 1;
+        self.oldest = place(self.oldest, 1, slots.len());
+        self.used -= 1;
+    }
+
+    /// Adds a run, where a slot is free.
+    fn add(&mut self, slots: &mut [Slot], upto: u64, value: bool)
+        requires belongs { Belongs self.old slots.old }
+        requires free { self.old.used < length slots.old }
+        requires ahead { frontier_of self.old ≤ upto }
+        requires in_time { upto < 2 ^ 41 }
+        ensures belongs { Belongs self.new slots.new }
+        ensures frontier { frontier_of self.new ≡ upto + 1 }
+        ensures low { low_of self.new ≡ low_of self.old }
+        ensures kept { (t : ℕ) → low_of self.old ≤ t → t < frontier_of self.old → verdict_at self.new slots.new t ≡ verdict_at self.old slots.old t }
+        ensures written { (t : ℕ) → frontier_of self.old ≤ t → t ≤ upto → verdict_at self.new slots.new t ≡ value }
+    {
+        slots[place(self.oldest, self.used, slots.len())] = Slot { upto, value };
+        self.used += 1;
+        self.frontier = upto + 1;
+    }
+
+    /// The run that holds time `from`, found by halving the runs that are left.
+    fn run_at(&self, slots: &[Slot], from: u64) -> Slot
+        requires belongs { Belongs self.now slots.now }
+        requires kept { low_of self.now ≤ from }
+        requires known { from < frontier_of self.now }
+        ensures reaches { from ≤ result.upto }
+        ensures known { result.upto < frontier_of self.now }
+        ensures verdict { (t : ℕ) → from ≤ t → t ≤ result.upto → verdict_at self.now slots.now t ≡ result.value }
+    {
+        let mut first = 0;
+        let mut last = self.used - 1;
+        'halving: while first < last {
+            let middle = first + (last - first) / 2;
+            if slots[place(self.oldest, middle, slots.len())].upto < from {
+                first = middle + 1;
+            } else {
+                last = middle;
+            }
+        }
+        slots[place(self.oldest, first, slots.len())]
+    }
+}

@@ -1,0 +1,119 @@
+ghost use Rattle.std.specs.Prelude.{◌≡◌, ◌<◌, length};
+
+use super::*;
+use crate::steps::Steps;
+use std::marker::Brand;
+use std::process::Abort;
+use std::sync::ledger::{Blank, Ledger};
+
+/// Writes into a new ring, and what it shows then.
+#[derive(Clone, Copy)]
+struct Case<'a> {
+    slots: usize,
+    writes: &'a [(u64, bool)],
+    frontier: u64,
+    low: u64,
+    reads: &'a [(u64, Seen)],
+}
+
+fn shows<L: Ledger>(rt: &impl Abort, slots: &mut [Slot], case: &Case, steps: &mut Steps<L>)
+    requires { 0 < length slots.old }
+{
+    let mut ring = Ring::make();
+    'writes: for &(upto, value) in case.writes {
+        assert!(rt; ring.frontier() <= upto && upto < 1 << 41);
+        ring.write(slots, upto, value, steps);
+    }
+    assert_eq!(rt; (ring.frontier(), ring.low()), (case.frontier, case.low));
+    'reads: for &(from, seen) in case.reads {
+        assert!(rt; ring.low() <= from);
+        assert_eq!(rt; ring.read(slots, from, steps), seen);
+    }
+}
+
+fn show<L: Ledger>(rt: &impl Abort, blank: Blank, cases: &[Case])
+    requires name { blank.name ≡ L.name }
+    requires parts { blank.parts ≡ L.parts }
+    requires some_parts { 0 < blank.parts }
+{
+    let mut steps = Steps::<L>::start(blank);
+    for case in cases {
+        let mut slots = [Slot::clear(); 3];
+        assert!(rt; 0 < case.slots && case.slots <= 3);
+        shows(rt, &mut slots[..case.slots], case, &mut steps);
+    }
+}
+
+#[test]
+fn runs_are_joined_kept_and_let_go(rt: HostRuntime) {
+    let cases = [
+        // Nothing yet.
+        Case {
+            slots: 1,
+            writes: &[],
+            frontier: 0,
+            low: 0,
+            reads: &[(0, Seen::Nothing)],
+        },
+        // One verdict goes on, so nothing is let go.
+        Case {
+            slots: 2,
+            writes: &[(0, true), (1, true), (2, true)],
+            frontier: 3,
+            low: 0,
+            reads: &[
+                (0, Seen::Run(2, true)),
+                (2, Seen::Run(2, true)),
+                (3, Seen::Nothing),
+            ],
+        },
+        // A single slot has the last run alone.
+        Case {
+            slots: 1,
+            writes: &[(0, false), (1, true)],
+            frontier: 2,
+            low: 1,
+            reads: &[(1, Seen::Run(1, true)), (2, Seen::Nothing)],
+        },
+        // Runs of several times; the first is let go.
+        Case {
+            slots: 2,
+            writes: &[(3, false), (4, true), (6, false)],
+            frontier: 7,
+            low: 4,
+            reads: &[
+                (4, Seen::Run(4, true)),
+                (5, Seen::Run(6, false)),
+                (7, Seen::Nothing),
+            ],
+        },
+        // Equal values stay apart where other times stand between them.
+        Case {
+            slots: 3,
+            writes: &[(0, true), (1, false), (2, true), (5, true)],
+            frontier: 6,
+            low: 0,
+            reads: &[
+                (0, Seen::Run(0, true)),
+                (1, Seen::Run(1, false)),
+                (2, Seen::Run(5, true)),
+                (4, Seen::Run(5, true)),
+                (6, Seen::Nothing),
+            ],
+        },
+        // Around the end of the slots.
+        Case {
+            slots: 3,
+            writes: &[(0, true), (1, false), (2, true), (3, false), (4, true)],
+            frontier: 5,
+            low: 2,
+            reads: &[
+                (2, Seen::Run(2, true)),
+                (3, Seen::Run(3, false)),
+                (4, Seen::Run(4, true)),
+                (5, Seen::Nothing),
+            ],
+        },
+    ];
+    show::<Brand>(&rt, Blank::new(1), &cases);
+}
