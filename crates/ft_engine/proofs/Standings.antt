@@ -1,0 +1,115 @@
+-- What queues that have taken rows, and have their table, say of the engine.
+use Rattle.std.proofs.Common.{◌≡◌, ℕ, zero, suc, ◌+◌, ◌-◌, ◌<◌, ◌≤◌, List, [], ◌∷◌, length, map, get_or, slice_index, arith, refl, subst, sym, ap, ap₂, ◌∙◌, Some}
+use Rattle.std.specs.List.{slice_get}
+use Rattle.std.proofs.lemmas.List.{get_or-map, length-map}
+use Rattle.std.proofs.lemmas.List.FromFn.{length-map-range_with_len}
+use Rattle.mltl_base.specs.declared.interval.Engine.TheVariants.{Ft as future}
+use Rattle.mltl_base.specs.declared.operators.FtOp.{FtOp}
+use Rattle.mltl_base.specs.declared.operators.FtOp.TheVariants.{True, Load, Not, And, Until}
+use Rattle.mltl_base.specs.declared.program.Program.{Program}
+use Rattle.mltl_base.specs.Atoms.{Row, Atom, is_true}
+use Rattle.mltl_base.specs.Formula.{ctrue, bpd, core_wpd}
+use Rattle.mltl_base.specs.Programs.{Expression, whole, truth, atom_of, atoms, formula_at, formulas}
+use Rattle.mltl_base.specs.Queues.{IsAfterOperands, AreInOrder, best_of, worst_of, best_delays, worst_delays, queue_length}
+use Rattle.delay_sizes.proofs.DelayLaws.{length-numbered_after}
+use Rattle.delay_sizes.proofs.FormulaLaws.{best_of_formulas, worst_of_formulas}
+use Rattle.scq_ring.specs.declared.Seen.{Seen}
+use Rattle.scq_ring.specs.declared.Seen.TheVariants.{Run, Nothing}
+use Rattle.ft_slab.specs.Nodes.{op_at, work_of, work_before, ReadsAhead}
+use Rattle.ft_slab.specs.Plans.{IsSeated}
+use Rattle.ft_slab.specs.State.{HasTable, IsPacedAfter, IsPlannedFor, front_at, place_at, ShowsRun}
+use Rattle.ft_slab.proofs.StateLaws.{paced_ahead, paced_count, paced_front_at_least, paced_front_at_most, paced_low, paced_size, table_front, table_verdict}
+use Rattle.ft_known.specs.DelayPlan.{plan_of}
+use Rattle.ft_known.specs.KnownTable.{known_table}
+use Rattle.ft_known.proofs.Planning.{planned_for}
+use Rattle.ft_engine.specs.declared.engine.Ft.{Ft}
+use Rattle.ft_engine.specs.Running.{IsRunnable, IsTruthExpression}
+use Rattle.ft_engine.specs.Standing.{Stands, instruction_count, frontier_at, lowest_at, kept_verdict, slots_at, width_of, ReadsFrom, place_of, ShowsFrom}
+
+-- the plan of a program fits its sizes
+pub program_planned : (program : Program) → IsRunnable program → IsPlannedFor (plan_of program.ft program.outs) program.ft (λ i. slice_index program.sizes.ft i)
+program_planned program r =
+    subst (λ (sizes : List ℕ). IsPlannedFor (plan_of program.ft program.outs) program.ft (λ i. slice_index sizes i)) (sym r.sizes) (planned_for program.ft program.outs r.order r.bounds)
+
+pub sizes_count : (program : Program) → IsRunnable program → length program.sizes.ft ≡ length program.ft
+sizes_count program r = ap (λ (ns : List ℕ). length ns) r.sizes ∙ length-map-range_with_len (queue_length program.ft program.outs) 0 (length program.ft)
+
+-- the worst and the best delay of an instruction are those of its formula
+worst_of_formula : (program : Program) (i : ℕ) → i < length program.ft → slice_index (worst_delays program.ft) i ≡ core_wpd (formula_at program future i)
+worst_of_formula program i h =
+    let loaded : List Atom = atoms program.bz in
+    let same : worst_delays program.ft ≡ map core_wpd (formulas loaded program.ft) = worst_of_formulas loaded program.ft in
+    let count : length (worst_delays program.ft) ≡ 0 + length program.ft = length-numbered_after worst_of [] program.ft in
+    ap (λ (ns : List ℕ). slice_index ns i) same ∙ get_or-map core_wpd (formulas loaded program.ft) i ctrue 0 (omega (arith, ap (λ (ns : List ℕ). length ns) same, length-map (formulas loaded program.ft) core_wpd))
+
+best_of_formula : (program : Program) (i : ℕ) → i < length program.ft → slice_index (best_delays program.ft) i ≡ bpd (formula_at program future i)
+best_of_formula program i h =
+    let loaded : List Atom = atoms program.bz in
+    let same : best_delays program.ft ≡ map bpd (formulas loaded program.ft) = best_of_formulas loaded program.ft in
+    let count : length (best_delays program.ft) ≡ 0 + length program.ft = length-numbered_after best_of [] program.ft in
+    ap (λ (ns : List ℕ). slice_index ns i) same ∙ get_or-map bpd (formulas loaded program.ft) i ctrue 0 (omega (arith, ap (λ (ns : List ℕ). length ns) same, length-map (formulas loaded program.ft) bpd))
+
+-- at least the least frontier of the operands is at least n less the width of each
+reads_kept : (program : Program) (ft : Ft) (n i : ℕ) (op : FtOp) (place : ℕ) → IsSeated (plan_of program.ft program.outs) i op → ((g : ℕ) → g < i → n ≤ front_at ft.queues g + slice_index (worst_delays program.ft) g)
+    → ReadsAhead op (front_at ft.queues) place → ReadsFrom op (λ g. n - width_of program g) place
+reads_kept program ft n i True place s front a = tt
+reads_kept program ft n i (Load k) place s front a = tt
+reads_kept program ft n i (Not g) place s front a = omega (arith, front g s.0, s.3)
+reads_kept program ft n i (And l r) place s front a = (omega (arith, front l s.0, front r s.1, s.4), omega (arith, front l s.0, front r s.1, s.5))
+reads_kept program ft n i (Until l r window) place s front a = (omega (arith, front l s.0, front r s.1, s.6), omega (arith, front l s.0, front r s.1, s.7))
+
+pub stands_with : (program : Program) (rows : List Row) (ft : Ft) → IsRunnable program → IsPacedAfter (plan_of program.ft program.outs) program.ft ft.queues (length rows)
+    → HasTable program.ft (known_table rows (atoms program.bz) program.ft) ft.queues → Stands program rows ft
+unfolding instruction_count frontier_at lowest_at kept_verdict slots_at place_of
+stands_with program rows ft r paced table =
+    let plan = plan_of program.ft program.outs in
+    let n : ℕ = length rows in
+    let count = paced_count plan program.ft ft.queues n paced in
+    record {
+      paced = paced;
+      table = table;
+      count = count;
+      fronts = λ i h. table_front program.ft (known_table rows (atoms program.bz) program.ft) ft.queues i table (omega arith);
+      verdicts = λ i t h from to. table_verdict program.ft (known_table rows (atoms program.bz) program.ft) ft.queues i t table (omega arith) from to;
+      at_least = λ i h. omega (arith, paced_front_at_least plan program.ft ft.queues n i paced h, worst_of_formula program i h);
+      at_most = λ i h. omega (arith, paced_front_at_most plan program.ft ft.queues n i paced h, best_of_formula program i h);
+      ahead = λ i h. paced_ahead plan program.ft ft.queues n i paced h;
+      places = λ i h.
+          let seated = ((program_planned program r).planned i h).seated in
+          reads_kept program ft n i (op_at program.ft i) (place_at program.ft ft.queues i) seated (λ g g_in. paced_front_at_least plan program.ft ft.queues n g paced (omega arith)) (paced_ahead plan program.ft ft.queues n i paced h);
+      lows = λ i h. paced_low plan program.ft ft.queues n i paced h;
+      sizes = λ i h. paced_size plan program.ft ft.queues n i paced h ∙ sym ((program_planned program r).sizes i h);
+    }
+
+-- the work of a row goes by the sizes of instructions alone
+sizes_in_order : (op : FtOp) (size size' : ℕ → ℕ) (n own own' : ℕ) → IsAfterOperands n op → ((i : ℕ) → i < n → size i ≡ size' i) → own ≡ own' → work_of size op own ≡ work_of size' op own'
+sizes_in_order True size size' n own own' after same e = omega arith
+sizes_in_order (Load k) size size' n own own' after same e = omega arith
+sizes_in_order (Not g) size size' n own own' after same e = omega (arith, same g after)
+sizes_in_order (And l r) size size' n own own' after same e = omega (arith, same l after.0, same r after.1)
+sizes_in_order (Until l r window) size size' n own own' after same e = omega (arith, same l after.0, same r after.1)
+
+pub work_by_sizes : (ops : List FtOp) (size size' : ℕ → ℕ) (n : ℕ) → AreInOrder ops → n ≤ length ops → ((i : ℕ) → i < n → size i ≡ size' i) → work_before ops size n ≡ work_before ops size' n
+work_by_sizes ops size size' zero order h same = refl
+work_by_sizes ops size size' (suc n) order h same =
+    ap₂ (λ (a b : ℕ). a + b) (work_by_sizes ops size size' n order (omega arith) (λ i i_in. same i (omega arith)))
+    (sizes_in_order (op_at ops n) size size' n (size n) (size' n) (order n True (omega arith)) (λ i i_in. same i (omega arith)) (same n (omega arith)))
+
+-- a truth that is loaded stands in the list
+pub truth_within : (es : List Expression) (k : ℕ) → IsTruthExpression (slice_get es k) → k < length es
+truth_within [] k t = absurd t
+truth_within (e ∷ es) zero t = omega arith
+truth_within (e ∷ es) (suc k) t = omega (arith, truth_within es k t)
+
+-- and it is that of its atom
+pub truth_there : (es : List Expression) (k : ℕ) → IsTruthExpression (slice_get es k) → slice_get es k ≡ Some (truth (get_or (map (λ e. atom_of (Some e)) es) k (is_true 0)))
+truth_there [] k t = absurd t
+truth_there (truth a ∷ es) zero t = refl
+truth_there (whole e ∷ es) zero t = absurd t
+truth_there (e ∷ es) (suc k) t = truth_there es k t
+
+-- what the queues show, the engine shows
+pub shows_from : (ft : Ft) (i from : ℕ) (seen : Seen) → ShowsRun ft.queues i from seen → ShowsFrom ft i from seen
+unfolding frontier_at kept_verdict
+shows_from ft i from (Run end v) s = s
+shows_from ft i from Nothing s = s

@@ -1,0 +1,81 @@
+-- The state of the engine after some rows.
+use Rattle.std.specs.Prelude.{◌≡◌, ℕ, ◌+◌, ◌-◌, ◌≤◌, ◌<◌, Bool, List, length, slice_get, slice_index, Some}
+use Rattle.mltl_base.specs.declared.interval.Engine.TheVariants.{Ft as future}
+use Rattle.mltl_base.specs.declared.operators.FtOp.{FtOp}
+use Rattle.mltl_base.specs.declared.operators.FtOp.TheVariants.{True, Load, Not, And, Until}
+use Rattle.mltl_base.specs.declared.program.Program.{Program}
+use Rattle.mltl_base.specs.Atoms.{Row}
+use Rattle.mltl_base.specs.Formula.{plain, bpd, core_wpd}
+use Rattle.mltl_base.specs.Programs.{atoms, formula_at}
+use Rattle.mltl_base.specs.Queues.{readers, worst_delays, widest}
+use Rattle.mltl_base.specs.Verdicts.{verdicts}
+use Rattle.scq_ring.specs.declared.Seen.{Seen}
+use Rattle.scq_ring.specs.declared.Seen.TheVariants.{Run, Nothing}
+use Rattle.ft_slab.specs.Nodes.{op_at, ReadsAhead}
+use Rattle.ft_slab.specs.State.{HasTable, IsPacedAfter, front_at, low_at, place_at, queue_count, size_at, verdict_in}
+use Rattle.ft_known.specs.DelayPlan.{plan_of}
+use Rattle.ft_known.specs.KnownTable.{known_table}
+use Rattle.ft_engine.specs.declared.engine.Ft.{Ft}
+
+-- how many instructions there are
+unfoldable pub instruction_count : Ft → ℕ
+instruction_count ft = queue_count ft.queues
+
+-- the first time at which instruction i has no verdict yet
+unfoldable pub frontier_at : Ft → ℕ → ℕ
+frontier_at ft i = front_at ft.queues i
+
+-- the first time whose verdict it keeps
+unfoldable pub lowest_at : Ft → ℕ → ℕ
+lowest_at ft i = low_at ft.queues i
+
+-- its verdict at a time that it keeps
+unfoldable pub kept_verdict : Ft → ℕ → ℕ → Bool
+kept_verdict ft i t = verdict_in ft.queues i t
+
+-- its slots
+unfoldable pub slots_at : Ft → ℕ → ℕ
+slots_at ft i = size_at ft.queues i
+
+-- a run of the verdicts of instruction i from time `from` on; nothing exactly at or past its frontier
+abbrev pub ShowsFrom : Ft → ℕ → ℕ → Seen → Type 0
+ShowsFrom ft i from (Run end v) = (from ≤ end) × (end < frontier_at ft i) × ((t : ℕ) → from ≤ t → t ≤ end → kept_verdict ft i t ≡ v)
+ShowsFrom ft i from Nothing = frontier_at ft i ≤ from
+
+-- where an instruction of these reads its operands next
+unfoldable pub place_of : List FtOp → Ft → ℕ → ℕ
+place_of ops ft i = place_at ops ft.queues i
+
+-- the place lies at or past so early a time of each operand
+abbrev pub ReadsFrom : FtOp → (ℕ → ℕ) → ℕ → Type 0
+ReadsFrom True early place = Unit {0}
+ReadsFrom (Load k) early place = Unit {0}
+ReadsFrom (Not g) early place = early g ≤ place
+ReadsFrom (And l r) early place = (early l ≤ place) × (early r ≤ place)
+ReadsFrom (Until l r window) early place = (early l ≤ place) × (early r ≤ place)
+
+-- the known verdicts of an instruction's formula after the rows
+abbrev pub known_of : Program → List Row → ℕ → List Bool
+known_of program rows i = verdicts rows (plain (formula_at program future i))
+
+-- the greatest worst delay among instruction i and all operands of all its readers
+abbrev pub width_of : Program → ℕ → ℕ
+width_of program i = widest (worst_delays program.ft) (readers program.ft program.outs) i
+
+-- the engine has taken the rows of this program
+pub record Stands (program : Program) (rows : List Row) (ft : Ft) : Type 0 where
+  pub paced : IsPacedAfter (plan_of program.ft program.outs) program.ft ft.queues (length rows)
+  pub table : HasTable program.ft (known_table rows (atoms program.bz) program.ft) ft.queues
+  -- the frontier is the number of known verdicts, and each verdict from the low place on is kept
+  pub count : instruction_count ft ≡ length program.ft
+  pub fronts : (i : ℕ) → i < length program.ft → frontier_at ft i ≡ length (known_of program rows i)
+  pub verdicts : (i t : ℕ) → i < length program.ft → lowest_at ft i ≤ t → t < frontier_at ft i → slice_get (known_of program rows i) t ≡ Some (kept_verdict ft i t)
+  -- the frontier lies between n less the worst and n less the best delay
+  pub at_least : (i : ℕ) → i < length program.ft → length rows ≤ frontier_at ft i + core_wpd (formula_at program future i)
+  pub at_most : (i : ℕ) → i < length program.ft → frontier_at ft i ≤ length rows - bpd (formula_at program future i)
+  -- an instruction reads on from the least frontier of its operands, at least, and so from n less the width of each
+  pub ahead : (i : ℕ) → i < length program.ft → ReadsAhead (op_at program.ft i) (frontier_at ft) (place_of program.ft ft i)
+  pub places : (i : ℕ) → i < length program.ft → ReadsFrom (op_at program.ft i) (λ g. length rows - width_of program g) (place_of program.ft ft i)
+  -- the low place is 0 or at most n - 1 less the width, and the slots are those of the program
+  pub lows : (i : ℕ) → i < length program.ft → lowest_at ft i ≤ length rows - 1 - width_of program i
+  pub sizes : (i : ℕ) → i < length program.ft → slots_at ft i ≡ slice_index program.sizes.ft i

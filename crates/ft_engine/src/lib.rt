@@ -1,0 +1,9 @@
+//! The future-time engine: the verdicts of all future-time instructions of a program, row by row.
+#![tactic(auto)]
+
+mod engine;
+mod loaded;
+#[cfg(test)]
+mod tests;
+
+pub use engine::Ft;

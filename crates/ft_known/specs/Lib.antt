@@ -1,0 +1,2 @@
+pub mod DelayPlan
+pub mod KnownTable

@@ -1,0 +1,5 @@
+pub mod Making
+pub mod Pieces
+pub mod StateLaws
+pub mod Turning
+pub mod Telling

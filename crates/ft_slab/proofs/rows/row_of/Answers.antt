@@ -1,0 +1,115 @@
+use Rattle.std.proofs.Common.{Bool, ◌≡◌, ℕ, suc, ◌+◌, ◌<◌, ◌≤◌, length, ◌^◌, List, ◌++◌, get_or, take, set, drop, arith, refl, subst, sym, ap, ◌∙◌}
+use Rattle.mltl_base.specs.declared.operators.FtOp.{FtOp}
+use Rattle.scq_ring.specs.declared.Slot.{Slot}
+use Rattle.ft_slab.specs.declared.rows.Node.{Node}
+use Rattle.ft_slab.specs.Nodes.{no_node, node_at, op_at, size_in, work_before, work_of, front_in, reads_from, ReadsAhead}
+use Rattle.ft_slab.specs.Plans.{IsPaced, IsPlaced, IsReady, IsSeated, Plan}
+use Rattle.ft_slab.specs.Tables.{IsScanned, IsTold}
+use Rattle.mltl_base.specs.declared.operators.FtOp.TheVariants.{Load}
+use Rattle.ft_slab.proofs.Pieces.{first_behind}
+use Rattle.ft_slab.proofs.Turning.{Turned, Stepped, ready_here, stepped, turned_on, seats_on, told_here, Retold, retold_on, work_same, first_size, first_sizes, ahead_same, fronts_before}
+use Rattle.ft_slab.proofs.rows.row_of.Goals as goal
+
+pub step-requires-clause-ready : goal.step-requires-clause-ready
+step-requires-clause-ready g c =
+    let plan : Plan = c.requires.ready.0 in
+    let n : ℕ = c.requires.ready.1 in
+    let few : n < 2 ^ 40 = c.requires.ready.2 in
+    let paced : IsPaced plan c.args.ops.now c.args.nodes.now c.args.slab.now n = c.requires.ready.3 in
+    let nodes = c.loop-i.nodes in
+    let slab = c.loop-i.slab in
+    let before = c.split_at_mut-before.result.0.now in
+    let rest = c.split_at_mut-before.result.1.now in
+    let low = c.split_at_mut-low.result.0.now in
+    let high = c.split_at_mut-low.result.1.now in
+    let front : length before ≡ c.loop-i.i = c.split_at_mut-before.ensures.front_len in
+    let blank : Node = record { ring = record { frontier = 0; low = 0; oldest = 0; used = 0 }; place = 0; start = 0; size = 0 } in
+    let node : Node = get_or rest 0 blank in
+    let t0 : Turned plan c.args.ops.now nodes slab n c.loop-i.i = c.loop-i.invariant.turned plan n few paced in
+    let turned : Turned plan c.args.ops.now nodes slab n (length before) = subst (λ (i : ℕ). Turned plan c.args.ops.now nodes slab n i) (sym front) t0 in
+    let back : length rest + c.loop-i.i ≡ length nodes = c.split_at_mut-before.ensures.back_len in
+    let some : 0 < length rest = omega (arith, t0.same_length) in
+    let node_is : node ≡ node_at nodes (length before) = first_behind before rest blank no_node some ∙ ap (λ (ns : List Node). get_or ns (length before) no_node) (sym c.split_at_mut-before.ensures.value) in
+    let low_is : length low ≡ node.start = c.split_at_mut-low.ensures.front_len in
+    let in_ops : length before < length c.args.ops.now = omega arith in
+    let ready : IsReady plan n (op_at c.args.ops.now (length before)) before low node (take node.size high) =
+    ready_here plan c.args.ops.now nodes slab n before rest low high node c.split_at_mut-before.ensures.value c.split_at_mut-low.ensures.value some node_is low_is turned few in_ops in
+    (plan, n, subst (λ (i : ℕ). IsReady plan n (op_at c.args.ops.now i) before low node (take node.size high)) front ready)
+
+pub loop-i-preserved : goal.loop-i-preserved
+loop-i-preserved g c =
+    let plan : Plan = c.requires.ready.0 in
+    let n : ℕ = c.requires.ready.1 in
+    let few : n < 2 ^ 40 = c.requires.ready.2 in
+    let paced : IsPaced plan c.args.ops.now c.args.nodes.now c.args.slab.now n = c.requires.ready.3 in
+    let nodes = c.loop-i.nodes in
+    let slab = c.loop-i.slab in
+    let before = c.split_at_mut-before.result.0.now in
+    let rest = c.split_at_mut-before.result.1.now in
+    let low = c.split_at_mut-low.result.0.now in
+    let high = c.split_at_mut-low.result.1.now in
+    let front : length before ≡ c.loop-i.i = c.split_at_mut-before.ensures.front_len in
+    let blank : Node = record { ring = record { frontier = 0; low = 0; oldest = 0; used = 0 }; place = 0; start = 0; size = 0 } in
+    let node : Node = get_or rest 0 blank in
+    let t0 : Turned plan c.args.ops.now nodes slab n c.loop-i.i = c.loop-i.invariant.turned plan n few paced in
+    let turned : Turned plan c.args.ops.now nodes slab n (length before) = subst (λ (i : ℕ). Turned plan c.args.ops.now nodes slab n i) (sym front) t0 in
+    let back : length rest + c.loop-i.i ≡ length nodes = c.split_at_mut-before.ensures.back_len in
+    let some : 0 < length rest = omega (arith, t0.same_length) in
+    let node_is : node ≡ node_at nodes (length before) = first_behind before rest blank no_node some ∙ ap (λ (ns : List Node). get_or ns (length before) no_node) (sym c.split_at_mut-before.ensures.value) in
+    let low_is : length low ≡ node.start = c.split_at_mut-low.ensures.front_len in
+    let new_node : Node = c.step.new.node in
+    let own : List Slot = c.step.new.own in
+    let nodes' : List Node = before ++ set rest 0 new_node in
+    let slab' : List Slot = low ++ (own ++ drop node.size high) in
+    let i = c.loop-i.invariant in
+    let in_ops : length before < length c.args.ops.now = omega arith in
+    let st : Stepped nodes slab (length before) new_node own nodes' slab' =
+    stepped plan c.args.ops.now nodes slab n before rest low high node c.split_at_mut-before.ensures.value c.split_at_mut-low.ensures.value some node_is low_is turned new_node own c.step.ensures.start c.step.ensures.size c.step.auto.own in
+    let op_same : op_at c.args.ops.now (length before) ≡ op_at c.args.ops.now c.loop-i.i = ap (λ (k : ℕ). op_at c.args.ops.now k) front in
+    record {
+      seats = seats_on nodes slab (length before) new_node own nodes' slab' st c.args.nodes.now i.seats;
+      turned = λ plan n few paced.
+          let t : Turned plan c.args.ops.now nodes slab n (length before) = subst (λ (k : ℕ). Turned plan c.args.ops.now nodes slab n k) (sym front) (i.turned plan n few paced) in
+          let ready : IsReady plan n (op_at c.args.ops.now c.loop-i.i) before low node (take node.size high) =
+          subst (λ (op : FtOp). IsReady plan n op before low node (take node.size high)) op_same
+          (ready_here plan c.args.ops.now nodes slab n before rest low high node c.split_at_mut-before.ensures.value c.split_at_mut-low.ensures.value some node_is low_is t few in_ops) in
+          subst (λ (k : ℕ). Turned plan c.args.ops.now nodes' slab' n (k + 1)) front
+          (turned_on nodes slab (length before) new_node own nodes' slab' st plan c.args.ops.now n t (omega arith) (c.step.ensures.paced plan n ready)
+          (subst (λ (op : FtOp). IsPlaced plan (length before) op new_node (n + 1)) (sym op_same) (c.step.ensures.placed plan n ready))
+          (ahead_same plan (length before) (op_at c.args.ops.now (length before)) (front_in before) (front_in nodes) (reads_from (op_at c.args.ops.now (length before)) new_node) (reads_from (op_at c.args.ops.now (length before)) new_node)
+          (t.planned (length before) in_ops).seated (fronts_before plan c.args.ops.now nodes slab n before rest low high node c.split_at_mut-before.ensures.value c.split_at_mut-low.ensures.value some node_is low_is t) refl
+          (subst (λ (op : FtOp). ReadsAhead op (front_in before) (reads_from op new_node)) (sym op_same) c.step.ensures.ahead)));
+      told = λ plan truth n old new row agree.
+          let t : Turned plan c.args.ops.now nodes slab n (length before) = subst (λ (k : ℕ). Turned plan c.args.ops.now nodes slab n k) (sym front) (i.turned plan n row.few row.paced) in
+          let r : Retold c.args.ops.now old new nodes slab (length before) = subst (λ (k : ℕ). Retold c.args.ops.now old new nodes slab k) (sym front) (i.told plan truth n old new row agree) in
+          let told : IsTold plan truth n (op_at c.args.ops.now c.loop-i.i) before low node (take node.size high) old new =
+          subst (λ (op : FtOp). IsTold plan truth n op before low node (take node.size high) old new) op_same
+          (told_here plan c.args.ops.now nodes slab n before rest low high node c.split_at_mut-before.ensures.value c.split_at_mut-low.ensures.value some node_is low_is t truth old new row.few in_ops row.table row.extends r) in
+          let loads : (k : ℕ) (v : Bool) → op_at c.args.ops.now c.loop-i.i ≡ Load k → g.T.Truths.gives c.args.truths.now k v → truth n k ≡ v = λ k v e given. agree c.loop-i.i k v c.loop-i-test.true e given in
+          subst (λ (k : ℕ). Retold c.args.ops.now old new nodes' slab' (k + 1)) front
+          (retold_on nodes slab (length before) new_node own nodes' slab' st c.args.ops.now old new r (omega arith) (c.step.ensures.verdicts plan truth n old new told loads)
+          (subst (λ (op : FtOp). IsScanned op new new_node) (sym op_same) (c.step.ensures.scanned plan truth n old new told loads)));
+      counted =
+          let first : List Node = c.args.nodes.now in
+          let seated : IsSeated plan (length before) (op_at c.args.ops.now c.loop-i.i) = subst (λ (op : FtOp). IsSeated plan (length before) op) op_same (turned.planned (length before) in_ops).seated in
+          let size : length (take node.size high) ≡ (node_at first c.loop-i.i).size =
+          first_size plan c.args.ops.now nodes slab n before rest low high node c.split_at_mut-before.ensures.value c.split_at_mut-low.ensures.value some node_is low_is turned first i.seats ∙ ap (λ (k : ℕ). (node_at first k).size) front in
+          let work : work_of (size_in before) (op_at c.args.ops.now c.loop-i.i) (length (take node.size high)) ≤ work_of (size_in first) (op_at c.args.ops.now c.loop-i.i) (node_at first c.loop-i.i).size =
+          work_same plan (op_at c.args.ops.now c.loop-i.i) before first (length (take node.size high)) (node_at first c.loop-i.i).size seated
+          (first_sizes plan c.args.ops.now nodes slab n before rest low high node c.split_at_mut-before.ensures.value c.split_at_mut-low.ensures.value some node_is low_is turned first i.seats) size in
+          let one_more : c.loop-i.i + 1 ≡ suc c.loop-i.i = omega arith in
+          let sum : work_before c.args.ops.now (size_in first) (c.loop-i.i + 1) ≡ work_before c.args.ops.now (size_in first) c.loop-i.i + work_of (size_in first) (op_at c.args.ops.now c.loop-i.i) (node_at first c.loop-i.i).size =
+          ap (λ (k : ℕ). work_before c.args.ops.now (size_in first) k) one_more in
+          omega (arith, sum, work, i.counted, c.step.ensures.counted);
+    }
+
+pub returns-clause-paced : goal.returns-clause-paced
+returns-clause-paced g c = λ plan n few p.
+    let t = c.loop-i.invariant.turned plan n few p in
+    record { same_length = t.same_length; planned = t.planned; laid = t.laid; paced = λ i h. t.done i (omega (arith, t.same_length)); placed = λ i h. t.done_placed i (omega (arith, t.same_length)); ahead = λ i h. t.done_ahead i (omega (arith, t.same_length)) }
+
+pub returns-clause-verdicts : goal.returns-clause-verdicts
+returns-clause-verdicts g c = λ plan truth n old new row agree.
+    let t = c.loop-i.invariant.turned plan n row.few row.paced in
+    let r = c.loop-i.invariant.told plan truth n old new row agree in
+    record { verdicts = λ i h. r.done i (omega (arith, t.same_length)); scanned = λ i h. r.done_scanned i (omega (arith, t.same_length)) }

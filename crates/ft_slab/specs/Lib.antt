@@ -1,0 +1,4 @@
+pub mod Nodes
+pub mod Plans
+pub mod State
+pub mod Tables

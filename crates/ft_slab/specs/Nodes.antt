@@ -1,0 +1,75 @@
+-- Instructions and their parts of the slab.
+use Rattle.std.specs.Prelude.{◌≡◌, ℕ, zero, suc, ◌+◌, ◌*◌, ◌≤◌, ◌<◌, List, length, max, min, take, drop, slice_index_or}
+use Rattle.mltl_base.specs.declared.operators.FtOp.{FtOp}
+use Rattle.mltl_base.specs.declared.operators.FtOp.TheVariants.{True, Load, Not, And, Until}
+use Rattle.scq_ring.specs.declared.Slot.{Slot}
+use Rattle.scq_ring.specs.Runs.{frontier_of, no_ring}
+use Rattle.ft_slab.specs.declared.rows.Node.{Node}
+
+-- instruction i, True past the last one
+abbrev pub op_at : List FtOp → ℕ → FtOp
+op_at ops i = slice_index_or ops i True
+
+-- what stands past the end of a list of nodes
+abbrev pub no_node : Node
+no_node = record { ring = no_ring; place = 0; start = 0; size = 0 }
+
+-- node i, one without slots past the last one
+abbrev pub node_at : List Node → ℕ → Node
+node_at nodes i = slice_index_or nodes i no_node
+
+-- the part of the slab that belongs to a node
+abbrev pub part : List Slot → Node → List Slot
+part slab node = take node.size (drop node.start slab)
+
+-- the parts of the slab follow one another and end within it
+pub record AreLaid (nodes : List Node) (slab : List Slot) : Type 0 where
+  pub within : (j : ℕ) → j < length nodes → (node_at nodes j).start + (node_at nodes j).size ≤ length slab
+  pub apart : (j k : ℕ) → j < k → k < length nodes → (node_at nodes j).start + (node_at nodes j).size ≤ (node_at nodes k).start
+
+-- the slots of a node
+abbrev pub size_in : List Node → ℕ → ℕ
+size_in nodes i = (node_at nodes i).size
+
+-- the greatest size of an operand's queue
+abbrev pub operand_size : (ℕ → ℕ) → FtOp → ℕ
+operand_size size True = 0
+operand_size size (Load k) = 0
+operand_size size (Not g) = size g
+operand_size size (And l r) = max (size l) (size r)
+operand_size size (Until l r window) = max (size l) (size r)
+
+-- the most steps that an instruction takes in one row, where its own queue has so many slots
+abbrev pub work_of : (ℕ → ℕ) → FtOp → ℕ → ℕ
+work_of size op own = 4 * (operand_size size op + own + 2)
+
+-- the most steps of the first n instructions in one row
+abbrev pub work_before : List FtOp → (ℕ → ℕ) → ℕ → ℕ
+work_before ops size zero = 0
+work_before ops size (suc n) = work_before ops size n + work_of size (op_at ops n) (size n)
+
+-- each node keeps its part of the slab
+pub record KeepsSeats (old new : List Node) : Type 0 where
+  pub same_length : length new ≡ length old
+  pub start : (j : ℕ) → (node_at new j).start ≡ (node_at old j).start
+  pub size : (j : ℕ) → (node_at new j).size ≡ (node_at old j).size
+
+-- where an instruction reads its operands next: an until from its place, another one from its own frontier
+abbrev pub reads_from : FtOp → Node → ℕ
+reads_from True node = frontier_of node.ring
+reads_from (Load k) node = frontier_of node.ring
+reads_from (Not g) node = frontier_of node.ring
+reads_from (And l r) node = frontier_of node.ring
+reads_from (Until l r window) node = node.place
+
+-- a place is at least the least frontier of the operands
+abbrev pub ReadsAhead : FtOp → (ℕ → ℕ) → ℕ → Type 0
+ReadsAhead True front place = Unit {0}
+ReadsAhead (Load k) front place = Unit {0}
+ReadsAhead (Not g) front place = front g ≤ place
+ReadsAhead (And l r) front place = min (front l) (front r) ≤ place
+ReadsAhead (Until l r window) front place = min (front l) (front r) ≤ place
+
+-- the frontier of a node
+abbrev pub front_in : List Node → ℕ → ℕ
+front_in nodes i = frontier_of (node_at nodes i).ring

@@ -1,0 +1,76 @@
+-- The verdicts of instructions that are known after some rows, and a queue that has them.
+use Rattle.std.specs.Prelude.{◌≡◌, ℕ, ◌+◌, ◌≤◌, ◌<◌, ◌^◌, Bool, true, List, length, Some, None, slice_get, if◌then◌else◌, nat_lt}
+use Rattle.mltl_base.specs.declared.operators.FtOp.{FtOp}
+use Rattle.mltl_base.specs.declared.operators.FtOp.TheVariants.{True, Load, Not, And, Until}
+use Rattle.mltl_base.specs.Verdicts.{Known, IsLongestKnown, k_negation, k_conjunction, k_until}
+use Rattle.scq_ring.specs.declared.Ring.{Ring}
+use Rattle.scq_ring.specs.declared.Slot.{Slot}
+use Rattle.scq_ring.specs.Runs.{frontier_of, low_of, verdict_at}
+use Rattle.ft_ops.specs.Scans.{Scan}
+use Rattle.ft_slab.specs.declared.rows.Node.{Node}
+use Rattle.ft_slab.specs.Nodes.{op_at, node_at, part}
+use Rattle.ft_slab.specs.Plans.{Plan, IsPaced, IsReady}
+
+-- the known verdicts of each instruction, from time 0 on
+abbrev pub Table : Type 0
+Table = ℕ → List Bool
+
+-- the truths of rows, by time and number
+abbrev pub Loads : Type 0
+Loads = ℕ → ℕ → Bool
+
+-- the strong Kleene value of an instruction by time after n rows, over what is known of its operands
+abbrev pub value_of : FtOp → Loads → ℕ → Table → Known
+value_of True truth n table t = if nat_lt t n then Some true else None
+value_of (Load k) truth n table t = if nat_lt t n then Some (truth t k) else None
+value_of (Not g) truth n table t = k_negation (slice_get (table g)) t
+value_of (And l r) truth n table t = k_conjunction (slice_get (table l)) (slice_get (table r)) t
+value_of (Until l r window) truth n table t = k_until window (slice_get (table l)) (slice_get (table r)) t
+
+-- each instruction has the longest list of values that are known after n rows
+pub record IsTable (ops : List FtOp) (truth : Loads) (n : ℕ) (table : Table) : Type 0 where
+  pub each : (i : ℕ) → i < length ops → IsLongestKnown (value_of (op_at ops i) truth n table) n (table i)
+
+-- what was known stays
+pub record Extends (old new : Table) : Type 0 where
+  pub each : (i t : ℕ) (v : Bool) → slice_get (old i) t ≡ Some v → slice_get (new i) t ≡ Some v
+
+-- the queue's frontier is the number of verdicts, and it has them from its low place on
+pub record HasVerdicts (ring : Ring) (slots : List Slot) (verdicts : List Bool) : Type 0 where
+  pub count : frontier_of ring ≡ length verdicts
+  pub kept : (t : ℕ) → low_of ring ≤ t → t < frontier_of ring → slice_get verdicts t ≡ Some (verdict_at ring slots t)
+
+-- an until has scanned its operands up to its place
+abbrev pub IsScanned : FtOp → Table → Node → Type 0
+IsScanned True table node = Unit {0}
+IsScanned (Load k) table node = Unit {0}
+IsScanned (Not g) table node = Unit {0}
+IsScanned (And l r) table node = Unit {0}
+IsScanned (Until l r window) table node =
+    Scan window (slice_get (table l)) (slice_get (table r)) (frontier_of node.ring) node.place node.place
+
+-- what an instruction meets that takes row n: its operands have the verdicts after that row, and it has those before
+pub record IsTold (plan : Plan) (truth : Loads) (n : ℕ) (op : FtOp) (before : List Node) (low : List Slot) (node : Node) (own : List Slot) (old new : Table) : Type 0 where
+  pub ready : IsReady plan n op before low node own
+  pub longest : IsLongestKnown (value_of op truth (n + 1) new) (n + 1) (new (length before))
+  pub extends : Extends old new
+  pub operands : (j : ℕ) → j < length before → HasVerdicts (node_at before j).ring (part low (node_at before j)) (new j)
+  pub verdicts : HasVerdicts node.ring own (old (length before))
+  pub scanned : IsScanned op old node
+
+-- all queues have their verdicts
+pub record HaveVerdicts (ops : List FtOp) (table : Table) (nodes : List Node) (slab : List Slot) : Type 0 where
+  pub verdicts : (i : ℕ) → i < length nodes → HasVerdicts (node_at nodes i).ring (part slab (node_at nodes i)) (table i)
+  pub scanned : (i : ℕ) → i < length nodes → IsScanned (op_at ops i) table (node_at nodes i)
+
+-- what a row meets: the queues after n rows with the verdicts of the older table, and the table after one row more
+pub record TakesRow (plan : Plan) (truth : Loads) (n : ℕ) (ops : List FtOp) (nodes : List Node) (slab : List Slot) (old new : Table) : Type 0 where
+  pub few : n < 2 ^ 40
+  pub paced : IsPaced plan ops nodes slab n
+  pub table : IsTable ops truth (n + 1) new
+  pub extends : Extends old new
+  pub verdicts : HaveVerdicts ops old nodes slab
+
+-- what is given for the truths that instructions load is what they are
+abbrev pub AgreeOnLoads : List FtOp → (ℕ → Bool) → (ℕ → Bool → Type 0) → Type 0
+AgreeOnLoads ops truth gives = (i k : ℕ) (v : Bool) → i < length ops → op_at ops i ≡ Load k → gives k v → truth k ≡ v

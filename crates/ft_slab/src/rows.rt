@@ -1,0 +1,112 @@
+ghost use Rattle.std.specs.Prelude.{◌≡◌, ℕ, Bool, ◌+◌, ◌-◌, ◌*◌, ◌^◌, ◌<◌, ◌≤◌, length};
+ghost use Rattle.mltl_base.specs.declared.operators.FtOp.TheVariants.{Load as loads};
+ghost use Rattle.scq_ring.specs.Runs.{Belongs};
+ghost use Rattle.ft_slab.specs.Nodes.{KeepsSeats, ReadsAhead, front_in, node_at, op_at, part, reads_from, size_in, work_before, work_of};
+ghost use Rattle.ft_slab.specs.Tables.{AgreeOnLoads, HasVerdicts, HaveVerdicts, IsScanned, IsTold, Loads, Table, TakesRow};
+ghost use Rattle.ft_slab.specs.Plans.{IsPaced, IsPlaced, IsReady, Paced, Plan};
+
+use crate::truths::Truths;
+use ft_ops::{Operand, and_row, not_row, until_row};
+use mltl_base::FtOp;
+use scq_ring::steps::Steps;
+use scq_ring::{Ring, Slot};
+use std::sync::ledger::Ledger;
+
+/// The queue of an instruction: its ring, where it reads next if it is an until, and its part of the slab.
+#[derive(Debug, Drop)]
+pub struct Node {
+    pub ring: Ring,
+    pub place: u64,
+    pub start: usize,
+    pub size: usize,
+}
+
+/// The queue of instruction `i`.
+pub fn operand<'a>(nodes: &'a [Node], slab: &'a [Slot], i: u32) -> Operand<'a>
+    requires exists { i < length nodes.now }
+    requires within { (node_at nodes.now i).start + (node_at nodes.now i).size ≤ length slab.now }
+    ensures ring { result.ring.now ≡ (node_at nodes.now i).ring }
+    ensures slots { result.slots.now ≡ part slab.now (node_at nodes.now i) }
+{
+    let node = &nodes[i as usize];
+    let end = node.start + node.size;
+    Operand {
+        ring: &node.ring,
+        slots: &slab[node.start..end],
+    }
+}
+
+/// Takes the row for one instruction, after those before it: they are `before`, with their slots in `low`.
+fn step<T: Truths, L: Ledger>(
+    op: FtOp,
+    truths: &T,
+    before: &[Node],
+    low: &[Slot],
+    node: &mut Node,
+    own: &mut [Slot],
+    steps: &mut Steps<L>,
+)
+    requires loaded { (k : ℕ) → op ≡ loads k → T.has truths.now k }
+    requires ready { (plan : Plan) × (n : ℕ) × IsReady plan n op before.now low.now node.old own.old }
+    ensures start { node.new.start ≡ node.old.start }
+    ensures size { node.new.size ≡ node.old.size }
+    ensures paced { (plan : Plan) (n : ℕ) → IsReady plan n op before.now low.now node.old own.old → Paced plan (length before.now) node.new own.new (n + 1) }
+    ensures placed { (plan : Plan) (n : ℕ) → IsReady plan n op before.now low.now node.old own.old → IsPlaced plan (length before.now) op node.new (n + 1) }
+    ensures ahead { ReadsAhead op (front_in before.now) (reads_from op node.new) }
+    ensures counted { steps.new ≤ steps.old + work_of (size_in before.now) op (length own.old) }
+    ensures verdicts { (plan : Plan) (truth : Loads) (n : ℕ) (old new : Table) → IsTold plan truth n op before.now low.now node.old own.old old new
+        → ((k : ℕ) (v : Bool) → op ≡ loads k → T.gives truths.now k v → truth n k ≡ v) → HasVerdicts node.new.ring own.new (new (length before.now)) }
+    ensures scanned { (plan : Plan) (truth : Loads) (n : ℕ) (old new : Table) → IsTold plan truth n op before.now low.now node.old own.old old new
+        → ((k : ℕ) (v : Bool) → op ≡ loads k → T.gives truths.now k v → truth n k ≡ v) → IsScanned op new node.new }
+{
+    match op {
+        FtOp::True => node.ring.write(own, node.ring.frontier(), true, steps),
+        FtOp::Load(k) => node
+            .ring
+            .write(own, node.ring.frontier(), truths.truth(k), steps),
+        FtOp::Not(g) => not_row(&mut node.ring, own, operand(before, low, g), steps),
+        FtOp::And(l, r) => and_row(
+            &mut node.ring,
+            own,
+            operand(before, low, l),
+            operand(before, low, r),
+            steps,
+        ),
+        FtOp::Until(l, r, window) => {
+            node.place = until_row(
+                &mut node.ring,
+                own,
+                node.place,
+                operand(before, low, l),
+                operand(before, low, r),
+                window,
+                steps,
+            );
+        }
+    }
+}
+
+/// Takes the row for all instructions in order. Each has its own part of the slab, behind those of its operands.
+pub fn row_of<T: Truths, L: Ledger>(
+    ops: &[FtOp],
+    truths: &T,
+    nodes: &mut [Node],
+    slab: &mut [Slot],
+    steps: &mut Steps<L>,
+)
+    requires loaded { (i k : ℕ) → i < length ops.now → op_at ops.now i ≡ loads k → T.has truths.now k }
+    requires ready { (plan : Plan) × (n : ℕ) × (n < 2 ^ 40) × IsPaced plan ops.now nodes.old slab.old n }
+    ensures seats { KeepsSeats nodes.old nodes.new }
+    ensures paced { (plan : Plan) (n : ℕ) → n < 2 ^ 40 → IsPaced plan ops.now nodes.old slab.old n → IsPaced plan ops.now nodes.new slab.new (n + 1) }
+    ensures counted { steps.new ≤ steps.old + work_before ops.now (size_in nodes.old) (length ops.now) }
+    ensures verdicts { (plan : Plan) (truth : Loads) (n : ℕ) (old new : Table) → TakesRow plan truth n ops.now nodes.old slab.old old new
+        → AgreeOnLoads ops.now (truth n) (T.gives truths.now) → HaveVerdicts ops.now new nodes.new slab.new }
+{
+    for i in 0..ops.len() {
+        let (before, rest) = nodes.split_at_mut(i);
+        let node = &mut rest[0];
+        let (low, high) = slab.split_at_mut(node.start);
+        let own = &mut high[..node.size];
+        step(ops[i], truths, before, low, node, own, steps);
+    }
+}
