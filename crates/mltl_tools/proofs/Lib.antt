@@ -1,0 +1,11 @@
+pub mod FirstEngineLaws
+pub mod FirstTextLaws
+pub mod MainLaws
+pub mod PhaseLaws
+pub mod RowLaws
+pub mod RunLaws
+pub mod TellLaws
+pub mod TraceLaws
+pub mod WatchEnds
+pub mod WatchLaws
+pub mod WholeRun

@@ -1,0 +1,11 @@
+pub mod Codes
+pub mod Messages
+pub mod FirstForm
+pub mod FirstText
+pub mod FirstEngine
+pub mod Monitoring
+pub mod Trace
+pub mod Watch
+pub mod Telling
+pub mod Run
+pub mod Phases
