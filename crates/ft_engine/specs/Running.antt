@@ -1,4 +1,4 @@
--- What the engine asks of a program. A well-formed program has it.
+-- What the engine asks of a program.
 use Rattle.std.specs.Prelude.{◌≡◌, ℕ, ◌≤◌, ◌<◌, length, sum, slice_get, slice_index, All, Option, Some, None}
 use Rattle.mltl_base.specs.declared.limits.TheConstants.{MAX_BOUND, MAX_SLOTS}
 use Rattle.mltl_base.specs.declared.operators.FtOp.TheVariants.{Load}

@@ -1,5 +1,5 @@
 -- Signals in other columns.
-use Rattle.std.proofs.Common.{◌≡◌, ℕ, ◌+◌, ◌<◌, ◌≤◌, ◌==◌, zero, suc, Bool, true, false, Option, Some, None, List, [], ◌∷◌, ◌++◌, All, length, take, drop, map, slice_get, slice_set, slice_index, slice_index_or, refl, ap, sym, ◌∙◌, arith, subst, inl, inr, eq-eqb, append_assoc}
+use Rattle.std.proofs.Common.{◌≡◌, ℕ, ◌+◌, ◌<◌, ◌≤◌, suc, Some, List, [], ◌∷◌, ◌++◌, length, take, drop, map, slice_get, slice_set, slice_index, slice_index_or, refl, ap, sym, ◌∙◌, arith, inl, inr, eq-eqb, append_assoc}
 use Rattle.std.proofs.lemmas.Bool.Decides.{eqb_tells}
 use Rattle.std.proofs.lemmas.List.{drop_more, drop_all, take_more, map_more, set_at, length-map, length-take-le}
 use Rattle.mltl_base.specs.declared.program.StoredSignal.{StoredSignal}

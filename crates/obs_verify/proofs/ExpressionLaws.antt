@@ -1,6 +1,5 @@
 -- The expression of an instruction, over those of the instructions before it.
-use Rattle.std.proofs.Common.{◌≡◌, ℕ, ◌+◌, ◌<◌, ◌≤◌, zero, suc, List, [], ◌∷◌, ◌++◌, Option, Some, None, length, take, slice_get, refl, ap, sym, ◌∙◌, arith, length-append, subst, add-zero, zero-add, true, false, inl, inr, pos, Bool}
-use Rattle.std.specs.Prelude.{◌&&◌}
+use Rattle.std.proofs.Common.{◌≡◌, ℕ, ◌+◌, ◌<◌, ◌≤◌, zero, suc, List, [], ◌∷◌, ◌++◌, Option, Some, None, length, take, slice_get, refl, ap, sym, ◌∙◌, arith, subst, add-zero, zero-add, true, false, inl, inr, pos}
 use Rattle.std.proofs.lemmas.Bool.{cases_lt}
 use Rattle.std.proofs.lemmas.List.{take_at, take-take, length_push, take_all, length-take, get_or_append_left, get_or_push}
 use Rattle.std.proofs.lemmas.Option.{slice_get_past}
@@ -15,7 +14,6 @@ use Rattle.obs_verify.specs.declared.fault.VerifyFault.TheVariants.{Operand, Div
 use Rattle.obs_verify.specs.InstructionRanges.{ReadsBefore, divides_over, range_at, range_of}
 use Rattle.obs_verify.specs.WellFormed.{bz_fault, has_divisor, has_operands, is_whole, is_whole_before}
 use Rattle.obs_verify.proofs.RuleLaws.{and_left, and_right}
-use Rattle.mltl_base.specs.Atoms.{Term}
 use Rattle.mltl_base.specs.Programs.{Expression, expression_of, expressions_after, expressions, term_at, term_of}
 
 -- the expressions before stay

@@ -1,7 +1,6 @@
 -- What programs have in which rules find no fault.
 use Rattle.std.proofs.Common.{◌≡◌, ℕ, ◌+◌, ◌<◌, ◌≤◌, zero, suc, Option, Some, None, List, [], ◌∷◌, All, length, slice_index, slice_index_or, refl, ap, sym, ◌∙◌, arith, subst, zero-add, add-zero, true}
-use Rattle.std.specs.Prelude.{nat_lt, nat_le}
-use Rattle.std.proofs.lemmas.Bool.{lt-ltb, le-leb, ltb-true, leb-true, lt-leb}
+use Rattle.std.proofs.lemmas.Bool.{le-leb, ltb-true, leb-true, lt-leb}
 use Rattle.std.proofs.lemmas.List.Elements.{All-head, All-tail}
 use Rattle.mltl_base.specs.declared.interval.Engine.TheVariants as engine
 use Rattle.mltl_base.specs.declared.operators.FtOp as ft
@@ -11,7 +10,7 @@ use Rattle.mltl_base.specs.declared.program.Program.{Program}
 use Rattle.mltl_base.specs.Queues.{AreInOrder, IsAfterOperands, HasBounds, HasPastBounds, IsFirstLate, ReportsInstructions}
 use Rattle.obs_verify.specs.declared.fault.VerifyFault.{VerifyFault}
 use Rattle.obs_verify.specs.declared.fault.VerifyFault.TheVariants.{TooLate}
-use Rattle.obs_verify.specs.WellFormed.{first_in, ft_fault, pt_fault, late_fault, output_fault, has_future_operands, has_future_window, has_past_window, reports_within, or_else, unless}
+use Rattle.obs_verify.specs.WellFormed.{first_in, ft_fault, pt_fault, late_fault, output_fault, has_future_operands, has_future_window, has_past_window, reports_within}
 use Rattle.obs_verify.proofs.RuleLaws.{and_left, and_right, none_of_all, or_none, unless_true}
 
 -- the rule of each member, from its place in the list

@@ -1,5 +1,5 @@
 -- A well-formed program stays so where its signals are moved.
-use Rattle.std.proofs.Common.{◌≡◌, ◌≢◌, ℕ, ◌+◌, ◌<◌, ◌≤◌, ◌==◌, zero, suc, Bool, true, false, Option, Some, None, List, [], ◌∷◌, All, length, take, map, slice_index, slice_index_or, refl, ap, sym, ◌∙◌, arith, subst, zero-add, inl, inr, eq-eqb}
+use Rattle.std.proofs.Common.{◌≡◌, ℕ, ◌<◌, ◌≤◌, ◌==◌, zero, suc, Bool, true, false, Option, None, List, [], ◌∷◌, All, length, take, map, slice_index, slice_index_or, refl, ap, sym, ◌∙◌, arith, subst, zero-add, inl, inr, eq-eqb}
 use Rattle.std.specs.Prelude.{◌&&◌, ◌||◌, not, nat_lt, if◌then◌else◌}
 use Rattle.std.specs.List.{list_any}
 use Rattle.std.specs.Str.{bytes_eq}
@@ -14,13 +14,12 @@ use Rattle.mltl_base.specs.declared.operators.FtOp as ft
 use Rattle.mltl_base.specs.declared.operators.PtOp as pt
 use Rattle.mltl_base.specs.declared.program.Program.{Program}
 use Rattle.mltl_base.specs.declared.program.StoredSignal.{StoredSignal}
-use Rattle.mltl_base.specs.Programs.{expressions, term_at}
-use Rattle.obs_verify.specs.Ranges.{fits, is_divisor, range}
+use Rattle.obs_verify.specs.Ranges.{fits, is_divisor}
 use Rattle.obs_verify.specs.declared.fault.VerifyFault.{VerifyFault}
 use Rattle.obs_verify.specs.declared.fault.VerifyFault.TheVariants.{Signal, Operand}
 use Rattle.obs_verify.specs.Bound.{AreDifferent, bound, bound_op, bound_signals, moved}
 use Rattle.obs_verify.specs.Kept.{IsKept}
-use Rattle.obs_verify.specs.WellFormed.{IsWellFormed, bz_fault, first_fault, first_in, ft_fault, has_divisor, has_future_window, has_kind, has_operands, has_past_window, is_column_of, is_new_signal, or_else, pt_fault, signal_fault, unless}
+use Rattle.obs_verify.specs.WellFormed.{IsWellFormed, bz_fault, first_in, ft_fault, has_divisor, has_kind, has_operands, is_column_of, is_new_signal, or_else, pt_fault, signal_fault, unless}
 use Rattle.obs_verify.proofs.BoundLaws.{length-bound_signals}
 use Rattle.obs_verify.proofs.ExpressionLaws.{bz_none}
 use Rattle.obs_verify.proofs.MovedLaws.{all_none, first_same, range_kept, truth_at_kept, whole_before_kept}

@@ -1,6 +1,6 @@
 -- A program whose stored signals stand in other columns.
 
-use Rattle.std.specs.Prelude.{ℕ, ◌≡◌, ◌≢◌, ◌==◌, ◌<◌, if◌then◌else◌, List, [], ◌∷◌, map, length, slice_index}
+use Rattle.std.specs.Prelude.{ℕ, ◌≢◌, ◌==◌, ◌<◌, if◌then◌else◌, List, [], ◌∷◌, map, length, slice_index}
 use Rattle.mltl_base.specs.declared.operators.BzOp as bz
 use Rattle.mltl_base.specs.declared.program.Program.{Program}
 use Rattle.mltl_base.specs.declared.program.StoredSignal.{StoredSignal}

@@ -1,4 +1,4 @@
-use Rattle.std.proofs.Common.{◌≡◌, ◌∙◌, sym, ap, Some, None, drop, length, slice_index_or}
+use Rattle.std.proofs.Common.{◌∙◌, sym, ap}
 use Rattle.std.proofs.lemmas.Result.{err_from_is_err_and}
 use Rattle.obs_verify.specs.WellFormed.{first_in, ft_fault}
 use Rattle.mltl_base.specs.declared.operators.FtOp.TheVariants.{True}

@@ -1,4 +1,4 @@
-use Rattle.std.proofs.Common.{◌≡◌, ◌∙◌, sym, ap, Some, None, drop, length, slice_index_or}
+use Rattle.std.proofs.Common.{◌∙◌, sym, ap}
 use Rattle.std.proofs.lemmas.Result.{err_from_is_err_and}
 use Rattle.obs_verify.specs.WellFormed.{first_in, output_fault}
 use Rattle.obs_verify.proofs.RuleLaws.{first_all, first_here, first_more}

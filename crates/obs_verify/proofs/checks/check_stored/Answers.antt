@@ -1,5 +1,5 @@
-use Rattle.std.proofs.Common.{◌≡◌, ◌∙◌, sym, ap, Some, None, drop, length, slice_index_or, slice_index}
-use Rattle.obs_verify.specs.WellFormed.{first_in, size_fault}
+use Rattle.std.proofs.Common.{◌∙◌, sym}
+use Rattle.obs_verify.specs.WellFormed.{size_fault}
 use Rattle.obs_verify.proofs.RuleLaws.{first_all, first_here, first_more, unless_eq, unless_ne}
 use Rattle.obs_verify.proofs.checks.check_stored.Goals as goal
 

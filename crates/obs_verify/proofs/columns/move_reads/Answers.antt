@@ -1,4 +1,4 @@
-use Rattle.std.proofs.Common.{◌≡◌, ◌∙◌, ap, sym, arith, ◌<◌, length, slice_set}
+use Rattle.std.proofs.Common.{◌∙◌, ap, arith, length, slice_set}
 use Rattle.std.proofs.lemmas.List.{length-set}
 use Rattle.obs_verify.specs.Bound.{bound_op}
 use Rattle.obs_verify.proofs.BoundLaws.{mapped_more}

@@ -1,6 +1,5 @@
-use Rattle.std.proofs.Common.{◌≡◌, ◌∙◌, ap, sym, refl, arith, ◌<◌, length, slice_index, slice_set}
+use Rattle.std.proofs.Common.{◌∙◌, ap, refl, length, slice_index}
 use Rattle.std.proofs.lemmas.List.{length-set}
-use Rattle.mltl_base.specs.declared.program.StoredSignal.{StoredSignal}
 use Rattle.obs_verify.specs.Bound.{bound_signals}
 use Rattle.obs_verify.proofs.BoundLaws.{bound_more}
 use Rattle.obs_verify.proofs.columns.move_signals.Goals as goal

@@ -1,4 +1,4 @@
-use Rattle.std.proofs.Common.{◌≡◌, ◌∙◌, sym, arith, ◌<◌, length}
+use Rattle.std.proofs.Common.{◌∙◌, sym}
 use Rattle.obs_verify.proofs.BoundLaws.{moved_here, moved_more, moved_none, moved_past}
 use Rattle.obs_verify.proofs.columns.moved.Goals as goal
 

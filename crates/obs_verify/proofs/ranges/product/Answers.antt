@@ -1,7 +1,7 @@
-use Rattle.std.proofs.Common.{◌≡◌, ◌∙◌, ap, ◌*ℤ◌, to_z, of_z, FitsSigned, rules}
+use Rattle.std.proofs.Common.{◌∙◌, ap, ◌*ℤ◌, FitsSigned, rules}
 use Rattle.std.specs.Int.{w128}
 use Rattle.std.proofs.Math.Facts.{to_z-of_z}
-use Rattle.obs_verify.specs.Ranges.{joined, over_two, product_of}
+use Rattle.obs_verify.specs.Ranges.{joined, over_two}
 use Rattle.obs_verify.proofs.ranges.product.Goals as goal
 
 pub returns : goal.returns

@@ -1,6 +1,5 @@
-use Rattle.std.proofs.Common.{arith, ◌≡◌, ◌≤◌, ◌*ℤ◌, ◌∙◌, ap, FitsSigned, refl, to_z, of_z, lit<}
+use Rattle.std.proofs.Common.{arith, ◌*ℤ◌, ◌∙◌, ap, FitsSigned, to_z, of_z, lit<}
 use Rattle.std.specs.Int.{w128}
-use Rattle.std.specs.Prelude.{unsigned_abs}
 use Rattle.std.proofs.Math.Facts.{to_z-of_z}
 use Rattle.std.proofs.lemmas.Int.{ints, fits_signed_mul}
 use Rattle.obs_verify.proofs.ranges.times.Goals as goal

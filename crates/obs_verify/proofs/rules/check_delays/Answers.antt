@@ -1,4 +1,4 @@
-use Rattle.std.proofs.Common.{rules, ◌≡◌, ◌∙◌, ap, sym, subst, List, ℕ, All, ◌≤◌}
+use Rattle.std.proofs.Common.{rules, ◌∙◌, ap, sym}
 use Rattle.mltl_base.specs.Queues.{worst_delays}
 use Rattle.obs_verify.specs.WellFormed.{first_in, late_fault}
 use Rattle.obs_verify.proofs.SoundLaws.{first_late, none_late}

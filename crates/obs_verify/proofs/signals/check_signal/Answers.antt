@@ -1,4 +1,4 @@
-use Rattle.std.proofs.Common.{◌≡◌, ◌∙◌, ap, sym, true, false}
+use Rattle.std.proofs.Common.{◌∙◌, ap, sym}
 use Rattle.std.specs.Prelude.{not}
 use Rattle.obs_verify.proofs.SignalLaws.{unless_both, unless_left}
 use Rattle.obs_verify.proofs.signals.check_signal.Goals as goal

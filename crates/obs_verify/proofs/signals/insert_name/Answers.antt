@@ -1,4 +1,4 @@
-use Rattle.std.proofs.Common.{◌≡◌, ◌∙◌, ap, sym, subst, Bool, ◌∷◌}
+use Rattle.std.proofs.Common.{◌∙◌, ap, sym, subst, Bool, ◌∷◌}
 use Rattle.std.specs.Prelude.{◌||◌}
 use Rattle.std.specs.Str.{bytes_eq}
 use Rattle.std.specs.HashSet.{PutsKey}

@@ -1,8 +1,6 @@
-use Rattle.std.proofs.Common.{◌≡◌, ◌∙◌, ap, sym, refl, ◌==◌, ◌<◌, length, arith, false}
-use Rattle.std.specs.Prelude.{◌&&◌, not, nat_lt}
-use Rattle.std.specs.List.{list_any}
+use Rattle.std.proofs.Common.{◌∙◌, ap, sym, false}
+use Rattle.std.specs.Prelude.{◌&&◌, not}
 use Rattle.std.proofs.lemmas.Bool.{lt-ltb}
-use Rattle.obs_verify.specs.WellFormed.{has_kind}
 use Rattle.obs_verify.proofs.SignalLaws.{either_kind, true_and}
 use Rattle.obs_verify.proofs.signals.is_free.Goals as goal
 
