@@ -1,0 +1,78 @@
+//! Tables of names: a name is found without a search through the others.
+
+ghost use Rattle.std.specs.Prelude.{◌≡◌, ◌<◌, ◌++◌, ◌∷◌, [], None, Some, length, option_map, slice_get, OnOk};
+ghost use Rattle.name_table.specs.Tables.{entry_of, is_named};
+
+use indexmap::IndexMap;
+use mltl_base::Name;
+use std::alloc::{AllocError, Global};
+use std::marker::Model;
+
+/// Names with what they stand for, in the order in which they were added.
+#[derive(Drop)]
+pub struct NameTable<V> {
+    entries: IndexMap<Vec<u8>, V>,
+}
+
+impl<V> Model for NameTable<V> {
+    ghost use Rattle.std.specs.Prelude.{List, ℕ, map};
+    ghost use Rattle.name_table.specs.Entries.{plain_entry};
+
+    ghost Value = { List (List ℕ × V) };
+
+    ghost view = { λ table. map plain_entry table.entries.entries };
+}
+
+impl<V> NameTable<V> {
+    /// The table without names. It takes no memory.
+    pub fn new(alloc: Global) -> Self
+        ensures { result ≡ [] }
+    {
+        NameTable {
+            entries: IndexMap::new(alloc),
+        }
+    }
+
+    /// The number of names.
+    pub fn len(&self) -> usize
+        ensures { result ≡ length self.now }
+    {
+        self.entries.len()
+    }
+
+    /// Whether a name is there.
+    pub fn contains(&self, name: &Name) -> bool
+        ensures { result ≡ is_named name.now self.now }
+    {
+        self.entries.get(name.bytes()).is_some()
+    }
+}
+
+impl<V: Copy> NameTable<V> {
+    /// What a name stands for.
+    pub fn find(&self, name: &Name) -> Option<V>
+        ensures { result ≡ entry_of name.now self.now }
+    {
+        self.entries.get(name.bytes()).copied()
+    }
+
+    /// What the name stands for that was added with this number, counted from 0.
+    pub fn value_at(&self, number: usize) -> V
+        requires { number < length self.now }
+        ensures { option_map (λ e. e.1) (slice_get self.now number) ≡ Some result }
+    {
+        self.entries[number]
+    }
+}
+
+impl<V: Drop> NameTable<V> {
+    /// Puts a name behind the others, where it isn't among them.
+    pub fn add(&mut self, alloc: Global, name: &Name, value: V) -> Result<(), AllocError>
+        requires { entry_of name.now self.old ≡ None }
+        ensures added { OnOk result (self.new ≡ self.old ++ (name.now, value) ∷ []) }
+    {
+        let key = Vec::from_slice(alloc, name.bytes())?;
+        self.entries.insert(key, value)?;
+        Ok(())
+    }
+}
