@@ -1,0 +1,5 @@
+pub mod Checking
+pub mod Kinds
+pub mod Scopes
+pub mod Expressions
+pub mod Items

@@ -1,0 +1,14 @@
+//! What the items of a specification declare.
+
+use crate::{Kind, Meaning, NameTable, Signal};
+use mltl_base::List;
+
+/// The names that the items so far declare, with the fields of structs and the signals, in the order of declaration.
+#[derive(Drop)]
+pub struct Declarations {
+    /// Structs, signals and defined values, which share one space of names.
+    pub names: NameTable<Meaning>,
+    /// The fields of each struct.
+    pub structs: List<NameTable<Kind>>,
+    pub signals: List<Signal>,
+}

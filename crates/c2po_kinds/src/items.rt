@@ -1,0 +1,273 @@
+//! What items declare, and their faults of names and kinds.
+
+ghost use Rattle.std.specs.Prelude.{◌≡◌, [], false, Ok, OnOk, map};
+ghost use Rattle.c2po_tree.specs.Shape.{shape};
+ghost use Rattle.c2po_tree.specs.ItemShape.{type_shape, field_shape};
+ghost use Rattle.c2po_kinds.specs.Checking.{Gives, in_turn};
+ghost use Rattle.name_table.specs.Tables.{is_named};
+ghost use Rattle.c2po_kinds.specs.Items.{nothing, type_kind, truth_of, with_field, with_struct, with_signal, with_input, define_kind, with_value, with_label, formula_kind, contract_kind};
+
+use crate::operand::{TRUTH, WHOLE, are_same, expect, is_same, set_of};
+use crate::{Base, Declarations, Kind, Meaning, NameTable, Scope, Signal, TypeFault, kind_of};
+use c2po_tree::{Expr, FieldDecl, TypeTree};
+use mltl_base::limits::MAX_SIGNALS;
+use mltl_base::{List, Name};
+use std::alloc::Global;
+
+impl Declarations {
+    /// What stands before the first item. It takes no memory.
+    pub fn new(alloc: Global) -> Self
+        ensures { result ≡ nothing }
+    {
+        Declarations {
+            names: NameTable::new(alloc),
+            structs: List::new(alloc),
+            signals: List::new(alloc),
+        }
+    }
+}
+
+/// The name of the type of whole numbers.
+const INT: &[u8] = b"int";
+
+/// The name of the type of truths.
+const BOOL: &[u8] = b"bool";
+
+/// The kind that a type names.
+fn written_kind(line: u32, declared: &Declarations, tree: &TypeTree) -> Result<Kind, TypeFault>
+    ensures { Gives (λ k. k) result (type_kind line declared.now (type_shape tree.now)) }
+{
+    match tree {
+        TypeTree::Named(name) => {
+            if name.bytes() == INT {
+                return Ok(WHOLE);
+            }
+            if name.bytes() == BOOL {
+                return Ok(TRUTH);
+            }
+            match declared.names.find(name) {
+                Some(Meaning::Struct(number)) => Ok(Kind {
+                    sets: 0,
+                    base: Base::Struct(number),
+                }),
+                _ => Err(TypeFault::Unknown(line)),
+            }
+        }
+        TypeTree::Set(inner) => {
+            let kind = written_kind(line, declared, inner)?;
+            set_of(kind)
+        }
+    }
+}
+
+/// One more field behind those before.
+fn with_field(
+    alloc: Global,
+    declared: &Declarations,
+    line: u32,
+    fields: NameTable<Kind>,
+    field: &FieldDecl,
+) -> Result<NameTable<Kind>, TypeFault>
+    ensures { Gives (λ t. t) result (with_field line declared.now (field_shape field.now) fields) }
+{
+    let mut fields = fields;
+    if fields.contains(&field.name) {
+        return Err(TypeFault::Twice(line));
+    }
+    let kind = written_kind(line, declared, &field.kind)?;
+    fields.add(alloc, &field.name, kind)?;
+    Ok(fields)
+}
+
+/// The fields of a struct.
+fn fields_of(
+    alloc: Global,
+    declared: &Declarations,
+    line: u32,
+    decls: &[FieldDecl],
+) -> Result<NameTable<Kind>, TypeFault>
+    ensures { Gives (λ t. t) result (in_turn (with_field line declared.now) (map field_shape decls.now) []) }
+{
+    let mut fields = NameTable::new(alloc);
+    for decl in decls {
+        fields = with_field(alloc, declared, line, fields, decl)?;
+    }
+    Ok(fields)
+}
+
+/// The declarations with one more struct; they are dropped on a refusal.
+pub fn declare_struct(
+    alloc: Global,
+    declared: Declarations,
+    line: u32,
+    name: &Name,
+    fields: &List<FieldDecl>,
+) -> Result<Declarations, TypeFault>
+    ensures { Gives (λ d. d) result (with_struct line name.now (map field_shape fields.now) declared) }
+{
+    let mut declared = declared;
+    if declared.names.contains(name) {
+        return Err(TypeFault::Twice(line));
+    }
+    let table = fields_of(alloc, &declared, line, fields.as_slice())?;
+    let Ok(number) = u32::try_from(declared.structs.len()) else {
+        return Err(TypeFault::Memory);
+    };
+    declared.names.add(alloc, name, Meaning::Struct(number))?;
+    declared.structs.push(table)?;
+    Ok(declared)
+}
+
+/// Whether a signal of a kind is a truth.
+fn is_truth(line: u32, kind: Kind) -> Result<bool, TypeFault>
+    ensures { Gives (λ b. b) result (truth_of line kind) }
+{
+    if is_same(kind, TRUTH) {
+        return Ok(true);
+    }
+    if is_same(kind, WHOLE) {
+        return Ok(false);
+    }
+    Err(TypeFault::Kind(line))
+}
+
+/// The declarations with one more signal.
+fn declare_signal(
+    alloc: Global,
+    declared: Declarations,
+    line: u32,
+    truth: bool,
+    name: &Name,
+) -> Result<Declarations, TypeFault>
+    ensures { Gives (λ d. d) result (with_signal line truth name.now declared) }
+{
+    let mut declared = declared;
+    if declared.names.contains(name) {
+        return Err(TypeFault::Twice(line));
+    }
+    if declared.signals.len() >= MAX_SIGNALS as usize {
+        return Err(TypeFault::Signals(line));
+    }
+    let kind = if truth { TRUTH } else { WHOLE };
+    declared.names.add(alloc, name, Meaning::Value(kind))?;
+    let signal = Signal {
+        name: name.copy(),
+        truth,
+    };
+    declared.signals.push(signal)?;
+    Ok(declared)
+}
+
+/// The declarations with more signals.
+fn declare_signals(
+    alloc: Global,
+    declared: Declarations,
+    line: u32,
+    truth: bool,
+    names: &[Name],
+) -> Result<Declarations, TypeFault>
+    ensures { Gives (λ d. d) result (in_turn (with_signal line truth) names.now declared) }
+{
+    let mut declared = declared;
+    for name in names {
+        declared = declare_signal(alloc, declared, line, truth, name)?;
+    }
+    Ok(declared)
+}
+
+/// The declarations with the signals of an item; they are dropped on a refusal.
+pub fn declare_input(
+    alloc: Global,
+    declared: Declarations,
+    line: u32,
+    names: &List<Name>,
+    tree: &TypeTree,
+) -> Result<Declarations, TypeFault>
+    ensures { Gives (λ d. d) result (with_input line names.now (type_shape tree.now) declared) }
+{
+    let kind = written_kind(line, &declared, tree)?;
+    let truth = is_truth(line, kind)?;
+    declare_signals(alloc, declared, line, truth, names.as_slice())
+}
+
+/// The kind of a definition, whose name isn't visible in it.
+pub fn check_define(
+    alloc: Global,
+    declared: &Declarations,
+    line: u32,
+    name: &Name,
+    expr: &Expr,
+) -> Result<Kind, TypeFault>
+    ensures kind { Gives (λ k. k) result (define_kind line name.now (shape expr.now) declared.now) }
+    ensures fresh { OnOk result (is_named name.now declared.now.names ≡ false) }
+{
+    let kind = kind_of(alloc, &Scope::Items(declared), expr)?;
+    if declared.names.contains(name) {
+        return Err(TypeFault::Twice(line));
+    }
+    Ok(kind)
+}
+
+/// The declarations with one more defined value, whose name isn't among them; they are dropped on a refusal.
+pub fn declare_value(
+    alloc: Global,
+    declared: Declarations,
+    name: &Name,
+    kind: Kind,
+) -> Result<Declarations, TypeFault>
+    requires { is_named name.now declared.names ≡ false }
+    ensures { Gives (λ d. d) result (Ok (with_value name.now kind declared)) }
+{
+    let mut declared = declared;
+    declared.names.add(alloc, name, Meaning::Value(kind))?;
+    Ok(declared)
+}
+
+/// The labels of outputs with one more, where an output has one; they are dropped on a refusal.
+pub fn declare_label(
+    alloc: Global,
+    labels: NameTable<()>,
+    line: u32,
+    label: &Option<Name>,
+) -> Result<NameTable<()>, TypeFault>
+    ensures { Gives (λ t. t) result (with_label line label.now labels) }
+{
+    let mut labels = labels;
+    let Some(name) = label else {
+        return Ok(labels);
+    };
+    if labels.contains(name) {
+        return Err(TypeFault::Twice(line));
+    }
+    labels.add(alloc, name, ())?;
+    Ok(labels)
+}
+
+/// Whether the formula of an output is a truth.
+pub fn check_formula(
+    alloc: Global,
+    declared: &Declarations,
+    line: u32,
+    expr: &Expr,
+) -> Result<Kind, TypeFault>
+    ensures { Gives (λ k. k) result (formula_kind line (shape expr.now) declared.now) }
+{
+    let kind = kind_of(alloc, &Scope::Items(declared), expr)?;
+    expect(line, is_same(kind, TRUTH), TRUTH)
+}
+
+/// Whether the formulas of a contract are truths.
+pub fn check_contract(
+    alloc: Global,
+    declared: &Declarations,
+    line: u32,
+    left: &Expr,
+    right: &Expr,
+) -> Result<Kind, TypeFault>
+    ensures { Gives (λ k. k) result (contract_kind line (shape left.now) (shape right.now) declared.now) }
+{
+    let scope = Scope::Items(declared);
+    let left = kind_of(alloc, &scope, left)?;
+    let right = kind_of(alloc, &scope, right)?;
+    expect(line, are_same(left, right, TRUTH), TRUTH)
+}

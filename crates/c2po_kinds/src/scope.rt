@@ -1,0 +1,47 @@
+//! What is visible at a place of an expression.
+
+ghost use Rattle.std.specs.Prelude.{◌≡◌};
+ghost use Rattle.c2po_kinds.specs.Scopes.{visible, meaning_of};
+
+use crate::{Declarations, Kind, Meaning};
+use mltl_base::Name;
+
+/// The names that are visible at a place: what the items before declare, and the variables of the quantifiers around
+/// it, the innermost first.
+#[derive(Clone, Copy)]
+pub enum Scope<'a> {
+    Items(&'a Declarations),
+    /// The body of a quantifier, with its variable.
+    Within(&'a Name, Kind, &'a Scope<'a>),
+}
+
+/// What a name stands for.
+pub fn meaning(scope: &Scope<'_>, name: &Name) -> Option<Meaning>
+    ensures { result ≡ meaning_of name.now (visible scope.now) }
+{
+    let mut rest = scope;
+    loop {
+        match rest {
+            Scope::Within(own, kind, around) => {
+                if own.bytes() == name.bytes() {
+                    return Some(Meaning::Value(*kind));
+                }
+                rest = around;
+            }
+            Scope::Items(declared) => return declared.names.find(name),
+        }
+    }
+}
+
+/// What the items before declare.
+pub fn declared_in<'a>(scope: &Scope<'a>) -> &'a Declarations
+    ensures { result.now ≡ (visible scope.now).declared }
+{
+    let mut rest = scope;
+    loop {
+        match rest {
+            Scope::Within(_, _, around) => rest = around,
+            Scope::Items(declared) => return declared,
+        }
+    }
+}
