@@ -1,0 +1,11 @@
+//! Plain formulas as nodes that parents share.
+//!
+//! A specification that is unfolded is one list of nodes in which operands stand before the nodes that use them, so
+//! that a named value is kept once however often it is used. `trees` in `specs/Nodes.antt` is what the nodes unfold to,
+//! and `asked` in `specs/Outputs.antt` is what the outputs ask for.
+#![tactic(auto)]
+
+pub mod laws;
+pub mod nodes;
+
+pub use nodes::{Expanded, Plain, PlainOut};

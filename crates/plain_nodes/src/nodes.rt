@@ -1,0 +1,36 @@
+//! Nodes of plain formulas, and a specification that is unfolded to them.
+
+use mltl_base::{ArithOp, BetweenOp, CompareOp, Engine, Interval, List, LogicOp, Name, WindowOp};
+
+/// A node of a plain formula or of a whole number. Operands are the places of earlier nodes, signals are numbered in
+/// order of declaration.
+#[derive(Clone, Copy, PartialEq, Eq, Hash, Debug)]
+pub enum Plain {
+    Truth(bool),
+    /// The truth of a signal of kind bool.
+    Flag(u32),
+    Number(i64),
+    /// The whole number of a signal of kind int.
+    Signal(u32),
+    Minus(u32),
+    Arith(ArithOp, u32, u32),
+    Compare(CompareOp, u32, u32),
+    Not(u32),
+    Logic(LogicOp, u32, u32),
+    Window(WindowOp, Interval, u32),
+    Between(BetweenOp, Interval, u32, u32),
+}
+
+/// An output: its engine, the places of its formula or of the left and the right formula of a contract, and its name.
+#[derive(Drop)]
+pub enum PlainOut {
+    Formula(Engine, u32, Name),
+    Contract(Engine, u32, u32, Name),
+}
+
+/// A specification that is unfolded: the nodes, and the outputs in order.
+#[derive(Drop)]
+pub struct Expanded {
+    pub nodes: List<Plain>,
+    pub outs: List<PlainOut>,
+}
