@@ -7,7 +7,8 @@ use Rattle.mltl_base.specs.declared.operators.BzOp.{BzOp}
 use Rattle.mltl_base.specs.declared.operators.BzOp.TheVariants.{Column, IsTrue, Const, Neg, Add, Sub, Mul, Div, Rem, Eq, Lt, Le}
 use Rattle.mltl_base.specs.Atoms.{Row, value, holds}
 use Rattle.mltl_base.specs.Programs.{Expression, whole, truth, expression_of, expressions_after, expressions, term_at, term_of}
-use Rattle.booleanizer.specs.Evaluation.{number_on, numbers_on, IsWholeExpression, IsWhole, value_at, CanCompute, AllCompute, number_at, result_of, CanApply}
+use Rattle.obs_verify.specs.Soundness.{IsWhole, IsWholeExpression}
+use Rattle.booleanizer.specs.Evaluation.{number_on, numbers_on, value_at, CanCompute, AllCompute, number_at, result_of, CanApply}
 
 -- ---- the expressions of the first instructions
 

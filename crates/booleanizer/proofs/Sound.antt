@@ -4,15 +4,20 @@ use Rattle.std.specs.Prelude.{ℤ, pos, ◌≤ℤ◌, ◌&&◌, IsOk, FitsSigned
 use Rattle.std.specs.Ordering.{int_eq}
 use Rattle.std.specs.Int.{w64}
 use Rattle.std.specs.List.{AllByRecursion}
+use Rattle.std.proofs.lemmas.List.Elements.{recursion_from_All}
 use Rattle.std.proofs.lemmas.Int.{ints}
 use Rattle.std.proofs.lemmas.Bool.Decides.{Decides-int_eq}
 use Rattle.mltl_base.specs.declared.operators.BzOp.{BzOp}
 use Rattle.mltl_base.specs.declared.operators.BzOp.TheVariants.{Column, IsTrue, Const, Neg, Add, Sub, Mul, Div, Rem, Eq, Lt, Le}
 use Rattle.mltl_base.specs.Atoms.{Row, Term, negative, plus, minus, times, quotient, value}
-use Rattle.mltl_base.specs.Programs.{Expression, whole, truth, expression_of, term_at, term_of, FitsRow}
+use Rattle.mltl_base.specs.Programs.{Expression, whole, truth, expression_of, term_at, term_of, FitsRow, IsFit}
 use Rattle.mltl_base.specs.Ranges.{Range, Ranged, divisor, in_word, range, divides, over_divisor, divided, left_over, IsIn, FitsTerm}
 use Rattle.booleanizer.specs.Evaluation.{CanCompute, AllCompute}
-use Rattle.booleanizer.specs.Soundness.{IsSound, AreSound}
+use Rattle.mltl_base.specs.declared.program.Program.{Program}
+use Rattle.mltl_base.proofs.Ranging.{value_in_range, value_fits_word}
+use Rattle.obs_verify.specs.Soundness.{IsSound, AreSound}
+use Rattle.obs_verify.specs.WellFormed.{IsWellFormed}
+use Rattle.obs_verify.proofs.SoundOps.{all_sound}
 
 -- ---- ranges
 
@@ -142,3 +147,9 @@ module _ (lies : Lies) (fits : FitsWord) (row : Row) where
   pub sound-computes : (ops : List BzOp) → AllByRecursion (FitsRow row) ops → AreSound (length row) [] ops → AllCompute row [] ops
   unfolding AllFitting
   sound-computes ops f h = all-can [] ops (λ a. tt) f h
+
+-- so can those of a well-formed program
+pub fit-computes : (program : Program) (row : Row) → IsWellFormed program → IsFit program row → AllCompute row [] program.bz
+fit-computes program row good fit =
+    sound-computes value_in_range value_fits_word row program.bz (recursion_from_All (FitsRow row) program.bz fit.kinds)
+    (subst (λ (n : ℕ). AreSound n [] program.bz) (sym fit.width) (all_sound program good))

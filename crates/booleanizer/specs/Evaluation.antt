@@ -1,11 +1,12 @@
 -- What the Booleanizer computes on a row, in numbers of 64 bits.
-use Rattle.std.specs.Prelude.{◌≢◌, ◌<◌, ℕ, ℤ, pos, neg_ℤ, ◌+ℤ◌, ◌-ℤ◌, ◌*ℤ◌, int_div, int_rem, int_lt, int_le, Bool, if◌then◌else◌, Option, Some, None, List, [], ◌∷◌, ◌++◌, length, map, slice_get, slice_index_or, FitsSigned}
+use Rattle.std.specs.Prelude.{◌≢◌, ◌<◌, ℕ, ℤ, pos, neg_ℤ, ◌+ℤ◌, ◌-ℤ◌, ◌*ℤ◌, int_div, int_rem, int_lt, int_le, Bool, if◌then◌else◌, List, [], ◌∷◌, ◌++◌, length, map, slice_index_or, FitsSigned}
 use Rattle.std.specs.Int.{w64}
 use Rattle.std.specs.Ordering.{int_eq}
 use Rattle.mltl_base.specs.declared.operators.BzOp.{BzOp}
 use Rattle.mltl_base.specs.declared.operators.BzOp.TheVariants.{Column, IsTrue, Const, Neg, Add, Sub, Mul, Div, Rem, Eq, Lt, Le}
 use Rattle.mltl_base.specs.Atoms.{Row, value, holds, in_column}
 use Rattle.mltl_base.specs.Programs.{Expression, whole, truth, expression_of, expressions, term_at}
+use Rattle.obs_verify.specs.Soundness.{AreWhole, IsWhole}
 
 -- a truth as a number
 abbrev pub truth_number : Bool → ℤ
@@ -19,18 +20,6 @@ number_on row (truth a) = truth_number (holds a row)
 -- the numbers of all instructions on a row
 abbrev pub numbers_on : Row → List BzOp → List ℤ
 numbers_on row ops = map (number_on row) (expressions ops)
-
--- an earlier instruction that gives a whole number
-abbrev pub IsWholeExpression : Option Expression → Type 0
-IsWholeExpression (Some (whole e)) = Unit {0}
-IsWholeExpression (Some (truth a)) = ⊥
-IsWholeExpression None = ⊥
-
-abbrev pub IsWhole : List Expression → ℕ → Type 0
-IsWhole before a = IsWholeExpression (slice_get before a)
-
-abbrev pub AreWhole : List Expression → ℕ → ℕ → Type 0
-AreWhole before a b = IsWhole before a × IsWhole before b
 
 -- the value of the whole number at a place, over the expressions of the instructions before
 abbrev pub value_at : Row → List Expression → ℕ → ℤ

@@ -1,13 +1,13 @@
 //! The state of the Booleanizer.
 
-ghost use Rattle.std.specs.Prelude.{◌≡◌, ◌<◌, [], Some, List, ℤ, length, slice_get, IfOk};
+ghost use Rattle.std.specs.Prelude.{◌≡◌, ◌<◌, Some, List, length, slice_get, IfOk};
 ghost use Rattle.mltl_base.specs.declared.operators.BzOp.{BzOp};
 ghost use Rattle.mltl_base.specs.Atoms.{Row, Atom, holds};
-ghost use Rattle.mltl_base.specs.Programs.{expressions, truth};
-ghost use Rattle.booleanizer.specs.Evaluation.{AllCompute, numbers_on};
+ghost use Rattle.mltl_base.specs.Programs.{IsFit, expressions, truth};
+ghost use Rattle.booleanizer.specs.Evaluation.{numbers_on};
 
 use crate::evaluation::evaluate;
-use mltl_base::BzOp;
+use obs_verify::Checked;
 use std::alloc::{AllocError, Global};
 use std::marker::Model;
 
@@ -27,23 +27,23 @@ impl Model for Bz {
 }
 
 impl Bz {
-    /// The state for so many instructions. No row was given yet.
-    pub fn with_len(alloc: Global, len: usize) -> Result<Bz, AllocError>
-        ensures { IfOk result (λ bz. length bz ≡ len) }
+    /// The state of a program's Booleanizer. No row was given yet.
+    pub fn make(alloc: Global, checked: &Checked) -> Result<Bz, AllocError>
+        ensures { IfOk result (λ bz. length bz ≡ length checked.now.bz) }
     {
         Ok(Bz {
-            numbers: vec![in alloc; 0; len]?,
+            numbers: vec![in alloc; 0; checked.program().bz.len()]?,
         })
     }
 
     /// Computes all instructions on a row. It takes no memory.
-    pub fn compute(&mut self, ops: &[BzOp], row: &[i64])
-        requires len { length self.old ≡ length ops.now }
-        requires can { AllCompute row.now [] ops.now }
-        ensures computed { self.new ≡ numbers_on row.now ops.now }
-        ensures len { length self.new ≡ length ops.now }
+    pub fn row(&mut self, checked: &Checked, fields: &[i64])
+        requires len { length self.old ≡ length checked.now.bz }
+        requires fit { IsFit checked.now fields.now }
+        ensures numbers { self.new ≡ numbers_on fields.now checked.now.bz }
+        ensures len { length self.new ≡ length checked.now.bz }
     {
-        evaluate(ops, row, &mut self.numbers);
+        evaluate(checked.program().bz.as_slice(), fields, &mut self.numbers);
     }
 
     /// The truth of an instruction on the last row.

@@ -3,10 +3,11 @@
 
 mod bz;
 mod evaluation;
+mod fitting;
 mod soundness;
 
 pub use bz::Bz;
-pub use evaluation::evaluate;
+pub use fitting::is_fit;
 pub use soundness::sound_instructions_compute;
 
 #[cfg(test)]

@@ -5,7 +5,7 @@ ghost use Rattle.mltl_base.specs.declared.operators.BzOp.{BzOp};
 ghost use Rattle.mltl_base.specs.Atoms.{Row};
 ghost use Rattle.mltl_base.specs.Programs.{FitsRow};
 ghost use Rattle.booleanizer.specs.Evaluation.{AllCompute};
-ghost use Rattle.booleanizer.specs.Soundness.{AreSound};
+ghost use Rattle.obs_verify.specs.Soundness.{AreSound};
 
 use mltl_base::laws::ranges::values_lie_in_ranges;
 

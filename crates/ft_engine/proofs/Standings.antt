@@ -2,7 +2,6 @@
 use Rattle.std.proofs.Common.{◌≡◌, ℕ, zero, suc, ◌+◌, ◌-◌, ◌<◌, ◌≤◌, List, [], ◌∷◌, length, map, get_or, slice_index, arith, refl, subst, sym, ap, ap₂, ◌∙◌, Some}
 use Rattle.std.specs.List.{slice_get}
 use Rattle.std.proofs.lemmas.List.{get_or-map, length-map}
-use Rattle.std.proofs.lemmas.List.FromFn.{length-map-range_with_len}
 use Rattle.mltl_base.specs.declared.interval.Engine.TheVariants.{Ft as future}
 use Rattle.mltl_base.specs.declared.operators.FtOp.{FtOp}
 use Rattle.mltl_base.specs.declared.operators.FtOp.TheVariants.{True, Load, Not, And, Until}
@@ -10,7 +9,7 @@ use Rattle.mltl_base.specs.declared.program.Program.{Program}
 use Rattle.mltl_base.specs.Atoms.{Row, Atom, is_true}
 use Rattle.mltl_base.specs.Formula.{ctrue, bpd, core_wpd}
 use Rattle.mltl_base.specs.Programs.{Expression, whole, truth, atom_of, atoms, formula_at, formulas}
-use Rattle.mltl_base.specs.Queues.{IsAfterOperands, AreInOrder, best_of, worst_of, best_delays, worst_delays, queue_length}
+use Rattle.mltl_base.specs.Queues.{IsAfterOperands, AreInOrder, best_of, worst_of, best_delays, worst_delays}
 use Rattle.delay_sizes.proofs.DelayLaws.{length-numbered_after}
 use Rattle.delay_sizes.proofs.FormulaLaws.{best_of_formulas, worst_of_formulas}
 use Rattle.scq_ring.specs.declared.Seen.{Seen}
@@ -23,16 +22,19 @@ use Rattle.ft_known.specs.DelayPlan.{plan_of}
 use Rattle.ft_known.specs.KnownTable.{known_table}
 use Rattle.ft_known.proofs.Planning.{planned_for}
 use Rattle.ft_engine.specs.declared.engine.Ft.{Ft}
-use Rattle.ft_engine.specs.Running.{IsRunnable, IsTruthExpression}
+use Rattle.obs_verify.specs.Running.{IsTruthExpression, RunsFuture}
 use Rattle.ft_engine.specs.Standing.{Stands, instruction_count, frontier_at, lowest_at, kept_verdict, slots_at, width_of, ReadsFrom, place_of, ShowsFrom}
 
 -- the plan of a program fits its sizes
-pub program_planned : (program : Program) → IsRunnable program → IsPlannedFor (plan_of program.ft program.outs) program.ft (λ i. slice_index program.sizes.ft i)
+pub program_planned : (program : Program) → RunsFuture program → IsPlannedFor (plan_of program.ft program.outs) program.ft (λ i. slice_index program.sizes.ft i)
 program_planned program r =
     subst (λ (sizes : List ℕ). IsPlannedFor (plan_of program.ft program.outs) program.ft (λ i. slice_index sizes i)) (sym r.sizes) (planned_for program.ft program.outs r.order r.bounds)
 
-pub sizes_count : (program : Program) → IsRunnable program → length program.sizes.ft ≡ length program.ft
-sizes_count program r = ap (λ (ns : List ℕ). length ns) r.sizes ∙ length-map-range_with_len (queue_length program.ft program.outs) 0 (length program.ft)
+-- so does that of the lists that are its own
+pub planned_with : (program : Program) (ops : List FtOp) (sizes : List ℕ) → RunsFuture program → ops ≡ program.ft → sizes ≡ program.sizes.ft → IsPlannedFor (plan_of program.ft program.outs) ops (λ i. slice_index sizes i)
+planned_with program ops sizes r same_ops same_sizes =
+    subst (λ (xs : List FtOp). IsPlannedFor (plan_of program.ft program.outs) xs (λ i. slice_index sizes i)) (sym same_ops)
+    (subst (λ (ns : List ℕ). IsPlannedFor (plan_of program.ft program.outs) program.ft (λ i. slice_index ns i)) (sym same_sizes) (program_planned program r))
 
 -- the worst and the best delay of an instruction are those of its formula
 worst_of_formula : (program : Program) (i : ℕ) → i < length program.ft → slice_index (worst_delays program.ft) i ≡ core_wpd (formula_at program future i)
@@ -58,7 +60,7 @@ reads_kept program ft n i (Not g) place s front a = omega (arith, front g s.0, s
 reads_kept program ft n i (And l r) place s front a = (omega (arith, front l s.0, front r s.1, s.4), omega (arith, front l s.0, front r s.1, s.5))
 reads_kept program ft n i (Until l r window) place s front a = (omega (arith, front l s.0, front r s.1, s.6), omega (arith, front l s.0, front r s.1, s.7))
 
-pub stands_with : (program : Program) (rows : List Row) (ft : Ft) → IsRunnable program → IsPacedAfter (plan_of program.ft program.outs) program.ft ft.queues (length rows)
+pub stands_with : (program : Program) (rows : List Row) (ft : Ft) → RunsFuture program → IsPacedAfter (plan_of program.ft program.outs) program.ft ft.queues (length rows)
     → HasTable program.ft (known_table rows (atoms program.bz) program.ft) ft.queues → Stands program rows ft
 unfolding instruction_count frontier_at lowest_at kept_verdict slots_at place_of
 stands_with program rows ft r paced table =

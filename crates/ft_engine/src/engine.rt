@@ -4,7 +4,7 @@ ghost use Rattle.ft_engine.specs.Sound.{AreSound-prop};
 use crate::loaded::Loaded;
 use booleanizer::Bz;
 use ft_slab::Queues;
-use mltl_base::Program;
+use obs_verify::Checked;
 use scq_ring::Seen;
 use scq_ring::steps::Steps;
 use std::alloc::{AllocError, Global};
@@ -21,26 +21,26 @@ impl Ft {
     ghost use Rattle.std.specs.Prelude.{◌≡◌, ℕ, ◌+◌, ◌^◌, ◌<◌, ◌≤◌, List, [], ◌∷◌, ◌++◌, length, IfOk, MatchOption};
     ghost use Rattle.mltl_base.specs.Atoms.{Row};
     ghost use Rattle.booleanizer.specs.Evaluation.{numbers_on};
-    ghost use Rattle.ft_engine.specs.Running.{IsRunnable, row_work};
+    ghost use Rattle.ft_engine.specs.Running.{row_work};
     ghost use Rattle.ft_engine.specs.Standing.{ShowsFrom, Stands, frontier_at, instruction_count, kept_verdict, lowest_at};
 
     /// The engine of a program, before the first row. It takes all its memory at once.
-    pub fn make(alloc: Global, program: &Program) -> Result<Ft, AllocError>
-        requires runnable { IsRunnable program.now }
-        ensures stands { IfOk result (Stands program.now []) }
+    pub fn make(alloc: Global, checked: &Checked) -> Result<Ft, AllocError>
+        ensures stands { IfOk result (Stands checked.now []) }
     {
+        let program = checked.program();
         let queues = Queues::make(alloc, program.ft.as_slice(), program.sizes.ft.as_slice())?;
         Ok(Ft { queues })
     }
 
     /// Takes the row that the Booleanizer took last. It takes no memory.
-    pub fn row<L: Ledger>(&mut self, program: &Program, bz: &Bz, steps: &mut Steps<L>)
-        requires runnable { IsRunnable program.now }
-        requires given { (row : Row) × (bz.now ≡ numbers_on row program.now.bz) }
-        requires stands { (rows : List Row) × Stands program.now rows self.old × (length rows < 2 ^ 40) }
-        ensures stands { (rows : List Row) (row : Row) → length rows < 2 ^ 40 → bz.now ≡ numbers_on row program.now.bz → Stands program.now rows self.old → Stands program.now (rows ++ row ∷ []) self.new }
-        ensures counted { steps.new ≤ steps.old + row_work program.now }
+    pub fn row<L: Ledger>(&mut self, checked: &Checked, bz: &Bz, steps: &mut Steps<L>)
+        requires given { (row : Row) × (bz.now ≡ numbers_on row checked.now.bz) }
+        requires stands { (rows : List Row) × Stands checked.now rows self.old × (length rows < 2 ^ 40) }
+        ensures stands { (rows : List Row) (row : Row) → length rows < 2 ^ 40 → bz.now ≡ numbers_on row checked.now.bz → Stands checked.now rows self.old → Stands checked.now (rows ++ row ∷ []) self.new }
+        ensures counted { steps.new ≤ steps.old + row_work checked.now }
     {
+        let program = checked.program();
         self.queues
             .row(program.ft.as_slice(), &Loaded { bz }, steps);
     }

@@ -1,5 +1,5 @@
 -- The expression of an instruction, over those of the instructions before it.
-use Rattle.std.proofs.Common.{◌≡◌, ℕ, ◌+◌, ◌<◌, ◌≤◌, zero, suc, List, [], ◌∷◌, ◌++◌, Option, Some, None, length, take, slice_get, refl, ap, sym, ◌∙◌, arith, subst, add-zero, zero-add, true, false, inl, inr, pos}
+use Rattle.std.proofs.Common.{◌≡◌, ℕ, ◌+◌, ◌<◌, ◌≤◌, zero, suc, List, [], ◌∷◌, ◌++◌, Option, Some, None, length, take, slice_get, refl, ap, ap₂, sym, ◌∙◌, arith, subst, add-zero, zero-add, true, false, inl, inr, pos, Ok}
 use Rattle.std.proofs.lemmas.Bool.{cases_lt}
 use Rattle.std.proofs.lemmas.List.{take_at, take-take, length_push, take_all, length-take, get_or_append_left, get_or_push}
 use Rattle.std.proofs.lemmas.Option.{slice_get_past}
@@ -7,12 +7,11 @@ use Rattle.mltl_base.specs.declared.interval.Part.TheVariants.{Bz}
 use Rattle.mltl_base.specs.declared.operators.BzOp.{BzOp}
 use Rattle.mltl_base.specs.declared.operators.BzOp.TheVariants.{Column, IsTrue, Const, Neg, Add, Sub, Mul, Div, Rem, Eq, Lt, Le}
 use Rattle.mltl_base.specs.declared.program.Program.{Program}
-use Rattle.obs_verify.specs.declared.range.Range.{Range}
-use Rattle.obs_verify.specs.Ranges.{range, fits, is_divisor, only, negation_of, sum_of, difference_of, product_of, quotient_of, remainder_of}
-use Rattle.obs_verify.specs.declared.fault.VerifyFault as VerifyFault
-use Rattle.obs_verify.specs.declared.fault.VerifyFault.TheVariants.{Operand, Divisor}
-use Rattle.obs_verify.specs.InstructionRanges.{ReadsBefore, divides_over, range_at, range_of}
-use Rattle.obs_verify.specs.WellFormed.{bz_fault, has_divisor, has_operands, is_whole, is_whole_before}
+use Rattle.mltl_base.specs.Ranges.{Range, Ranged, divided, left_over, lessened, multiplied, negated, over, over_both, over_divisor, range, range_from, summed}
+use Rattle.obs_verify.specs.declared.fault.VerifyFault.{VerifyFault}
+use Rattle.obs_verify.specs.declared.fault.VerifyFault.TheVariants.{Operand}
+use Rattle.obs_verify.specs.InstructionRanges.{AreRanges, ReadsBefore, range_at, range_over}
+use Rattle.obs_verify.specs.WellFormed.{bz_fault, has_operands, is_whole, is_whole_before, range_fault}
 use Rattle.obs_verify.proofs.RuleLaws.{and_left, and_right}
 use Rattle.mltl_base.specs.Programs.{Expression, expression_of, expressions_after, expressions, term_at, term_of}
 
@@ -89,59 +88,41 @@ reads_before program i (Eq a b) h = (whole_inside program i a (and_left _ _ h), 
 reads_before program i (Lt a b) h = (whole_inside program i a (and_left _ _ h), whole_inside program i b (and_right _ _ h))
 reads_before program i (Le a b) h = (whole_inside program i a (and_left _ _ h), whole_inside program i b (and_right _ _ h))
 
--- the ranges are those of the expressions of the first n instructions
-pub record AreRanges (program : Program) (ranges : List Range) : Type 0 where
-  pub each : (k : ℕ) → k < length ranges → range_at ranges k ≡ range (term_at (expressions program.bz) k)
-
-pub divides_same : (program : Program) (ranges : List Range) (op : BzOp) → AreRanges program ranges → ReadsBefore (length ranges) op → divides_over ranges op ≡ has_divisor program op
-divides_same program ranges (Column c) known reads = refl
-divides_same program ranges (IsTrue c) known reads = refl
-divides_same program ranges (Const n) known reads = refl
-divides_same program ranges (Neg a) known reads = refl
-divides_same program ranges (Add a b) known reads = refl
-divides_same program ranges (Sub a b) known reads = refl
-divides_same program ranges (Mul a b) known reads = refl
-divides_same program ranges (Div a b) known reads = ap is_divisor (known.each b reads.1)
-divides_same program ranges (Rem a b) known reads = ap is_divisor (known.each b reads.1)
-divides_same program ranges (Eq a b) known reads = refl
-divides_same program ranges (Lt a b) known reads = refl
-divides_same program ranges (Le a b) known reads = refl
-
-operand : (program : Program) (ranges : List Range) (a : ℕ) → AreRanges program ranges → a < length ranges
-    → range_at ranges a ≡ range (term_at (take (length ranges) (expressions program.bz)) a)
-operand program ranges a known inside = known.each a inside ∙ ap range (sym (term_at-take (expressions program.bz) (length ranges) a inside))
+operand : (bz : List BzOp) (ranges : List Range) (a : ℕ) → AreRanges bz ranges → a < length ranges
+    → range_at ranges a ≡ range (term_at (take (length ranges) (expressions bz)) a)
+operand bz ranges a known inside = sym (ap range (term_at-take (expressions bz) (length ranges) a inside) ∙ known.each a inside)
 
 -- the range of an instruction over those before is that of its expression
-range_of_expression : (program : Program) (ranges : List Range) (op : BzOp) → AreRanges program ranges → ReadsBefore (length ranges) op
-    → range_of ranges op ≡ range (term_of (Some (expression_of (take (length ranges) (expressions program.bz)) op)))
+range_of_expression : (bz : List BzOp) (ranges : List Range) (op : BzOp) → AreRanges bz ranges → ReadsBefore (length ranges) op
+    → range_over ranges op ≡ range (term_of (Some (expression_of (take (length ranges) (expressions bz)) op)))
 unfolding range
-range_of_expression program ranges (Column c) known reads = refl
-range_of_expression program ranges (IsTrue c) known reads = refl
-range_of_expression program ranges (Const n) known reads = refl
-range_of_expression program ranges (Neg a) known reads = ap negation_of (operand program ranges a known reads)
-range_of_expression program ranges (Add a b) known reads = ap (λ r. sum_of r (range_at ranges b)) (operand program ranges a known reads.0) ∙ ap (sum_of (range (term_at (take (length ranges) (expressions program.bz)) a))) (operand program ranges b known reads.1)
-range_of_expression program ranges (Sub a b) known reads = ap (λ r. difference_of r (range_at ranges b)) (operand program ranges a known reads.0) ∙ ap (difference_of (range (term_at (take (length ranges) (expressions program.bz)) a))) (operand program ranges b known reads.1)
-range_of_expression program ranges (Mul a b) known reads = ap (λ r. product_of r (range_at ranges b)) (operand program ranges a known reads.0) ∙ ap (product_of (range (term_at (take (length ranges) (expressions program.bz)) a))) (operand program ranges b known reads.1)
-range_of_expression program ranges (Div a b) known reads = ap (λ r. quotient_of r (range_at ranges b)) (operand program ranges a known reads.0) ∙ ap (quotient_of (range (term_at (take (length ranges) (expressions program.bz)) a))) (operand program ranges b known reads.1)
-range_of_expression program ranges (Rem a b) known reads = ap (λ r. remainder_of r (range_at ranges b)) (operand program ranges a known reads.0) ∙ ap (remainder_of (range (term_at (take (length ranges) (expressions program.bz)) a))) (operand program ranges b known reads.1)
-range_of_expression program ranges (Eq a b) known reads = refl
-range_of_expression program ranges (Lt a b) known reads = refl
-range_of_expression program ranges (Le a b) known reads = refl
+range_of_expression bz ranges (Column c) known reads = refl
+range_of_expression bz ranges (IsTrue c) known reads = refl
+range_of_expression bz ranges (Const n) known reads = refl
+range_of_expression bz ranges (Neg a) known reads = ap (over negated) (operand bz ranges a known reads)
+range_of_expression bz ranges (Add a b) known reads = ap₂ (over_both summed) (operand bz ranges a known reads.0) (operand bz ranges b known reads.1)
+range_of_expression bz ranges (Sub a b) known reads = ap₂ (over_both lessened) (operand bz ranges a known reads.0) (operand bz ranges b known reads.1)
+range_of_expression bz ranges (Mul a b) known reads = ap₂ (over_both multiplied) (operand bz ranges a known reads.0) (operand bz ranges b known reads.1)
+range_of_expression bz ranges (Div a b) known reads = ap₂ (over_divisor divided) (operand bz ranges a known reads.0) (operand bz ranges b known reads.1)
+range_of_expression bz ranges (Rem a b) known reads = ap₂ (over_divisor left_over) (operand bz ranges a known reads.0) (operand bz ranges b known reads.1)
+range_of_expression bz ranges (Eq a b) known reads = refl
+range_of_expression bz ranges (Lt a b) known reads = refl
+range_of_expression bz ranges (Le a b) known reads = refl
 
-pub range_same : (program : Program) (ranges : List Range) (op : BzOp) → AreRanges program ranges → ReadsBefore (length ranges) op → slice_get program.bz (length ranges) ≡ Some op
-    → range_of ranges op ≡ range (term_at (expressions program.bz) (length ranges))
-range_same program ranges op known reads here =
-    range_of_expression program ranges op known reads ∙ ap (λ e. range (term_of e)) (sym (expression_at program.bz (length ranges) op here))
+pub range_same : (bz : List BzOp) (ranges : List Range) (op : BzOp) → AreRanges bz ranges → ReadsBefore (length ranges) op → slice_get bz (length ranges) ≡ Some op
+    → range_over ranges op ≡ range (term_at (expressions bz) (length ranges))
+range_same bz ranges op known reads here =
+    range_of_expression bz ranges op known reads ∙ ap (λ e. range (term_of e)) (sym (expression_at bz (length ranges) op here))
 
 -- one range more
-pub ranges_push : (program : Program) (ranges ranges' : List Range) (r : Range) → ranges' ≡ ranges ++ r ∷ [] → AreRanges program ranges → r ≡ range (term_at (expressions program.bz) (length ranges)) → AreRanges program ranges'
-ranges_push program ranges ranges' r is known here =
-    let P : List Range → Type 0 = AreRanges program in
+pub ranges_push : (bz : List BzOp) (ranges ranges' : List Range) (r : Range) → ranges' ≡ ranges ++ r ∷ [] → AreRanges bz ranges → range (term_at (expressions bz) (length ranges)) ≡ Ok r → AreRanges bz ranges'
+ranges_push bz ranges ranges' r is known here =
+    let P : List Range → Type 0 = AreRanges bz in
     subst P (sym is) (record {
       each = λ k inside. elim (cases_lt k (length ranges)) [
-        | inl old ↦ get_or_append_left ranges (r ∷ []) (only (pos 0)) k old ∙ known.each k old
+        | inl old ↦ known.each k old ∙ sym (ap (λ x. Ok x) (get_or_append_left ranges (r ∷ []) (range_from (pos 0) (pos 0)) k old))
         | inr new ↦ let at : length ranges ≡ k = omega (arith, length_push ranges r) in
-            get_or_push ranges r (only (pos 0)) k at ∙ here ∙ ap (λ n. range (term_at (expressions program.bz) n)) at
+            ap (λ n. range (term_at (expressions bz) n)) (sym at) ∙ here ∙ sym (ap (λ x. Ok x) (get_or_push ranges r (range_from (pos 0) (pos 0)) k at))
       ];
     })
 
@@ -149,15 +130,20 @@ ranges_push program ranges ranges' r is known here =
 pub bz_operand : (program : Program) (i : ℕ) (op : BzOp) → has_operands program i op ≡ false → bz_fault program i op ≡ Some (Operand Bz i)
 bz_operand program i op h = rw h refl
 
-pub bz_divisor : (program : Program) (i : ℕ) (op : BzOp) → has_operands program i op ≡ true → has_divisor program op ≡ false → bz_fault program i op ≡ Some (Divisor i)
-bz_divisor program i op h k = rw (h, k) refl
+pub bz_range : (program : Program) (i : ℕ) (op : BzOp) (ranged : Ranged) → has_operands program i op ≡ true → range (term_at (expressions program.bz) i) ≡ ranged → bz_fault program i op ≡ range_fault i ranged
+bz_range program i op ranged h k = rw (h, k) refl
 
-pub bz_range : (program : Program) (i : ℕ) (op : BzOp) → has_operands program i op ≡ true → has_divisor program op ≡ true → fits (range (term_at (expressions program.bz) i)) ≡ false → bz_fault program i op ≡ Some (VerifyFault.TheVariants.Range i)
-bz_range program i op h k f = rw (h, k, f) refl
+-- both, from the range over the ranges before
+pub record IsRanged (program : Program) (i : ℕ) (op : BzOp) (ranged : Ranged) : Type 0 where
+  pub range_is : range (term_at (expressions program.bz) i) ≡ ranged
+  pub fault_is : bz_fault program i op ≡ range_fault i ranged
 
-pub bz_none : (program : Program) (i : ℕ) (op : BzOp) → has_operands program i op ≡ true → has_divisor program op ≡ true → fits (range (term_at (expressions program.bz) i)) ≡ true → bz_fault program i op ≡ None
-bz_none program i op h k f = rw (h, k, f) refl
+pub op_ranged : (program : Program) (ranges : List Range) (op : BzOp) (ranged : Ranged) → has_operands program (length ranges) op ≡ true → AreRanges program.bz ranges → slice_get program.bz (length ranges) ≡ Some op
+    → range_over ranges op ≡ ranged → IsRanged program (length ranges) op ranged
+op_ranged program ranges op ranged may known here found =
+    let same : range (term_at (expressions program.bz) (length ranges)) ≡ ranged = sym (range_same program.bz ranges op known (reads_before program (length ranges) op may) here) ∙ found in
+    record { range_is = same; fault_is = bz_range program (length ranges) op ranged may same }
 
 -- the rule of an instruction whose number is known otherwise
-pub bz_rule : (program : Program) (n i : ℕ) (op : BzOp) (found : Option VerifyFault.VerifyFault) → n ≡ i → bz_fault program n op ≡ found → bz_fault program i op ≡ found
+pub bz_rule : (program : Program) (n i : ℕ) (op : BzOp) (found : Option VerifyFault) → n ≡ i → bz_fault program n op ≡ found → bz_fault program i op ≡ found
 bz_rule program n i op found same h = subst (λ (m : ℕ). bz_fault program m op ≡ found) same h

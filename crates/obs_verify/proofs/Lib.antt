@@ -5,3 +5,7 @@ pub mod SoundLaws
 pub mod BoundLaws
 pub mod MovedLaws
 pub mod WellBound
+pub mod RunLaws
+pub mod SoundOps
+pub mod UpgradeLaws
+pub mod WellRaised

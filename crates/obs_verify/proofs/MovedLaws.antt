@@ -1,12 +1,12 @@
 -- Expressions, kinds and truths of a program whose reads of columns are changed by a function of instructions.
-use Rattle.std.proofs.Common.{◌≡◌, ℕ, ◌+◌, ◌<◌, zero, suc, Bool, Option, Some, None, List, [], ◌∷◌, ◌++◌, length, take, map, slice_get, slice_index_or, refl, ap, sym, ◌∙◌, arith, add-zero}
+use Rattle.std.proofs.Common.{◌≡◌, ℕ, ◌+◌, ◌<◌, zero, suc, Bool, Option, Some, None, List, [], ◌∷◌, ◌++◌, length, take, map, slice_get, slice_index_or, refl, ap, ap₂, sym, ◌∙◌, arith, add-zero}
 use Rattle.std.proofs.lemmas.List.{map_push, take-map}
 use Rattle.mltl_base.specs.declared.operators.BzOp.{BzOp}
 use Rattle.mltl_base.specs.declared.operators.BzOp.TheVariants.{Column, IsTrue, Const, Neg, Add, Sub, Mul, Div, Rem, Eq, Lt, Le}
 use Rattle.mltl_base.specs.declared.program.StoredSignal.{StoredSignal}
 use Rattle.mltl_base.specs.Atoms.{Term, column, constant, negative, plus, minus, times, quotient, remainder, Atom, is_true, equal, less, at_most}
 use Rattle.mltl_base.specs.Programs.{Expression, whole, truth, expression_of, expressions_after, expressions, term_at}
-use Rattle.obs_verify.specs.Ranges.{range, negation_of, sum_of, difference_of, product_of, quotient_of, remainder_of}
+use Rattle.mltl_base.specs.Ranges.{divided, left_over, lessened, multiplied, negated, over as over_one, over_both, over_divisor, range, summed}
 use Rattle.obs_verify.specs.declared.fault.VerifyFault.{VerifyFault}
 use Rattle.obs_verify.specs.Bound.{bound_op, moved}
 use Rattle.obs_verify.specs.WellFormed.{first_in, is_truth, is_whole, or_else}
@@ -84,12 +84,12 @@ range_over : (g : ℕ → ℕ) (e : Term) → range (over g e) ≡ range e
 unfolding range over
 range_over g (column c) = refl
 range_over g (constant n) = refl
-range_over g (negative a) = ap negation_of (range_over g a)
-range_over g (plus a b) = ap (λ r. sum_of r (range (over g b))) (range_over g a) ∙ ap (sum_of (range a)) (range_over g b)
-range_over g (minus a b) = ap (λ r. difference_of r (range (over g b))) (range_over g a) ∙ ap (difference_of (range a)) (range_over g b)
-range_over g (times a b) = ap (λ r. product_of r (range (over g b))) (range_over g a) ∙ ap (product_of (range a)) (range_over g b)
-range_over g (quotient a b) = ap (λ r. quotient_of r (range (over g b))) (range_over g a) ∙ ap (quotient_of (range a)) (range_over g b)
-range_over g (remainder a b) = ap (λ r. remainder_of r (range (over g b))) (range_over g a) ∙ ap (remainder_of (range a)) (range_over g b)
+range_over g (negative a) = ap (over_one negated) (range_over g a)
+range_over g (plus a b) = ap₂ (over_both summed) (range_over g a) (range_over g b)
+range_over g (minus a b) = ap₂ (over_both lessened) (range_over g a) (range_over g b)
+range_over g (times a b) = ap₂ (over_both multiplied) (range_over g a) (range_over g b)
+range_over g (quotient a b) = ap₂ (over_divisor divided) (range_over g a) (range_over g b)
+range_over g (remainder a b) = ap₂ (over_divisor left_over) (range_over g a) (range_over g b)
 
 term_over : (g : ℕ → ℕ) (es : List Expression) (a : ℕ) → term_at (map (both_over g) es) a ≡ over g (term_at es a)
 unfolding both_over over

@@ -14,7 +14,7 @@ use Rattle.obs_verify.specs.WellFormed.{first_in, ft_fault, pt_fault, late_fault
 use Rattle.obs_verify.proofs.RuleLaws.{and_left, and_right, none_of_all, or_none, unless_true}
 
 -- the rule of each member, from its place in the list
-each : {X : Type 0} (rule : ℕ → X → Option VerifyFault) (xs : List X) → first_in rule 0 xs ≡ None → (i : ℕ) (d : X) → i < length xs → rule i (slice_index_or xs i d) ≡ None
+pub each : {X : Type 0} (rule : ℕ → X → Option VerifyFault) (xs : List X) → first_in rule 0 xs ≡ None → (i : ℕ) (d : X) → i < length xs → rule i (slice_index_or xs i d) ≡ None
 each {X} rule xs none i d inside = subst (λ (n : ℕ). rule n (slice_index_or xs i d) ≡ None) (zero-add i) (none_of_all rule xs 0 none i d inside)
 
 after : (program : Program) (i : ℕ) (op : ft.FtOp) → has_future_operands program i op ≡ true → IsAfterOperands i op

@@ -14,17 +14,17 @@ use Rattle.mltl_base.specs.declared.operators.FtOp as ft
 use Rattle.mltl_base.specs.declared.operators.PtOp as pt
 use Rattle.mltl_base.specs.declared.program.Program.{Program}
 use Rattle.mltl_base.specs.declared.program.StoredSignal.{StoredSignal}
-use Rattle.obs_verify.specs.Ranges.{fits, is_divisor}
 use Rattle.obs_verify.specs.declared.fault.VerifyFault.{VerifyFault}
 use Rattle.obs_verify.specs.declared.fault.VerifyFault.TheVariants.{Signal, Operand}
 use Rattle.obs_verify.specs.Bound.{AreDifferent, bound, bound_op, bound_signals, moved}
 use Rattle.obs_verify.specs.Kept.{IsKept}
-use Rattle.obs_verify.specs.WellFormed.{IsWellFormed, bz_fault, first_in, ft_fault, has_divisor, has_kind, has_operands, is_column_of, is_new_signal, or_else, pt_fault, signal_fault, unless}
+use Rattle.obs_verify.specs.WellFormed.{IsWellFormed, bz_fault, first_in, ft_fault, has_kind, has_operands, is_column_of, is_new_signal, or_else, pt_fault, signal_fault, unless}
 use Rattle.obs_verify.proofs.BoundLaws.{length-bound_signals}
-use Rattle.obs_verify.proofs.ExpressionLaws.{bz_none}
+use Rattle.obs_verify.proofs.ExpressionLaws.{bz_range}
 use Rattle.obs_verify.proofs.MovedLaws.{all_none, first_same, range_kept, truth_at_kept, whole_before_kept}
-use Rattle.obs_verify.proofs.RuleLaws.{and_left, and_right, none_of_all, or_none, unless_true}
+use Rattle.obs_verify.proofs.RuleLaws.{and_left, and_right, or_none, unless_true}
 use Rattle.obs_verify.proofs.SignalLaws.{unless_both}
+use Rattle.obs_verify.proofs.SoundLaws.{each}
 
 pub both_none : (a b : Option VerifyFault) → a ≡ None → b ≡ None → or_else a b ≡ None
 both_none a b h k = ap (λ o. or_else o b) h ∙ k
@@ -33,7 +33,7 @@ pub and_both : (a b : Bool) → a ≡ true → b ≡ true → (a && b) ≡ true
 and_both true b h k = k
 and_both false b h k = h
 
-or_false : (a b : Bool) → (a || b) ≡ false → (a ≡ false) × (b ≡ false)
+pub or_false : (a b : Bool) → (a || b) ≡ false → (a ≡ false) × (b ≡ false)
 or_false true b h = absurd (cc)
 or_false false b h = (refl, h)
 
@@ -41,7 +41,7 @@ or_right : (a b : Bool) → a ≡ false → (a || b) ≡ true → b ≡ true
 or_right true b h k = absurd (cc)
 or_right false b h k = k
 
-or_second : (a b : Bool) → b ≡ true → (a || b) ≡ true
+pub or_second : (a b : Bool) → b ≡ true → (a || b) ≡ true
 or_second true b h = refl
 or_second false b h = h
 
@@ -49,10 +49,7 @@ not_true : (a : Bool) → not a ≡ true → a ≡ false
 not_true true h = absurd (cc)
 not_true false h = refl
 
--- the rule of each member, from its place in the list
-pub each : {X : Type 0} (rule : ℕ → X → Option VerifyFault) (xs : List X) → first_in rule 0 xs ≡ None → (i : ℕ) (d : X) → i < length xs → rule i (slice_index_or xs i d) ≡ None
-each {X} rule xs none i d inside = subst (λ (n : ℕ). rule n (slice_index_or xs i d) ≡ None) (zero-add i) (none_of_all rule xs 0 none i d inside)
-
+-- no member is at fault, where none is at its place in the list
 pub from_each : {X : Type 0} (rule : ℕ → X → Option VerifyFault) (xs : List X) → ((i : ℕ) (d : X) → i < length xs → rule i (slice_index_or xs i d) ≡ None) → first_in rule 0 xs ≡ None
 from_each {X} rule xs all = all_none rule xs 0 (λ i d inside. subst (λ (n : ℕ). rule n (slice_index_or xs i d) ≡ None) (sym (zero-add i)) (all i d inside))
 
@@ -154,20 +151,6 @@ operands_kept program width columns two same below none i (Eq a b) h = and_both 
 operands_kept program width columns two same below none i (Lt a b) h = and_both _ _ (whole_before_kept program.signals columns program.bz i a ∙ and_left _ _ h) (whole_before_kept program.signals columns program.bz i b ∙ and_right _ _ h)
 operands_kept program width columns two same below none i (Le a b) h = and_both _ _ (whole_before_kept program.signals columns program.bz i a ∙ and_left _ _ h) (whole_before_kept program.signals columns program.bz i b ∙ and_right _ _ h)
 
-divisor_kept : (program : Program) (width : ℕ) (columns : List ℕ) (op : BzOp) → has_divisor (bound program width columns) (bound_op program.signals columns op) ≡ has_divisor program op
-divisor_kept program width columns (Column c) = refl
-divisor_kept program width columns (IsTrue c) = refl
-divisor_kept program width columns (Const n) = refl
-divisor_kept program width columns (Neg a) = refl
-divisor_kept program width columns (Add a b) = refl
-divisor_kept program width columns (Sub a b) = refl
-divisor_kept program width columns (Mul a b) = refl
-divisor_kept program width columns (Div a b) = ap is_divisor (range_kept program.signals columns program.bz b)
-divisor_kept program width columns (Rem a b) = ap is_divisor (range_kept program.signals columns program.bz b)
-divisor_kept program width columns (Eq a b) = refl
-divisor_kept program width columns (Lt a b) = refl
-divisor_kept program width columns (Le a b) = refl
-
 bz_kept : (program : Program) (width : ℕ) (columns : List ℕ) → program.version ≡ 2 → length columns ≡ length program.signals → All (λ c. c < width) columns
     → first_in (signal_fault program) 0 program.signals ≡ None → first_in (bz_fault program) 0 program.bz ≡ None
     → first_in (bz_fault (bound program width columns)) 0 (map (bound_op program.signals columns) program.bz) ≡ None
@@ -175,10 +158,9 @@ bz_kept program width columns two same below signals none = from_each (bz_fault 
     let here : i < length program.bz = omega (arith, length-map program.bz (bound_op program.signals columns)) in
     let op : BzOp = slice_index_or program.bz i d in
     let was = or_none _ _ (each (bz_fault program) program.bz none i d here) in
-    let rest = or_none _ _ was.1 in
     ap (bz_fault (bound program width columns) i) (get_or-map (bound_op program.signals columns) program.bz i d d here)
-    ∙ bz_none (bound program width columns) i (bound_op program.signals columns op) (operands_kept program width columns two same below signals i op (unless_true _ _ was.0))
-    (divisor_kept program width columns op ∙ unless_true _ _ rest.0) (ap fits (range_kept program.signals columns program.bz i) ∙ unless_true _ _ rest.1))
+    ∙ bz_range (bound program width columns) i (bound_op program.signals columns op) _ (operands_kept program width columns two same below signals i op (unless_true _ _ was.0)) (range_kept program.signals columns program.bz i)
+    ∙ was.1)
 
 ft_kept : (program : Program) (width : ℕ) (columns : List ℕ) (i : ℕ) (op : ft.FtOp) → ft_fault (bound program width columns) i op ≡ ft_fault program i op
 ft_kept program width columns i ft.TheVariants.True = refl

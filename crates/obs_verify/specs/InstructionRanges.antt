@@ -1,36 +1,31 @@
 -- The range of an instruction of the Booleanizer, from the ranges of those before it.
 
-use Rattle.std.specs.Prelude.{ℕ, ◌<◌, pos, Bool, true, IsTrue, List, slice_index_or}
+use Rattle.std.specs.Prelude.{ℕ, ◌≡◌, ◌<◌, pos, Ok, List, length, slice_index_or}
 use Rattle.mltl_base.specs.declared.operators.BzOp as bz
-use Rattle.obs_verify.specs.declared.range.Range.{Range}
-use Rattle.obs_verify.specs.Ranges.{is_divisor, only, signal_range, negation_of, sum_of, difference_of, product_of, quotient_of, remainder_of}
+use Rattle.mltl_base.specs.Programs.{expressions, term_at}
+use Rattle.mltl_base.specs.Ranges.{Range, Ranged, divided, in_word, left_over, lessened, multiplied, negated, over, over_both, over_divisor, range, range_from, signal_range, summed}
 
-abbrev pub range_at : List Range → ℕ → Range
-range_at before a = slice_index_or before a (only (pos 0))
+abbrev pub range_at : List Range → ℕ → Ranged
+range_at before a = Ok (slice_index_or before a (range_from (pos 0) (pos 0)))
 
 -- a truth goes by 0
-abbrev pub range_of : List Range → bz.BzOp → Range
-range_of before (bz.TheVariants.Column c) = signal_range
-range_of before (bz.TheVariants.IsTrue c) = only (pos 0)
-range_of before (bz.TheVariants.Const n) = only n
-range_of before (bz.TheVariants.Neg a) = negation_of (range_at before a)
-range_of before (bz.TheVariants.Add a b) = sum_of (range_at before a) (range_at before b)
-range_of before (bz.TheVariants.Sub a b) = difference_of (range_at before a) (range_at before b)
-range_of before (bz.TheVariants.Mul a b) = product_of (range_at before a) (range_at before b)
-range_of before (bz.TheVariants.Div a b) = quotient_of (range_at before a) (range_at before b)
-range_of before (bz.TheVariants.Rem a b) = remainder_of (range_at before a) (range_at before b)
-range_of before (bz.TheVariants.Eq a b) = only (pos 0)
-range_of before (bz.TheVariants.Lt a b) = only (pos 0)
-range_of before (bz.TheVariants.Le a b) = only (pos 0)
+abbrev pub range_over : List Range → bz.BzOp → Ranged
+range_over before (bz.TheVariants.Column c) = Ok signal_range
+range_over before (bz.TheVariants.IsTrue c) = Ok (range_from (pos 0) (pos 0))
+range_over before (bz.TheVariants.Const n) = in_word (range_from n n)
+range_over before (bz.TheVariants.Neg a) = over negated (range_at before a)
+range_over before (bz.TheVariants.Add a b) = over_both summed (range_at before a) (range_at before b)
+range_over before (bz.TheVariants.Sub a b) = over_both lessened (range_at before a) (range_at before b)
+range_over before (bz.TheVariants.Mul a b) = over_both multiplied (range_at before a) (range_at before b)
+range_over before (bz.TheVariants.Div a b) = over_divisor divided (range_at before a) (range_at before b)
+range_over before (bz.TheVariants.Rem a b) = over_divisor left_over (range_at before a) (range_at before b)
+range_over before (bz.TheVariants.Eq a b) = Ok (range_from (pos 0) (pos 0))
+range_over before (bz.TheVariants.Lt a b) = Ok (range_from (pos 0) (pos 0))
+range_over before (bz.TheVariants.Le a b) = Ok (range_from (pos 0) (pos 0))
 
--- the divisor of an instruction, if it has one, is a number other than 0
-abbrev pub divides_over : List Range → bz.BzOp → Bool
-divides_over before (bz.TheVariants.Div a b) = is_divisor (range_at before b)
-divides_over before (bz.TheVariants.Rem a b) = is_divisor (range_at before b)
-divides_over before op = true
-
-abbrev pub DividesByNumber : List Range → bz.BzOp → Type 0
-DividesByNumber before op = IsTrue (divides_over before op)
+-- the ranges are those of the first instructions, in order
+pub record AreRanges (bz : List bz.BzOp) (ranges : List Range) : Type 0 where
+  pub each : (k : ℕ) → k < length ranges → range (term_at (expressions bz) k) ≡ range_at ranges k
 
 -- the whole numbers that an instruction reads stand before number n
 abbrev pub ReadsBefore : ℕ → bz.BzOp → Type 0

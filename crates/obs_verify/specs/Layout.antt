@@ -3,7 +3,11 @@
 use Rattle.std.specs.Prelude.{◌≡◌, ◌⊎◌, ◌<◌, ◌^◌, [], length}
 use Rattle.mltl_base.specs.declared.program.Program.{Program}
 
--- a size for each instruction of the engines, lists of fewer than 2 ^ 32 members, and version 1 without signals or version 2
+-- version 1 without signals, or version 2
+abbrev pub HasVersion : Program → Type 0
+HasVersion program = ((program.version ≡ 1) × (program.signals ≡ [])) ⊎ (program.version ≡ 2)
+
+-- a size for each instruction of the engines, lists of fewer than 2 ^ 32 members, and one of the versions
 pub record HasLayout (program : Program) : Type 0 where
   pub ft_sizes : length program.sizes.ft ≡ length program.ft
   pub pt_sizes : length program.sizes.pt ≡ length program.pt
@@ -12,4 +16,4 @@ pub record HasLayout (program : Program) : Type 0 where
   pub few_pt : length program.pt < 2 ^ 32
   pub few_outs : length program.outs < 2 ^ 32
   pub few_signals : length program.signals < 2 ^ 32
-  pub version : ((program.version ≡ 1) × (program.signals ≡ [])) ⊎ (program.version ≡ 2)
+  pub version : HasVersion program

@@ -1,8 +1,10 @@
 pub mod WellFormed
-pub mod Ends
 pub mod Kinds
 pub mod InstructionRanges
 pub mod Layout
 pub mod Kept
 pub mod Bound
-pub mod Ranges
+pub mod Running
+pub mod Soundness
+pub mod Upgrade
+pub mod Reading

@@ -1,6 +1,6 @@
 -- The first fault of an observer program, by eight rules in order. A program without a fault is well-formed.
 
-use Rattle.std.specs.Prelude.{ℕ, ◌≡◌, ◌==◌, Bool, true, false, ◌&&◌, ◌||◌, not, if◌then◌else◌, nat_lt, nat_le, Option, Some, None, List, [], ◌∷◌, length, take, slice_get, slice_index, suc, ◌≢◌, Result, MatchResult}
+use Rattle.std.specs.Prelude.{ℕ, ◌≡◌, ◌==◌, Bool, true, false, ◌&&◌, ◌||◌, not, if◌then◌else◌, nat_lt, nat_le, Option, Some, None, List, [], ◌∷◌, length, take, slice_get, slice_index, suc, ◌≢◌, Result, Ok, Err, MatchResult}
 use Rattle.std.specs.List.{list_any}
 use Rattle.std.specs.Str.{bytes_eq}
 use Rattle.mltl_base.specs.declared.interval.Engine.TheVariants as engine
@@ -15,7 +15,7 @@ use Rattle.mltl_base.specs.declared.program.Program.{Program}
 use Rattle.mltl_base.specs.declared.program.StoredSignal.{StoredSignal}
 use Rattle.mltl_base.specs.Programs.{expressions, term_at}
 use Rattle.mltl_base.specs.Queues.{worst_delays, queue_lengths, box_counts, slot_count}
-use Rattle.obs_verify.specs.Ranges.{range, fits, is_divisor}
+use Rattle.mltl_base.specs.Ranges.{Ranged, divisor, wide, range}
 use Rattle.obs_verify.specs.declared.fault.VerifyFault.{VerifyFault}
 use Rattle.obs_verify.specs.declared.fault.VerifyFault.TheVariants.{Width, Signal, Operand, Interval as BadInterval, Divisor, Range, TooLate, Output, Size, TooManySlots, Memory}
 
@@ -94,16 +94,14 @@ has_operands program i (bz.TheVariants.Eq a b) = is_whole_before program i a && 
 has_operands program i (bz.TheVariants.Lt a b) = is_whole_before program i a && is_whole_before program i b
 has_operands program i (bz.TheVariants.Le a b) = is_whole_before program i a && is_whole_before program i b
 
--- the divisor of an instruction, if it has one, is a number other than 0
-abbrev pub has_divisor : Program → bz.BzOp → Bool
-has_divisor program (bz.TheVariants.Div a b) = is_divisor (range (term_at (expressions program.bz) b))
-has_divisor program (bz.TheVariants.Rem a b) = is_divisor (range (term_at (expressions program.bz) b))
-has_divisor program op = true
+-- the fault of an instruction whose whole number has no range
+abbrev pub range_fault : ℕ → Ranged → Option VerifyFault
+range_fault i (Ok range) = None
+range_fault i (Err divisor) = Some (Divisor i)
+range_fault i (Err wide) = Some (Range i)
 
 abbrev pub bz_fault : Program → ℕ → bz.BzOp → Option VerifyFault
-bz_fault program i op =
-    or_else (unless (has_operands program i op) (Operand Bz i))
-    (or_else (unless (has_divisor program op) (Divisor i)) (unless (fits (range (term_at (expressions program.bz) i))) (Range i)))
+bz_fault program i op = or_else (unless (has_operands program i op) (Operand Bz i)) (range_fault i (range (term_at (expressions program.bz) i)))
 
 -- 4. Instructions of the future-time engine load truths and read earlier instructions, over intervals within the limit;
 -- none is too late.

@@ -1,18 +1,19 @@
 //! The rules of the Booleanizer's instructions: what they read, what they divide by, and their ranges.
 
-ghost use Rattle.std.specs.Prelude.{◌≡◌, ◌<◌, ◌≤◌, ◌^◌, ℕ, Bool, Some, length, slice_get, slice_index_or, All, take, IfOk, IsTrue, pos};
+ghost use Rattle.std.specs.Prelude.{◌≡◌, ◌<◌, ◌≤◌, ◌^◌, Some, length, slice_get, take, IfOk, Ok};
 ghost use Rattle.mltl_base.specs.Programs.{expressions, term_at};
-ghost use Rattle.obs_verify.specs.Ranges.{is_divisor, only, range};
-ghost use Rattle.obs_verify.specs.Ends.{HasSmallEnds};
-ghost use Rattle.obs_verify.specs.InstructionRanges.{range_at, range_of as range_over, divides_over, DividesByNumber, ReadsBefore};
+ghost use Rattle.mltl_base.specs.Ranges.{range};
+ghost use Rattle.mltl_ranges.specs.Answers.{Tells};
+ghost use Rattle.obs_verify.specs.InstructionRanges.{AreRanges, ReadsBefore, range_over};
 ghost use Rattle.obs_verify.specs.Kinds.{AreKinds};
 ghost use Rattle.obs_verify.specs.WellFormed.{IsAnswer, bz_fault, first_in, has_operands as may_read, is_column_of, is_whole, is_whole_before as whole_before};
 
 use crate::fault::VerifyFault;
-use crate::range::Range;
-use crate::ranges;
 use crate::signals::Kinds;
 use mltl_base::{BzOp, Part, Program};
+use mltl_ranges::{
+    NoRange, Range, constant, difference, negation, product, quotient, remainder, signal, sum,
+};
 use std::alloc::Global;
 
 /// Whether the instructions of the Booleanizer read what they may read, divide by numbers, and stay within 64 bits.
@@ -45,63 +46,36 @@ fn check_op(
     requires long { length kinds.now ≡ program.now.width }
     requires kinds { AreKinds program.now.signals kinds.now }
     requires here { slice_get program.now.bz (length before.now) ≡ Some op.now }
-    requires known { (k : ℕ) → k < length before.now → range_at before.now k ≡ range (term_at (expressions program.now.bz) k) }
-    requires small { All HasSmallEnds before.now }
+    requires known { AreRanges program.now.bz before.now }
     ensures answer { IsAnswer result (bz_fault program.now (length before.now) op.now) }
-    ensures range { IfOk result (λ found. found ≡ range (term_at (expressions program.now.bz) (length before.now))) }
-    ensures small { IfOk result HasSmallEnds }
+    ensures range { IfOk result (λ found. range (term_at (expressions program.now.bz) (length before.now)) ≡ Ok found) }
 {
     let i = before.len();
     if !has_operands(program, kinds, i, op) {
         return Err(VerifyFault::Operand(Part::Bz, i as u32));
     }
-    if !divides_by_number(before, op) {
-        return Err(VerifyFault::Divisor(i as u32));
+    match range_of(before, op) {
+        Ok(range) => Ok(range),
+        Err(NoRange::Divisor) => Err(VerifyFault::Divisor(i as u32)),
+        Err(NoRange::Wide) => Err(VerifyFault::Range(i as u32)),
     }
-    let range = range_of(before, op);
-    if !ranges::fits(range) {
-        return Err(VerifyFault::Range(i as u32));
-    }
-    Ok(range)
 }
 
 /// The range of an instruction, from the ranges of those before it.
-fn range_of(before: &[Range], op: &BzOp) -> Range
-    requires small { All HasSmallEnds before.now }
-    requires reads { ReadsBefore (length before.now) op.now }
-    requires divides { DividesByNumber before.now op.now }
-    ensures { result ≡ range_over before.now op.now }
-{
-    match *op {
-        BzOp::Column(_) => Range {
-            least: -2_147_483_648,
-            greatest: 2_147_483_647,
-        },
-        BzOp::Const(n) => Range {
-            least: i128::from(n),
-            greatest: i128::from(n),
-        },
-        BzOp::Neg(a) => ranges::negation(before[a as usize]),
-        BzOp::Add(a, b) => ranges::sum(before[a as usize], before[b as usize]),
-        BzOp::Sub(a, b) => ranges::difference(before[a as usize], before[b as usize]),
-        BzOp::Mul(a, b) => ranges::product(before[a as usize], before[b as usize]),
-        BzOp::Div(a, b) => ranges::quotient(before[a as usize], before[b as usize]),
-        BzOp::Rem(a, b) => ranges::remainder(before[a as usize], before[b as usize]),
-        BzOp::IsTrue(_) | BzOp::Eq(_, _) | BzOp::Lt(_, _) | BzOp::Le(_, _) => Range {
-            least: 0,
-            greatest: 0,
-        },
-    }
-}
-
-/// Whether the divisor of an instruction, if it has one, is a number other than 0.
-fn divides_by_number(before: &[Range], op: &BzOp) -> bool
+fn range_of(before: &[Range], op: &BzOp) -> Result<Range, NoRange>
     requires { ReadsBefore (length before.now) op.now }
-    ensures { result ≡ divides_over before.now op.now }
+    ensures { Tells result (range_over before.now op.now) }
 {
     match *op {
-        BzOp::Div(_, b) | BzOp::Rem(_, b) => ranges::divides(before[b as usize]),
-        _ => true,
+        BzOp::Column(_) => Ok(signal()),
+        BzOp::Const(n) => Ok(constant(n)),
+        BzOp::Neg(a) => negation(before[a as usize]),
+        BzOp::Add(a, b) => sum(before[a as usize], before[b as usize]),
+        BzOp::Sub(a, b) => difference(before[a as usize], before[b as usize]),
+        BzOp::Mul(a, b) => product(before[a as usize], before[b as usize]),
+        BzOp::Div(a, b) => quotient(before[a as usize], before[b as usize]),
+        BzOp::Rem(a, b) => remainder(before[a as usize], before[b as usize]),
+        BzOp::IsTrue(_) | BzOp::Eq(_, _) | BzOp::Lt(_, _) | BzOp::Le(_, _) => Ok(constant(0)),
     }
 }
 

@@ -1,17 +1,19 @@
 //! Programs that were checked.
 
-ghost use Rattle.std.specs.Prelude.{◌≡◌, ◌≤◌, ◌<◌, All, IfOk, length};
+ghost use Rattle.std.specs.Prelude.{◌≡◌, ◌≤◌, ◌<◌, [], None, All, IfOk, IfErr, OnOk, length};
 ghost use Rattle.mltl_base.specs.Queues.{best_delays, worst_delays};
 ghost use Rattle.obs_verify.specs.Bound.{AreDifferent, bound};
 ghost use Rattle.obs_verify.specs.Layout.{HasLayout};
+ghost use Rattle.obs_verify.specs.Upgrade.{NamesClash, clash_of, first_clash, raised, reads, signals_below, up};
 ghost use Rattle.obs_verify.specs.WellFormed.{IsAnswer, IsWellFormed, first_fault};
 
 use crate::columns::{move_reads, move_signals};
-use crate::fault::VerifyFault;
+use crate::fault::{UpgradeFault, VerifyFault};
+use crate::reads::read_signals;
 use crate::rules::check_rules;
 use delay_sizes::Delays;
 use mltl_base::limits::{MAX_DELAY, MAX_SIGNALS};
-use mltl_base::{Columns, Program};
+use mltl_base::{Columns, List, Program, StoredSignal};
 use std::alloc::Global;
 use std::marker::Model;
 
@@ -86,5 +88,35 @@ pub fn rebind(checked: Checked, columns: &Columns) -> Checked
     );
     move_signals(&mut program.signals, columns.of_signal.as_slice());
     program.width = columns.width;
+    Checked { program, delays }
+}
+
+/// The program in version 2: one of version 1 gets a stored signal for each column that an instruction reads. Where one
+/// column is read in both ways there is none; the program is dropped then.
+pub fn upgrade(alloc: Global, checked: Checked) -> Result<Checked, UpgradeFault>
+    ensures up { IfOk result (λ upgraded. upgraded ≡ up checked) }
+    ensures one_way { OnOk result (clash_of checked ≡ None) }
+    ensures both { IfErr result (λ fault. NamesClash fault (clash_of checked)) }
+{
+    if checked.program().version == 2 {
+        return Ok(checked);
+    }
+    let program = checked.program();
+    let signals = read_signals(alloc, program.bz.as_slice(), program.width)?;
+    Ok(with_signals(checked, signals))
+}
+
+/// The program in version 2, with these signals.
+fn with_signals(checked: Checked, signals: List<StoredSignal>) -> Checked
+    requires signals { signals ≡ signals_below checked.width (reads checked.bz) }
+    requires one_way { first_clash [] checked.bz ≡ None }
+    ensures { result ≡ raised checked }
+{
+    let Checked {
+        mut program,
+        delays,
+    } = checked;
+    program.version = 2;
+    program.signals = signals;
     Checked { program, delays }
 }

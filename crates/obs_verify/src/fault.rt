@@ -50,3 +50,31 @@ impl<T: Drop> From<AllocFailed<T>> for VerifyFault {
         VerifyFault::Memory
     }
 }
+
+/// Why a program of version 1 has none of version 2.
+#[derive(Clone, Copy, PartialEq, Eq, Debug)]
+pub enum UpgradeFault {
+    /// The first instruction that reads a column which an earlier one reads in the other way.
+    Both(u32),
+    Memory,
+}
+
+impl From<AllocError> for UpgradeFault {
+    ghost use Rattle.obs_verify.specs.declared.fault.UpgradeFault.TheVariants.{Memory};
+
+    ghost from_gives = { λ _ fault. fault ≡ Memory };
+
+    fn from(_refused: AllocError) -> UpgradeFault {
+        UpgradeFault::Memory
+    }
+}
+
+impl<T: Drop> From<AllocFailed<T>> for UpgradeFault {
+    ghost use Rattle.obs_verify.specs.declared.fault.UpgradeFault.TheVariants.{Memory};
+
+    ghost from_gives = { λ _ fault. fault ≡ Memory };
+
+    fn from(_refused: AllocFailed<T>) -> UpgradeFault {
+        UpgradeFault::Memory
+    }
+}

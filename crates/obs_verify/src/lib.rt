@@ -8,13 +8,18 @@ mod checked;
 mod checks;
 mod columns;
 mod fault;
-mod range;
-mod ranges;
+mod laws;
+mod layout;
+mod reads;
 mod rules;
 mod signals;
 
-pub use checked::{Checked, rebind, verify};
-pub use fault::VerifyFault;
+pub use checked::{Checked, rebind, upgrade, verify};
+pub use fault::{UpgradeFault, VerifyFault};
+pub use laws::{
+    upgraded_programs_tell_the_same, well_formed_programs_are_sound, well_formed_programs_run,
+};
+pub use layout::has_layout;
 
 #[cfg(test)]
 mod tests;

@@ -58,7 +58,7 @@ fn note_signals(alloc: Global, program: &Program, kinds: &mut [Kinds]) -> Result
     let mut names = HashSet::new(alloc);
     for (k, signal) in program.signals.as_slice().iter().enumerate() {
         check_signal(alloc, kinds, &mut names, k as u32, signal)?;
-        note_kind(kinds, signal);
+        note_kind(kinds, signal.column, signal.truth);
     }
     Ok(())
 }
@@ -98,20 +98,22 @@ fn is_free(kinds: &[Kinds], signal: &StoredSignal) -> bool
     is_empty(kinds[signal.column as usize])
 }
 
-fn is_empty(kinds: Kinds) -> bool
+/// Whether no signal stands in a column.
+pub fn is_empty(kinds: Kinds) -> bool
     ensures { result ≡ (not kinds.whole && not kinds.truth) }
 {
     !kinds.whole && !kinds.truth
 }
 
-/// Notes the kind of a signal at its column.
-fn note_kind(kinds: &mut [Kinds], signal: &StoredSignal)
-    requires { signal.now.column < length kinds.old }
-    ensures { (earlier : List Stored) → AreKinds earlier kinds.old → AreKinds (earlier ++ signal.now ∷ []) kinds.new }
+/// Notes a signal of this kind in a column.
+pub fn note_kind(kinds: &mut [Kinds], column: u32, truth: bool)
+    requires { column < length kinds.old }
+    ensures { (earlier : List Stored) (signal : Stored) → AreKinds earlier kinds.old → signal.column ≡ column → signal.truth ≡ truth
+        → AreKinds (earlier ++ signal ∷ []) kinds.new }
 {
-    let here = kinds[signal.column as usize];
-    kinds[signal.column as usize] = Kinds {
-        whole: here.whole || !signal.truth,
-        truth: here.truth || signal.truth,
+    let here = kinds[column as usize];
+    kinds[column as usize] = Kinds {
+        whole: here.whole || !truth,
+        truth: here.truth || truth,
     };
 }

@@ -3,29 +3,14 @@
 ghost use Rattle.std.specs.Prelude.{◌≡◌, ◌<◌, ◌≤◌, All, length};
 ghost use Rattle.std.specs.Bool.{OnTrue};
 ghost use Rattle.obs_verify.specs.Bound.{AreDifferent};
-ghost use Rattle.obs_verify.specs.Layout.{HasLayout};
 
-use crate::{VerifyFault, rebind, verify};
+use crate::{UpgradeFault, VerifyFault, has_layout, rebind, upgrade, verify};
 use mltl_base::{
     BzOp, Columns, Engine, FtOp, Interval, List, Name, Out, Part, Program, PtOp, Sizes,
     StoredSignal,
 };
 use std::alloc::{AllocError, Global};
 use std::test::Fail;
-
-fn has_layout(program: &Program) -> bool
-    ensures { OnTrue result (HasLayout program.now) }
-{
-    let limit = 4_294_967_296;
-    program.sizes.ft.len() == program.ft.len()
-        && program.sizes.pt.len() == program.pt.len()
-        && program.bz.len() < limit
-        && program.ft.len() < limit
-        && program.pt.len() < limit
-        && program.outs.len() < limit
-        && program.signals.len() < limit
-        && (program.version == 2 || program.version == 1 && program.signals.is_empty())
-}
 
 /// One change of the program.
 #[derive(Clone, Copy)]
@@ -288,5 +273,78 @@ fn signals_move(rt: HostRuntime) -> Result<(), Fail> {
             .map(|signal| signal.column)
             .eq([7, 3])
     );
+    Ok(())
+}
+
+/// The fault of as many nested windows of one limit as are asked for.
+fn fault_of_nested(alloc: Global, windows: u32) -> Result<Option<VerifyFault>, Fail> {
+    let mut program = program(alloc)?;
+    let far = Interval {
+        lo: 1_048_576,
+        hi: 1_048_576,
+    };
+    program.ft = list(alloc, &[FtOp::True, FtOp::Load(0)])?;
+    program.sizes.ft = list(alloc, &[1, 1])?;
+    for i in 0..windows {
+        program.ft.push(FtOp::Until(0, i + 1, far))?;
+        program.sizes.ft.push(1)?;
+    }
+    if !has_layout(&program) {
+        return Err(Fail::from("no layout"));
+    }
+    match verify(alloc, program) {
+        Ok(_) => Ok(None),
+        Err(fault) => Ok(Some(fault)),
+    }
+}
+
+#[test]
+fn delays_and_slots_have_limits(rt: HostRuntime) -> Result<(), Fail> {
+    let alloc = rt.alloc();
+    assert_eq!(rt; fault_of_nested(alloc, 17)?, Some(VerifyFault::TooLate(18)));
+    assert_eq!(rt;
+        fault_of_nested(alloc, 16)?,
+        Some(VerifyFault::TooManySlots)
+    );
+    Ok(())
+}
+
+/// The signals of the program of version 1 after a change and an upgrade, each as its name and a `?` for a truth.
+fn upgraded(alloc: Global, change: Change) -> Result<Result<Vec<u8>, UpgradeFault>, Fail> {
+    let mut program = program(alloc)?;
+    program.version = 1;
+    program.signals = List::new(alloc);
+    make(&mut program, change);
+    if !has_layout(&program) {
+        return Err(Fail::from("no layout"));
+    }
+    let Ok(checked) = verify(alloc, program) else {
+        return Err(Fail::from("a fault"));
+    };
+    let upgraded = match upgrade(alloc, checked) {
+        Ok(upgraded) => upgraded,
+        Err(fault) => return Ok(Err(fault)),
+    };
+    let mut text = Vec::new(alloc);
+    for signal in upgraded.program().signals.as_slice() {
+        text.extend_from_slice(signal.name.bytes())?;
+        if signal.truth {
+            text.push(b'?')?;
+        }
+    }
+    Ok(Ok(text))
+}
+
+#[test]
+fn columns_get_signals(rt: HostRuntime) -> Result<(), Fail> {
+    let alloc = rt.alloc();
+    match upgraded(alloc, Change::Nothing)? {
+        Ok(text) => assert!(rt; text.as_slice() == b"c0?c1".as_slice()),
+        Err(_) => return Err(Fail::from("no program")),
+    }
+    match upgraded(alloc, Change::Bz(4, BzOp::Column(0)))? {
+        Ok(_) => return Err(Fail::from("a program")),
+        Err(fault) => assert_eq!(rt; fault, UpgradeFault::Both(4)),
+    }
     Ok(())
 }

@@ -1,59 +1,30 @@
-use Rattle.std.proofs.Common.{◌≡◌, ℕ, ◌+◌, ◌<◌, ◌^◌, List, [], ◌∷◌, ◌++◌, length, arith, ap, subst, sym, ◌∙◌}
+use Rattle.std.proofs.Common.{◌≡◌, ℕ, ◌+◌, ◌<◌, ◌^◌, List, [], ◌∷◌, ◌++◌, length, arith, ap, ◌∙◌}
 use Rattle.std.specs.Prelude.{ℤ}
 use Rattle.std.proofs.lemmas.List.{length_push}
-use Rattle.mltl_base.specs.declared.operators.BzOp.{BzOp}
-use Rattle.mltl_base.specs.declared.operators.BzOp.TheVariants.{IsTrue}
 use Rattle.mltl_base.specs.declared.program.Program.{Program}
 use Rattle.mltl_base.specs.Atoms.{Row}
-use Rattle.booleanizer.specs.Evaluation.{AllCompute, numbers_on}
+use Rattle.booleanizer.specs.Evaluation.{numbers_on}
 use Rattle.ft_engine.specs.declared.engine.Ft.{Ft}
 use Rattle.ft_engine.specs.Standing.{Stands}
 use Rattle.ft_engine.proofs.tests.play.Goals as goal
 
--- one column is enough
-can_compute : (x : ℤ) (ops : List BzOp) → ops ≡ IsTrue 0 ∷ [] → AllCompute (x ∷ []) [] ops
-unfolding AllCompute
-can_compute x ops e = subst (λ (os : List BzOp). AllCompute (x ∷ []) [] os) (sym e) (omega arith, tt)
-
--- the row that was computed
-computed_row : (row : Row) (bz : List ℤ) (ops ops' : List BzOp) → bz ≡ numbers_on row ops → ops ≡ ops' → (x : Row) × (bz ≡ numbers_on x ops')
-computed_row row bz ops ops' e same = (row, e ∙ ap (λ (os : List BzOp). numbers_on row os) same)
+-- the engine has taken so many rows
+abbrev Taken : Program → Ft → ℕ → Type 0
+Taken program ft n = (taken : List Row) × Stands program taken ft × (length taken ≡ n)
 
 -- the state one row on
-one_on : (program : Program) (old new : Ft) (bz : List ℤ) (n : ℕ)
-    → ((rows : List Row) (row : Row) → length rows < 2 ^ 40 → bz ≡ numbers_on row program.bz → Stands program rows old → Stands program (rows ++ row ∷ []) new)
-    → (x : Row) × (bz ≡ numbers_on x program.bz) → (rows : List Row) × Stands program rows old × (length rows ≡ n) → n < 2 ^ 40
-    → (rows : List Row) × Stands program rows new × (length rows ≡ n + 1)
-one_on program old new bz n step given s few = (s.0 ++ given.0 ∷ [], step s.0 given.0 (omega (arith, s.2)) given.1 s.1, length_push s.0 given.0 ∙ ap (λ (k : ℕ). k + 1) s.2)
+one_on : (program : Program) (old new : Ft) (bz : List ℤ) (row : Row) (n : ℕ)
+    → ((taken : List Row) (row : Row) → length taken < 2 ^ 40 → bz ≡ numbers_on row program.bz → Stands program taken old → Stands program (taken ++ row ∷ []) new)
+    → bz ≡ numbers_on row program.bz → Taken program old n → n < 2 ^ 40 → Taken program new (n + 1)
+one_on program old new bz row n step given s few = (s.0 ++ row ∷ [], step s.0 row (omega (arith, s.2)) given s.1, length_push s.0 row ∙ ap (λ (k : ℕ). k + 1) s.2)
 
-pub compute-requires-clause-can : goal.compute-requires-clause-can
-compute-requires-clause-can g c = can_compute _ _ (c.as_slice.ensures ∙ c.requires.truth)
+pub tell-requires : goal.tell-requires
+tell-requires g c =
+    let s = one_on c.args.checked.now c.loop-row.ft c.row-in-loop-row.new.self c.row.new.self _ c.loop-row.row-index c.row-in-loop-row.ensures.stands c.row.ensures.numbers c.loop-row.invariant.stands (omega arith) in
+    omega (arith, s.1.count, c.len-count.ensures, ap (λ (p : Program). length p.ft) c.program.ensures.program)
 
-pub row-requires-clause-given : goal.row-requires-clause-given
-row-requires-clause-given g c = computed_row _ _ _ _ c.compute.ensures.computed c.as_slice.ensures
-
-pub front-requires : goal.front-requires
-front-requires g c =
-    let s = one_on c.args.program.now c.rows.ft c.row.new.self c.compute.new.self c.rows.truth-index c.row.ensures.stands (computed_row _ _ _ _ c.compute.ensures.computed c.as_slice.ensures) c.rows.invariant.stands (omega arith) in
-    record { exists = omega (arith, s.1.count, c.requires.three) }
-
-pub low-requires : goal.low-requires
-low-requires g c =
-    let s = one_on c.args.program.now c.rows.ft c.row.new.self c.compute.new.self c.rows.truth-index c.row.ensures.stands (computed_row _ _ _ _ c.compute.ensures.computed c.as_slice.ensures) c.rows.invariant.stands (omega arith) in
-    record { exists = omega (arith, s.1.count, c.requires.three) }
-
-pub verdict-requires-clause-exists : goal.verdict-requires-clause-exists
-verdict-requires-clause-exists g c =
-    let s = one_on c.args.program.now c.rows.ft c.row.new.self c.compute.new.self c.rows.truth-index c.row.ensures.stands (computed_row _ _ _ _ c.compute.ensures.computed c.as_slice.ensures) c.rows.invariant.stands (omega arith) in
-    omega (arith, s.1.count, c.requires.three)
-
-pub run_from-requires-clause-exists : goal.run_from-requires-clause-exists
-run_from-requires-clause-exists g c =
-    let s = one_on c.args.program.now c.rows.ft c.row.new.self c.compute.new.self c.rows.truth-index c.row.ensures.stands (computed_row _ _ _ _ c.compute.ensures.computed c.as_slice.ensures) c.rows.invariant.stands (omega arith) in
-    omega (arith, s.1.count, c.requires.three)
-
-pub rows-preserved : goal.rows-preserved
-rows-preserved g c = record {
-  stands = one_on c.args.program.now c.rows.ft c.row.new.self c.compute.new.self c.rows.truth-index c.row.ensures.stands (computed_row _ _ _ _ c.compute.ensures.computed c.as_slice.ensures) c.rows.invariant.stands (omega arith);
-  one = c.compute.ensures.len ∙ ap (λ (ops : List BzOp). length ops) (c.as_slice.ensures ∙ c.requires.truth);
+pub loop-row-preserved : goal.loop-row-preserved
+loop-row-preserved g c = record {
+  stands = one_on c.args.checked.now c.loop-row.ft c.row-in-loop-row.new.self c.row.new.self _ c.loop-row.row-index c.row-in-loop-row.ensures.stands c.row.ensures.numbers c.loop-row.invariant.stands (omega arith);
+  one_each = c.row.ensures.len;
 }

@@ -3,8 +3,8 @@ use Rattle.mltl_base.specs.Atoms.{Row}
 use Rattle.ft_engine.specs.Standing.{Stands}
 use Rattle.ft_engine.proofs.tests.play.Given as goal
 
-abbrev pub invariant-rows : goal.invariant-rows
-invariant-rows g l = record {
-  stands : (rows : List Row) × Stands l.program rows l.ft × (length rows ≡ l.truth-index);
-  one : length l.bz ≡ 1;
+abbrev pub invariant-loop-row : goal.invariant-loop-row
+invariant-loop-row g l = record {
+  stands : (taken : List Row) × Stands l.checked taken l.ft × (length taken ≡ l.row-index);
+  one_each : length l.bz ≡ length l.checked.bz;
 }

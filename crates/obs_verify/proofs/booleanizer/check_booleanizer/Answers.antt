@@ -1,14 +1,11 @@
-use Rattle.std.proofs.Common.{◌≡◌, ◌∙◌, ap, sym, subst, None, ◌+◌, List, All, length, slice_index_or}
-use Rattle.std.proofs.lemmas.List.Elements.{All-push}
+use Rattle.std.proofs.Common.{◌≡◌, ◌∙◌, ap, sym, None, ◌+◌, List, length, slice_index_or}
 use Rattle.std.proofs.lemmas.Result.{err_from_is_err_and}
 use Rattle.mltl_base.specs.declared.operators.BzOp.{BzOp}
 use Rattle.mltl_base.specs.declared.operators.BzOp.TheVariants.{Column}
-use Rattle.obs_verify.specs.declared.range.Range.{Range}
 use Rattle.mltl_base.specs.Programs.{expressions, term_at}
-use Rattle.obs_verify.specs.Ranges.{range}
-use Rattle.obs_verify.specs.Ends.{HasSmallEnds}
+use Rattle.mltl_base.specs.Ranges.{range}
 use Rattle.obs_verify.specs.WellFormed.{first_in, bz_fault}
-use Rattle.obs_verify.proofs.ExpressionLaws.{AreRanges, bz_rule, ranges_push}
+use Rattle.obs_verify.proofs.ExpressionLaws.{bz_rule, ranges_push}
 use Rattle.obs_verify.proofs.RuleLaws.{first_all, first_here, first_more}
 use Rattle.obs_verify.proofs.booleanizer.check_booleanizer.Goals as goal
 
@@ -25,15 +22,12 @@ pub loop-op-preserved : goal.loop-op-preserved
 loop-op-preserved c =
     let items : List BzOp = c.as_slice-op-items.result.now in
     let here : length c.deref.result.now ≡ c.loop-op.op-index = c.deref.ensures.len ∙ c.loop-op.invariant.long in
-    let known : AreRanges c.args.program.now c.push.new.self.items = ranges_push c.args.program.now c.loop-op.before.items c.push.new.self.items c.in_ok-range.range c.in_ok-push.ensures.items
-    (record { each = c.loop-op.invariant.known }) (c.in_ok-range.ensures.range ∙ ap (λ ranges. range (term_at (expressions c.args.program.now.bz) (length ranges))) c.deref.ensures.value) in
     record {
       passed = sym (first_more (bz_fault c.args.program.now) items c.loop-op.op-index (Column 0) c.loop-op-test.true
           (bz_rule c.args.program.now (length c.deref.result.now) c.loop-op.op-index (slice_index_or items c.loop-op.op-index (Column 0)) None here c.in_ok-range.ensures.answer)) ∙ c.loop-op.invariant.passed;
       long = c.in_ok-push.ensures.len ∙ ap (λ n. n + 1) c.loop-op.invariant.long;
-      known = known.each;
-      small = let P : List Range → Type 0 = All HasSmallEnds in
-          subst P (sym c.in_ok-push.ensures.items) (All-push HasSmallEnds c.loop-op.before.items c.in_ok-range.range c.loop-op.invariant.small c.in_ok-range.ensures.small);
+      known = ranges_push c.args.program.now.bz c.loop-op.before.items c.push.new.self.items c.in_ok-range.range c.in_ok-push.ensures.items c.loop-op.invariant.known
+          (ap (λ ranges. range (term_at (expressions c.args.program.now.bz) (length ranges))) (sym c.deref.ensures.value) ∙ c.in_ok-range.ensures.range);
     }
 
 pub returns : goal.returns

@@ -1,27 +1,20 @@
-use Rattle.std.proofs.Common.{◌≡◌, ◌∙◌, ap, sym, true, length}
-use Rattle.mltl_base.specs.Programs.{expressions, term_at}
-use Rattle.obs_verify.specs.Ranges.{fits, range}
-use Rattle.obs_verify.specs.InstructionRanges.{ReadsBefore}
-use Rattle.obs_verify.specs.WellFormed.{has_divisor, has_operands}
-use Rattle.obs_verify.proofs.ExpressionLaws.{bz_none, bz_range, divides_same, range_same, reads_before}
+use Rattle.std.proofs.Common.{sym, Ok, Err}
+use Rattle.mltl_base.specs.Ranges.{divisor, wide}
+use Rattle.obs_verify.proofs.ExpressionLaws.{op_ranged}
 use Rattle.obs_verify.proofs.booleanizer.check_op.Goals as goal
 
-pub returns-then-not-fits-clause-answer : goal.returns-then-not-fits-clause-answer
-returns-then-not-fits-clause-answer c = λ other.
-    let may : has_operands c.args.program.now (length c.args.before.now) c.args.op.now ≡ true = sym c.if-not-has_operands.ensures in
-    let reads : ReadsBefore (length c.args.before.now) c.args.op.now = reads_before c.args.program.now (length c.args.before.now) c.args.op.now may in
-    let divides : has_divisor c.args.program.now c.args.op.now ≡ true = sym (divides_same c.args.program.now c.args.before.now c.args.op.now (record { each = c.requires.known }) reads) ∙ sym c.if-not-divides_by_number.ensures in
-    let same : c.range_of-range.result ≡ range (term_at (expressions c.args.program.now.bz) (length c.args.before.now)) = c.range_of-range.ensures ∙ range_same c.args.program.now c.args.before.now c.args.op.now (record { each = c.requires.known }) reads c.requires.here in
-    bz_range c.args.program.now (length c.args.before.now) c.args.op.now may divides (ap fits (sym same) ∙ sym c.if-not-fits.ensures.tested)
+pub returns-in-Ok-clause-answer : goal.returns-in-Ok-clause-answer
+returns-in-Ok-clause-answer c =
+    (op_ranged c.args.program.now c.args.before.now c.args.op.now (Ok c.in-Ok.range) (sym c.if-not-has_operands.ensures) c.requires.known c.requires.here c.in-Ok.ensures).fault_is
 
-pub returns-clause-answer : goal.returns-clause-answer
-returns-clause-answer c =
-    let may : has_operands c.args.program.now (length c.args.before.now) c.args.op.now ≡ true = sym c.if-not-has_operands.ensures in
-    let reads : ReadsBefore (length c.args.before.now) c.args.op.now = reads_before c.args.program.now (length c.args.before.now) c.args.op.now may in
-    let divides : has_divisor c.args.program.now c.args.op.now ≡ true = sym (divides_same c.args.program.now c.args.before.now c.args.op.now (record { each = c.requires.known }) reads) ∙ sym c.if-not-divides_by_number.ensures in
-    let same : c.range_of-range.result ≡ range (term_at (expressions c.args.program.now.bz) (length c.args.before.now)) = c.range_of-range.ensures ∙ range_same c.args.program.now c.args.before.now c.args.op.now (record { each = c.requires.known }) reads c.requires.here in
-    bz_none c.args.program.now (length c.args.before.now) c.args.op.now may divides (ap fits (sym same) ∙ sym c.if-not-fits.ensures.tested)
+pub returns-in-Ok-clause-range : goal.returns-in-Ok-clause-range
+returns-in-Ok-clause-range c =
+    (op_ranged c.args.program.now c.args.before.now c.args.op.now (Ok c.in-Ok.range) (sym c.if-not-has_operands.ensures) c.requires.known c.requires.here c.in-Ok.ensures).range_is
 
-pub returns-clause-range : goal.returns-clause-range
-returns-clause-range c = c.range_of-range.ensures ∙ range_same c.args.program.now c.args.before.now c.args.op.now (record { each = c.requires.known })
-    (reads_before c.args.program.now (length c.args.before.now) c.args.op.now (sym c.if-not-has_operands.ensures)) c.requires.here
+pub returns-in-Err-Divisor-clause-answer : goal.returns-in-Err-Divisor-clause-answer
+returns-in-Err-Divisor-clause-answer c = λ other.
+    (op_ranged c.args.program.now c.args.before.now c.args.op.now (Err divisor) (sym c.if-not-has_operands.ensures) c.requires.known c.requires.here (rw c.in-Err-Divisor.field-0-is at c.in-Err-Divisor.ensures)).fault_is
+
+pub returns-in-Err-Wide-clause-answer : goal.returns-in-Err-Wide-clause-answer
+returns-in-Err-Wide-clause-answer c = λ other.
+    (op_ranged c.args.program.now c.args.before.now c.args.op.now (Err wide) (sym c.if-not-has_operands.ensures) c.requires.known c.requires.here (rw c.in-Err-Wide.field-0-is at c.in-Err-Wide.ensures)).fault_is

@@ -1,4 +1,4 @@
-use Rattle.std.proofs.Common.{◌≡◌, ◌∙◌, ap, sym, subst, None, ◌+◌, ◌++◌, ◌∷◌, [], List, take, length}
+use Rattle.std.proofs.Common.{◌≡◌, ◌∙◌, ap, sym, refl, subst, None, ◌+◌, ◌++◌, ◌∷◌, [], List, take, length}
 use Rattle.std.proofs.lemmas.List.{take_more}
 use Rattle.std.proofs.lemmas.Result.{err_from_is_err_and}
 use Rattle.mltl_base.specs.declared.program.StoredSignal.{StoredSignal}
@@ -29,7 +29,7 @@ loop-k-preserved c =
           ∙ signal_rule c.args.program.now items (length c.loop-k.kinds) c.loop-k.k c.signal-item.result None c.as_slice-signal-items.ensures (c.loop-k.auto.kinds ∙ c.requires.same)
           (c.in_ok-check_signal.ensures.answer (take c.loop-k.k items) c.loop-k.invariant.kinds c.loop-k.invariant.names)))
           ∙ c.loop-k.invariant.passed;
-      kinds = subst (λ (earlier : List StoredSignal). AreKinds earlier c.note_kind.new.kinds) (sym more) (c.note_kind.ensures (take c.loop-k.k items) c.loop-k.invariant.kinds);
+      kinds = subst (λ (earlier : List StoredSignal). AreKinds earlier c.note_kind.new.kinds) (sym more) (c.note_kind.ensures (take c.loop-k.k items) c.signal-item.result c.loop-k.invariant.kinds refl refl);
       names = subst (λ (earlier : List StoredSignal). AreNames earlier c.check_signal.new.names) (sym more) (c.in_ok-check_signal.ensures.names (take c.loop-k.k items) c.loop-k.invariant.names);
     }
 

@@ -1,0 +1,41 @@
+-- Instructions of the Booleanizer that can be computed in 64 bits on every row that fits them.
+
+use Rattle.std.specs.Prelude.{◌<◌, ℕ, Option, Some, None, List, [], ◌∷◌, ◌++◌, IsOk, slice_get}
+use Rattle.mltl_base.specs.declared.operators.BzOp.{BzOp}
+use Rattle.mltl_base.specs.declared.operators.BzOp.TheVariants.{Column, IsTrue, Const, Neg, Add, Sub, Mul, Div, Rem, Eq, Lt, Le}
+use Rattle.mltl_base.specs.Atoms.{negative, plus, minus, times, quotient, remainder}
+use Rattle.mltl_base.specs.Programs.{Expression, whole, truth, expression_of, term_at}
+use Rattle.mltl_base.specs.Ranges.{range}
+
+-- an earlier instruction that gives a whole number
+abbrev pub IsWholeExpression : Option Expression → Type 0
+IsWholeExpression (Some (whole e)) = Unit {0}
+IsWholeExpression (Some (truth a)) = ⊥
+IsWholeExpression None = ⊥
+
+abbrev pub IsWhole : List Expression → ℕ → Type 0
+IsWhole before a = IsWholeExpression (slice_get before a)
+
+abbrev pub AreWhole : List Expression → ℕ → ℕ → Type 0
+AreWhole before a b = IsWhole before a × IsWhole before b
+
+-- An instruction whose column is below the width, whose operands are earlier whole numbers, and whose whole number has
+-- a range: so its divisor is one number other than 0, and its value has 64 bits.
+abbrev pub IsSound : ℕ → List Expression → BzOp → Type 0
+IsSound width before (Column c) = c < width
+IsSound width before (IsTrue c) = c < width
+IsSound width before (Const n) = Unit {0}
+IsSound width before (Neg a) = IsWhole before a × IsOk (range (negative (term_at before a)))
+IsSound width before (Add a b) = AreWhole before a b × IsOk (range (plus (term_at before a) (term_at before b)))
+IsSound width before (Sub a b) = AreWhole before a b × IsOk (range (minus (term_at before a) (term_at before b)))
+IsSound width before (Mul a b) = AreWhole before a b × IsOk (range (times (term_at before a) (term_at before b)))
+IsSound width before (Div a b) = AreWhole before a b × IsOk (range (quotient (term_at before a) (term_at before b)))
+IsSound width before (Rem a b) = AreWhole before a b × IsOk (range (remainder (term_at before a) (term_at before b)))
+IsSound width before (Eq a b) = AreWhole before a b
+IsSound width before (Lt a b) = AreWhole before a b
+IsSound width before (Le a b) = AreWhole before a b
+
+-- each instruction, over the expressions of those before it
+unfoldable pub AreSound : ℕ → List Expression → List BzOp → Type 0
+AreSound width before [] = Unit {0}
+AreSound width before (op ∷ ops) = IsSound width before op × AreSound width (before ++ expression_of before op ∷ []) ops

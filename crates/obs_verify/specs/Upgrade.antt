@@ -1,0 +1,67 @@
+-- A program of version 1 with a stored signal for each column that its instructions read.
+
+use Rattle.std.specs.Prelude.{ℕ, ◌≡◌, ◌==◌, Bool, true, false, ◌++◌, if◌then◌else◌, Option, Some, None, List, [], ◌∷◌, length, codes, decimal}
+use Rattle.std.specs.List.{filter_map, range_with_len}
+use Rattle.mltl_base.specs.declared.operators.BzOp as bz
+use Rattle.mltl_base.specs.declared.program.Program.{Program}
+use Rattle.mltl_base.specs.declared.program.StoredSignal.{StoredSignal}
+use Rattle.obs_verify.specs.declared.fault.UpgradeFault.{UpgradeFault}
+use Rattle.obs_verify.specs.declared.fault.UpgradeFault.TheVariants.{Both, Memory}
+use Rattle.obs_verify.specs.WellFormed.{has_kind}
+
+-- the name of a column: the letter c and the column's digits
+abbrev pub column_name : ℕ → List ℕ
+column_name c = codes "c" ++ decimal c
+
+-- the signal that stands for a column
+abbrev pub signal_in : ℕ → Bool → StoredSignal
+signal_in c truth = record { name = column_name c; truth = truth; column = c }
+
+-- the signal that an instruction reads, if it reads one
+abbrev pub read_of : bz.BzOp → Option StoredSignal
+read_of (bz.TheVariants.Column c) = Some (signal_in c false)
+read_of (bz.TheVariants.IsTrue c) = Some (signal_in c true)
+read_of op = None
+
+-- the signals that instructions read, in their order
+abbrev pub reads : List bz.BzOp → List StoredSignal
+reads ops = filter_map read_of ops
+
+-- the signal of a column, if one is read there
+abbrev pub signal_of : List StoredSignal → ℕ → Option StoredSignal
+signal_of signals c =
+    if has_kind signals c true then Some (signal_in c true)
+    else if has_kind signals c false then Some (signal_in c false)
+    else None
+
+-- the signals of the first columns, by rising column
+abbrev pub signals_below : ℕ → List StoredSignal → List StoredSignal
+signals_below width signals = filter_map (signal_of signals) (range_with_len 0 width)
+
+-- the program of version 2
+abbrev pub raised : Program → Program
+raised program = record program { version = 2; signals = signals_below program.width (reads program.bz) }
+
+-- a program of version 2 is itself
+abbrev pub up : Program → Program
+up program = if program.version == 2 then program else raised program
+
+-- the instruction reads a column that an earlier one reads in the other way
+abbrev pub clashes : List bz.BzOp → bz.BzOp → Bool
+clashes earlier (bz.TheVariants.Column c) = has_kind (reads earlier) c true
+clashes earlier (bz.TheVariants.IsTrue c) = has_kind (reads earlier) c false
+clashes earlier op = false
+
+-- the number of the first such instruction, after those before
+unfoldable pub first_clash : List bz.BzOp → List bz.BzOp → Option ℕ
+first_clash earlier [] = None
+first_clash earlier (op ∷ ops) = if clashes earlier op then Some (length earlier) else first_clash (earlier ++ op ∷ []) ops
+
+-- where one column of a program of version 1 is read in both ways, there is no program of version 2: the instruction that shows it
+abbrev pub clash_of : Program → Option ℕ
+clash_of program = if program.version == 2 then None else first_clash [] program.bz
+
+-- the fault names that instruction, unless memory is wanting
+abbrev pub NamesClash : UpgradeFault → Option ℕ → Type 0
+NamesClash (Both i) clash = clash ≡ Some i
+NamesClash Memory clash = Unit {0}
