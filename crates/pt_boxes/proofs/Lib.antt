@@ -1,0 +1,11 @@
+pub mod Apart
+pub mod Covering
+pub mod Making
+pub mod Meanings
+pub mod Rings
+pub mod Sinces
+pub mod Standings
+pub mod Stretches
+pub mod Taking
+pub mod Turning
+pub mod Unfolded

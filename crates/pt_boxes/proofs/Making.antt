@@ -1,0 +1,119 @@
+-- Nodes that are new.
+use Rattle.std.proofs.Common.{◌≡◌, ℕ, ◌+◌, ◌<◌, ◌≤◌, List, [], ◌∷◌, ◌++◌, inl, inr, subst, length, get_or, drop, arith, refl, ap, sym, ◌∙◌, length-drop, length-take-le}
+use Rattle.std.proofs.lemmas.Bool.{cases_eq}
+use Rattle.std.proofs.lemmas.List.{get_or-map, get_or_append_left, get_or_push}
+use Rattle.mltl_base.specs.declared.operators.PtOp.{PtOp}
+use Rattle.mltl_base.specs.declared.operators.PtOp.TheVariants.{True, Load, Not, And, Since}
+use Rattle.mltl_base.specs.declared.program.Program.{Program}
+use Rattle.mltl_base.specs.Kleene.{some_below}
+use Rattle.mltl_base.specs.Queues.{boxes_of}
+use Rattle.pt_boxes.specs.declared.boxes.Boxes.{Boxes}
+use Rattle.pt_boxes.specs.declared.boxes.Span.{Span}
+use Rattle.pt_boxes.specs.declared.engine.Pt.{Pt}
+use Rattle.pt_boxes.specs.declared.rows.Node.{Node}
+use Rattle.pt_boxes.specs.Boxes.{Belongs, no_boxes}
+use Rattle.pt_boxes.specs.Nodes.{HasBoxes, boxes_in, no_node, node_at, op_at, part}
+use Rattle.obs_verify.specs.Running.{RunsPast}
+use Rattle.pt_boxes.specs.Spans.{AreApart}
+use Rattle.pt_boxes.specs.Standing.{Stands, meaning_of}
+use Rattle.pt_boxes.specs.Tables.{IsTold, Table}
+use Rattle.pt_boxes.proofs.Apart.{none_apart}
+use Rattle.pt_boxes.proofs.Rings.{none_kept}
+use Rattle.pt_boxes.proofs.Standings.{stands_with}
+
+-- a node without boxes
+pub record IsFresh (spans : ℕ) (node : Node) : Type 0 where
+  pub boxes : node.boxes ≡ no_boxes
+  pub size : node.size ≡ spans
+
+-- the first i nodes, whose parts end at `start`
+pub record Started (sizes : List ℕ) (nodes : List Node) (start i : ℕ) : Type 0 where
+  pub fresh : (j : ℕ) → j < i → IsFresh (get_or sizes j 0) (node_at nodes j)
+  pub within : (j : ℕ) → j < i → (node_at nodes j).start + (node_at nodes j).size ≤ start
+  pub apart : (j k : ℕ) → j < k → k < i → (node_at nodes j).start + (node_at nodes j).size ≤ (node_at nodes k).start
+
+pub started_none : (sizes : List ℕ) (nodes : List Node) → Started sizes nodes 0 0
+started_none sizes nodes = record { fresh = λ j h. absurd (omega arith); within = λ j h. absurd (omega arith); apart = λ j k jk h. absurd (omega arith) }
+
+module _ (sizes : List ℕ) (nodes : List Node) (start i : ℕ) (new : Node) (count : length nodes ≡ i) where
+  earlier : (j : ℕ) → j < i → node_at (nodes ++ new ∷ []) j ≡ node_at nodes j
+  earlier j h = get_or_append_left nodes (new ∷ []) no_node j (omega arith)
+
+  latest : node_at (nodes ++ new ∷ []) i ≡ new
+  latest = get_or_push nodes new no_node i count
+
+  -- one more node, whose part begins where those before end
+  pub started_more : Started sizes nodes start i → IsFresh (get_or sizes i 0) new → new.start ≡ start → Started sizes (nodes ++ new ∷ []) (start + get_or sizes i 0) (i + 1)
+  started_more s fresh begins = record {
+    fresh = λ j h. elim (cases_eq j i) [
+      | inl same ↦ subst (λ (k : ℕ). IsFresh (get_or sizes k 0) (node_at (nodes ++ new ∷ []) k)) (sym same) (subst (λ (m : Node). IsFresh (get_or sizes i 0) m) (sym latest) fresh)
+      | inr other ↦ subst (λ (m : Node). IsFresh (get_or sizes j 0) m) (sym (earlier j (omega arith))) (s.fresh j (omega arith))
+    ];
+    within = λ j h. elim (cases_eq j i) [
+      | inl same ↦
+          let P : Node → Type 0 = λ m. m.start + m.size ≤ start + get_or sizes i 0 in
+          subst (λ (k : ℕ). P (node_at (nodes ++ new ∷ []) k)) (sym same) (subst P (sym latest) (omega (arith, begins, fresh.size)))
+      | inr other ↦
+          let P : Node → Type 0 = λ m. m.start + m.size ≤ start + get_or sizes i 0 in
+          subst P (sym (earlier j (omega arith))) (omega (arith, s.within j (omega arith)))
+    ];
+    apart = λ j k jk h. elim (cases_eq k i) [
+      | inl same ↦
+          let P : Node → Node → Type 0 = λ m q. m.start + m.size ≤ q.start in
+          subst (λ (k' : ℕ). P (node_at (nodes ++ new ∷ []) j) (node_at (nodes ++ new ∷ []) k')) (sym same)
+          (subst (λ (q : Node). P (node_at (nodes ++ new ∷ []) j) q) (sym latest) (subst (λ (m : Node). P m new) (sym (earlier j (omega arith))) (omega (arith, begins, s.within j (omega arith)))))
+      | inr other ↦
+          let P : Node → Node → Type 0 = λ m q. m.start + m.size ≤ q.start in
+          subst (λ (m : Node). P m (node_at (nodes ++ new ∷ []) k)) (sym (earlier j (omega arith))) (subst (λ (q : Node). P (node_at nodes j) q) (sym (earlier k (omega arith))) (s.apart j k jk (omega arith)))
+    ];
+  }
+
+-- no boxes are apart, belong to any spans, and tell what no rows tell
+first_apart : (op : PtOp) (boxes : List Span) → boxes ≡ [] → HasBoxes op 0 boxes
+first_apart True boxes e = tt
+first_apart (Load k) boxes e = tt
+first_apart (Not g) boxes e = tt
+first_apart (And l r) boxes e = tt
+first_apart (Since l r window) boxes e = subst (λ (xs : List Span). AreApart window 0 0 xs) (sym e) (none_apart window 0)
+
+first_told : (op : PtOp) (table : Table) (boxes : List Span) → boxes ≡ [] → IsTold op table 0 boxes
+unfolding some_below
+first_told True table boxes e = tt
+first_told (Load k) table boxes e = tt
+first_told (Not g) table boxes e = tt
+first_told (And l r) table boxes e = tt
+first_told (Since l r window) table boxes e = subst (λ (xs : List Span). IsTold (Since l r window) table 0 xs) (sym e) (record { each = λ u h. refl })
+
+first_belongs : (boxes : Boxes) (spans : List Span) → boxes ≡ no_boxes → Belongs boxes spans
+first_belongs boxes spans e = subst (λ (b : Boxes). Belongs b spans) (sym e) (record { oldest_in = λ h. h; used_in = omega arith })
+
+-- new nodes stand for no rows
+pub made_stands : (program : Program) (pt : Pt) → RunsPast program → length pt.nodes.items ≡ length program.pt → Started program.sizes.pt pt.nodes.items (length pt.slab.items) (length program.pt) → pt.rows ≡ 0
+    → Stands program [] pt
+made_stands program pt runs same_length started none =
+    let nodes : List Node = pt.nodes.items in
+    let slab : List Span = pt.slab.items in
+    let nothing : (i : ℕ) → i < length program.pt → boxes_in slab (node_at nodes i) ≡ [] =
+    λ i h. none_kept (node_at nodes i).boxes (part slab (node_at nodes i)) (ap (λ (b : Boxes). b.used) (started.fresh i h).boxes) in
+    stands_with program [] pt
+    (record {
+      same_length = same_length;
+      laid = record { within = λ j h. started.within j (omega arith); apart = λ j k jk h. started.apart j k jk (omega arith) };
+      kept = λ i h.
+          let i_in : i < length program.pt = omega arith in
+          let node : Node = node_at nodes i in
+          let fresh = started.fresh i i_in in
+          let within = started.within i i_in in
+          let long : length (part slab node) ≡ node.size = length-take-le node.size (drop node.start slab) (omega (arith, length-drop node.start slab)) in
+          let size : get_or program.sizes.pt i 0 ≡ boxes_of (op_at program.pt i) = ap (λ (ns : List ℕ). get_or ns i 0) runs.sizes ∙ get_or-map boxes_of program.pt i True 0 i_in in
+          record {
+            room = long ∙ fresh.size ∙ size;
+            belongs = first_belongs node.boxes (part slab node) fresh.boxes;
+            apart = first_apart (op_at program.pt i) (boxes_in slab node) (nothing i i_in);
+          };
+    })
+    none
+    (record {
+      told = λ i h. first_told (op_at program.pt i) (meaning_of program []) (boxes_in slab (node_at nodes i)) (nothing i h);
+      truths = λ i h some. absurd (omega arith);
+    })

@@ -1,0 +1,75 @@
+-- What nodes that have taken rows, and have their table, say of the engine.
+use Rattle.std.proofs.Common.{◌≡◌, ℕ, zero, suc, ◌<◌, List, [], ◌∷◌, length, map, get_or, drop, arith, refl, subst, sym, ◌∙◌, Some, length-drop, length-take-le}
+use Rattle.std.specs.List.{slice_get}
+use Rattle.mltl_base.specs.declared.interval.Interval.{Interval}
+use Rattle.mltl_base.specs.declared.operators.PtOp.{PtOp}
+use Rattle.mltl_base.specs.declared.operators.PtOp.TheVariants.{True, Load, Not, And, Since}
+use Rattle.mltl_base.specs.declared.program.Program.{Program}
+use Rattle.mltl_base.specs.Atoms.{Row, is_true}
+use Rattle.mltl_base.specs.Programs.{Expression, whole, truth, atom_of}
+use Rattle.pt_boxes.specs.declared.boxes.Span.{Span}
+use Rattle.pt_boxes.specs.declared.engine.Pt.{Pt}
+use Rattle.pt_boxes.specs.Nodes.{AreKept, HasBoxes, boxes_in, node_at, op_at, part}
+use Rattle.obs_verify.specs.Running.{IsTruthExpression}
+use Rattle.pt_boxes.specs.Spans.{Tells}
+use Rattle.pt_boxes.specs.Standing.{Stands, boxes_at, instruction_count, meaning_of, now_at, room_at, row_count}
+use Rattle.pt_boxes.specs.Tables.{HasTable, IsTold, Table}
+use Rattle.pt_boxes.proofs.Rings.{length-kept}
+
+pub stands_with : (program : Program) (rows : List Row) (pt : Pt) → AreKept program.pt (length rows) pt.nodes.items pt.slab.items → pt.rows ≡ length rows
+    → HasTable program.pt (meaning_of program rows) (length rows) pt.nodes.items pt.slab.items → Stands program rows pt
+unfolding boxes_at instruction_count now_at room_at row_count
+stands_with program rows pt kept taken has =
+    let nodes = pt.nodes.items in
+    let slab = pt.slab.items in
+    let same = kept.same_length in
+    record {
+      seated = kept;
+      taken = taken;
+      count = same;
+      now = λ i h some. has.truths i h some;
+      rooms = λ i h.
+          let node = node_at nodes i in
+          let within = kept.laid.within i (omega arith) in
+          let long : length (part slab node) ≡ node.size = length-take-le node.size (drop node.start slab) (omega (arith, length-drop node.start slab)) in
+          sym long ∙ (kept.kept i (omega arith)).room;
+      few = λ i h.
+          let node = node_at nodes i in
+          let k = kept.kept i (omega arith) in
+          let used : length (boxes_in slab node) ≡ node.boxes.used = length-kept node.boxes (part slab node) k.belongs in
+          omega (arith, k.room, k.belongs.used_in);
+      apart = λ i l r window h is. subst (λ (op : PtOp). HasBoxes op (length rows) (boxes_in slab (node_at nodes i))) is (kept.kept i (omega arith)).apart;
+      told = λ i l r window h is. subst (λ (op : PtOp). IsTold op (meaning_of program rows) (length rows) (boxes_in slab (node_at nodes i))) is (has.told i h);
+    }
+
+-- what a Since's boxes tell, those of any instruction tell
+told_of : (op : PtOp) (table : Table) (n : ℕ) (boxes : List Span) → ((l r : ℕ) (window : Interval) → op ≡ Since l r window → Tells window (table l) (table r) n boxes) → IsTold op table n boxes
+told_of True table n boxes h = tt
+told_of (Load k) table n boxes h = tt
+told_of (Not g) table n boxes h = tt
+told_of (And l r) table n boxes h = tt
+told_of (Since l r window) table n boxes h = h l r window refl
+
+pub table_of : (program : Program) (rows : List Row) (pt : Pt) → Stands program rows pt → HasTable program.pt (meaning_of program rows) (length rows) pt.nodes.items pt.slab.items
+unfolding boxes_at now_at
+table_of program rows pt s = record {
+  told = λ i h. told_of (op_at program.pt i) (meaning_of program rows) (length rows) (boxes_in pt.slab.items (node_at pt.nodes.items i)) (λ l r window is. s.told i l r window h is);
+  truths = λ i h some. s.now i h some;
+}
+
+pub rows_of : (program : Program) (rows : List Row) (pt : Pt) → Stands program rows pt → pt.rows ≡ length rows
+unfolding row_count
+rows_of program rows pt s = s.taken
+
+-- a truth that is loaded stands in the list
+pub truth_within : (es : List Expression) (k : ℕ) → IsTruthExpression (slice_get es k) → k < length es
+truth_within [] k t = absurd t
+truth_within (e ∷ es) zero t = omega arith
+truth_within (e ∷ es) (suc k) t = omega (arith, truth_within es k t)
+
+-- and it is that of its atom
+pub truth_there : (es : List Expression) (k : ℕ) → IsTruthExpression (slice_get es k) → slice_get es k ≡ Some (truth (get_or (map (λ e. atom_of (Some e)) es) k (is_true 0)))
+truth_there [] k t = absurd t
+truth_there (truth a ∷ es) zero t = refl
+truth_there (whole e ∷ es) zero t = absurd t
+truth_there (e ∷ es) (suc k) t = truth_there es k t

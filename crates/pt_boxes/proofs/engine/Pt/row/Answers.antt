@@ -1,0 +1,62 @@
+use Rattle.std.proofs.Common.{◌≡◌, ℕ, ◌+◌, ◌<◌, ◌≤◌, ◌^◌, ℤ, List, length, sum_by, arith, ap, sym, subst, ◌∙◌}
+use Rattle.std.specs.List.{slice_get}
+use Rattle.std.specs.Vec.{with_items}
+use Rattle.std.proofs.lemmas.List.{length-map, with_items_is}
+use Rattle.mltl_base.specs.declared.operators.PtOp.{PtOp}
+use Rattle.mltl_base.specs.declared.program.Program.{Program}
+use Rattle.mltl_base.specs.Atoms.{Row}
+use Rattle.mltl_base.specs.Programs.{expressions}
+use Rattle.mltl_base.specs.Queues.{boxes_of}
+use Rattle.booleanizer.specs.Evaluation.{number_on}
+use Rattle.pt_boxes.specs.Nodes.{op_at}
+use Rattle.obs_verify.specs.Running.{IsTruthExpression}
+use Rattle.pt_boxes.specs.Running.{row_work}
+use Rattle.pt_boxes.proofs.Standings.{rows_of, truth_within}
+use Rattle.pt_boxes.proofs.Taking.{kept_as, row_stands, takes_as, work_by_boxes}
+use Rattle.pt_boxes.proofs.engine.Pt.row.Goals as goal
+
+pub row_of-requires-clause-loaded : goal.row_of-requires-clause-loaded
+row_of-requires-clause-loaded g c = λ i k i_in loads.
+    let program : Program = c.args.checked.now in
+    let ops : c.as_slice.result.now ≡ program.pt = c.as_slice.ensures ∙ ap (λ (p : Program). p.pt) c.program_of-program.ensures.program in
+    let there : IsTruthExpression (slice_get (expressions program.bz) k) =
+    c.program_of-program.ensures.runs.loads i k (omega (arith, ap (λ (xs : List PtOp). length xs) ops)) (ap (λ (xs : List PtOp). op_at xs i) (sym ops) ∙ loads) in
+    let row : Row = c.requires.given.0 in
+    omega (arith, truth_within (expressions program.bz) k there, ap (λ (ns : List ℤ). length ns) c.requires.given.1, length-map (expressions program.bz) (number_on row))
+
+pub row_of-requires-clause-early : goal.row_of-requires-clause-early
+row_of-requires-clause-early g c =
+    let few : length c.requires.stands.0 < 2 ^ 40 = c.requires.stands.2 in
+    omega (arith, rows_of c.args.checked.now c.requires.stands.0 c.args.self.now c.requires.stands.1)
+
+pub row_of-requires-clause-kept : goal.row_of-requires-clause-kept
+row_of-requires-clause-kept g c =
+    let ops = c.as_slice.ensures ∙ ap (λ (p : Program). p.pt) c.program_of-program.ensures.program in
+    kept_as _ _ _ _ _ _ _ _ ops (rows_of c.args.checked.now c.requires.stands.0 c.args.self.now c.requires.stands.1) c.deref_mut.ensures.value c.deref_mut-2.ensures.value c.requires.stands.1.seated
+
+pub overflow_add-self : goal.overflow_add-self
+overflow_add-self g c =
+    let few : length c.requires.stands.0 < 2 ^ 40 = c.requires.stands.2 in
+    omega (arith, rows_of c.args.checked.now c.requires.stands.0 c.args.self.now c.requires.stands.1)
+
+pub returns-clause-stands : goal.returns-clause-stands
+returns-clause-stands g c = λ rows row few given stands.
+    let program : Program = c.args.checked.now in
+    let old = c.args.self.now in
+    let ops : c.as_slice.result.now ≡ program.pt = c.as_slice.ensures ∙ ap (λ (p : Program). p.pt) c.program_of-program.ensures.program in
+    let taken : old.rows ≡ length rows = rows_of program rows old stands in
+    let nodes : (with_items old.nodes c.row_of.new.nodes).items ≡ c.row_of.new.nodes = with_items_is old.nodes c.row_of.new.nodes (c.row_of.auto.nodes ∙ c.deref_mut.ensures.len) in
+    let slab : (with_items old.slab c.row_of.new.slab).items ≡ c.row_of.new.slab = with_items_is old.slab c.row_of.new.slab (c.row_of.auto.slab ∙ c.deref_mut-2.ensures.len) in
+    row_stands program rows row old _ c.args.bz.now c.program_of-program.ensures.runs given (ap (λ (k : ℕ). k + 1) taken)
+    (takes_as _ _ c.args.bz.now _ _ _ _ _ _ _ _ _ _ (sym ops) (sym taken) (sym c.deref_mut.ensures.value) (sym c.deref_mut-2.ensures.value) nodes slab
+    (record { kept = c.row_of.ensures.kept; table = c.row_of.ensures.table }))
+    stands
+
+pub returns-clause-counted : goal.returns-clause-counted
+returns-clause-counted g c =
+    let program : Program = c.args.checked.now in
+    let ops : c.as_slice.result.now ≡ program.pt = c.as_slice.ensures ∙ ap (λ (p : Program). p.pt) c.program_of-program.ensures.program in
+    let work : row_work program ≡ sum_by (λ (op : PtOp). boxes_of op + 2) program.pt = ap (λ (ns : List ℕ). sum_by (λ (size : ℕ). size + 2) ns) c.program_of-program.ensures.runs.sizes ∙ work_by_boxes program.pt in
+    let P : List PtOp → Type 0 = λ xs. c.row_of.new.steps ≤ c.args.steps.now + sum_by (λ (op : PtOp). boxes_of op + 2) xs in
+    let counted : P program.pt = subst P ops c.row_of.ensures.counted in
+    omega (arith, work, counted)

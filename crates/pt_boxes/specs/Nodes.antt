@@ -1,0 +1,51 @@
+-- Past-time instructions, their truths and their parts of the slab of boxes.
+
+use Rattle.std.specs.Prelude.{◌≡◌, ℕ, ◌+◌, ◌<◌, ◌≤◌, false, List, length, take, drop, slice_index_or}
+use Rattle.mltl_base.specs.declared.operators.PtOp.{PtOp}
+use Rattle.mltl_base.specs.declared.operators.PtOp.TheVariants.{True, Since}
+use Rattle.mltl_base.specs.Queues.{boxes_of}
+use Rattle.pt_boxes.specs.declared.boxes.Boxes.{Boxes}
+use Rattle.pt_boxes.specs.declared.boxes.Span.{Span}
+use Rattle.pt_boxes.specs.declared.rows.Node.{Node}
+use Rattle.pt_boxes.specs.Boxes.{Belongs, kept, no_boxes}
+use Rattle.pt_boxes.specs.Spans.{AreApart}
+
+-- instruction i, True past the last one
+abbrev pub op_at : List PtOp → ℕ → PtOp
+op_at ops i = slice_index_or ops i True
+
+-- node i, one without boxes past the last one
+abbrev pub no_node : Node
+no_node = record { boxes = no_boxes; truth = false; start = 0; size = 0 }
+
+abbrev pub node_at : List Node → ℕ → Node
+node_at nodes i = slice_index_or nodes i no_node
+
+-- the part of the slab that belongs to a node, and the boxes in it
+abbrev pub part : List Span → Node → List Span
+part slab node = take node.size (drop node.start slab)
+
+abbrev pub boxes_in : List Span → Node → List Span
+boxes_in slab node = kept node.boxes (part slab node)
+
+-- the parts of the slab follow one another and end within it
+pub record AreLaid (nodes : List Node) (slab : List Span) : Type 0 where
+  pub within : (j : ℕ) → j < length nodes → (node_at nodes j).start + (node_at nodes j).size ≤ length slab
+  pub apart : (j k : ℕ) → j < k → k < length nodes → (node_at nodes j).start + (node_at nodes j).size ≤ (node_at nodes k).start
+
+-- the boxes of a Since lie apart after n rows; of another instruction nothing is asked
+abbrev pub HasBoxes : PtOp → ℕ → List Span → Type 0
+HasBoxes (Since l r i) n boxes = AreApart i n 0 boxes
+HasBoxes op n boxes = Unit {0}
+
+-- after n rows, the boxes of an instruction have their room, and lie apart
+pub record IsKept (op : PtOp) (n : ℕ) (boxes : Boxes) (own : List Span) : Type 0 where
+  pub room : length own ≡ boxes_of op
+  pub belongs : Belongs boxes own
+  pub apart : HasBoxes op n (kept boxes own)
+
+-- so have those of all instructions, each in its part of the slab
+pub record AreKept (ops : List PtOp) (n : ℕ) (nodes : List Node) (slab : List Span) : Type 0 where
+  pub same_length : length nodes ≡ length ops
+  pub laid : AreLaid nodes slab
+  pub kept : (i : ℕ) → i < length nodes → IsKept (op_at ops i) n (node_at nodes i).boxes (part slab (node_at nodes i))

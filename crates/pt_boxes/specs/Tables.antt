@@ -1,0 +1,56 @@
+-- The truths of past-time instructions by time, and the nodes that hold them.
+
+use Rattle.std.specs.Prelude.{◌≡◌, ℕ, ◌-◌, ◌<◌, Bool, true, not, ◌&&◌, List, length, ℤ, slice_get, Some}
+use Rattle.mltl_base.specs.declared.operators.BzOp.{BzOp}
+use Rattle.mltl_base.specs.declared.operators.PtOp.{PtOp}
+use Rattle.mltl_base.specs.declared.operators.PtOp.TheVariants.{True, Load, Not, And, Since}
+use Rattle.mltl_base.specs.Atoms.{Row, Atom, holds}
+use Rattle.mltl_base.specs.Meaning.{since_at}
+use Rattle.mltl_base.specs.Programs.{expressions, truth as truth_expression}
+use Rattle.booleanizer.specs.Evaluation.{numbers_on}
+use Rattle.pt_boxes.specs.declared.boxes.Span.{Span}
+use Rattle.pt_boxes.specs.declared.rows.Node.{Node}
+use Rattle.pt_boxes.specs.Nodes.{op_at, node_at, boxes_in}
+use Rattle.pt_boxes.specs.Spans.{Tells}
+
+-- truths by number and time
+abbrev pub Table : Type 0
+Table = ℕ → ℕ → Bool
+
+-- the truth of an instruction at a time, over those that are loaded and those of instructions
+abbrev pub truth_of : PtOp → Table → Table → ℕ → Bool
+truth_of True loaded table t = true
+truth_of (Load k) loaded table t = loaded k t
+truth_of (Not g) loaded table t = not (table g t)
+truth_of (And l r) loaded table t = table l t && table r t
+truth_of (Since l r i) loaded table t = since_at i (table l) (table r) t
+
+-- the table has the truths of these instructions at the first n times
+abbrev pub IsTable : List PtOp → Table → ℕ → Table → Type 0
+IsTable ops loaded n table = (i t : ℕ) → i < length ops → t < n → table i t ≡ truth_of (op_at ops i) loaded table t
+
+-- the boxes of a Since tell what the table says of it after n rows
+abbrev pub IsTold : PtOp → Table → ℕ → List Span → Type 0
+IsTold (Since l r i) table n boxes = Tells i (table l) (table r) n boxes
+IsTold op table n boxes = Unit {0}
+
+-- after n rows the nodes hold the truths of the last row, and boxes that tell the table
+pub record HasTable (ops : List PtOp) (table : Table) (n : ℕ) (nodes : List Node) (slab : List Span) : Type 0 where
+  pub told : (i : ℕ) → i < length ops → IsTold (op_at ops i) table n (boxes_in slab (node_at nodes i))
+  pub truths : (i : ℕ) → i < length ops → 0 < n → (node_at nodes i).truth ≡ table i (n - 1)
+
+-- the value is the truth of an atom on the row whose numbers these are, whichever instructions gave them
+abbrev pub IsTruthIn : List ℤ → ℕ → Bool → Type 0
+IsTruthIn numbers k v = (row : Row) (ops : List BzOp) (atom : Atom) → numbers ≡ numbers_on row ops → slice_get (expressions ops) k ≡ Some (truth_expression atom) → v ≡ holds atom row
+
+-- what instructions load is what the table of loaded truths has at time t
+abbrev pub AgreeOnLoads : List PtOp → List ℤ → Table → ℕ → Type 0
+AgreeOnLoads ops numbers loaded t = (i k : ℕ) (v : Bool) → i < length ops → op_at ops i ≡ Load k → IsTruthIn numbers k v → v ≡ loaded k t
+
+-- an instruction is to take the row at time `now`: the nodes before it hold its truths at that time, its boxes tell the
+-- table before it, and the table's next truth is that of the instruction
+pub record IsTurn (op : PtOp) (numbers : List ℤ) (loaded table : Table) (now : ℕ) (before : List Node) (boxes : List Span) : Type 0 where
+  pub operands : (g : ℕ) → g < length before → (node_at before g).truth ≡ table g now
+  pub told : IsTold op table now boxes
+  pub here : table (length before) now ≡ truth_of op loaded table now
+  pub loads : (k : ℕ) (v : Bool) → op ≡ Load k → IsTruthIn numbers k v → v ≡ loaded k now

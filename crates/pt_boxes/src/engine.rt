@@ -1,0 +1,89 @@
+ghost use Rattle.std.specs.Prelude.{◌≡◌};
+ghost use Rattle.obs_verify.specs.Running.{RunsPast};
+
+use crate::boxes::{Boxes, Span};
+use crate::rows::{Node, row_of};
+use booleanizer::Bz;
+use mltl_base::Program;
+use obs_verify::{Checked, well_formed_programs_run};
+use scq_ring::steps::Steps;
+use std::alloc::{AllocError, Global};
+use std::sync::ledger::Ledger;
+
+/// The truths of a program's past-time instructions at the last row, and the boxes of each Since in one slab.
+#[derive(Drop)]
+pub struct Pt {
+    nodes: Vec<Node>,
+    slab: Vec<Span>,
+    rows: u64,
+}
+
+impl Pt {
+    ghost use Rattle.std.specs.Prelude.{ℕ, ◌+◌, ◌^◌, ◌<◌, ◌≤◌, List, [], ◌∷◌, ◌++◌, length, IfOk};
+    ghost use Rattle.mltl_base.specs.Atoms.{Row};
+    ghost use Rattle.booleanizer.specs.Evaluation.{numbers_on};
+    ghost use Rattle.pt_boxes.specs.Running.{row_work};
+    ghost use Rattle.pt_boxes.specs.Standing.{Stands, instruction_count, now_at};
+
+    /// The engine of a program, before the first row. It takes all its memory at once.
+    pub fn make(alloc: Global, checked: &Checked) -> Result<Pt, AllocError>
+        ensures stands { IfOk result (Stands checked.now []) }
+    {
+        let program = program_of(checked);
+        let mut nodes = Vec::new(alloc);
+        let mut start = 0;
+        for size in program.sizes.pt.as_slice() {
+            let size = *size as usize;
+            nodes.push(Node {
+                boxes: Boxes::none(),
+                truth: false,
+                start,
+                size,
+            })?;
+            start += size;
+        }
+        let slab = vec![in alloc; Span { first: 0, last: 0 }; start]?;
+        Ok(Pt {
+            nodes,
+            slab,
+            rows: 0,
+        })
+    }
+
+    /// Takes the row that the Booleanizer took last. It takes no memory.
+    pub fn row<L: Ledger>(&mut self, checked: &Checked, bz: &Bz, steps: &mut Steps<L>)
+        requires given { (row : Row) × (bz.now ≡ numbers_on row checked.now.bz) }
+        requires stands { (rows : List Row) × Stands checked.now rows self.old × (length rows < 2 ^ 40) }
+        ensures stands { (rows : List Row) (row : Row) → length rows < 2 ^ 40 → bz.now ≡ numbers_on row checked.now.bz → Stands checked.now rows self.old → Stands checked.now (rows ++ row ∷ []) self.new }
+        ensures counted { steps.new ≤ steps.old + row_work checked.now }
+    {
+        let program = program_of(checked);
+        row_of(
+            program.pt.as_slice(),
+            bz,
+            self.rows,
+            &mut self.nodes,
+            &mut self.slab,
+            steps,
+        );
+        self.rows += 1;
+    }
+
+    /// Whether instruction `i` holds at the last row.
+    #[tactic(auto, unfolding(crate::specs::Standing::instruction_count, crate::specs::Standing::now_at))]
+    pub fn now(&self, i: u32) -> bool
+        requires exists { i < instruction_count self.now }
+        ensures now { result ≡ now_at self.now i }
+    {
+        self.nodes[i as usize].truth
+    }
+}
+
+/// The program of a checked one, which the engine can run.
+fn program_of(checked: &Checked) -> &Program
+    ensures program { result.now ≡ checked.now }
+    ensures runs { RunsPast checked.now }
+{
+    well_formed_programs_run();
+    checked.program()
+}

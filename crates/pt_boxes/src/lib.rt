@@ -1,0 +1,13 @@
+//! The past-time engine: the truths of all past-time instructions of a program, row by row.
+//!
+//! A Since keeps its past as boxes: stretches of times at which it will hold if its left operand stays true.
+#![tactic(auto)]
+
+mod boxes;
+mod engine;
+mod rows;
+mod since;
+#[cfg(test)]
+mod tests;
+
+pub use engine::Pt;

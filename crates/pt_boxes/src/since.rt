@@ -1,0 +1,102 @@
+//! One row of a Since over its boxes.
+
+ghost use Rattle.std.specs.Prelude.{◌≡◌, ℕ, Bool, ◌+◌, ◌^◌, ◌<◌, ◌≤◌, [], length, if◌then◌else◌};
+ghost use Rattle.mltl_base.specs.declared.interval.Interval.{Interval};
+ghost use Rattle.mltl_base.specs.Queues.{boxes as box_count};
+ghost use Rattle.pt_boxes.specs.Boxes.{Belongs, kept};
+ghost use Rattle.pt_boxes.specs.Spans.{AreApart, Tells, in_some, stretch_at, with_stretch, without_ended};
+
+use crate::boxes::{Boxes, Span};
+use delay_sizes::few_boxes;
+use mltl_base::Interval;
+use mltl_base::limits::MAX_BOUND;
+use scq_ring::steps::Steps;
+use std::sync::ledger::Ledger;
+
+/// Lets go what ended before this time, and everything where the left operand is false then.
+fn age(boxes: &mut Boxes, spans: &[Span], now: u64, left: bool)
+    requires belongs { Belongs boxes.old spans.now }
+    ensures belongs { Belongs boxes.new spans.now }
+    ensures rest { kept boxes.new spans.now ≡ if left then without_ended now (kept boxes.old spans.now) else [] }
+    ensures apart { (i : Interval) → AreApart i now 0 (kept boxes.old spans.now) → AreApart i (now + 1) 0 (kept boxes.new spans.now) }
+{
+    if left {
+        boxes.let_ended_go(spans, now);
+    } else {
+        boxes.clear();
+    }
+}
+
+/// The stretch that a right operand opens which is true at this time.
+fn stretch_from(window: Interval, now: u64) -> Span
+    requires ordered { window.lo ≤ window.hi }
+    requires bounded { window.hi ≤ MAX_BOUND }
+    requires early { now < 2 ^ 40 }
+    ensures { result ≡ stretch_at window now }
+{
+    Span {
+        first: now + u64::from(window.lo),
+        last: now + u64::from(window.hi),
+    }
+}
+
+/// Adds the stretch of a right operand that is true. There is room: boxes that lie apart are few.
+fn open(boxes: &mut Boxes, spans: &mut [Span], window: Interval, now: u64, right: bool)
+    requires ordered { window.lo ≤ window.hi }
+    requires bounded { window.hi ≤ MAX_BOUND }
+    requires early { now < 2 ^ 40 }
+    requires belongs { Belongs boxes.old spans.old }
+    requires room { length spans.old ≡ box_count window }
+    requires apart { AreApart window (now + 1) 0 (kept boxes.old spans.old) }
+    ensures belongs { Belongs boxes.new spans.new }
+    ensures opened { kept boxes.new spans.new ≡ if right then with_stretch (stretch_at window now) (kept boxes.old spans.old) else kept boxes.old spans.old }
+    ensures apart { AreApart window (now + 1) 0 (kept boxes.new spans.new) }
+{
+    few_boxes();
+    if right {
+        boxes.add(spans, stretch_from(window, now));
+    }
+}
+
+/// Whether the last row's time lies in a box.
+fn holds(boxes: &Boxes, spans: &[Span], window: Interval, now: u64) -> bool
+    requires belongs { Belongs boxes.now spans.now }
+    requires apart { AreApart window (now + 1) 0 (kept boxes.now spans.now) }
+    ensures holds { result ≡ in_some (kept boxes.now spans.now) now }
+{
+    match boxes.oldest(spans) {
+        None => false,
+        Some(oldest) => oldest.first <= now,
+    }
+}
+
+/// Takes the row at time `now`, at which the operands are `left` and `right`: whether the Since holds then. It counts a
+/// step for its oldest and one for its newest box.
+pub fn since_row<L: Ledger>(
+    boxes: &mut Boxes,
+    spans: &mut [Span],
+    window: Interval,
+    now: u64,
+    left: bool,
+    right: bool,
+    steps: &mut Steps<L>,
+) -> bool
+    requires ordered { window.lo ≤ window.hi }
+    requires bounded { window.hi ≤ MAX_BOUND }
+    requires early { now < 2 ^ 40 }
+    requires belongs { Belongs boxes.old spans.old }
+    requires room { length spans.old ≡ box_count window }
+    requires apart { AreApart window now 0 (kept boxes.old spans.old) }
+    ensures belongs { Belongs boxes.new spans.new }
+    ensures apart { AreApart window (now + 1) 0 (kept boxes.new spans.new) }
+    ensures told { (p q : ℕ → Bool) → Tells window p q now (kept boxes.old spans.old) → p now ≡ left → q now ≡ right
+        → Tells window p q (now + 1) (kept boxes.new spans.new) }
+    ensures holds { result ≡ in_some (kept boxes.new spans.new) now }
+    ensures counted { steps.new ≤ steps.old + 2 }
+{
+    steps.tick();
+    age(boxes, spans, now, left);
+    steps.tick();
+    open(boxes, spans, window, now, right);
+    holds(boxes, spans, window, now)
+}
