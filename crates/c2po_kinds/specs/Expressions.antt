@@ -1,4 +1,5 @@
 use Rattle.std.specs.Prelude.{ℕ, nat_le, ◌&&◌, List, [], ◌∷◌, Option, is_some, Ok, Err, if◌then◌else◌}
+use Rattle.mltl_base.specs.declared.limits.TheConstants.{MAX_BOUND, MAX_COUNT}
 use Rattle.c2po_tree.specs.Shape.{Shape, Shapes, number, truth, named, build, group, pick, minus, negation, arith, compare, logic, window, between, each, exists, count, none, more}
 use Rattle.c2po_kinds.specs.declared.kind.Kind.{Kind}
 use Rattle.c2po_kinds.specs.declared.fault.TypeFault.TheVariants as fault
@@ -41,7 +42,7 @@ of_two line wanted given ks = expected line (same_kind ks.0 wanted && same_kind 
 
 -- an interval with a lower bound that isn't above the upper one, and an upper bound within the limit
 abbrev pub within_bounds : {X : Type 0} → ℕ → ℕ → ℕ → Checked X → Checked X
-within_bounds line a b rest = if nat_le a b && nat_le b 1048576 then rest else Err (fault.Bounds line)
+within_bounds line a b rest = if nat_le a b && nat_le b MAX_BOUND then rest else Err (fault.Bounds line)
 
 -- a variable whose name nothing visible has
 abbrev pub fresh : {X : Type 0} → ℕ → Option X → Checked Kind → Checked Kind
@@ -49,7 +50,7 @@ fresh line found rest = if is_some found then Err (fault.Twice line) else rest
 
 -- the number of a counting quantifier within the limit
 abbrev pub few : ℕ → ℕ → Checked Kind → Checked Kind
-few line n rest = if nat_le n 65536 then rest else Err (fault.Bounds line)
+few line n rest = if nat_le n MAX_COUNT then rest else Err (fault.Bounds line)
 
 abbrev mutual
   pub kind_of : Shape → Visible → Checked Kind

@@ -1,5 +1,6 @@
 use Rattle.std.specs.Prelude.{ℕ, nat_le, Bool, true, false, List, [], ◌∷◌, ◌++◌, length, codes, Option, Some, None, Ok, Err, if◌then◌else◌}
 use Rattle.std.specs.Str.{bytes_eq}
+use Rattle.mltl_base.specs.declared.limits.TheConstants.{MAX_SIGNALS}
 use Rattle.c2po_tree.specs.Shape.{Shape}
 use Rattle.c2po_tree.specs.ItemShape.{TypeShape, FieldShape, type_named, set_of}
 use Rattle.c2po_kinds.specs.declared.kind.Base.TheVariants as base
@@ -60,7 +61,7 @@ signal_kind false = whole
 
 -- one more signal
 abbrev pub with_signal : ℕ → Bool → List ℕ → Declarations → Checked Declarations
-with_signal line b x d = new line x d.names (if nat_le 65536 (length d.signals) then Err (fault.Signals line) else Ok (record {
+with_signal line b x d = new line x d.names (if nat_le MAX_SIGNALS (length d.signals) then Err (fault.Signals line) else Ok (record {
   names = d.names ++ (x, Value (signal_kind b)) ∷ [];
   structs = d.structs;
   signals = d.signals ++ record { name = x; truth = b } ∷ [];

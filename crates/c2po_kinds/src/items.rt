@@ -252,8 +252,8 @@ pub fn check_formula(
 ) -> Result<Kind, TypeFault>
     ensures { Gives (λ k. k) result (formula_kind line (shape expr.now) declared.now) }
 {
-    let kind = kind_of(alloc, &Scope::Items(declared), expr)?;
-    expect(line, is_same(kind, TRUTH), TRUTH)
+    let found = kind_of(alloc, &Scope::Items(declared), expr)?;
+    expect(line, is_same(found, TRUTH), TRUTH)
 }
 
 /// Whether the formulas of a contract are truths.
