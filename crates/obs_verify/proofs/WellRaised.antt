@@ -1,5 +1,5 @@
 -- A well-formed program of version 1 whose columns are read in one way stays so with the signals that it reads.
-use Rattle.std.proofs.Common.{◌≡◌, ℕ, ◌+◌, ◌<◌, ◌≤◌, ◌^◌, ◌==◌, zero, suc, Bool, true, false, Option, Some, None, List, [], ◌∷◌, ◌++◌, All, length, take, slice_get, slice_index_or, refl, ap, sym, ◌∙◌, arith, subst, inl, inr, eq-eqb, append_assoc}
+use Rattle.std.proofs.Common.{◌≡◌, ℕ, ◌+◌, ◌<◌, ◌≤◌, ◌==◌, zero, suc, Bool, true, false, Option, Some, None, List, [], ◌∷◌, ◌++◌, All, length, take, slice_index_or, refl, ap, sym, ◌∙◌, arith, subst, inl, inr, eq-eqb, append_assoc}
 use Rattle.std.specs.Prelude.{◌&&◌, ◌||◌, not, decimal, if◌then◌else◌}
 use Rattle.std.specs.List.{cons_option, filter_map, list_any, range_with_len}
 use Rattle.std.specs.Str.{bytes_eq}
@@ -18,9 +18,9 @@ use Rattle.mltl_base.specs.Programs.{output_names, outputs}
 use Rattle.obs_verify.specs.Kept.{IsKept}
 use Rattle.obs_verify.specs.Reading.{ReadsWithin}
 use Rattle.obs_verify.specs.Upgrade.{clashes, column_name, first_clash, raised, read_of, reads, signal_in, signal_of, signals_below, up}
-use Rattle.obs_verify.specs.WellFormed.{IsWellFormed, bz_fault, first_in, has_kind, has_operands, is_column_of, is_new_signal, signal_fault}
+use Rattle.obs_verify.specs.WellFormed.{IsWellFormed, bz_fault, first_in, has_kind, has_operands, is_column_of, signal_fault}
 use Rattle.obs_verify.proofs.ExpressionLaws.{bz_range}
-use Rattle.obs_verify.proofs.RuleLaws.{and_left, and_right, or_none, unless_true}
+use Rattle.obs_verify.proofs.RuleLaws.{and_left, or_none, unless_true}
 use Rattle.obs_verify.proofs.SignalLaws.{any-push, unless_both}
 use Rattle.obs_verify.proofs.SoundLaws.{each}
 use Rattle.obs_verify.proofs.UpgradeLaws.{at_column, reads_column, reads_none, reads_truth, signals_at}

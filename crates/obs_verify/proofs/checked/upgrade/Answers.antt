@@ -1,4 +1,4 @@
-use Rattle.std.proofs.Common.{◌≡◌, ◌∙◌, ap, sym, subst, All, List}
+use Rattle.std.proofs.Common.{sym, subst, All, List}
 use Rattle.mltl_base.specs.declared.operators.BzOp.{BzOp}
 use Rattle.mltl_base.specs.declared.program.Program.{Program}
 use Rattle.obs_verify.specs.Reading.{ReadsWithin}

@@ -1,9 +1,9 @@
-use Rattle.std.proofs.Common.{◌≡◌, ◌∙◌, sym, refl, false, true, take, subst, List, ◌∷◌, [], ◌++◌, ◌+◌, ap, slice_index_or}
+use Rattle.std.proofs.Common.{◌∙◌, sym, refl, false, true, take, subst, List}
 use Rattle.std.proofs.lemmas.List.{take_all, take_more}
 use Rattle.mltl_base.specs.declared.operators.BzOp.{BzOp}
 use Rattle.mltl_base.specs.declared.operators.BzOp.TheVariants.{Column}
 use Rattle.obs_verify.specs.Kinds.{AreKinds}
-use Rattle.obs_verify.specs.Upgrade.{clashes, reads}
+use Rattle.obs_verify.specs.Upgrade.{reads}
 use Rattle.obs_verify.proofs.UpgradeLaws.{clash_here, clash_more, clash_none, not_false, not_true}
 use Rattle.obs_verify.proofs.reads.note_reads.Goals as goal
 
