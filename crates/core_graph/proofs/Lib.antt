@@ -1,0 +1,11 @@
+pub mod Forests
+pub mod Sameness
+pub mod Orders
+pub mod Walking
+pub mod Parts
+pub mod Placing
+pub mod Outputs
+pub mod NodesRead
+pub mod Lists
+pub mod Assembly
+pub mod Soundness

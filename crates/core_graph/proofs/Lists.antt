@@ -1,0 +1,146 @@
+-- Lists of items: those of a part in order, and their places.
+
+use Rattle.std.proofs.Common.{◌≡◌, ◌≢◌, ℕ, zero, suc, ◌+◌, ◌<◌, ◌≤◌, Bool, true, false, not, if◌then◌else◌, Some, List, [], ◌∷◌, ◌++◌, All, filter, flat_map, length, map, take, drop, get_or, set, slice_get, slice_index, refl, sym, subst, ap, ap₂, ◌∙◌, append-nil, arith, inl, inr}
+use Rattle.std.proofs.lemmas.Bool.{cases_eq}
+use Rattle.std.proofs.lemmas.List.{length-set, length-take-le, map-append, take_more, take_all, take-append-drop, flat_map_more, get_or-set_same, get_or-set_other}
+use Rattle.std.proofs.lemmas.List.Elements.{filter-append}
+use Rattle.std.proofs.lemmas.Option.{slice_get-map, slice_get-get_or, slice_get_within, get_or_from_slice_get}
+use Rattle.std.specs.Option.{option_map}
+use Rattle.mltl_base.specs.declared.interval.Part.{Part}
+use Rattle.mltl_base.specs.declared.interval.Part.TheVariants.{Bz, Ft, Pt}
+use Rattle.mltl_base.proofs.Unfolding.{Each, each_from_all}
+use Rattle.plain_nodes.proofs.Places.{at_push, get_left}
+use Rattle.core_graph.specs.declared.item.Item.{Item}
+use Rattle.core_graph.specs.declared.item.Operands.{Operands}
+use Rattle.core_graph.specs.declared.item.Operands.TheVariants.{Zero, One, Two}
+use Rattle.core_graph.specs.Trees.{Label, Tree, root, completed, is_core_label, is_core_tree}
+use Rattle.core_graph.specs.Items.{label_of, operands_of, joined, tree_at, trees, IsForest}
+use Rattle.core_graph.specs.Walks.{trees_of}
+use Rattle.core_graph.specs.Listings.{is_in, is_item_in, AreOnce, IsListing}
+use Rattle.core_graph.proofs.Forests.{tree_here}
+use Rattle.core_graph.proofs.Orders.{AreDistinct, completed_distinct, distinct_place}
+use Rattle.core_graph.proofs.Outputs.{all_from_each}
+
+-- an item is of the part of its tree
+label_root : (ts : List Tree) (l : Label) (o : Operands) → root (joined ts l o) ≡ l
+label_root ts l Zero = refl
+label_root ts l (One a) = refl
+label_root ts l (Two a b) = refl
+
+pub item_part : (part : Part) (items : List Item) (n : ℕ) (item : Item) → IsForest items → slice_get items n ≡ Some item → is_item_in part item ≡ is_in part (tree_at (trees items) n)
+item_part part items n item f e = go part
+  where
+    same : is_core_label (label_of item) ≡ is_core_tree (tree_at (trees items) n)
+    same = sym (ap is_core_tree (tree_here items n item f e) ∙ ap is_core_label (label_root (trees items) (label_of item) (operands_of item)))
+
+    go : (part : Part) → is_item_in part item ≡ is_in part (tree_at (trees items) n)
+    go Bz = ap not same
+    go Ft = same
+    go Pt = same
+
+-- one more member of a list
+pub map_more : {X Y : Type 0} (f : X → Y) (xs : List X) (i : ℕ) (x : X) → i < length xs → get_or xs i x ≡ x → map f (take (i + 1) xs) ≡ map f (take i xs) ++ f x ∷ []
+map_more f xs i x l e =
+    ap (map f) (take_more xs i x l ∙ ap (λ y. take i xs ++ y ∷ []) e) ∙ map-append f (take i xs) (x ∷ [])
+
+pub map_all : {X Y : Type 0} (f : X → Y) (xs : List X) (i : ℕ) → length xs ≤ i → map f (take i xs) ≡ map f xs
+map_all f xs i l = ap (map f) (take_all i xs l)
+
+pub filter_more : (p : ℕ → Bool) (xs : List ℕ) (i x : ℕ) → i < length xs → get_or xs i x ≡ x → filter p (take (i + 1) xs) ≡ filter p (take i xs) ++ (if p x then x ∷ [] else [])
+filter_more p xs i x l e =
+    ap (filter p) (take_more xs i x l ∙ ap (λ y. take i xs ++ y ∷ []) e) ∙ filter-append p (take i xs) (x ∷ [])
+
+pub filter_kept : (p : ℕ → Bool) (xs : List ℕ) (i x : ℕ) (old new : List ℕ) → i < length xs → get_or xs i x ≡ x → old ≡ filter p (take i xs) → new ≡ old ++ (if p x then x ∷ [] else []) → new ≡ filter p (take (i + 1) xs)
+filter_kept p xs i x old new l e h g = g ∙ (ap (λ ns. ns ++ (if p x then x ∷ [] else [])) h ∙ sym (filter_more p xs i x l e))
+
+pub kept_yes : (b : Bool) (x : ℕ) (old new : List ℕ) → b ≡ true → new ≡ old ++ x ∷ [] → new ≡ old ++ (if b then x ∷ [] else [])
+kept_yes b x old new e h = rw e h
+
+pub kept_no : (b : Bool) (x : ℕ) (old : List ℕ) → b ≡ false → old ≡ old ++ (if b then x ∷ [] else [])
+kept_no b x old e = rw e (sym (append-nil old))
+
+pub map_kept : {Y : Type 0} (f : ℕ → Y) (xs : List ℕ) (i x : ℕ) (y : Y) (old new : List Y) → i < length xs → get_or xs i x ≡ x → old ≡ map f (take i xs) → new ≡ old ++ y ∷ [] → y ≡ f x → new ≡ map f (take (i + 1) xs)
+map_kept f xs i x y old new l e h g q = g ∙ (ap (λ ys. ys ++ y ∷ []) h ∙ (ap (λ z. map f (take i xs) ++ z ∷ []) q ∙ sym (map_more f xs i x l e)))
+
+pub flat_more : {X Y : Type 0} (f : X → List Y) (xs : List X) (i : ℕ) (x : X) (old new : List Y) → i < length xs → get_or xs i x ≡ x → old ≡ flat_map f (take i xs) → new ≡ old ++ f x → new ≡ flat_map f (take (i + 1) xs)
+flat_more f xs i x old new l e h g =
+    g ∙ (ap (λ ys. ys ++ f x) h ∙ (flat_map_more f [] (take i xs) x
+    ∙ ap (flat_map f) (sym (take_more xs i x l ∙ ap (λ y. take i xs ++ y ∷ []) e))))
+
+-- the members of a part
+map_filter : (p : Tree → Bool) (f : ℕ → Tree) (xs : List ℕ) → map f (filter (λ n. p (f n)) xs) ≡ filter p (map f xs)
+map_filter p f [] = refl
+map_filter p f (x ∷ xs) = one_filter (p (f x)) (map_filter p f xs)
+  where
+    one_filter : (b : Bool) → map f (filter (λ n. p (f n)) xs) ≡ filter p (map f xs) →
+        map f (if b then x ∷ filter (λ n. p (f n)) xs else filter (λ n. p (f n)) xs) ≡ (if b then f x ∷ filter p (map f xs) else filter p (map f xs))
+    one_filter true e = ap (◌∷◌ (f x)) e
+    one_filter false e = e
+
+each_filter : (P : ℕ → Type 0) (p : ℕ → Bool) (xs : List ℕ) → Each P xs → Each P (filter p xs)
+each_filter P p [] h = tt
+each_filter P p (x ∷ xs) h = one_filter (p x) (each_filter P p xs h.1)
+  where
+    one_filter : (b : Bool) → Each P (filter p xs) → Each P (if b then x ∷ filter p xs else filter p xs)
+    one_filter true g = (h.0, g)
+    one_filter false g = g
+
+pub part_within : (items : List Item) (p : ℕ → Bool) (order ids : List ℕ) → ids ≡ filter p order → All (λ n. n < length items) order → All (λ n. n < length items) ids
+part_within items p order ids e h =
+    subst (λ ns. All (λ n. n < length items) ns) (sym e)
+    (all_from_each (λ n. n < length items) (filter p order) (each_filter (λ n. n < length items) p order (each_from_all (λ n. n < length items) order h)))
+
+pub part_trees : (items : List Item) (part : Part) (roots order ids : List ℕ) → trees_of items order ≡ completed (trees_of items roots) → ids ≡ filter (λ n. is_in part (tree_at (trees items) n)) order →
+    trees_of items ids ≡ filter (is_in part) (completed (trees_of items roots))
+part_trees items part roots order ids h e =
+    ap (trees_of items) e ∙ (map_filter (is_in part) (tree_at (trees items)) order ∙ ap (filter (is_in part)) h)
+
+tree_there : (items : List Item) (ids : List ℕ) (i n : ℕ) → slice_get ids i ≡ Some n → slice_get (trees_of items ids) i ≡ Some (tree_at (trees items) n)
+tree_there items ids i n e = slice_get-map (tree_at (trees items)) ids i ∙ ap (option_map (tree_at (trees items))) e
+
+pub part_once : (items : List Item) (part : Part) (roots ids : List ℕ) → trees_of items ids ≡ filter (is_in part) (completed (trees_of items roots)) → AreOnce ids
+part_once items part roots ids h = record {
+  once = λ i j n e g.
+      distinct_place (trees_of items ids) i j (tree_at (trees items) n)
+      (subst AreDistinct (sym h) (completed_distinct (is_in part) (trees_of items roots)))
+      (tree_there items ids i n e) (tree_there items ids j n g);
+}
+
+-- the place of one more member
+earlier : (ids : List ℕ) (i m n : ℕ) → slice_get (take i ids) m ≡ Some n → slice_get ids m ≡ Some n
+earlier ids i m n e = subst (λ ns. slice_get ns m ≡ Some n) (take-append-drop i ids) (get_left (take i ids) (drop i ids) m n e)
+
+pub place_more : (ids places : List ℕ) (i id : ℕ) → i < length ids → get_or ids i id ≡ id → AreOnce ids → id < length places →
+    ((m n : ℕ) → slice_get (take i ids) m ≡ Some n → slice_index places n ≡ m) → (m n : ℕ) → slice_get (take (i + 1) ids) m ≡ Some n → slice_index (set places id i) n ≡ m
+place_more ids places i id l e o w h m n g =
+    let next : take (i + 1) ids ≡ take i ids ++ id ∷ [] = take_more ids i id l ∙ ap (λ k. take i ids ++ k ∷ []) e in
+    let size : length (take i ids) ≡ i = length-take-le i ids (omega arith) in
+    let there : slice_get ids i ≡ Some id = slice_get-get_or ids i id l ∙ ap Some e in
+    elim (at_push (take i ids) id m n (ap (λ ns. slice_get ns m) (sym next) ∙ g)) [
+      | inl p ↦
+          let before : m < length (take i ids) = p.0 in
+          let apart : n ≢ id = λ q.
+          let same : m ≡ i = o.once m i id (earlier ids i m n p.1 ∙ ap Some q) there in
+          omega arith in
+          get_or-set_other places id n i 0 apart ∙ h m n p.1
+      | inr p ↦
+          let at : m ≡ length (take i ids) = p.0 in
+          let here : slice_index (set places id i) id ≡ i = get_or-set_same places id i 0 w in
+          let same : m ≡ i = at ∙ size in
+          ap (slice_index (set places id i)) (sym p.1) ∙ (here ∙ sym same)
+    ]
+
+pub no_place : (places ids : List ℕ) (m n : ℕ) → slice_get (take 0 ids) m ≡ Some n → slice_index places n ≡ m
+no_place places ids m n e = cc
+
+pub all_places : (ids places : List ℕ) (i : ℕ) → length ids ≤ i → ((m n : ℕ) → slice_get (take i ids) m ≡ Some n → slice_index places n ≡ m) → (m n : ℕ) → slice_get ids m ≡ Some n → slice_index places n ≡ m
+all_places ids places i l h m n e = h m n (subst (λ ns. slice_get ns m ≡ Some n) (sym (take_all i ids l)) e)
+
+pub get_within : (items : List Item) (ids : List ℕ) → All (λ n. n < length items) ids → (i n : ℕ) → slice_get ids i ≡ Some n → n < length items
+get_within items ids h i n e =
+    let inside : i < length ids = slice_get_within ids i n e in
+    let here : get_or ids i n ≡ n = get_or_from_slice_get ids i n n e in
+    subst (λ k. k < length items) here (h i n inside)
+
+pub all_within : (items : List Item) (ids : List ℕ) → ((i n : ℕ) → slice_get ids i ≡ Some n → n < length items) → All (λ n. n < length items) ids
+all_within items ids h k d l = h k (get_or ids k d) (slice_get-get_or ids k d l)

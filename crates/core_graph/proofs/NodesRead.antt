@@ -1,0 +1,209 @@
+-- Items of plain nodes: what is read of a node, given what is read of those before it.
+
+use Rattle.std.proofs.Common.{◌≡◌, ℕ, ℤ, ◌+◌, ◌<◌, ◌≤◌, Bool, true, false, Some, List, [], ◌∷◌, ◌++◌, length, take, get_or, slice_get, slice_index, refl, sym, subst, ap, ap₂, ◌∙◌, arith, inl, inr}
+use Rattle.std.specs.Prelude.{Result, IfOk}
+use Rattle.std.proofs.lemmas.List.{length_push, length-take-le, take_more, take_all}
+use Rattle.std.proofs.lemmas.Option.{slice_get-get_or, slice_get_within, get_or_from_slice_get, same_Some}
+use Rattle.std.proofs.lemmas.Result.{IfOk-weaker}
+use Rattle.mltl_base.specs.declared.operators.ArithOp as arith_op
+use Rattle.mltl_base.specs.declared.operators.CompareOp as compare
+use Rattle.mltl_base.specs.declared.operators.LogicOp as logic
+use Rattle.mltl_base.specs.declared.operators.WindowOp as window
+use Rattle.mltl_base.specs.declared.operators.BetweenOp as between
+use Rattle.mltl_base.specs.declared.interval.Interval.{Interval}
+use Rattle.mltl_base.specs.Atoms.{Term, Atom, is_true, term_over, atom_over}
+use Rattle.mltl_base.specs.Formula.{Formula, Core, catom, core, core_atom, neg, formula_over}
+use Rattle.plain_nodes.specs.declared.nodes.Plain.{Plain}
+use Rattle.plain_nodes.specs.declared.nodes.Plain.TheVariants.{Truth, Flag, Number, Signal, Minus, Arith, Compare, Not, Logic, Window, Between}
+use Rattle.plain_nodes.specs.Nodes as plain
+use Rattle.plain_nodes.proofs.Places.{at_push}
+use Rattle.plain_nodes.proofs.Pushing as pushing
+use Rattle.core_graph.specs.declared.item.Item.{Item}
+use Rattle.core_graph.specs.declared.item.Item.TheVariants as item
+use Rattle.core_graph.specs.Trees.{negative_sign, load_sign, sign, one, two, leaf, truth_in}
+use Rattle.core_graph.specs.Items.{arith_sign, tree_at, tree_of, trees, Has, IsForest, Grows}
+use Rattle.core_graph.specs.Images.{of_term, of_core}
+use Rattle.core_graph.specs.Reading.{Stands, AreRead}
+use Rattle.core_graph.proofs.Outputs.{number_there, formula_there}
+
+-- the node that an arm has found
+pub node_there : (nodes : List Plain) (i : ℕ) (node : Plain) → i < length nodes → get_or nodes i (Truth false) ≡ node → slice_get nodes i ≡ Some node
+node_there nodes i node l e = slice_get-get_or nodes i (Truth false) l ∙ ap Some e
+
+pub same_node : (nodes : List Plain) (i : ℕ) (found node : Plain) → i < length nodes → get_or nodes i (Truth false) ≡ found → slice_get nodes i ≡ Some node → found ≡ node
+same_node nodes i found node l e g = same_Some found node (sym (node_there nodes i found l e) ∙ g)
+
+pub formed_here : (signals : ℕ) (nodes : List Plain) (i : ℕ) (node : Plain) → plain.AreSound signals nodes → i < length nodes → get_or nodes i (Truth false) ≡ node →
+    plain.IsFormed signals (plain.trees (take i nodes)) node
+formed_here signals nodes i node s l e = s.formed i node (node_there nodes i node l e)
+
+-- operators over columns are operators of operands over columns
+arithmetic_over : (columns : List ℕ) (op : arith_op.ArithOp) (a b : Term) → term_over columns (plain.arithmetic op a b) ≡ plain.arithmetic op (term_over columns a) (term_over columns b)
+unfolding term_over
+arithmetic_over columns arith_op.TheVariants.Add a b = refl
+arithmetic_over columns arith_op.TheVariants.Sub a b = refl
+arithmetic_over columns arith_op.TheVariants.Mul a b = refl
+arithmetic_over columns arith_op.TheVariants.Div a b = refl
+arithmetic_over columns arith_op.TheVariants.Rem a b = refl
+
+arithmetic_image : (op : arith_op.ArithOp) (a b : Term) → of_term (plain.arithmetic op a b) ≡ two (sign (arith_sign op)) (of_term a) (of_term b)
+arithmetic_image arith_op.TheVariants.Add a b = refl
+arithmetic_image arith_op.TheVariants.Sub a b = refl
+arithmetic_image arith_op.TheVariants.Mul a b = refl
+arithmetic_image arith_op.TheVariants.Div a b = refl
+arithmetic_image arith_op.TheVariants.Rem a b = refl
+
+comparison_over : (columns : List ℕ) (op : compare.CompareOp) (a b : Term) → atom_over columns (plain.comparison op a b) ≡ plain.comparison op (term_over columns a) (term_over columns b)
+unfolding atom_over
+comparison_over columns compare.TheVariants.Eq a b = refl
+comparison_over columns compare.TheVariants.Ne a b = refl
+comparison_over columns compare.TheVariants.Lt a b = refl
+comparison_over columns compare.TheVariants.Le a b = refl
+comparison_over columns compare.TheVariants.Gt a b = refl
+comparison_over columns compare.TheVariants.Ge a b = refl
+
+connected_over : (columns : List ℕ) (op : logic.LogicOp) (p q : Formula) → formula_over columns (plain.connected op p q) ≡ plain.connected op (formula_over columns p) (formula_over columns q)
+unfolding formula_over
+connected_over columns logic.TheVariants.And p q = refl
+connected_over columns logic.TheVariants.Or p q = refl
+connected_over columns logic.TheVariants.Implies p q = refl
+connected_over columns logic.TheVariants.Iff p q = refl
+
+windowed_over : (columns : List ℕ) (op : window.WindowOp) (i : Interval) (p : Formula) → formula_over columns (plain.windowed op i p) ≡ plain.windowed op i (formula_over columns p)
+unfolding formula_over
+windowed_over columns window.TheVariants.F i p = refl
+windowed_over columns window.TheVariants.G i p = refl
+windowed_over columns window.TheVariants.O i p = refl
+windowed_over columns window.TheVariants.H i p = refl
+
+ranged_over : (columns : List ℕ) (op : between.BetweenOp) (i : Interval) (p q : Formula) → formula_over columns (plain.ranged op i p q) ≡ plain.ranged op i (formula_over columns p) (formula_over columns q)
+unfolding formula_over
+ranged_over columns between.TheVariants.U i p q = refl
+ranged_over columns between.TheVariants.R i p q = refl
+ranged_over columns between.TheVariants.S i p q = refl
+
+constant_over : (columns : List ℕ) (v : Bool) → formula_over columns (plain.constant_formula v) ≡ plain.constant_formula v
+unfolding formula_over
+constant_over columns true = refl
+constant_over columns false = refl
+
+-- what the item of each node stands for
+module _ {E : Type 0} (columns : List ℕ) (old : List Item) (before : List Plain) (ids : List ℕ) (r : AreRead columns old before ids) (new : List Item) (result : Result ℕ E) where
+  pub truth_stands : (v : Bool) → IfOk result (λ n. Has new n (of_core (core (plain.constant_formula v)))) →
+      IfOk result (λ n. Stands columns new n (plain.tree_of (plain.trees before) (Truth v)))
+  truth_stands v h = subst (λ p. IfOk result (λ n. Has new n (of_core (core p)))) (sym (constant_over columns v)) h
+
+  pub number_stands : (m : ℤ) → IfOk result (λ n. Has new n (tree_of (trees old) (item.Const m))) → IfOk result (λ n. Stands columns new n (plain.tree_of (plain.trees before) (Number m)))
+  unfolding term_over
+  number_stands m h = h
+
+  pub signal_stands : (s : ℕ) → IfOk result (λ n. Has new n (tree_of (trees old) (item.Column (slice_index columns s)))) → IfOk result (λ n. Stands columns new n (plain.tree_of (plain.trees before) (Signal s)))
+  unfolding term_over
+  signal_stands s h = h
+
+  pub flag_stands : (s atom : ℕ) (mid : List Item) → Has mid atom (leaf (truth_in (slice_index columns s))) → IfOk result (λ n. Has new n (tree_of (trees mid) (item.Load atom))) →
+      IfOk result (λ n. Stands columns new n (plain.tree_of (plain.trees before) (Flag s)))
+  unfolding core formula_over atom_over
+  flag_stands s atom mid g h = subst (λ t. IfOk result (λ n. Has new n (one (sign load_sign) t))) g.is h
+
+  pub minus_stands : (a : ℕ) → plain.IsNumber (slice_get (plain.trees before) a) → IfOk result (λ n. Has new n (tree_of (trees old) (item.Neg (slice_index ids a)))) →
+      IfOk result (λ n. Stands columns new n (plain.tree_of (plain.trees before) (Minus a)))
+  unfolding term_over
+  minus_stands a k h = subst (λ t. IfOk result (λ n. Has new n (one (sign negative_sign) t))) (number_there columns old before ids r a k).is h
+
+  pub arith_stands : (op : arith_op.ArithOp) (a b : ℕ) → plain.IsNumber (slice_get (plain.trees before) a) → plain.IsNumber (slice_get (plain.trees before) b) →
+      IfOk result (λ n. Has new n (tree_of (trees old) (item.Arith op (slice_index ids a) (slice_index ids b)))) →
+      IfOk result (λ n. Stands columns new n (plain.tree_of (plain.trees before) (Arith op a b)))
+  arith_stands op a b k l h =
+      let x : Term = plain.term_at (plain.trees before) a in
+      let y : Term = plain.term_at (plain.trees before) b in
+      let tree : two (sign (arith_sign op)) (tree_at (trees old) (slice_index ids a)) (tree_at (trees old) (slice_index ids b)) ≡ of_term (term_over columns (plain.arithmetic op x y))
+      = ap₂ (two (sign (arith_sign op))) (number_there columns old before ids r a k).is (number_there columns old before ids r b l).is
+      ∙ (sym (arithmetic_image op (term_over columns x) (term_over columns y)) ∙ ap of_term (sym (arithmetic_over columns op x y))) in
+      subst (λ t. IfOk result (λ n. Has new n t)) tree h
+
+  pub compare_stands : (op : compare.CompareOp) (a b : ℕ) → plain.IsNumber (slice_get (plain.trees before) a) → plain.IsNumber (slice_get (plain.trees before) b) →
+      ((x y : Term) → Has old (slice_index ids a) (of_term x) → Has old (slice_index ids b) (of_term y) → IfOk result (λ n. Has new n (of_core (core_atom (plain.comparison op x y))))) →
+      IfOk result (λ n. Stands columns new n (plain.tree_of (plain.trees before) (Compare op a b)))
+  unfolding core formula_over
+  compare_stands op a b k l h =
+      let x : Term = plain.term_at (plain.trees before) a in
+      let y : Term = plain.term_at (plain.trees before) b in
+      subst (λ t. IfOk result (λ n. Has new n (of_core (core_atom t)))) (sym (comparison_over columns op x y))
+      (h (term_over columns x) (term_over columns y) (number_there columns old before ids r a k) (number_there columns old before ids r b l))
+
+  pub not_stands : (a : ℕ) → plain.IsFormula (slice_get (plain.trees before) a) →
+      ((p : Core) → Has old (slice_index ids a) (of_core p) → IfOk result (λ n. Has new n (of_core (neg p)))) →
+      IfOk result (λ n. Stands columns new n (plain.tree_of (plain.trees before) (Not a)))
+  unfolding core formula_over
+  not_stands a k h = h (core (formula_over columns (plain.formula_at (plain.trees before) a))) (formula_there columns old before ids r a k)
+
+  pub logic_stands : (op : logic.LogicOp) (a b : ℕ) → plain.IsFormula (slice_get (plain.trees before) a) → plain.IsFormula (slice_get (plain.trees before) b) →
+      ((p q : Formula) → Has old (slice_index ids a) (of_core (core p)) → Has old (slice_index ids b) (of_core (core q)) → IfOk result (λ n. Has new n (of_core (core (plain.connected op p q))))) →
+      IfOk result (λ n. Stands columns new n (plain.tree_of (plain.trees before) (Logic op a b)))
+  logic_stands op a b k l h =
+      let p : Formula = plain.formula_at (plain.trees before) a in
+      let q : Formula = plain.formula_at (plain.trees before) b in
+      subst (λ f. IfOk result (λ n. Has new n (of_core (core f)))) (sym (connected_over columns op p q))
+      (h (formula_over columns p) (formula_over columns q) (formula_there columns old before ids r a k) (formula_there columns old before ids r b l))
+
+  pub window_stands : (op : window.WindowOp) (i : Interval) (a : ℕ) → plain.IsFormula (slice_get (plain.trees before) a) →
+      ((p : Formula) → Has old (slice_index ids a) (of_core (core p)) → IfOk result (λ n. Has new n (of_core (core (plain.windowed op i p))))) →
+      IfOk result (λ n. Stands columns new n (plain.tree_of (plain.trees before) (Window op i a)))
+  window_stands op i a k h =
+      let p : Formula = plain.formula_at (plain.trees before) a in
+      subst (λ f. IfOk result (λ n. Has new n (of_core (core f)))) (sym (windowed_over columns op i p))
+      (h (formula_over columns p) (formula_there columns old before ids r a k))
+
+  pub between_stands : (op : between.BetweenOp) (i : Interval) (a b : ℕ) → plain.IsFormula (slice_get (plain.trees before) a) → plain.IsFormula (slice_get (plain.trees before) b) →
+      ((p q : Formula) → Has old (slice_index ids a) (of_core (core p)) → Has old (slice_index ids b) (of_core (core q)) → IfOk result (λ n. Has new n (of_core (core (plain.ranged op i p q))))) →
+      IfOk result (λ n. Stands columns new n (plain.tree_of (plain.trees before) (Between op i a b)))
+  between_stands op i a b k l h =
+      let p : Formula = plain.formula_at (plain.trees before) a in
+      let q : Formula = plain.formula_at (plain.trees before) b in
+      subst (λ f. IfOk result (λ n. Has new n (of_core (core f)))) (sym (ranged_over columns op i p q))
+      (h (formula_over columns p) (formula_over columns q) (formula_there columns old before ids r a k) (formula_there columns old before ids r b l))
+
+-- what stands goes on to stand, and one more node is read
+stands_kept : (columns : List ℕ) (old new : List Item) (n : ℕ) (tree : plain.Tree) → Grows old new → Stands columns old n tree → Stands columns new n tree
+stands_kept columns old new n (plain.number a) g h = g.kept n (of_term (term_over columns a)) h
+stands_kept columns old new n (plain.formula p) g h = g.kept n (of_core (core (formula_over columns p))) h
+
+pub none_read : (columns : List ℕ) (items : List Item) (nodes : List Plain) (ids : List ℕ) → IsForest items → ids ≡ [] → AreRead columns items (take 0 nodes) ids
+none_read columns items nodes ids f e = subst (λ ns. AreRead columns items (take 0 nodes) ns) (sym e) (record {
+  forest = f;
+  count = refl;
+  stand = λ n id tree g h. cc;
+})
+
+pub one_read : (columns : List ℕ) (old new : List Item) (nodes : List Plain) (i : ℕ) (ids more : List ℕ) (id : ℕ) → i < length nodes → AreRead columns old (take i nodes) ids → Grows old new →
+    ((node : Plain) → slice_get nodes i ≡ Some node → Stands columns new id (plain.tree_of (plain.trees (take i nodes)) node)) → more ≡ ids ++ id ∷ [] → AreRead columns new (take (i + 1) nodes) more
+one_read columns old new nodes i ids more id l r g h e =
+    let node : Plain = get_or nodes i (Truth false) in
+    let there : slice_get nodes i ≡ Some node = slice_get-get_or nodes i (Truth false) l in
+    let next : take (i + 1) nodes ≡ take i nodes ++ node ∷ [] = take_more nodes i (Truth false) l in
+    let treed : plain.trees (take (i + 1) nodes) ≡ plain.trees (take i nodes) ++ plain.tree_of (plain.trees (take i nodes)) node ∷ [] = pushing.trees_more nodes i node there in
+    let whole : AreRead columns new (take (i + 1) nodes) (ids ++ id ∷ []) = record {
+      forest = g.forest;
+      count = length_push ids id ∙ (ap (λ n. n + 1) r.count ∙ (sym (length_push (take i nodes) node) ∙ ap length (sym next)));
+      stand = λ n k tree a b. elim (at_push ids id n k a) [
+        | inl p ↦ elim (at_push (plain.trees (take i nodes)) (plain.tree_of (plain.trees (take i nodes)) node) n tree (ap (λ ts. slice_get ts n) (sym treed) ∙ b.found)) [
+          | inl q ↦ stands_kept columns old new k tree g (r.stand n k tree p.1 (record { found = q.1 }))
+          | inr q ↦
+              let short : n < length ids = p.0 in
+              let long : n ≡ length (plain.trees (take i nodes)) = q.0 in
+              absurd (omega (arith, pushing.length-trees (take i nodes), r.count))
+        ]
+        | inr p ↦ elim (at_push (plain.trees (take i nodes)) (plain.tree_of (plain.trees (take i nodes)) node) n tree (ap (λ ts. slice_get ts n) (sym treed) ∙ b.found)) [
+          | inl q ↦
+              let long : n ≡ length ids = p.0 in
+              let short : n < length (plain.trees (take i nodes)) = q.0 in
+              absurd (omega (arith, pushing.length-trees (take i nodes), r.count))
+          | inr q ↦ subst (λ m. Stands columns new m tree) p.1 (subst (λ t. Stands columns new id t) q.1 (h node there))
+        ]
+      ];
+    } in
+    subst (λ ns. AreRead columns new (take (i + 1) nodes) ns) (sym e) whole
+
+pub all_read : (columns : List ℕ) (items : List Item) (nodes : List Plain) (i : ℕ) (ids : List ℕ) → length nodes ≤ i → AreRead columns items (take i nodes) ids → AreRead columns items nodes ids
+all_read columns items nodes i ids l r = subst (λ ns. AreRead columns items ns ids) (take_all i nodes l) r

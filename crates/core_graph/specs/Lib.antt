@@ -1,0 +1,8 @@
+pub mod Limits
+pub mod Trees
+pub mod Items
+pub mod Images
+pub mod Walks
+pub mod Reading
+pub mod Listings
+pub mod Kinds

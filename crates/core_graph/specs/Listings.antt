@@ -1,0 +1,122 @@
+-- Lists of items that become instructions, and the instructions.
+
+use Rattle.std.specs.Prelude.{◌≡◌, ℕ, ◌<◌, ◌≤◌, Bool, true, not, if◌then◌else◌, Some, List, [], ◌∷◌, length, map, filter, flat_map, slice_get, slice_index, slice_index_or}
+use Rattle.mltl_base.specs.declared.interval.Engine.{Engine}
+use Rattle.mltl_base.specs.declared.interval.Engine.TheVariants as engine
+use Rattle.mltl_base.specs.declared.interval.Part.{Part}
+use Rattle.mltl_base.specs.declared.interval.Part.TheVariants.{Bz, Ft, Pt}
+use Rattle.mltl_base.specs.declared.limits.TheConstants.{MAX_INSTRUCTIONS}
+use Rattle.mltl_base.specs.declared.operators.ArithOp as arith
+use Rattle.mltl_base.specs.declared.operators.BzOp as bz
+use Rattle.mltl_base.specs.declared.operators.FtOp as ft
+use Rattle.mltl_base.specs.declared.operators.PtOp as pt
+use Rattle.mltl_base.specs.declared.program.Out as out
+use Rattle.mltl_base.specs.Subformulas.{Asked, same_engine}
+use Rattle.plain_nodes.specs.declared.nodes.Plain.{Plain}
+use Rattle.plain_nodes.specs.declared.nodes.PlainOut.{PlainOut}
+use Rattle.plain_nodes.specs.declared.nodes.PlainOut.TheVariants.{Formula, Contract}
+use Rattle.plain_nodes.specs.Nodes as plain
+use Rattle.plain_nodes.specs.Outputs.{asked_by, asked_over}
+use Rattle.core_graph.specs.declared.item.Item.{Item}
+use Rattle.core_graph.specs.declared.item.Item.TheVariants.{Column, Const, Neg, Arith, IsTrue, Eq, Lt, Le, True, Load, Not, And, Until, Since}
+use Rattle.core_graph.specs.Trees.{Tree, completed, is_core_tree}
+use Rattle.core_graph.specs.Items.{is_formula}
+use Rattle.core_graph.specs.Walks.{trees_of}
+
+-- the part of a program is walked from the outputs of an engine
+abbrev pub asks : Part → Engine → Bool
+asks Bz e = true
+asks Ft e = same_engine e engine.Ft
+asks Pt e = same_engine e engine.Pt
+
+-- a tree, and an item, becomes an instruction of the part
+abbrev pub is_in : Part → Tree → Bool
+is_in Bz t = not (is_core_tree t)
+is_in Ft t = is_core_tree t
+is_in Pt t = is_core_tree t
+
+abbrev pub is_item_in : Part → Item → Bool
+is_item_in Bz item = not (is_formula item)
+is_item_in Ft item = is_formula item
+is_item_in Pt item = is_formula item
+
+-- the output names the first n nodes
+abbrev pub NamesNodes : ℕ → PlainOut → Type 0
+NamesNodes n (Formula e a name) = a < n
+NamesNodes n (Contract e a b name) = (a < n) × (b < n)
+
+-- the items that an output, and all outputs, begin the walk of a part with
+abbrev pub roots_by : Part → List ℕ → PlainOut → List ℕ
+roots_by part ids (Formula e a name) = if asks part e then slice_index ids a ∷ [] else []
+roots_by part ids (Contract e a b name) = if asks part e then slice_index ids a ∷ slice_index ids b ∷ [] else []
+
+abbrev pub roots_of : Part → List ℕ → List PlainOut → List ℕ
+roots_of part ids outs = flat_map (roots_by part ids) outs
+
+-- the trees of the instructions of a part, in order
+abbrev pub listed_trees : List Item → Part → List ℕ → List PlainOut → List Tree
+listed_trees items part ids outs = filter (is_in part) (completed (trees_of items (roots_of part ids outs)))
+
+-- what the outputs over some nodes ask for, over columns
+abbrev pub asked_from : List ℕ → List Plain → List PlainOut → List Asked
+asked_from columns nodes outs = map (asked_over columns) (map (asked_by (plain.trees nodes)) outs)
+
+-- no number stands twice
+pub record AreOnce (ids : List ℕ) : Type 0 where
+  pub once : (i j n : ℕ) → slice_get ids i ≡ Some n → slice_get ids j ≡ Some n → i ≡ j
+
+-- the items of a part in order, and the place of each in that order
+pub record IsListing (items : List Item) (listed : List Tree) (ids places : List ℕ) : Type 0 where
+  pub few : length ids ≤ MAX_INSTRUCTIONS
+  pub count : length places ≡ length items
+  pub within : (i n : ℕ) → slice_get ids i ≡ Some n → n < length items
+  pub in_order : trees_of items ids ≡ listed
+  pub numbered : (i n : ℕ) → slice_get ids i ≡ Some n → slice_index places n ≡ i
+
+-- the instruction of an item, whose operands are numbered by their places
+abbrev pub arith_op : arith.ArithOp → ℕ → ℕ → bz.BzOp
+arith_op arith.TheVariants.Add a b = bz.TheVariants.Add a b
+arith_op arith.TheVariants.Sub a b = bz.TheVariants.Sub a b
+arith_op arith.TheVariants.Mul a b = bz.TheVariants.Mul a b
+arith_op arith.TheVariants.Div a b = bz.TheVariants.Div a b
+arith_op arith.TheVariants.Rem a b = bz.TheVariants.Rem a b
+
+abbrev pub bz_op_of : List ℕ → Item → bz.BzOp
+bz_op_of places (Column c) = bz.TheVariants.Column c
+bz_op_of places (Const n) = bz.TheVariants.Const n
+bz_op_of places (Neg a) = bz.TheVariants.Neg (slice_index places a)
+bz_op_of places (Arith op a b) = arith_op op (slice_index places a) (slice_index places b)
+bz_op_of places (IsTrue c) = bz.TheVariants.IsTrue c
+bz_op_of places (Eq a b) = bz.TheVariants.Eq (slice_index places a) (slice_index places b)
+bz_op_of places (Lt a b) = bz.TheVariants.Lt (slice_index places a) (slice_index places b)
+bz_op_of places (Le a b) = bz.TheVariants.Le (slice_index places a) (slice_index places b)
+bz_op_of places _ = bz.TheVariants.IsTrue 0
+
+abbrev pub ft_op_of : List ℕ → List ℕ → Item → ft.FtOp
+ft_op_of loads places (Load a) = ft.TheVariants.Load (slice_index loads a)
+ft_op_of loads places (Not a) = ft.TheVariants.Not (slice_index places a)
+ft_op_of loads places (And a b) = ft.TheVariants.And (slice_index places a) (slice_index places b)
+ft_op_of loads places (Until i a b) = ft.TheVariants.Until (slice_index places a) (slice_index places b) i
+ft_op_of loads places _ = ft.TheVariants.True
+
+abbrev pub pt_op_of : List ℕ → List ℕ → Item → pt.PtOp
+pt_op_of loads places (Load a) = pt.TheVariants.Load (slice_index loads a)
+pt_op_of loads places (Not a) = pt.TheVariants.Not (slice_index places a)
+pt_op_of loads places (And a b) = pt.TheVariants.And (slice_index places a) (slice_index places b)
+pt_op_of loads places (Since i a b) = pt.TheVariants.Since (slice_index places a) (slice_index places b) i
+pt_op_of loads places _ = pt.TheVariants.True
+
+-- the item at a number
+abbrev pub item_at : List Item → ℕ → Item
+item_at items n = slice_index_or items n True
+
+-- an output by the places of its items
+abbrev pub places_for : Engine → List ℕ → List ℕ → List ℕ
+places_for engine.Ft ft pt = ft
+places_for engine.Pt ft pt = pt
+
+abbrev pub out_of : List ℕ → List ℕ → List ℕ → PlainOut → out.Out
+out_of ids ft pt (Formula e a name) =
+    out.TheVariants.Formula e (slice_index (places_for e ft pt) (slice_index ids a)) name
+out_of ids ft pt (Contract e a b name) =
+    out.TheVariants.Contract e (slice_index (places_for e ft pt) (slice_index ids a)) (slice_index (places_for e ft pt) (slice_index ids b)) name

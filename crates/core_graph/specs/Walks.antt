@@ -1,0 +1,72 @@
+-- A walk over a forest that completes items, operands first.
+
+use Rattle.std.specs.Prelude.{◌≡◌, ◌⊎◌, ℕ, suc, ◌+◌, ◌*◌, ◌<◌, Bool, true, false, Some, List, [], ◌∷◌, length, map, slice_get}
+use Rattle.mltl_base.specs.Subformulas.{listed}
+use Rattle.core_graph.specs.declared.item.Item.{Item}
+use Rattle.core_graph.specs.declared.item.Operands.{Operands}
+use Rattle.core_graph.specs.declared.item.Operands.TheVariants.{Zero, One, Two}
+use Rattle.core_graph.specs.Trees.{Tree, leaf, one, two, same_tree, add_tree}
+use Rattle.core_graph.specs.Items.{tree_at, trees, Has}
+
+-- the trees of numbered items
+abbrev pub trees_of : List Item → List ℕ → List Tree
+trees_of items ids = map (tree_at (trees items)) ids
+
+-- the operands of a tree are listed
+abbrev pub HasOperands : List Tree → Tree → Type 0
+HasOperands ts (leaf l) = Unit {0}
+HasOperands ts (one l t) = listed same_tree t ts ≡ true
+HasOperands ts (two l t u) = (listed same_tree t ts ≡ true) × (listed same_tree u ts ≡ true)
+
+-- each tree of the list has its operands in it
+pub record IsClosed (ts : List Tree) : Type 0 where
+  pub operands : (t : Tree) → listed same_tree t ts ≡ true → HasOperands ts t
+
+-- items that are complete, in order, and for each item whether it is
+pub record IsWalk (items : List Item) (order : List ℕ) (done : List Bool) : Type 0 where
+  pub count : length done ≡ length items
+  pub within : (i n : ℕ) → slice_get order i ≡ Some n → n < length items
+  pub told : (n : ℕ) (t : Tree) → Has items n t → slice_get done n ≡ Some (listed same_tree t (trees_of items order))
+  pub closed : IsClosed (trees_of items order)
+
+-- all operands are complete, and the first that isn't
+abbrev pub AreDone : List Bool → Operands → Type 0
+AreDone done Zero = Unit {0}
+AreDone done (One a) = slice_get done a ≡ Some true
+AreDone done (Two a b) = (slice_get done a ≡ Some true) × (slice_get done b ≡ Some true)
+
+abbrev pub IsFirstOpen : List Bool → Operands → ℕ → Type 0
+IsFirstOpen done Zero n = ⊥
+IsFirstOpen done (One a) n = (n ≡ a) × (slice_get done a ≡ Some false)
+IsFirstOpen done (Two a b) n =
+    ((n ≡ a) × (slice_get done a ≡ Some false))
+    ⊎ ((n ≡ b) × (slice_get done a ≡ Some true) × (slice_get done b ≡ Some false))
+
+-- each number of the list is below the one before it, the first below n
+abbrev pub Descends : ℕ → List ℕ → Type 0
+Descends n [] = Unit {0}
+Descends n (m ∷ ms) = (m < n) × Descends m ms
+
+-- items that wait for operands, the latest last
+pub record IsStack (items : List Item) (done : List Bool) (stack : List ℕ) : Type 0 where
+  pub descends : Descends (length items) stack
+  pub waits : (i n : ℕ) → slice_get stack i ≡ Some n → slice_get done n ≡ Some false
+
+-- what is complete once all that wait are
+unfoldable pub finish : List Tree → List Tree → List Tree
+finish [] ts = ts
+finish (t ∷ above) ts = add_tree t (finish above ts)
+
+-- what is still to be done: for each open item, and below the latest that waits
+unfoldable pub height : List ℕ → ℕ
+height [] = 0
+height (n ∷ []) = suc n
+height (n ∷ m ∷ ns) = height (m ∷ ns)
+
+unfoldable pub open_count : List Bool → ℕ
+open_count [] = 0
+open_count (true ∷ done) = open_count done
+open_count (false ∷ done) = suc (open_count done)
+
+abbrev pub work : List Bool → List ℕ → ℕ
+work done stack = open_count done * (length done + 1) + height stack

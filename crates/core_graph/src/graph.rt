@@ -1,0 +1,84 @@
+//! From a specification that is unfolded to its core graph.
+
+ghost use Rattle.std.specs.Prelude.{◌≡◌, Err, length, All, OnOk, IfOk};
+ghost use Rattle.mltl_base.specs.Subformulas.{IsGraphOf};
+ghost use Rattle.plain_nodes.specs.Nodes.{AreSound, trees};
+ghost use Rattle.plain_nodes.specs.Outputs.{NamesFormulas, asked_in};
+ghost use Rattle.core_graph.specs.Limits.{AreFew, AreMany};
+ghost use Rattle.core_graph.specs.Listings.{asked_from};
+
+use crate::forest::Forest;
+use crate::listing::list;
+use crate::ops::{bz_ops, ft_ops, numbered_outs, pt_ops};
+use crate::reading::read;
+use mltl_base::{Columns, Graph, Part};
+use plain_nodes::{Expanded, Plain, PlainOut};
+use std::alloc::{AllocError, Global};
+use thiserror::Error;
+
+/// Why a specification has no core graph.
+#[derive(Clone, Copy, PartialEq, Eq, Debug, Error)]
+pub enum GraphFault {
+    /// A list would have more instructions than the limit.
+    #[error("too many instructions")]
+    TooManyNodes,
+    #[error("out of memory")]
+    Memory,
+}
+
+impl From<AllocError> for GraphFault {
+    ghost use Rattle.core_graph.specs.declared.graph.GraphFault.TheVariants.{Memory};
+
+    ghost from_gives = { λ _ fault. fault ≡ Memory };
+
+    fn from(_refused: AllocError) -> GraphFault {
+        GraphFault::Memory
+    }
+}
+
+/// The instructions and the outputs of a specification, over the columns of its signals.
+///
+/// `TooManyNodes` comes exactly where one of the three lists would have more than `MAX_INSTRUCTIONS` members. The time
+/// is linear in the nodes, and formulas may be as deep as there are nodes.
+pub fn to_core(alloc: Global, spec: &Expanded, columns: &Columns) -> Result<Graph, GraphFault>
+    requires nodes { AreSound (length columns.now.of_signal) spec.now.nodes }
+    requires outs { All (NamesFormulas (trees spec.now.nodes)) spec.now.outs }
+    ensures graph { IfOk result (λ graph. IsGraphOf (asked_in columns.now.of_signal spec.now) graph) }
+    ensures few { OnOk result (AreFew (asked_in columns.now.of_signal spec.now)) }
+    ensures too_many { result ≡ Err GraphFault.TooManyNodes
+        → AreMany (asked_in columns.now.of_signal spec.now) }
+{
+    let nodes = spec.nodes.as_slice();
+    let outs = spec.outs.as_slice();
+    graph_of(alloc, nodes, outs, columns.of_signal.as_slice())
+}
+
+/// The same over nodes, outputs and columns.
+fn graph_of(
+    alloc: Global,
+    nodes: &[Plain],
+    outs: &[PlainOut],
+    columns: &[u32],
+) -> Result<Graph, GraphFault>
+    requires nodes { AreSound (length columns.now) nodes.now }
+    requires outs { All (NamesFormulas (trees nodes.now)) outs.now }
+    ensures graph { IfOk result (λ graph. IsGraphOf (asked_from columns.now nodes.now outs.now) graph) }
+    ensures few { OnOk result (AreFew (asked_from columns.now nodes.now outs.now)) }
+    ensures too_many { result ≡ Err GraphFault.TooManyNodes → AreMany (asked_from columns.now nodes.now outs.now) }
+{
+    let mut forest = Forest::new(alloc);
+    let ids = read(alloc, &mut forest, nodes, columns)?;
+    let bz = list(alloc, &forest, outs, &ids, Part::Bz)?;
+    let ft = list(alloc, &forest, outs, &ids, Part::Ft)?;
+    let pt = list(alloc, &forest, outs, &ids, Part::Pt)?;
+    let bz_list = bz_ops(alloc, &forest, &bz)?;
+    let ft_list = ft_ops(alloc, &forest, &bz, &ft)?;
+    let pt_list = pt_ops(alloc, &forest, &bz, &pt)?;
+    let reports = numbered_outs(alloc, outs, &ids, &ft.places, &pt.places)?;
+    Ok(Graph {
+        bz: bz_list,
+        ft: ft_list,
+        pt: pt_list,
+        outs: reports,
+    })
+}
