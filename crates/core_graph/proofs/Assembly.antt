@@ -1,26 +1,22 @@
 -- The lists of a graph are those of its specification.
 
-use Rattle.std.proofs.Common.{◌≡◌, ℕ, ◌<◌, ◌≤◌, true, filter, if◌then◌else◌, List, [], All, flat_map, length, map, slice_index, refl, sym, subst, ap, ◌∙◌, arith, inl, inr}
+use Rattle.std.proofs.Common.{◌≡◌, ℕ, ◌<◌, ◌≤◌, true, filter, if◌then◌else◌, List, [], All, flat_map, length, map, slice_index, sym, subst, ap, ◌∙◌, arith, inl, inr}
 use Rattle.std.proofs.lemmas.List.{length-map}
 use Rattle.mltl_base.specs.declared.interval.Engine.{Engine}
 use Rattle.mltl_base.specs.declared.interval.Engine.TheVariants as engine
 use Rattle.mltl_base.specs.declared.interval.Part.{Part}
 use Rattle.mltl_base.specs.declared.interval.Part.TheVariants.{Bz, Ft, Pt}
 use Rattle.mltl_base.specs.declared.limits.TheConstants.{MAX_INSTRUCTIONS}
-use Rattle.mltl_base.specs.declared.operators.BzOp.{BzOp}
-use Rattle.mltl_base.specs.declared.operators.FtOp.{FtOp}
-use Rattle.mltl_base.specs.declared.operators.PtOp.{PtOp}
-use Rattle.mltl_base.specs.declared.program.Out.{Out}
 use Rattle.mltl_base.specs.Atoms.{Atom}
 use Rattle.mltl_base.specs.Formula.{Core, catom}
-use Rattle.mltl_base.specs.Programs.{Expression, truth}
-use Rattle.mltl_base.specs.Subformulas.{same_expression, same, listed, place_of, Asked, cores_of_output, all_cores, cores_for, subformulas, bz_expressions, bz_list, ft_list, pt_list, out_list}
+use Rattle.mltl_base.specs.Programs.{truth}
+use Rattle.mltl_base.specs.Subformulas.{same_expression, same, listed, place_of, cores_of_output, all_cores, cores_for, subformulas, bz_expressions, bz_list, ft_list, pt_list, out_list}
 use Rattle.mltl_base.proofs.Sameness.{same_sound, same_self}
-use Rattle.mltl_base.proofs.Unfolding.{Each, each_from_all}
+use Rattle.mltl_base.proofs.Unfolding.{each_from_all}
 use Rattle.plain_nodes.specs.declared.nodes.Plain.{Plain}
 use Rattle.plain_nodes.specs.declared.nodes.PlainOut.{PlainOut}
 use Rattle.plain_nodes.specs.Nodes as plain
-use Rattle.plain_nodes.specs.Outputs.{asked_by, asked_over, NamesFormulas}
+use Rattle.plain_nodes.specs.Outputs.{NamesFormulas}
 use Rattle.core_graph.specs.declared.item.Item.{Item}
 use Rattle.core_graph.specs.Trees.{Tree, completed}
 use Rattle.core_graph.specs.Items.{Has}

@@ -1,7 +1,7 @@
 -- Forests: what items unfold to, that a tree has one item, and what an item more changes.
 
-use Rattle.std.proofs.Common.{◌≡◌, ℕ, ◌+◌, ◌<◌, ◌≤◌, Bool, Some, List, [], ◌∷◌, ◌++◌, length, take, drop, fold, get_or, slice_get, true, false, if◌then◌else◌, refl, sym, subst, ap, ap₂, ◌∙◌, append_assoc, append-nil, arith, inl, inr}
-use Rattle.std.proofs.lemmas.List.{length_push, length-append, length-take-le, get_or_append_left, get_or_push, take-append-drop, take_more}
+use Rattle.std.proofs.Common.{◌≡◌, ℕ, ◌+◌, ◌<◌, Bool, Some, List, [], ◌∷◌, ◌++◌, length, take, drop, fold, get_or, slice_get, true, false, if◌then◌else◌, refl, sym, subst, ap, ap₂, ◌∙◌, arith, inl, inr}
+use Rattle.std.proofs.lemmas.List.{length_push, length-take-le, get_or_append_left, get_or_push, take-append-drop, take_more}
 use Rattle.std.specs.Cmp.{IsEquivalence}
 use Rattle.std.specs.List.{list_any}
 use Rattle.std.proofs.lemmas.List.Folds.{list_any_at}
@@ -15,7 +15,7 @@ use Rattle.core_graph.specs.declared.item.Item.{Item}
 use Rattle.core_graph.specs.declared.item.Item.TheVariants.{Column, Const, Neg, Arith, IsTrue, Eq, Lt, Le, True, Load, Not, And, Until, Since}
 use Rattle.core_graph.specs.declared.item.Operands.{Operands}
 use Rattle.core_graph.specs.declared.item.Operands.TheVariants.{Zero, One, Two}
-use Rattle.core_graph.specs.Trees.{Sign, negative_sign, plus_sign, minus_sign, times_sign, quotient_sign, remainder_sign, equal_sign, less_sign, at_most_sign, true_sign, load_sign, not_sign, and_sign, Label, sign, in_column, truth_in, number, until_in, since_in, Tree, leaf, one, two}
+use Rattle.core_graph.specs.Trees.{negative_sign, plus_sign, minus_sign, times_sign, quotient_sign, remainder_sign, equal_sign, less_sign, at_most_sign, true_sign, load_sign, not_sign, and_sign, Label, sign, in_column, truth_in, number, until_in, since_in, Tree, leaf, one, two}
 use Rattle.core_graph.specs.Items.{operands_of, label_of, tree_at, joined, tree_of, trees, Has, AreBelow, IsForest, Grows, IsAdded}
 use Rattle.core_graph.specs.Images.{of_core}
 use Rattle.core_graph.specs.Reading.{IsCoreAt}

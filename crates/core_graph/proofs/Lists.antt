@@ -1,8 +1,7 @@
 -- Lists of items: those of a part in order, and their places.
 
-use Rattle.std.proofs.Common.{◌≡◌, ◌≢◌, ℕ, zero, suc, ◌+◌, ◌<◌, ◌≤◌, Bool, true, false, not, if◌then◌else◌, Some, List, [], ◌∷◌, ◌++◌, All, filter, flat_map, length, map, take, drop, get_or, set, slice_get, slice_index, refl, sym, subst, ap, ap₂, ◌∙◌, append-nil, arith, inl, inr}
-use Rattle.std.proofs.lemmas.Bool.{cases_eq}
-use Rattle.std.proofs.lemmas.List.{length-set, length-take-le, map-append, take_more, take_all, take-append-drop, flat_map_more, get_or-set_same, get_or-set_other}
+use Rattle.std.proofs.Common.{◌≡◌, ◌≢◌, ℕ, ◌+◌, ◌<◌, ◌≤◌, Bool, true, false, not, if◌then◌else◌, Some, List, [], ◌∷◌, ◌++◌, All, filter, flat_map, length, map, take, drop, get_or, set, slice_get, slice_index, refl, sym, subst, ap, ◌∙◌, append-nil, arith, inl, inr}
+use Rattle.std.proofs.lemmas.List.{length-take-le, map-append, take_more, take_all, take-append-drop, flat_map_more, get_or-set_same, get_or-set_other}
 use Rattle.std.proofs.lemmas.List.Elements.{filter-append}
 use Rattle.std.proofs.lemmas.Option.{slice_get-map, slice_get-get_or, slice_get_within, get_or_from_slice_get}
 use Rattle.std.specs.Option.{option_map}
@@ -16,7 +15,7 @@ use Rattle.core_graph.specs.declared.item.Operands.TheVariants.{Zero, One, Two}
 use Rattle.core_graph.specs.Trees.{Label, Tree, root, completed, is_core_label, is_core_tree}
 use Rattle.core_graph.specs.Items.{label_of, operands_of, joined, tree_at, trees, IsForest}
 use Rattle.core_graph.specs.Walks.{trees_of}
-use Rattle.core_graph.specs.Listings.{is_in, is_item_in, AreOnce, IsListing}
+use Rattle.core_graph.specs.Listings.{is_in, is_item_in, AreOnce}
 use Rattle.core_graph.proofs.Forests.{tree_here}
 use Rattle.core_graph.proofs.Orders.{AreDistinct, completed_distinct, distinct_place}
 use Rattle.core_graph.proofs.Outputs.{all_from_each}

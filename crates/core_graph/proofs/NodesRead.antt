@@ -2,17 +2,16 @@
 
 use Rattle.std.proofs.Common.{◌≡◌, ℕ, ℤ, ◌+◌, ◌<◌, ◌≤◌, Bool, true, false, Some, List, [], ◌∷◌, ◌++◌, length, take, get_or, slice_get, slice_index, refl, sym, subst, ap, ap₂, ◌∙◌, arith, inl, inr}
 use Rattle.std.specs.Prelude.{Result, IfOk}
-use Rattle.std.proofs.lemmas.List.{length_push, length-take-le, take_more, take_all}
-use Rattle.std.proofs.lemmas.Option.{slice_get-get_or, slice_get_within, get_or_from_slice_get, same_Some}
-use Rattle.std.proofs.lemmas.Result.{IfOk-weaker}
+use Rattle.std.proofs.lemmas.List.{length_push, take_more, take_all}
+use Rattle.std.proofs.lemmas.Option.{slice_get-get_or, same_Some}
 use Rattle.mltl_base.specs.declared.operators.ArithOp as arith_op
 use Rattle.mltl_base.specs.declared.operators.CompareOp as compare
 use Rattle.mltl_base.specs.declared.operators.LogicOp as logic
 use Rattle.mltl_base.specs.declared.operators.WindowOp as window
 use Rattle.mltl_base.specs.declared.operators.BetweenOp as between
 use Rattle.mltl_base.specs.declared.interval.Interval.{Interval}
-use Rattle.mltl_base.specs.Atoms.{Term, Atom, is_true, term_over, atom_over}
-use Rattle.mltl_base.specs.Formula.{Formula, Core, catom, core, core_atom, neg, formula_over}
+use Rattle.mltl_base.specs.Atoms.{Term, term_over, atom_over}
+use Rattle.mltl_base.specs.Formula.{Formula, Core, core, core_atom, neg, formula_over}
 use Rattle.plain_nodes.specs.declared.nodes.Plain.{Plain}
 use Rattle.plain_nodes.specs.declared.nodes.Plain.TheVariants.{Truth, Flag, Number, Signal, Minus, Arith, Compare, Not, Logic, Window, Between}
 use Rattle.plain_nodes.specs.Nodes as plain

@@ -1,6 +1,6 @@
 -- Lists that a walk completes: what is listed stays, operands are listed, and what is listed already adds nothing.
 
-use Rattle.std.proofs.Common.{◌≡◌, ℕ, zero, suc, ◌<◌, Bool, true, false, ◌||◌, if◌then◌else◌, Some, List, [], ◌∷◌, ◌++◌, length, fold, filter, map, slice_get, refl, sym, subst, ap, ◌∙◌, arith}
+use Rattle.std.proofs.Common.{◌≡◌, ℕ, zero, suc, Bool, true, false, ◌||◌, if◌then◌else◌, Some, List, [], ◌∷◌, ◌++◌, fold, filter, slice_get, refl, sym, subst, ap, ◌∙◌}
 use Rattle.std.proofs.lemmas.Bool.{true≢false, false≢true}
 use Rattle.mltl_base.specs.Subformulas.{listed, add_new}
 use Rattle.mltl_base.proofs.Listing.{added_has, added_keeps, listed_append}

@@ -1,10 +1,9 @@
 -- The instructions of listed items are those of the formulas and expressions that they unfold to.
 
-use Rattle.std.proofs.Common.{◌≡◌, ℕ, zero, suc, ◌<◌, Bool, true, false, not, ◌||◌, Option, Some, None, List, [], ◌∷◌, ◌++◌, filter, map, length, nat_lt, slice_get, slice_index, refl, sym, subst, ap, ap₂, ◌∙◌, arith}
+use Rattle.std.proofs.Common.{◌≡◌, ℕ, suc, ◌<◌, Bool, true, false, not, ◌||◌, Option, Some, None, List, [], ◌∷◌, filter, map, length, nat_lt, slice_get, slice_index, refl, sym, subst, ap, ap₂, ◌∙◌}
 use Rattle.std.proofs.lemmas.Bool.{true≢false}
 use Rattle.std.proofs.lemmas.Option.{slice_get-map}
 use Rattle.std.specs.Option.{option_map}
-use Rattle.mltl_base.specs.declared.interval.Interval.{Interval}
 use Rattle.mltl_base.specs.declared.operators.ArithOp as arith_op
 use Rattle.mltl_base.specs.declared.operators.BzOp.TheVariants as bz_op
 use Rattle.mltl_base.specs.declared.operators.FtOp.TheVariants as ft_op

@@ -1,18 +1,17 @@
 -- A step of a walk over a forest: to an operand that is open, or over an item whose operands are complete.
 
-use Rattle.std.proofs.Common.{◌≡◌, ◌≢◌, ℕ, zero, suc, ◌+◌, ◌-◌, ◌*◌, ◌<◌, ◌≤◌, Bool, true, false, ◌||◌, None, Some, List, [], ◌∷◌, ◌++◌, length, map, take, replicate, get_or, set, slice_get, refl, sym, subst, ap, ◌∙◌, append_assoc, arith, inl, inr}
-use Rattle.std.proofs.lemmas.Bool.{true≢false, false≢true, cases_lt, cases_eq}
+use Rattle.std.proofs.Common.{◌≡◌, ◌≢◌, ℕ, zero, suc, ◌+◌, ◌-◌, ◌*◌, ◌<◌, ◌≤◌, Bool, true, false, ◌||◌, None, Some, List, [], ◌∷◌, ◌++◌, length, take, replicate, get_or, set, slice_get, refl, sym, subst, ap, ◌∙◌, arith, inl, inr}
+use Rattle.std.proofs.lemmas.Bool.{true≢false, cases_eq}
 use Rattle.std.proofs.lemmas.List.{length-set, length_push, length-replicate, map-append, take_at, take_more}
 use Rattle.std.proofs.lemmas.List.Sums.{fold_push}
 use Rattle.std.proofs.lemmas.Option.{slice_get_within, slice_get-get_or, same_Some, none-some}
 use Rattle.mltl_base.specs.Subformulas.{listed}
-use Rattle.mltl_base.proofs.Listing.{listed_append, listed_end}
+use Rattle.mltl_base.proofs.Listing.{listed_end}
 use Rattle.plain_nodes.proofs.Places.{at_push, get_left}
 use Rattle.core_graph.specs.declared.item.Item.{Item}
-use Rattle.core_graph.specs.declared.item.Item.TheVariants.{True}
 use Rattle.core_graph.specs.declared.item.Operands.{Operands}
 use Rattle.core_graph.specs.declared.item.Operands.TheVariants.{Zero, One, Two}
-use Rattle.core_graph.specs.Trees.{Label, Tree, leaf, one, two, same_tree, add_tree, completed}
+use Rattle.core_graph.specs.Trees.{Label, Tree, one, two, same_tree, add_tree, completed}
 use Rattle.core_graph.specs.Items.{label_of, operands_of, tree_at, joined, tree_of, trees, Has, AreBelow, IsForest}
 use Rattle.core_graph.specs.Walks.{trees_of, HasOperands, IsClosed, IsWalk, AreDone, IsFirstOpen, Descends, IsStack, finish, height, open_count, work}
 use Rattle.core_graph.proofs.Forests.{tree_here, one_place}

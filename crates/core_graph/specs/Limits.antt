@@ -1,6 +1,6 @@
 -- The most instructions of each part of a graph.
 
-use Rattle.std.specs.Prelude.{ℕ, ◌<◌, ◌≤◌, ◌⊎◌, List, length}
+use Rattle.std.specs.Prelude.{◌<◌, ◌≤◌, ◌⊎◌, List, length}
 use Rattle.mltl_base.specs.declared.interval.Engine.TheVariants.{Ft, Pt}
 use Rattle.mltl_base.specs.declared.limits.TheConstants.{MAX_INSTRUCTIONS}
 use Rattle.mltl_base.specs.Subformulas.{Asked, subformulas, bz_expressions}

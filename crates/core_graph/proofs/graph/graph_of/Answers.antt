@@ -1,5 +1,5 @@
 -- The lists are those of the specification, part by part.
-use Rattle.std.proofs.Common.{◌≡◌, ◌<◌, Err, All, List, ℕ, length, map, subst, sym, ap, ◌∙◌, arith}
+use Rattle.std.proofs.Common.{◌≡◌, ◌<◌, Err, All, List, ℕ, length, map, subst, sym, ap, ◌∙◌}
 use Rattle.std.proofs.lemmas.Result.{err_from_is_err_and}
 use Rattle.mltl_base.specs.declared.interval.Part.TheVariants.{Bz, Ft, Pt}
 use Rattle.plain_nodes.specs.declared.nodes.Plain.{Plain}

@@ -1,5 +1,5 @@
 -- The items of the part, in the order of completion.
-use Rattle.std.proofs.Common.{◌≡◌, ◌<◌, ◌≤◌, All, List, ℕ, length, filter, slice_get, subst, sym, ap, ◌∙◌, arith}
+use Rattle.std.proofs.Common.{◌≡◌, ◌<◌, All, List, ℕ, length, filter, slice_get, subst, sym, ap, ◌∙◌, arith}
 use Rattle.std.proofs.lemmas.List.{length-map}
 use Rattle.core_graph.specs.declared.item.Item.{Item}
 use Rattle.core_graph.specs.Items.{tree_at, trees}

@@ -1,5 +1,5 @@
 -- One more node is read.
-use Rattle.std.proofs.Common.{◌<◌, length, take, arith}
+use Rattle.std.proofs.Common.{◌<◌, length, arith}
 use Rattle.core_graph.proofs.NodesRead.{one_read}
 use Rattle.core_graph.proofs.reading.read.Goals as goal
 

@@ -1,5 +1,5 @@
 -- Each arm reads a node of its kind, whose operands were read before.
-use Rattle.std.proofs.Common.{rules, ◌≡◌, ◌<◌, List, ℕ, length, take, slice_get, slice_index, subst, arith}
+use Rattle.std.proofs.Common.{rules, length, take, slice_index, subst}
 use Rattle.std.specs.Prelude.{ℤ, FitsSigned, IfOk}
 use Rattle.std.specs.Int.{w64}
 use Rattle.std.proofs.lemmas.Int.{to_z-of_z}

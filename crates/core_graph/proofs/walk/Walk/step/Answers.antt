@@ -1,5 +1,5 @@
 -- Each goal is a lemma on steps, at what the code has read and written.
-use Rattle.std.proofs.Common.{◌≡◌, vec_len, ◌++◌, ◌∷◌, ◌<◌, [], List, ℕ, Bool, length, set, true, refl, subst, ap, sym, ◌∙◌, arith}
+use Rattle.std.proofs.Common.{◌≡◌, vec_len, ◌<◌, List, ℕ, Bool, length, set, true, refl, subst, ap, sym, ◌∙◌, arith}
 use Rattle.core_graph.specs.declared.item.Operands.{Operands}
 use Rattle.core_graph.specs.Items.{AreBelow, operands_of}
 use Rattle.core_graph.specs.Walks.{AreDone, IsFirstOpen, IsStack, trees_of, finish, work}

@@ -1,5 +1,5 @@
 -- The beginning and the end of a visit.
-use Rattle.std.proofs.Common.{◌≡◌, ◌<◌, ◌-◌, ◌∷◌, ◌++◌, [], ℕ, List, Bool, Some, None, false, true, length, slice_get, refl, sym, ap, subst, ◌∙◌, arith}
+use Rattle.std.proofs.Common.{◌≡◌, ◌<◌, ◌-◌, ◌∷◌, ◌++◌, [], ℕ, List, Bool, Some, None, length, slice_get, refl, sym, ap, ◌∙◌, arith}
 use Rattle.std.proofs.lemmas.Option.{slice_get_read}
 use Rattle.core_graph.specs.Walks.{trees_of}
 use Rattle.core_graph.proofs.Walking.{start_stack, start_goal, end_goal, done_already, no_last}
