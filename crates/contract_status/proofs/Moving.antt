@@ -1,0 +1,255 @@
+-- What is open once the first report was given.
+
+use Rattle.std.proofs.Common.{◌≡◌, ◌≢◌, ◌↔◌, ℕ, zero, suc, ◌+◌, ◌-◌, ◌<◌, ◌≤◌, ◌⊎◌, inl, inr, Bool, true, false, not, is_some, IsTrue, replicate, rules, Option, Some, None, List, [], ◌∷◌, ◌++◌, length, map, drop, slice_get, slice_index, slice_index_or, slice_set, refl, sym, ap, subst, ◌∙◌, arith, add-one, add-zero}
+use Rattle.std.proofs.lemmas.Bool.{cases_eq}
+use Rattle.std.proofs.lemmas.List.{drop_all, drop_more, drop-set-lt, get_or-set_other, get_or-set_same, length-map, length-set, set-get_or}
+use Rattle.std.proofs.lemmas.List.Sums.{sum_by-set}
+use Rattle.std.proofs.lemmas.Option.{get_or_from_slice_get, slice_get-map, slice_get_within}
+use Rattle.mltl_base.specs.declared.program.Out.{Out}
+use Rattle.mltl_base.specs.declared.program.Program.{Program}
+use Rattle.mltl_base.specs.declared.report.Word.{Word}
+use Rattle.mltl_base.specs.declared.report.Word.TheVariants.{True, False, Inactive, Invalid, Verified}
+use Rattle.mltl_base.specs.declared.report.Style.{Style}
+use Rattle.mltl_base.specs.declared.report.Style.TheVariants.{Each, Runs}
+use Rattle.mltl_base.specs.declared.report.Report.{Report}
+use Rattle.mltl_base.specs.Atoms.{Row}
+use Rattle.mltl_base.specs.Programs.{output_of, outputs}
+use Rattle.mltl_base.specs.Reports.{Output, words, same_word, goes_on, of_words}
+use Rattle.mltl_base.proofs.Words.{words_fit}
+use Rattle.contract_status.specs.declared.engines.Engines.{Engines}
+use Rattle.contract_status.specs.declared.engines.Stretch.{Stretch}
+use Rattle.contract_status.specs.Open.{ArePlaced, known_counts, known_counts_of, left_open, open_of, times_left}
+use Rattle.contract_status.specs.Standing.{StandFor}
+use Rattle.contract_status.specs.Stretches.{Covers, FindsOpen, HaveTaken, IsFirstOpen, Lasts, known_words}
+use Rattle.contract_status.proofs.Opening.{no_other, no_words}
+use Rattle.contract_status.proofs.Stretching.{count_at, lasts_in_rows, lasts_within}
+
+-- nothing is open at a place past all words
+nothing_past : (style : Style) (k place : ℕ) (ws : List Word) → length ws ≤ place → of_words style k place (drop place ws) ≡ []
+nothing_past style k place ws past = ap (of_words style k place) (drop_all place ws past) ∙ no_words style k place
+
+pub none_left : (style : Style) (rows : List Row) (n : ℕ) (outs : List Output) (places : List ℕ) → ((j : ℕ) → j < length outs → slice_index (known_counts rows outs) j ≤ slice_index places j) → left_open style rows n outs places ≡ []
+unfolding left_open
+none_left style rows n [] places told = refl
+none_left style rows n (o ∷ outs) [] told = refl
+none_left style rows n (o ∷ outs) (place ∷ places) told =
+    rw (nothing_past style n place (words rows o) (told 0 (omega arith))) (none_left style rows (suc n) outs places (λ j below. told (suc j) (omega arith)))
+
+-- where nothing is open before output k, its reports come first
+pub open_from : (style : Style) (rows : List Row) (n k m : ℕ) (outs : List Output) (places : List ℕ) (o : Output) → m ≡ n + k → slice_get outs k ≡ Some o → k < length places
+    → ((j : ℕ) → j < k → slice_index (known_counts rows outs) j ≤ slice_index places j)
+    → left_open style rows n outs places ≡ of_words style m (slice_index places k) (drop (slice_index places k) (words rows o)) ++ left_open style rows (suc m) (drop (suc k) outs) (drop (suc k) places)
+unfolding left_open
+open_from style rows n k m [] places o e there inside told = cc
+open_from style rows n k m (x ∷ outs) [] o e there inside told = absurd (omega arith)
+open_from style rows n zero m (x ∷ outs) (place ∷ places) o e there inside told =
+    let first : x ≡ o = cc in
+    let same : m ≡ n = omega arith in
+    rw (first, same) refl
+open_from style rows n (suc k) m (x ∷ outs) (place ∷ places) o e there inside told =
+    rw (nothing_past style n place (words rows x) (told 0 (omega arith)))
+    (open_from style rows (suc n) k m outs places o (omega arith) there (omega arith) (λ j below. told (suc j) (omega arith)))
+
+-- the same of the places with another one for output k
+pub open_moved : (style : Style) (rows : List Row) (k p : ℕ) (outs : List Output) (places : List ℕ) (o : Output) → slice_get outs k ≡ Some o → k < length places
+    → ((j : ℕ) → j < k → slice_index (known_counts rows outs) j ≤ slice_index places j)
+    → left_open style rows 0 outs (slice_set places k p) ≡ of_words style k p (drop p (words rows o)) ++ left_open style rows (suc k) (drop (suc k) outs) (drop (suc k) places)
+open_moved style rows k p outs places o there inside told =
+    let moved : List ℕ = slice_set places k p in
+    let here : slice_index moved k ≡ p = get_or-set_same places k p 0 inside in
+    let after : drop (suc k) moved ≡ drop (suc k) places = drop-set-lt (suc k) places k p (omega arith) in
+    rw (
+      open_from style rows 0 k k outs moved o (omega arith) there (omega (arith, length-set places k p))
+          (λ j below. let other : j ≢ k = omega arith in omega (arith, told j below, get_or-set_other places k j p 0 other)),
+      here,
+      after,
+    ) refl
+
+-- the first words at a place: a report for each
+each_first : (k p : ℕ) (ws : List Word) (w : Word) → slice_get ws p ≡ Some w → of_words Each k p (drop p ws) ≡ record { out = k; time = p; word = w } ∷ of_words Each k (p + 1) (drop (p + 1) ws)
+unfolding of_words
+each_first k p ws w there =
+    let here : slice_index_or ws p w ≡ w = get_or_from_slice_get ws p w w there in
+    rw (drop_more ws p w (slice_get_within ws p w there), here, add-one p) refl
+
+-- whether the next word is the same
+same_word_self : (w : Word) → same_word w w ≡ true
+same_word_self True = refl
+same_word_self False = refl
+same_word_self Inactive = refl
+same_word_self Invalid = refl
+same_word_self Verified = refl
+
+same_word_other : (v w : Word) → v ≢ w → same_word v w ≡ false
+same_word_other True True differ = absurd (differ refl)
+same_word_other False False differ = absurd (differ refl)
+same_word_other Inactive Inactive differ = absurd (differ refl)
+same_word_other Invalid Invalid differ = absurd (differ refl)
+same_word_other Verified Verified differ = absurd (differ refl)
+same_word_other True False differ = refl
+same_word_other True Inactive differ = refl
+same_word_other True Invalid differ = refl
+same_word_other True Verified differ = refl
+same_word_other False True differ = refl
+same_word_other False Inactive differ = refl
+same_word_other False Invalid differ = refl
+same_word_other False Verified differ = refl
+same_word_other Inactive True differ = refl
+same_word_other Inactive False differ = refl
+same_word_other Inactive Invalid differ = refl
+same_word_other Inactive Verified differ = refl
+same_word_other Invalid True differ = refl
+same_word_other Invalid False differ = refl
+same_word_other Invalid Inactive differ = refl
+same_word_other Invalid Verified differ = refl
+same_word_other Verified True differ = refl
+same_word_other Verified False differ = refl
+same_word_other Verified Inactive differ = refl
+same_word_other Verified Invalid differ = refl
+
+goes_on_there : (w : Word) (ws : List Word) (i : ℕ) → slice_get ws i ≡ Some w → goes_on w (drop i ws) ≡ true
+goes_on_there w [] i there = cc
+goes_on_there w (v ∷ ws) zero there = let same : v ≡ w = cc in rw same (same_word_self w)
+goes_on_there w (v ∷ ws) (suc i) there = goes_on_there w ws i there
+
+goes_on_not : (w : Word) (ws : List Word) (i : ℕ) → slice_get ws i ≢ Some w → goes_on w (drop i ws) ≡ false
+goes_on_not w [] zero differ = refl
+goes_on_not w [] (suc i) differ = refl
+goes_on_not w (v ∷ ws) zero differ = same_word_other w v (λ e. differ (ap Some (sym e)))
+goes_on_not w (v ∷ ws) (suc i) differ = goes_on_not w ws i differ
+
+-- a report for each longest stretch
+run_ends : (k p : ℕ) (ws : List Word) (w : Word) → slice_get ws p ≡ Some w → slice_get ws (p + 1) ≢ Some w → of_words Runs k p (drop p ws) ≡ record { out = k; time = p; word = w } ∷ of_words Runs k (p + 1) (drop (p + 1) ws)
+unfolding of_words
+run_ends k p ws w there differ =
+    let here : slice_index_or ws p w ≡ w = get_or_from_slice_get ws p w w there in
+    rw (drop_more ws p w (slice_get_within ws p w there), here, goes_on_not w ws (p + 1) differ, add-one p) refl
+
+run_goes_on : (k p : ℕ) (ws : List Word) (w : Word) → slice_get ws p ≡ Some w → slice_get ws (p + 1) ≡ Some w → of_words Runs k p (drop p ws) ≡ of_words Runs k (p + 1) (drop (p + 1) ws)
+unfolding of_words
+run_goes_on k p ws w there next =
+    let here : slice_index_or ws p w ≡ w = get_or_from_slice_get ws p w w there in
+    rw (drop_more ws p w (slice_get_within ws p w there), here, goes_on_there w ws (p + 1) next, add-one p) refl
+
+run_first : (d k p last : ℕ) (ws : List Word) (w : Word) → last ≡ p + d → ((t : ℕ) → p ≤ t → t ≤ last → slice_get ws t ≡ Some w) → slice_get ws (last + 1) ≢ Some w
+    → of_words Runs k p (drop p ws) ≡ record { out = k; time = last; word = w } ∷ of_words Runs k (last + 1) (drop (last + 1) ws)
+run_first zero k p last ws w e alike differ =
+    let same : p ≡ last = omega arith in
+    rw same (run_ends k last ws w (alike last (omega arith) (omega arith)) differ)
+run_first (suc d) k p last ws w e alike differ =
+    run_goes_on k p ws w (alike p (omega arith) (omega arith)) (alike (p + 1) (omega arith) (omega arith))
+    ∙ run_first d k (p + 1) last ws w (omega arith) (λ t low high. alike t (omega arith) high) differ
+
+-- in each style, the first report covers what it is to cover
+pub words_first : (style : Style) (k p last : ℕ) (ws : List Word) (w : Word) → Covers style ws p last w → of_words style k p (drop p ws) ≡ record { out = k; time = last; word = w } ∷ of_words style k (last + 1) (drop (last + 1) ws)
+words_first Each k p last ws w h = rw h.ends (each_first k p ws w (h.lasts.alike p (omega arith) h.lasts.upward))
+words_first Runs k p last ws w h = let up : p ≤ last = h.lasts.upward in run_first (last - p) k p last ws w (omega arith) h.lasts.alike h.ends
+
+-- the first report is that of the first open output, whose place moves on
+among_outputs : (program : Program) (k : ℕ) (output : Out) → slice_get program.outs k ≡ Some output → slice_get (outputs program) k ≡ Some (output_of program output)
+among_outputs program k output there = rw (slice_get-map (output_of program) program.outs k, there) refl
+
+gives_first : (style : Style) (program : Program) (rows : List Row) (places : List ℕ) (k last : ℕ) (stretch : Stretch) (output : Out) → slice_get program.outs k ≡ Some output → k < length places → IsFirstOpen program rows places k stretch
+    → Covers style (known_words program rows output) (slice_index places k) last stretch.word
+    → open_of style program rows places ≡ record { out = k; time = last; word = stretch.word } ∷ open_of style program rows (slice_set places k (last + 1))
+gives_first style program rows places k last stretch output named inside first covers =
+    let o : Output = output_of program output in
+    let there = among_outputs program k output named in
+    open_from style rows 0 k k (outputs program) places o (omega arith) there inside first.told
+    ∙ ap (λ reports. reports ++ left_open style rows (suc k) (drop (suc k) (outputs program)) (drop (suc k) places)) (words_first style k (slice_index places k) last (words rows o) stretch.word covers)
+    ∙ ap (λ reports. record { out = k; time = last; word = stretch.word } ∷ reports) (sym (open_moved style rows k (last + 1) (outputs program) places o there inside first.told))
+
+pub gives_none : (style : Style) (program : Program) (rows : List Row) (places : List ℕ) → ((j : ℕ) → j < length program.outs → slice_index (known_counts_of program rows) j ≤ slice_index places j) → open_of style program rows places ≡ []
+gives_none style program rows places told =
+    none_left style rows 0 (outputs program) places (λ j below. told j (omega (arith, length-map program.outs (output_of program))))
+
+-- the places stay within their bounds
+pub placed_moved : (program : Program) (rows : List Row) (places : List ℕ) (k next : ℕ) (output : Out) → ArePlaced program rows places → slice_get program.outs k ≡ Some output → slice_index places k ≤ next → next ≤ length (known_words program rows output)
+    → ArePlaced program rows (slice_set places k next)
+placed_moved program rows places k next output placed there up within =
+    let exists : k < length program.outs = slice_get_within program.outs k output there in
+    let count : length places ≡ length program.outs = placed.count in
+    let inside : k < length places = omega arith in
+    let here : slice_index (slice_set places k next) k ≡ next = get_or-set_same places k next 0 inside in
+    record {
+      count = length-set places k next ∙ placed.count;
+      known = λ j below. elim (cases_eq j k) [
+        | inl e ↦ rw (e, here) (omega (arith, count_at program rows k output there))
+        | inr other ↦ rw (get_or-set_other places k j next 0 other) (placed.known j below)
+      ];
+      recent = λ before row is j below. elim (cases_eq j k) [
+        | inl e ↦ rw (e, here) (omega (arith, placed.recent before row is k exists))
+        | inr other ↦ rw (get_or-set_other places k j next 0 other) (placed.recent before row is j below)
+      ];
+    }
+
+-- fewer times are left
+pub fewer_left : (n : ℕ) (places : List ℕ) (k next : ℕ) → k < length places → slice_index places k < next → next ≤ n → times_left n (slice_set places k next) < times_left n places
+fewer_left n places k next inside up within = omega (arith, sum_by-set (λ place. n - place) places k next 0 inside)
+
+-- the first open output goes by what stands at its number
+pub open_here : (program : Program) (rows : List Row) (places : List ℕ) (k : ℕ) (stretch : Stretch) (output : Out) → slice_get program.outs k ≡ Some output → IsFirstOpen program rows places k stretch
+    → Lasts (known_words program rows output) (slice_index places k) stretch.last stretch.word
+open_here program rows places k stretch output there first =
+    let same : first.output ≡ output = let named = first.there in cc in
+    subst (λ o. Lasts (known_words program rows o) (slice_index places k) stretch.last stretch.word) same first.here
+
+-- what holds once the report of an output up to this time was given
+pub record IsTold (style : Style) (program : Program) (rows : List Row) (places : List ℕ) (k last : ℕ) (word : Word) : Type 0 where
+  pub exists : k < length program.outs
+  pub inside : k < length places
+  pub upward : slice_index places k ≤ last
+  pub early : last < length rows
+  pub first : open_of style program rows places ≡ record { out = k; time = last; word = word } ∷ open_of style program rows (slice_set places k (last + 1))
+  pub placed : ArePlaced program rows (slice_set places k (last + 1))
+
+pub tells : (style : Style) (program : Program) (rows : List Row) (places : List ℕ) (k last : ℕ) (stretch : Stretch) (output : Out) → slice_get program.outs k ≡ Some output → ArePlaced program rows places → IsFirstOpen program rows places k stretch
+    → Covers style (known_words program rows output) (slice_index places k) last stretch.word → IsTold style program rows places k last stretch.word
+tells style program rows places k last stretch output there placed first covers =
+    let exists : k < length program.outs = slice_get_within program.outs k output there in
+    let inside : k < length places = omega (arith, placed.count) in
+    let up : slice_index places k ≤ last = covers.lasts.upward in
+    let short : last < length (known_words program rows output) = lasts_within (known_words program rows output) (slice_index places k) last stretch.word covers.lasts in
+    record {
+      exists = exists;
+      inside = inside;
+      upward = up;
+      early = lasts_in_rows program rows output (slice_index places k) last stretch.word covers.lasts;
+      first = gives_first style program rows places k last stretch output there inside first covers;
+      placed = placed_moved program rows places k (last + 1) output placed there (omega arith) (omega arith);
+    }
+
+-- something is open exactly where the first open output is found
+open_some : (program : Program) (rows : List Row) (places : List ℕ) (k : ℕ) (stretch : Stretch) → ArePlaced program rows places → IsFirstOpen program rows places k stretch → open_of Each program rows places ≢ []
+open_some program rows places k stretch placed first none =
+    let place : ℕ = slice_index places k in
+    let up : place ≤ stretch.last = first.here.upward in
+    let covers : Covers Each (known_words program rows first.output) place place stretch.word = record {
+      lasts = record { upward = omega arith; alike = λ t low high. first.here.alike t low (omega arith) };
+      ends = refl;
+    } in
+    let told = tells Each program rows places k place stretch first.output first.there placed first covers in
+    let some = told.first in
+    cc
+
+pub none_found : (style : Style) (program : Program) (rows : List Row) (places : List ℕ) (found : Option (ℕ × Stretch)) (none : Bool) → is_some found ≡ not none → ArePlaced program rows places → FindsOpen program rows places found
+    → IsTrue none ↔ (open_of style program rows places ≡ [])
+none_found style program rows places None true e placed finds = (λ h. gives_none style program rows places finds, λ h. refl)
+none_found style program rows places None false e placed finds = cc
+none_found style program rows places (Some found) true e placed finds = cc
+none_found style program rows places (Some (k, stretch)) false e placed finds =
+    (λ h. cc, λ none. absurd (open_some program rows places k stretch placed finds (no_other style Each rows 0 (outputs program) places none)))
+
+-- before the first row no word is known
+pub counts_at_start : (program : Program) → replicate (length program.outs) 0 ≡ known_counts_of program []
+counts_at_start program = go program.outs
+  where
+    go : (outs : List Out) → replicate (length outs) 0 ≡ known_counts [] (map (output_of program) outs)
+    go [] = refl
+    go (output ∷ outs) =
+        let none : length (words [] (output_of program output)) ≡ 0 = omega (arith, words_fit [] (output_of program output)) in
+        rw none (ap (λ (ns : List ℕ). 0 ∷ ns) (go outs))
+
+-- the engines' part of the state
+pub taken_by : (program : Program) (rows : List Row) (engines : Engines) (places : List ℕ) → StandFor program rows engines.rows engines.ft.now engines.pt.now places → HaveTaken program rows engines
+taken_by program rows engines places stands = record { future = stands.future; past = stands.past; count = stands.count }

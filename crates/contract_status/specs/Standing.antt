@@ -1,0 +1,17 @@
+-- The engines and the outputs' next times after some rows.
+
+use Rattle.std.specs.Prelude.{ℕ, ◌≡◌, List, length}
+use Rattle.mltl_base.specs.declared.program.Program.{Program}
+use Rattle.mltl_base.specs.Atoms.{Row}
+use Rattle.ft_engine.specs.declared.Ft.{Ft}
+use Rattle.ft_engine.specs.Standing as future
+use Rattle.pt_boxes.specs.declared.Pt.{Pt}
+use Rattle.pt_boxes.specs.Standing as past
+use Rattle.contract_status.specs.Open.{ArePlaced}
+
+-- both engines of the program have taken these rows, n in number, and each output has its next time
+pub record StandFor (program : Program) (rows : List Row) (n : ℕ) (ft : Ft) (pt : Pt) (places : List ℕ) : Type 0 where
+  pub future : future.Stands program rows ft
+  pub past : past.Stands program rows pt
+  pub placed : ArePlaced program rows places
+  pub count : length rows ≡ n

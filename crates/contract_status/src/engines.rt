@@ -1,0 +1,177 @@
+//! What both engines show of the outputs.
+
+ghost use Rattle.std.specs.Prelude.{◌≡◌, ℕ, ◌+◌, ◌^◌, ◌<◌, ◌≤◌, true as holds, List, length, slice_get, slice_index, Some};
+ghost use Rattle.mltl_base.specs.Atoms.{Row};
+ghost use Rattle.mltl_base.specs.declared.program.Program.{Program as Observer};
+ghost use Rattle.mltl_base.specs.declared.program.Out.{Out as Output};
+ghost use Rattle.mltl_base.specs.declared.interval.Engine.TheVariants.{Pt as past};
+ghost use Rattle.mltl_base.specs.declared.report.Style.TheVariants.{Runs as runs};
+
+use ft_engine::Ft;
+use mltl_base::{Engine, Out, Program, Style, Word};
+use pt_boxes::Pt;
+use scq_ring::Seen;
+
+/// Both engines of a program, and the number of rows that they have taken.
+#[derive(Clone, Copy)]
+pub struct Engines<'a> {
+    pub ft: &'a Ft,
+    pub pt: &'a Pt,
+    pub rows: u64,
+}
+
+/// A word that an output has at all times from some time up to `last`.
+#[derive(Clone, Copy, Debug)]
+pub struct Stretch {
+    pub last: u64,
+    pub word: Word,
+}
+
+impl Engines<'_> {
+    ghost use Rattle.contract_status.specs.Stretches.{CanRead, CanReport, Covers, FindsOpen, HaveTaken, Lasts, ShowsVerdicts, ShowsWords, contract_words, formula_words, known_verdicts, known_words};
+    ghost use Rattle.contract_status.specs.Open.{ArePlaced};
+
+    /// The verdict of an instruction at a time, and a time up to which it stays the same.
+    fn verdicts_from(&self, engine: Engine, i: u32, from: u64) -> Seen
+        requires readable { CanRead self.now engine i from }
+        ensures shows { (program : Observer) (rows : List Row) → HaveTaken program rows self.now
+            → ShowsVerdicts (known_verdicts program rows engine i) from result }
+    {
+        match engine {
+            Engine::Ft => self.ft.run_from(i, from),
+            Engine::Pt => self.last_verdict(i, from),
+        }
+    }
+
+    /// The verdict of a past-time instruction at a time that is not before that of the last row.
+    fn last_verdict(&self, i: u32, from: u64) -> Seen
+        requires readable { CanRead self.now past i from }
+        ensures shows { (program : Observer) (rows : List Row) → HaveTaken program rows self.now
+            → ShowsVerdicts (known_verdicts program rows past i) from result }
+    {
+        if from < self.rows {
+            Seen::Run(from, self.pt.now(i))
+        } else {
+            Seen::Nothing
+        }
+    }
+
+    /// The word of a formula at a time, and a time up to which it stays the same.
+    fn formula_from(&self, engine: Engine, i: u32, from: u64) -> Option<Stretch>
+        requires readable { CanRead self.now engine i from }
+        ensures shows { (program : Observer) (rows : List Row) → HaveTaken program rows self.now
+            → ShowsWords (formula_words program rows engine i) from result }
+    {
+        match self.verdicts_from(engine, i, from) {
+            Seen::Run(last, true) => Some(Stretch {
+                last,
+                word: Word::True,
+            }),
+            Seen::Run(last, false) => Some(Stretch {
+                last,
+                word: Word::False,
+            }),
+            Seen::Nothing => None,
+        }
+    }
+
+    /// The status of a contract of two instructions at a time, and a time up to which it stays the same. Where the
+    /// first is false, the second needn't be known.
+    fn contract_from(&self, engine: Engine, i: u32, j: u32, from: u64) -> Option<Stretch>
+        requires first { CanRead self.now engine i from }
+        requires second { CanRead self.now engine j from }
+        ensures shows { (program : Observer) (rows : List Row) → HaveTaken program rows self.now
+            → from ≤ length (contract_words program rows engine i j) → ShowsWords (contract_words program rows engine i j) from result }
+    {
+        match self.verdicts_from(engine, i, from) {
+            Seen::Run(last, false) => Some(Stretch {
+                last,
+                word: Word::Inactive,
+            }),
+            Seen::Run(last, true) => self.guarantee_from(engine, j, from, last),
+            Seen::Nothing => None,
+        }
+    }
+
+    /// The status of a contract whose first instruction is true from a time up to `last`.
+    fn guarantee_from(&self, engine: Engine, j: u32, from: u64, last: u64) -> Option<Stretch>
+        requires readable { CanRead self.now engine j from }
+        ensures shows { (program : Observer) (rows : List Row) (i : ℕ) → HaveTaken program rows self.now
+            → from ≤ length (contract_words program rows engine i j) → Lasts (known_verdicts program rows engine i) from last holds
+            → ShowsWords (contract_words program rows engine i j) from result }
+    {
+        match self.verdicts_from(engine, j, from) {
+            Seen::Run(end, true) => Some(Stretch {
+                last: last.min(end),
+                word: Word::Verified,
+            }),
+            Seen::Run(end, false) => Some(Stretch {
+                last: last.min(end),
+                word: Word::Invalid,
+            }),
+            Seen::Nothing => None,
+        }
+    }
+
+    /// The word of an output at a time, and a time up to which it stays the same.
+    fn stretch_from(&self, out: &Out, from: u64) -> Option<Stretch>
+        requires readable { CanReport self.now out.now from }
+        ensures shows { (program : Observer) (rows : List Row) → HaveTaken program rows self.now
+            → from ≤ length (known_words program rows out.now) → ShowsWords (known_words program rows out.now) from result }
+    {
+        match *out {
+            Out::Formula(engine, i, _) => self.formula_from(engine, i, from),
+            Out::Contract(engine, i, j, _) => self.contract_from(engine, i, j, from),
+        }
+    }
+
+    /// The last time that the first report of the output from `from` on covers, where this is a stretch from there.
+    pub fn last_covered(&self, style: Style, out: &Out, from: u64, stretch: Stretch) -> u64
+        requires readable { CanReport self.now out.now from }
+        requires taken { (program : Observer) × (rows : List Row) × HaveTaken program rows self.now
+            × Lasts (known_words program rows out.now) from stretch.last stretch.word }
+        requires early { self.now.rows ≤ 2 ^ 40 }
+        ensures covers { (program : Observer) (rows : List Row) → HaveTaken program rows self.now
+            → Lasts (known_words program rows out.now) from stretch.last stretch.word
+            → Covers style (known_words program rows out.now) from result stretch.word }
+    {
+        match style {
+            Style::Each => from,
+            Style::Runs => self.last_alike(out, from, stretch),
+        }
+    }
+
+    /// The last time of the longest stretch with the word of this one, which is one from `from` on.
+    fn last_alike(&self, out: &Out, from: u64, stretch: Stretch) -> u64
+        requires readable { CanReport self.now out.now from }
+        requires taken { (program : Observer) × (rows : List Row) × HaveTaken program rows self.now
+            × Lasts (known_words program rows out.now) from stretch.last stretch.word }
+        requires early { self.now.rows ≤ 2 ^ 40 }
+        ensures covers { (program : Observer) (rows : List Row) → HaveTaken program rows self.now
+            → Lasts (known_words program rows out.now) from stretch.last stretch.word
+            → Covers runs (known_words program rows out.now) from result stretch.word }
+    {
+        let mut last = stretch.last;
+        while let Some(next) = self.stretch_from(out, last + 1) {
+            if next.word != stretch.word {
+                return last;
+            }
+            last = next.last;
+        }
+        last
+    }
+
+    /// The first output with a known word at its place, and a stretch of that word.
+    pub fn first_open(&self, program: &Program, places: &[u64]) -> Option<(usize, Stretch)>
+        requires readable { (k : ℕ) (out : Output) → slice_get program.now.outs k ≡ Some out → CanReport self.now out (slice_index places.now k) }
+        requires same_length { length places.now ≡ length program.now.outs }
+        ensures finds { (rows : List Row) → HaveTaken program.now rows self.now → ArePlaced program.now rows places.now → FindsOpen program.now rows places.now result }
+    {
+        for (k, out) in program.outs.as_slice().iter().enumerate() {
+            if let Some(stretch) = self.stretch_from(out, places[k]) {
+                return Some((k, stretch));
+            }
+        }
+        None
+    }
+}

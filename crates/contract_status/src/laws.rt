@@ -1,0 +1,58 @@
+//! What the definitions of open reports say together: each law is the contract of a function with an empty body.
+
+ghost use Rattle.std.specs.Prelude.{◌≡◌, ◌↔◌, ℕ, ◌+◌, ◌≤◌, List, [], ◌∷◌, ◌++◌, Some, Contains, length, slice_get, slice_index};
+ghost use Rattle.mltl_base.specs.declared.program.Out.{Out as Reported};
+ghost use Rattle.mltl_base.specs.declared.program.Program.{Program as Observer};
+ghost use Rattle.mltl_base.specs.declared.report.Style.{Style as Form};
+ghost use Rattle.mltl_base.specs.declared.report.Style.TheVariants.{Each as each, Runs as runs};
+ghost use Rattle.mltl_base.specs.Atoms.{Row};
+ghost use Rattle.mltl_base.specs.Queues.{reported};
+ghost use Rattle.mltl_base.specs.Reports.{Output, of_row};
+ghost use Rattle.obs_verify.specs.WellFormed.{IsWellFormed};
+ghost use Rattle.ft_engine.specs.declared.Ft.{Ft};
+ghost use Rattle.ft_engine.specs.Standing.{Stands, lowest_at, width_of};
+ghost use Rattle.contract_status.specs.Open.{ArePlaced, known_counts, known_counts_of, left_open, open_of};
+
+/// Nothing is open in the one style exactly where nothing is in the other.
+#[tactic(auto, using(crate::proofs::Opening::same_end))]
+pub fn styles_end_together()
+    ensures { (rows : List Row) (k : ℕ) (outs : List Output) (places : List ℕ) →
+        (left_open each rows k outs places ≡ []) ↔ (left_open runs rows k outs places ≡ []) }
+{}
+
+/// Where all known words were told before a row, what is open after it are the reports that the row brings.
+#[tactic(auto, using(crate::proofs::Opening::open_after_row))]
+pub fn row_opens_its_reports()
+    ensures { (style : Form) (k : ℕ) (outs : List Output) (rows : List Row) (row : Row) →
+        left_open style (rows ++ row ∷ []) k outs (known_counts rows outs) ≡ of_row style k outs rows row }
+{}
+
+/// Nothing is open exactly where the places are the numbers of known words, and these are places after the next row.
+#[tactic(auto, using(crate::proofs::Draining::drained_counts))]
+pub fn drained_places_are_known_counts()
+    ensures counts { (style : Form) (program : Observer) (rows : List Row) (places : List ℕ) →
+        ArePlaced program rows places → open_of style program rows places ≡ [] → places ≡ known_counts_of program rows }
+    ensures drained { (style : Form) (program : Observer) (rows : List Row) → open_of style program rows (known_counts_of program rows) ≡ [] }
+    ensures placed { (program : Observer) (rows : List Row) (row : Row) → ArePlaced program (rows ++ row ∷ []) (known_counts_of program rows) }
+{}
+
+/// Where nothing is open after n rows, an output's place is at least n less the width of each future-time instruction
+/// that it reports.
+#[tactic(auto, using(crate::proofs::Draining::drained_wide))]
+pub fn drained_places_are_wide()
+    ensures { (program : Observer) (rows : List Row) (k g : ℕ) (output : Reported) →
+        IsWellFormed program → slice_get program.outs k ≡ Some output → Contains (reported output) g
+        → length rows ≤ slice_index (known_counts_of program rows) k + width_of program g }
+{}
+
+/// The engine keeps the verdicts that an output reads: from its place on, and so, where nothing was open before a row,
+/// from the number of words known before the row on.
+#[tactic(auto, using(crate::proofs::Draining::entries_kept, crate::proofs::Draining::entries_kept_after_row))]
+pub fn reads_are_kept()
+    ensures placed { (program : Observer) (rows : List Row) (ft : Ft) (places : List ℕ) (k g : ℕ) (output : Reported) →
+        IsWellFormed program → Stands program rows ft → ArePlaced program rows places
+        → slice_get program.outs k ≡ Some output → Contains (reported output) g → lowest_at ft g ≤ slice_index places k }
+    ensures after_row { (program : Observer) (rows : List Row) (row : Row) (ft : Ft) (k g : ℕ) (output : Reported) →
+        IsWellFormed program → Stands program (rows ++ row ∷ []) ft
+        → slice_get program.outs k ≡ Some output → Contains (reported output) g → lowest_at ft g ≤ slice_index (known_counts_of program rows) k }
+{}

@@ -1,0 +1,13 @@
+//! Reports of the outputs of a program: which are open after some rows, one after another, and how they are written.
+#![tactic(auto)]
+
+mod engines;
+pub mod laws;
+mod line;
+mod outs;
+mod telling;
+#[cfg(test)]
+mod tests;
+
+pub use line::line_of;
+pub use outs::Outs;

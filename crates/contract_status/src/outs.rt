@@ -1,0 +1,85 @@
+//! The outputs of a program and their next times.
+
+use crate::engines::Engines;
+use crate::telling::tell_first;
+use ft_engine::Ft;
+use mltl_base::{Report, Style};
+use obs_verify::Checked;
+use pt_boxes::Pt;
+use std::alloc::{AllocError, Global};
+use std::marker::Model;
+
+/// The outputs of a program: the next time of each, counted in rows from 0. Contracts see these times in order.
+#[derive(Drop)]
+pub struct Outs {
+    times: Vec<u64>,
+}
+
+impl Model for Outs {
+    ghost use Rattle.std.specs.Prelude.{List, ℕ};
+
+    ghost Value = { List ℕ };
+
+    ghost view = { λ outs. outs.times.items };
+}
+
+impl Outs {
+    ghost use Rattle.std.specs.Prelude.{◌≡◌, ℕ, ◌+◌, ◌^◌, ◌<◌, ◌≤◌, ◌↔◌, List, [], length, slice_set, replicate, IfOk, IfSome, IsNone, IsTrue, Some, OnSome};
+    ghost use Rattle.mltl_base.specs.declared.report.Style.{Style as Form};
+    ghost use Rattle.mltl_base.specs.declared.report.Style.TheVariants.{Each as each, Runs as runs};
+    ghost use Rattle.mltl_base.specs.Atoms.{Row};
+    ghost use Rattle.contract_status.specs.Open.{ArePlaced, GivesFirst, known_counts_of, open_of, times_left};
+    ghost use Rattle.contract_status.specs.Standing.{StandFor};
+
+    /// The outputs of a program before the first row, with 0 for each next time. It takes all its memory at once.
+    pub fn make(alloc: Global, checked: &Checked) -> Result<Outs, AllocError>
+        ensures start { IfOk result (λ outs. outs ≡ replicate (length checked.now.outs) 0) }
+        ensures drained { IfOk result (λ outs. outs ≡ known_counts_of checked.now []) }
+        ensures placed { IfOk result (ArePlaced checked.now []) }
+    {
+        let times = vec![in alloc; 0; checked.program().outs.len()]?;
+        Ok(Outs { times })
+    }
+
+    /// The first report that is open after `n` rows, one for each time. `None` exactly where none is open.
+    pub fn next(&mut self, checked: &Checked, ft: &Ft, pt: &Pt, n: u64) -> Option<Report>
+        requires early { n ≤ 2 ^ 40 }
+        requires stands { (rows : List Row) × StandFor checked.now rows n ft.now pt.now self.old }
+        ensures first { (rows : List Row) → StandFor checked.now rows n ft.now pt.now self.old → GivesFirst each checked.now rows self.old self.new result }
+        ensures placed { (rows : List Row) → StandFor checked.now rows n ft.now pt.now self.old → ArePlaced checked.now rows self.new }
+        ensures none { IsNone result → self.new ≡ self.old }
+        ensures moved { IfSome result (λ report. self.new ≡ slice_set self.old report.out (report.time + 1)) }
+        ensures exists { IfSome result (λ report. report.out < length checked.now.outs) }
+        ensures taken { IfSome result (λ report. report.time < n) }
+        ensures fewer { IfSome result (λ _. times_left n self.new < times_left n self.old) }
+    {
+        let engines = Engines { ft, pt, rows: n };
+        tell_first(Style::Each, checked.program(), &engines, &mut self.times)
+    }
+
+    /// The first report that is open after `n` rows, one for each longest stretch of one word. `None` exactly where
+    /// none is open.
+    pub fn next_run(&mut self, checked: &Checked, ft: &Ft, pt: &Pt, n: u64) -> Option<Report>
+        requires early { n ≤ 2 ^ 40 }
+        requires stands { (rows : List Row) × StandFor checked.now rows n ft.now pt.now self.old }
+        ensures first { (rows : List Row) → StandFor checked.now rows n ft.now pt.now self.old → GivesFirst runs checked.now rows self.old self.new result }
+        ensures placed { (rows : List Row) → StandFor checked.now rows n ft.now pt.now self.old → ArePlaced checked.now rows self.new }
+        ensures none { IsNone result → self.new ≡ self.old }
+        ensures moved { IfSome result (λ report. self.new ≡ slice_set self.old report.out (report.time + 1)) }
+        ensures exists { IfSome result (λ report. report.out < length checked.now.outs) }
+        ensures taken { IfSome result (λ report. report.time < n) }
+        ensures fewer { IfSome result (λ _. times_left n self.new < times_left n self.old) }
+    {
+        let engines = Engines { ft, pt, rows: n };
+        tell_first(Style::Runs, checked.program(), &engines, &mut self.times)
+    }
+
+    /// Whether no report is open after `n` rows, in either style.
+    pub fn drained(&self, checked: &Checked, ft: &Ft, pt: &Pt, n: u64) -> bool
+        requires stands { (rows : List Row) × StandFor checked.now rows n ft.now pt.now self.now }
+        ensures drained { (style : Form) (rows : List Row) → StandFor checked.now rows n ft.now pt.now self.now → IsTrue result ↔ (open_of style checked.now rows self.now ≡ []) }
+    {
+        let engines = Engines { ft, pt, rows: n };
+        engines.first_open(checked.program(), &self.times).is_none()
+    }
+}
