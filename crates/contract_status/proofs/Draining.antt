@@ -1,9 +1,8 @@
 -- Places once all reports were given, and after the row that follows.
 
-use Rattle.std.proofs.Common.{◌≡◌, ℕ, zero, suc, ◌+◌, ◌-◌, ◌<◌, ◌≤◌, List, [], ◌∷◌, ◌++◌, length, map, drop, slice_get, slice_index, slice_index_or, refl, sym, ap, subst, ◌∙◌, le_refl, arith, length-append}
+use Rattle.std.proofs.Common.{◌≡◌, ℕ, zero, suc, ◌+◌, ◌<◌, ◌≤◌, List, [], ◌∷◌, ◌++◌, length, drop, slice_get, slice_index, refl, ap, subst, ◌∙◌, le_refl, arith, length-append}
 use Rattle.std.specs.Prelude.{Some, Contains}
 use Rattle.std.proofs.lemmas.List.{get_or_default, length-drop, length-map}
-use Rattle.std.proofs.lemmas.Option.{slice_get_within}
 use Rattle.mltl_base.specs.declared.interval.Engine.TheVariants.{Ft, Pt}
 use Rattle.mltl_base.specs.declared.program.Out.{Out}
 use Rattle.mltl_base.specs.declared.program.Out.TheVariants.{Formula, Contract}

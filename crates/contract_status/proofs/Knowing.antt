@@ -1,6 +1,6 @@
 -- What the engines show is what is known.
 
-use Rattle.std.proofs.Common.{◌≡◌, ℕ, zero, suc, ◌+◌, ◌-◌, ◌<◌, ◌≤◌, ◌⊎◌, inl, inr, min, Bool, true, false, Option, Some, None, List, [], ◌∷◌, ◌++◌, length, map, slice_get, refl, sym, ap, ◌∙◌, arith}
+use Rattle.std.proofs.Common.{◌≡◌, ℕ, zero, suc, ◌+◌, ◌-◌, ◌<◌, ◌≤◌, inl, inr, min, Bool, true, false, Option, Some, None, List, [], ◌∷◌, ◌++◌, length, slice_get, refl, sym, ap, ◌∙◌, arith}
 use Rattle.std.proofs.lemmas.Bool.{cases_lt}
 use Rattle.std.proofs.lemmas.List.{length-map}
 use Rattle.std.proofs.lemmas.Option.{slice_get_past, slice_get-map}
@@ -17,7 +17,7 @@ use Rattle.mltl_base.specs.Reports.{formula, contract, status, status_of, word_o
 use Rattle.mltl_base.specs.Settled.{IsPast}
 use Rattle.mltl_base.specs.Verdicts.{known_front, verdicts}
 use Rattle.mltl_base.proofs.Bounds.{past_known, verdict_within, verdicts_fit}
-use Rattle.mltl_base.proofs.Fronts.{front_ends, front_fits}
+use Rattle.mltl_base.proofs.Fronts.{front_ends}
 use Rattle.mltl_base.proofs.Unique.{front_unknown, front_value}
 use Rattle.scq_ring.specs.declared.Seen.{Seen}
 use Rattle.scq_ring.specs.declared.Seen.TheVariants.{Run, Nothing}

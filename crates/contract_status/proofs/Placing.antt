@@ -1,15 +1,15 @@
 -- Places of outputs after some rows: what an output reads from its place on is kept.
 
-use Rattle.std.proofs.Common.{◌≡◌, ℕ, zero, suc, ◌+◌, ◌-◌, ◌<◌, ◌≤◌, ◌⊎◌, inl, inr, max, Bool, true, Option, Some, None, List, [], ◌∷◌, ◌++◌, All, length, map, slice_get, slice_index, slice_index_or, refl, sym, ap, subst, ◌∙◌, arith, length-append, zero-add}
+use Rattle.std.proofs.Common.{◌≡◌, ℕ, ◌+◌, ◌<◌, ◌≤◌, ◌⊎◌, inl, inr, Some, List, [], ◌∷◌, ◌++◌, length, map, slice_get, slice_index, slice_index_or, refl, ap, subst, ◌∙◌, arith, length-append}
 use Rattle.std.proofs.lemmas.List.{get_or-append-add, get_or-map, length-map}
 use Rattle.std.proofs.lemmas.Option.{get_or_from_slice_get, slice_get_within}
 use Rattle.mltl_base.specs.declared.interval.Engine as engine
 use Rattle.mltl_base.specs.declared.program.Out as out
 use Rattle.mltl_base.specs.declared.program.Program.{Program}
 use Rattle.mltl_base.specs.Atoms.{Row, Atom}
-use Rattle.mltl_base.specs.Formula.{Formula, plain, core_wpd, ctrue, wpd}
+use Rattle.mltl_base.specs.Formula.{plain, core_wpd, ctrue, wpd}
 use Rattle.mltl_base.specs.Programs.{atoms, formula_at, formulas, output_of}
-use Rattle.mltl_base.specs.Queues.{NamesInstructions, box_counts, operands, queue_lengths, readers, reported, widest, worst_delays, worst_of}
+use Rattle.mltl_base.specs.Queues.{NamesInstructions, operands, readers, reported, widest, worst_delays, worst_of}
 use Rattle.mltl_base.specs.Reports.{delay}
 use Rattle.mltl_base.proofs.Bounds.{past_at_once}
 use Rattle.mltl_base.proofs.Words.{words_in_time}
@@ -20,10 +20,9 @@ use Rattle.obs_verify.specs.WellFormed.{IsWellFormed}
 use Rattle.obs_verify.proofs.RunLaws.{all_named}
 use Rattle.ft_engine.specs.declared.Ft.{Ft as FutureEngine}
 use Rattle.ft_engine.specs.Standing as future
-use Rattle.pt_boxes.specs.Standing as past
 use Rattle.contract_status.specs.declared.engines.Engines.{Engines}
-use Rattle.contract_status.specs.Open.{ArePlaced, known_counts_of}
-use Rattle.contract_status.specs.Stretches.{CanRead, CanReport, HaveTaken, known_words}
+use Rattle.contract_status.specs.Open.{ArePlaced}
+use Rattle.contract_status.specs.Stretches.{CanReport, HaveTaken}
 use Rattle.contract_status.proofs.Knowing.{formula_past}
 use Rattle.contract_status.proofs.Stretching.{count_at}
 

@@ -161,6 +161,13 @@ fn future(alloc: Global, ops: &[FtOp], slots: &[u32]) -> Result<Checked, Fail> {
     program_of(alloc, ops, slots, &[], &[], outs)
 }
 
+/// F[0,2] p as f
+fn finally(alloc: Global) -> Result<Checked, Fail> {
+    let until = FtOp::Until(0, 1, Interval { lo: 0, hi: 2 });
+    let ops = [FtOp::True, FtOp::Load(0), until];
+    future(alloc, &ops, &[1, 1, 3])
+}
+
 /// p => F[0,1] q
 fn promise(alloc: Global) -> Result<Checked, Fail> {
     let until = FtOp::Until(1, 2, Interval { lo: 0, hi: 1 });
@@ -182,19 +189,22 @@ fn around(alloc: Global) -> Result<Checked, Fail> {
 }
 
 #[test]
-fn a_formula_is_told_as_soon_as_it_is_known(rt: HostRuntime) -> Result<(), Fail> {
+fn each_row_tells_a_truth(rt: HostRuntime) -> Result<(), Fail> {
     let alloc = rt.alloc();
-    // p
-    let now = future(alloc, &[FtOp::Load(0)], &[1])?;
+    let checked = future(alloc, &[FtOp::Load(0)], &[1])?;
     let lines = b"f:0,T\n;f:1,F\n;";
-    assert!(rt; is_told(alloc, &now, Style::Each, b"10", lines)?);
-    assert!(rt; is_told(alloc, &now, Style::Runs, b"10", lines)?);
-    // F[0,2] p
-    let until = FtOp::Until(0, 1, Interval { lo: 0, hi: 2 });
-    let soon = future(alloc, &[FtOp::True, FtOp::Load(0), until], &[1, 1, 3])?;
+    assert!(rt; is_told(alloc, &checked, Style::Each, b"10", lines)?);
+    assert!(rt; is_told(alloc, &checked, Style::Runs, b"10", lines)?);
+    Ok(())
+}
+
+#[test]
+fn a_run_of_one_row_is_told_once(rt: HostRuntime) -> Result<(), Fail> {
+    let alloc = rt.alloc();
+    let checked = finally(alloc)?;
     let lines = b";;f:0,T\nf:1,T\nf:2,T\n;;";
-    assert!(rt; is_told(alloc, &soon, Style::Each, b"0010", lines)?);
-    assert!(rt; is_told(alloc, &soon, Style::Runs, b"0010", b";;f:2,T\n;;")?);
+    assert!(rt; is_told(alloc, &checked, Style::Each, b"0010", lines)?);
+    assert!(rt; is_told(alloc, &checked, Style::Runs, b"0010", b";;f:2,T\n;;")?);
     Ok(())
 }
 

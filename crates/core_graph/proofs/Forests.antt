@@ -212,10 +212,6 @@ one_place items f (two l t u) i j h g =
     let e : p.right ≡ q.right = one_place items f u p.right q.right p.has_right q.has_right in
     same_place items i j f h.within g.within (p.label ∙ sym q.label) (p.operands ∙ (ap₂ Two d e ∙ sym q.operands))
 
--- no items, and a new item behind others
-pub forest_nil : IsForest []
-forest_nil = record { over = λ i item e. cc; once = λ i j item e g. cc }
-
 pub grows_same : (items : List Item) → IsForest items → Grows items items
 grows_same items f = record { forest = f; kept = λ n tree h. h }
 
@@ -247,13 +243,6 @@ grows_push items item f below new = record {
         within = omega (arith, length_push items item);
         is = tree_kept items (item ∷ []) n inside ∙ h.is;
       };
-}
-
-pub has_new : (items : List Item) (item : Item) → Has (items ++ item ∷ []) (length items) (tree_of (trees items) item)
-has_new items item = record {
-  within = omega (arith, length_push items item);
-  is = ap (λ ts. tree_at ts (length items)) (trees_push items item)
-      ∙ get_or_push (trees items) (tree_of (trees items) item) (leaf (sign true_sign)) (length items) (length-trees items);
 }
 
 pub has_there : (items : List Item) (n : ℕ) (item : Item) → IsForest items → slice_get items n ≡ Some item → Has items n (tree_of (trees items) item)

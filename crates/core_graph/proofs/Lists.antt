@@ -1,7 +1,7 @@
 -- Lists of items: those of a part in order, and their places.
 
-use Rattle.std.proofs.Common.{◌≡◌, ◌≢◌, ℕ, ◌+◌, ◌<◌, ◌≤◌, Bool, true, false, not, if◌then◌else◌, Some, List, [], ◌∷◌, ◌++◌, All, filter, flat_map, length, map, take, drop, get_or, set, slice_get, slice_index, refl, sym, subst, ap, ◌∙◌, append-nil, arith, inl, inr}
-use Rattle.std.proofs.lemmas.List.{length-take-le, map-append, take_more, take_all, take-append-drop, flat_map_more, get_or-set_same, get_or-set_other}
+use Rattle.std.proofs.Common.{◌≡◌, ◌≢◌, ℕ, ◌+◌, ◌<◌, Bool, true, false, not, if◌then◌else◌, Some, List, [], ◌∷◌, ◌++◌, All, filter, length, map, take, drop, get_or, set, slice_get, slice_index, refl, sym, subst, ap, ◌∙◌, append-nil, arith, inl, inr}
+use Rattle.std.proofs.lemmas.List.{length-take-le, map-append, take_more, take-append-drop, get_or-set_same, get_or-set_other}
 use Rattle.std.proofs.lemmas.List.Elements.{filter-append}
 use Rattle.std.proofs.lemmas.Option.{slice_get-map, slice_get-get_or, slice_get_within, get_or_from_slice_get}
 use Rattle.std.specs.Option.{option_map}
@@ -42,9 +42,6 @@ pub map_more : {X Y : Type 0} (f : X → Y) (xs : List X) (i : ℕ) (x : X) → 
 map_more f xs i x l e =
     ap (map f) (take_more xs i x l ∙ ap (λ y. take i xs ++ y ∷ []) e) ∙ map-append f (take i xs) (x ∷ [])
 
-pub map_all : {X Y : Type 0} (f : X → Y) (xs : List X) (i : ℕ) → length xs ≤ i → map f (take i xs) ≡ map f xs
-map_all f xs i l = ap (map f) (take_all i xs l)
-
 pub filter_more : (p : ℕ → Bool) (xs : List ℕ) (i x : ℕ) → i < length xs → get_or xs i x ≡ x → filter p (take (i + 1) xs) ≡ filter p (take i xs) ++ (if p x then x ∷ [] else [])
 filter_more p xs i x l e =
     ap (filter p) (take_more xs i x l ∙ ap (λ y. take i xs ++ y ∷ []) e) ∙ filter-append p (take i xs) (x ∷ [])
@@ -60,11 +57,6 @@ kept_no b x old e = rw e (sym (append-nil old))
 
 pub map_kept : {Y : Type 0} (f : ℕ → Y) (xs : List ℕ) (i x : ℕ) (y : Y) (old new : List Y) → i < length xs → get_or xs i x ≡ x → old ≡ map f (take i xs) → new ≡ old ++ y ∷ [] → y ≡ f x → new ≡ map f (take (i + 1) xs)
 map_kept f xs i x y old new l e h g q = g ∙ (ap (λ ys. ys ++ y ∷ []) h ∙ (ap (λ z. map f (take i xs) ++ z ∷ []) q ∙ sym (map_more f xs i x l e)))
-
-pub flat_more : {X Y : Type 0} (f : X → List Y) (xs : List X) (i : ℕ) (x : X) (old new : List Y) → i < length xs → get_or xs i x ≡ x → old ≡ flat_map f (take i xs) → new ≡ old ++ f x → new ≡ flat_map f (take (i + 1) xs)
-flat_more f xs i x old new l e h g =
-    g ∙ (ap (λ ys. ys ++ f x) h ∙ (flat_map_more f [] (take i xs) x
-    ∙ ap (flat_map f) (sym (take_more xs i x l ∙ ap (λ y. take i xs ++ y ∷ []) e))))
 
 -- the members of a part
 map_filter : (p : Tree → Bool) (f : ℕ → Tree) (xs : List ℕ) → map f (filter (λ n. p (f n)) xs) ≡ filter p (map f xs)
@@ -128,12 +120,6 @@ place_more ids places i id l e o w h m n g =
           let same : m ≡ i = at ∙ size in
           ap (slice_index (set places id i)) (sym p.1) ∙ (here ∙ sym same)
     ]
-
-pub no_place : (places ids : List ℕ) (m n : ℕ) → slice_get (take 0 ids) m ≡ Some n → slice_index places n ≡ m
-no_place places ids m n e = cc
-
-pub all_places : (ids places : List ℕ) (i : ℕ) → length ids ≤ i → ((m n : ℕ) → slice_get (take i ids) m ≡ Some n → slice_index places n ≡ m) → (m n : ℕ) → slice_get ids m ≡ Some n → slice_index places n ≡ m
-all_places ids places i l h m n e = h m n (subst (λ ns. slice_get ns m ≡ Some n) (sym (take_all i ids l)) e)
 
 pub get_within : (items : List Item) (ids : List ℕ) → All (λ n. n < length items) ids → (i n : ℕ) → slice_get ids i ≡ Some n → n < length items
 get_within items ids h i n e =

@@ -1,8 +1,8 @@
 -- Items of plain nodes: what is read of a node, given what is read of those before it.
 
-use Rattle.std.proofs.Common.{◌≡◌, ℕ, ℤ, ◌+◌, ◌<◌, ◌≤◌, Bool, true, false, Some, List, [], ◌∷◌, ◌++◌, length, take, get_or, slice_get, slice_index, refl, sym, subst, ap, ap₂, ◌∙◌, arith, inl, inr}
+use Rattle.std.proofs.Common.{◌≡◌, ℕ, ℤ, ◌+◌, ◌<◌, Bool, true, false, Some, List, [], ◌∷◌, ◌++◌, length, take, get_or, slice_get, slice_index, refl, sym, subst, ap, ap₂, ◌∙◌, arith, inl, inr}
 use Rattle.std.specs.Prelude.{Result, IfOk}
-use Rattle.std.proofs.lemmas.List.{length_push, take_more, take_all}
+use Rattle.std.proofs.lemmas.List.{length_push, take_more}
 use Rattle.std.proofs.lemmas.Option.{slice_get-get_or, same_Some}
 use Rattle.mltl_base.specs.declared.operators.ArithOp as arith_op
 use Rattle.mltl_base.specs.declared.operators.CompareOp as compare
@@ -20,7 +20,7 @@ use Rattle.plain_nodes.proofs.Pushing as pushing
 use Rattle.core_graph.specs.declared.item.Item.{Item}
 use Rattle.core_graph.specs.declared.item.Item.TheVariants as item
 use Rattle.core_graph.specs.Trees.{negative_sign, load_sign, sign, one, two, leaf, truth_in}
-use Rattle.core_graph.specs.Items.{arith_sign, tree_at, tree_of, trees, Has, IsForest, Grows}
+use Rattle.core_graph.specs.Items.{arith_sign, tree_at, tree_of, trees, Has, Grows}
 use Rattle.core_graph.specs.Images.{of_term, of_core}
 use Rattle.core_graph.specs.Reading.{Stands, AreRead}
 use Rattle.core_graph.proofs.Outputs.{number_there, formula_there}
@@ -168,13 +168,6 @@ stands_kept : (columns : List ℕ) (old new : List Item) (n : ℕ) (tree : plain
 stands_kept columns old new n (plain.number a) g h = g.kept n (of_term (term_over columns a)) h
 stands_kept columns old new n (plain.formula p) g h = g.kept n (of_core (core (formula_over columns p))) h
 
-pub none_read : (columns : List ℕ) (items : List Item) (nodes : List Plain) (ids : List ℕ) → IsForest items → ids ≡ [] → AreRead columns items (take 0 nodes) ids
-none_read columns items nodes ids f e = subst (λ ns. AreRead columns items (take 0 nodes) ns) (sym e) (record {
-  forest = f;
-  count = refl;
-  stand = λ n id tree g h. cc;
-})
-
 pub one_read : (columns : List ℕ) (old new : List Item) (nodes : List Plain) (i : ℕ) (ids more : List ℕ) (id : ℕ) → i < length nodes → AreRead columns old (take i nodes) ids → Grows old new →
     ((node : Plain) → slice_get nodes i ≡ Some node → Stands columns new id (plain.tree_of (plain.trees (take i nodes)) node)) → more ≡ ids ++ id ∷ [] → AreRead columns new (take (i + 1) nodes) more
 one_read columns old new nodes i ids more id l r g h e =
@@ -203,6 +196,3 @@ one_read columns old new nodes i ids more id l r g h e =
       ];
     } in
     subst (λ ns. AreRead columns new (take (i + 1) nodes) ns) (sym e) whole
-
-pub all_read : (columns : List ℕ) (items : List Item) (nodes : List Plain) (i : ℕ) (ids : List ℕ) → length nodes ≤ i → AreRead columns items (take i nodes) ids → AreRead columns items nodes ids
-all_read columns items nodes i ids l r = subst (λ ns. AreRead columns items ns ids) (take_all i nodes l) r

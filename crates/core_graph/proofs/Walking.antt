@@ -2,8 +2,7 @@
 
 use Rattle.std.proofs.Common.{◌≡◌, ◌≢◌, ℕ, zero, suc, ◌+◌, ◌-◌, ◌*◌, ◌<◌, ◌≤◌, Bool, true, false, ◌||◌, None, Some, List, [], ◌∷◌, ◌++◌, length, take, replicate, get_or, set, slice_get, refl, sym, subst, ap, ◌∙◌, arith, inl, inr}
 use Rattle.std.proofs.lemmas.Bool.{true≢false, cases_eq}
-use Rattle.std.proofs.lemmas.List.{length-set, length_push, length-replicate, map-append, take_at, take_more}
-use Rattle.std.proofs.lemmas.List.Sums.{fold_push}
+use Rattle.std.proofs.lemmas.List.{length-set, length_push, length-replicate, map-append, take_at}
 use Rattle.std.proofs.lemmas.Option.{slice_get_within, slice_get-get_or, same_Some, none-some}
 use Rattle.mltl_base.specs.Subformulas.{listed}
 use Rattle.mltl_base.proofs.Listing.{listed_end}
@@ -11,7 +10,7 @@ use Rattle.plain_nodes.proofs.Places.{at_push, get_left}
 use Rattle.core_graph.specs.declared.item.Item.{Item}
 use Rattle.core_graph.specs.declared.item.Operands.{Operands}
 use Rattle.core_graph.specs.declared.item.Operands.TheVariants.{Zero, One, Two}
-use Rattle.core_graph.specs.Trees.{Label, Tree, one, two, same_tree, add_tree, completed}
+use Rattle.core_graph.specs.Trees.{Label, Tree, one, two, same_tree, add_tree}
 use Rattle.core_graph.specs.Items.{label_of, operands_of, tree_at, joined, tree_of, trees, Has, AreBelow, IsForest}
 use Rattle.core_graph.specs.Walks.{trees_of, HasOperands, IsClosed, IsWalk, AreDone, IsFirstOpen, Descends, IsStack, finish, height, open_count, work}
 use Rattle.core_graph.proofs.Forests.{tree_here, one_place}
@@ -334,17 +333,6 @@ pub done_already : (items : List Item) (order : List ℕ) (done : List Bool) (ro
     trees_of items order ≡ add_tree (tree_at (trees items) root) (trees_of items order)
 done_already items order done root w l h =
     sym (tree_again (tree_at (trees items) root) (trees_of items order) w.closed (told_at items order done root true w l h))
-
--- one more root
-pub one_more : (items : List Item) (roots : List ℕ) (i root : ℕ) (old new : List ℕ) → i < length roots → get_or roots i root ≡ root →
-    trees_of items old ≡ completed (trees_of items (take i roots)) → trees_of items new ≡ add_tree (tree_at (trees items) root) (trees_of items old) →
-    trees_of items new ≡ completed (trees_of items (take (i + 1) roots))
-one_more items roots i root old new l e h g =
-    let next : take (i + 1) roots ≡ take i roots ++ root ∷ [] = take_more roots i root l ∙ ap (λ n. take i roots ++ n ∷ []) e in
-    let treed : trees_of items (take (i + 1) roots) ≡ trees_of items (take i roots) ++ tree_at (trees items) root ∷ []
-    = ap (trees_of items) next ∙ trees_push items (take i roots) root in
-    g ∙ (ap (add_tree (tree_at (trees items) root)) h
-    ∙ sym (ap completed treed ∙ fold_push (λ us t. add_tree t us) [] (trees_of items (take i roots)) (tree_at (trees items) root)))
 
 pub below_length : (n m : ℕ) (o : Operands) → n < m → AreBelow n o → AreBelow m o
 below_length n m Zero l h = tt

@@ -1,4 +1,4 @@
-use Rattle.std.proofs.Common.{◌≡◌, ◌≤◌, length, decimal, ap, arith, ◌∙◌}
+use Rattle.std.proofs.Common.{◌≤◌, length, decimal, ap, arith, ◌∙◌}
 use Rattle.std.proofs.lemmas.Fmt.{length-decimal-le}
 use Rattle.contract_status.proofs.line.add_number.Goals as goal
 

@@ -1,11 +1,11 @@
-use Rattle.std.proofs.Common.{◌≡◌, ℕ, map, List, [], ◌∷◌, ◌++◌, decimal, slice_get, slice_index_or, Some, ap, sym, ◌∙◌, append_assoc}
+use Rattle.std.proofs.Common.{◌≡◌, ℕ, map, List, [], ◌++◌, decimal, slice_get, slice_index_or, Some, ap, sym, ◌∙◌, append_assoc}
 use Rattle.std.specs.Prelude.{codes}
 use Rattle.std.proofs.lemmas.List.{get_or-map}
 use Rattle.std.proofs.lemmas.Option.{get_or_from_slice_get, slice_get_within}
 use Rattle.mltl_base.specs.declared.program.Out.{Out}
 use Rattle.mltl_base.specs.declared.program.Program.{Program}
 use Rattle.mltl_base.specs.declared.report.Report.{Report}
-use Rattle.mltl_base.specs.Lines.{line, line_with, word_text}
+use Rattle.mltl_base.specs.Lines.{line_with, word_text}
 use Rattle.mltl_base.specs.Programs.{name_of}
 use Rattle.contract_status.proofs.line.line_of.Goals as goal
 

@@ -1,4 +1,4 @@
-use Rattle.std.proofs.Common.{◌≡◌, ◌+◌, ◌<◌, ◌≤◌, List, length, slice_index, arith, sym}
+use Rattle.std.proofs.Common.{◌+◌, arith}
 use Rattle.std.proofs.lemmas.Option.{slice_get_within}
 use Rattle.contract_status.proofs.Moving.{fewer_left, gives_none, open_here, tells}
 use Rattle.contract_status.proofs.Placing.{readable}

@@ -1,6 +1,6 @@
-use Rattle.std.proofs.Common.{◌≡◌, ◌+◌, ◌<◌, ◌≤◌, length, sym, arith}
+use Rattle.std.proofs.Common.{◌+◌, ◌<◌, ◌≤◌, length, sym, arith}
 use Rattle.mltl_base.specs.contracts.report.Word.{the_type}
-use Rattle.contract_status.specs.Stretches.{ShowsWords, known_words}
+use Rattle.contract_status.specs.Stretches.{known_words}
 use Rattle.contract_status.proofs.Stretching.{lasts_in_rows, lasts_more, lasts_within, longest_at_end, longest_before}
 use Rattle.contract_status.proofs.engines.Engines.last_alike.Goals as goal
 use denote.Enum.Bare.{differs_true, differs_false}
