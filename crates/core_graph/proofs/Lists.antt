@@ -1,10 +1,11 @@
 -- Lists of items: those of a part in order, and their places.
 
 use Rattle.std.proofs.Common.{◌≡◌, ◌≢◌, ℕ, ◌+◌, ◌<◌, Bool, true, false, not, if◌then◌else◌, Some, List, [], ◌∷◌, ◌++◌, All, filter, length, map, take, drop, get_or, set, slice_get, slice_index, refl, sym, subst, ap, ◌∙◌, append-nil, arith, inl, inr}
-use Rattle.std.proofs.lemmas.List.{length-take-le, map-append, take_more, take-append-drop, get_or-set_same, get_or-set_other}
+use Rattle.std.proofs.lemmas.List.{length-take-le, length-map, map-append, take_more, take-append-drop, get_or-set_same, get_or-set_other}
 use Rattle.std.proofs.lemmas.List.Elements.{filter-append}
 use Rattle.std.proofs.lemmas.Option.{slice_get-map, slice_get-get_or, slice_get_within, get_or_from_slice_get}
 use Rattle.std.specs.Option.{option_map}
+use mir.Val.{bool_byte}
 use Rattle.mltl_base.specs.declared.interval.Part.{Part}
 use Rattle.mltl_base.specs.declared.interval.Part.TheVariants.{Bz, Ft, Pt}
 use Rattle.mltl_base.proofs.Unfolding.{Each, each_from_all}
@@ -15,9 +16,10 @@ use Rattle.core_graph.specs.declared.item.Operands.TheVariants.{Zero, One, Two}
 use Rattle.core_graph.specs.Trees.{Label, Tree, root, completed, is_core_label, is_core_tree}
 use Rattle.core_graph.specs.Items.{label_of, operands_of, joined, tree_at, trees, IsForest}
 use Rattle.core_graph.specs.Walks.{trees_of}
-use Rattle.core_graph.specs.Listings.{is_in, is_item_in, AreOnce}
+use Rattle.core_graph.specs.Listings.{is_in, is_item_in, count_in, AreOnce}
 use Rattle.core_graph.proofs.Forests.{tree_here}
-use Rattle.core_graph.proofs.Orders.{AreDistinct, completed_distinct, distinct_place}
+use Rattle.core_graph.proofs.Orders.{AreDistinct, completed_distinct, count_push, distinct_place}
+use Rattle.core_graph.proofs.Walking.{trees_push}
 use Rattle.core_graph.proofs.Outputs.{all_from_each}
 
 -- an item is of the part of its tree
@@ -36,6 +38,16 @@ item_part part items n item f e = go part
     go Bz = ap not same
     go Ft = same
     go Pt = same
+
+-- one more item counts if it is of the part
+pub counted_push : (part : Part) (items : List Item) (order new : List ℕ) (top : ℕ) (item : Item) (count more : ℕ) → IsForest items → slice_get items top ≡ Some item → new ≡ order ++ top ∷ [] →
+    count ≡ count_in part (trees_of items order) → more ≡ bool_byte (is_item_in part item) → count + more ≡ count_in part (trees_of items new)
+counted_push part items order new top item count more f e p h g =
+    let one_more : count_in part (trees_of items order) + bool_byte (is_in part (tree_at (trees items) top)) ≡ count_in part (trees_of items order ++ tree_at (trees items) top ∷ [])
+    = count_push (is_in part) (tree_at (trees items) top) (trees_of items order) in
+    ap (λ n. n + more) h
+    ∙ (ap (λ n. count_in part (trees_of items order) + n) (g ∙ ap bool_byte (item_part part items top item f e))
+    ∙ (one_more ∙ ap (count_in part) (sym (ap (trees_of items) p ∙ trees_push items order top))))
 
 -- one more member of a list
 pub map_more : {X Y : Type 0} (f : X → Y) (xs : List X) (i : ℕ) (x : X) → i < length xs → get_or xs i x ≡ x → map f (take (i + 1) xs) ≡ map f (take i xs) ++ f x ∷ []
@@ -85,6 +97,10 @@ pub part_trees : (items : List Item) (part : Part) (roots order ids : List ℕ) 
     trees_of items ids ≡ filter (is_in part) (completed (trees_of items roots))
 part_trees items part roots order ids h e =
     ap (trees_of items) e ∙ (map_filter (is_in part) (tree_at (trees items)) order ∙ ap (filter (is_in part)) h)
+
+pub part_size : (items : List Item) (part : Part) (order ids : List ℕ) → ids ≡ filter (λ n. is_in part (tree_at (trees items) n)) order → length ids ≡ count_in part (trees_of items order)
+part_size items part order ids e =
+    sym (length-map ids (tree_at (trees items))) ∙ ap length (ap (trees_of items) e ∙ map_filter (is_in part) (tree_at (trees items)) order)
 
 tree_there : (items : List Item) (ids : List ℕ) (i n : ℕ) → slice_get ids i ≡ Some n → slice_get (trees_of items ids) i ≡ Some (tree_at (trees items) n)
 tree_there items ids i n e = slice_get-map (tree_at (trees items)) ids i ∙ ap (option_map (tree_at (trees items))) e

@@ -40,6 +40,10 @@ is_item_in Bz item = not (is_formula item)
 is_item_in Ft item = is_formula item
 is_item_in Pt item = is_formula item
 
+-- how many of the trees become instructions of the part
+abbrev pub count_in : Part → List Tree → ℕ
+count_in part ts = length (filter (is_in part) ts)
+
 -- the output names the first n nodes
 abbrev pub NamesNodes : ℕ → PlainOut → Type 0
 NamesNodes n (Formula e a name) = a < n

@@ -9,7 +9,6 @@ use crate::forest::Forest;
 use crate::graph::GraphFault;
 use crate::item::Item;
 use crate::walk::completion;
-use mltl_base::limits::MAX_INSTRUCTIONS;
 use mltl_base::{Engine, Part};
 use plain_nodes::PlainOut;
 use std::alloc::{AllocError, Global};
@@ -33,7 +32,7 @@ fn asks(part: Part, engine: Engine) -> bool
 }
 
 /// Whether an item becomes an instruction of a part.
-fn is_in(part: Part, item: Item) -> bool
+pub fn is_in(part: Part, item: Item) -> bool
     ensures { result ≡ is_item_in part item }
 {
     match part {
@@ -102,11 +101,8 @@ pub fn list(
         → MAX_INSTRUCTIONS < length (listed_trees forest.now part ids.now outs.now) }
 {
     let roots = roots(alloc, outs, ids, part)?;
-    let order = completion(alloc, forest, &roots)?;
+    let order = completion(alloc, forest, &roots, part)?;
     let listed = select(alloc, forest, &order, part)?;
-    if listed.len() > MAX_INSTRUCTIONS as usize {
-        return Err(GraphFault::TooManyNodes);
-    }
     let places = places(alloc, &listed, forest.len())?;
     Ok(Listing {
         ids: listed,
