@@ -1,0 +1,7 @@
+pub mod Declaring
+pub mod Gates
+pub mod Later
+pub mod Loops
+pub mod Members
+pub mod Nodes
+pub mod Parts

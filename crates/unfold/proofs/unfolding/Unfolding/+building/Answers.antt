@@ -1,0 +1,312 @@
+use Rattle.std.proofs.Common.{◌≡◌, ◌+◌, ◌-◌, ◌<◌, ℕ, false, Some, List, map, refl, sym, subst, ap, ◌∙◌, take, length, get_or, slice_get, sum_by, arith}
+use Rattle.std.proofs.lemmas.List.{take_all, length_push, length-map}
+use Rattle.std.proofs.lemmas.Option.{slice_get_within}
+use Rattle.std.proofs.lemmas.Result.{err_from_is_err_and}
+use Rattle.mltl_base.specs.declared.operators.LogicOp.TheVariants.{And, Or}
+use Rattle.count_sets.specs.Counting.{counting}
+use Rattle.plain_nodes.specs.Nodes.{Has, formula}
+use Rattle.c2po_tree.specs.Shape.{shape, node_shape}
+use Rattle.unfold.specs.declared.values.Place.TheVariants.{Node}
+use Rattle.unfold.specs.declared.values.Stored.{Stored}
+use Rattle.unfold.specs.Values.{weight, members, formula_of, truth_value, joined_all, counted, counted_formula, counting_weight}
+use Rattle.unfold.specs.Environment.{value_of, bind}
+use Rattle.unfold.specs.Stands.{Holds, IsLater}
+use Rattle.unfold.specs.Bodies.{HaveFormulas}
+use Rattle.unfold.proofs.Later.{holds_later, fits_later, heads_later, later_then}
+use Rattle.unfold.proofs.Members.{holds_weight, found_at}
+use Rattle.unfold.proofs.Loops.{BuiltSoFar, built_more, weight_within, bodies_of, bodies_count, body_at, member_at, joined_first, joined_one, joined_next, joined_within, sum_within, sum_next, counted_is_some, counted_weight}
+use Rattle.unfold.proofs.Gates.{CountedSoFar, are_push, are_grows, have_grows, have_next}
+use Rattle.unfold.proofs.unfolding.Unfolding.+building.Goals as goal
+
+pub build_two-returns-clause-left : goal.build_two-returns-clause-left
+build_two-returns-clause-left t c = λ env h.
+    holds_later (value_of (shape c.args.a.now) env) c.build.new.self c.build-2.new.self c.in_ok-left.left c.in_ok-right.ensures.later
+    (c.in_ok-left.ensures.holds env h)
+
+pub build_two-returns-clause-right : goal.build_two-returns-clause-right
+build_two-returns-clause-right t c = λ env h.
+    c.in_ok-right.ensures.holds env (fits_later c.args.scope.now c.args.self.now c.build.new.self env c.in_ok-left.ensures.later h)
+
+pub build_two-returns-in_err-right-clause-heavy : goal.build_two-returns-in_err-right-clause-heavy
+build_two-returns-in_err-right-clause-heavy t c = λ env h.
+    let p = err_from_is_err_and c.from_residual-in_err-right.result c.from_residual-in_err-right.ensures.1 in
+    let fits = fits_later c.args.scope.now c.args.self.now c.build.new.self env c.in_ok-left.ensures.later h in
+    rw (p.1, p.2)
+    (λ e. omega (
+      arith,
+      c.in_err-right.ensures.heavy env fits e,
+      holds_weight (value_of (shape c.args.a.now) env) c.build.new.self c.in_ok-left.left (c.in_ok-left.ensures.holds env h),
+    ))
+
+pub quantifier-returns-in_ok-value-in-Each-clause-holds : goal.quantifier-returns-in_ok-value-in-Each-clause-holds
+quantifier-returns-in_ok-value-in-Each-clause-holds t c = λ env h o.
+    let same : value_of (shape c.args.e.now) env ≡ joined_all And (bodies_of c.deref-in-Each.result.now c.in-Each.name env (value_of (shape c.deref.result.now) env)) =
+    ap (λ n. value_of (node_shape c.args.e.now.line n) env) c.in-Each.is
+    ∙ (ap (λ d. joined_all And (bodies_of c.in-Each.body.value c.in-Each.name env (value_of (shape d) env))) (sym c.deref.ensures)
+    ∙ ap (λ d. joined_all And (bodies_of d c.in-Each.name env (value_of (shape c.deref.result.now) env))) (sym c.deref-in-Each.ensures)) in
+    subst (λ w. Holds c.joined_bodies.new.self c.in_ok-value-in-Each.value w) (sym same) (c.in_ok-value-in-Each.ensures.holds env h)
+
+pub quantifier-returns-in_err-value-in-Each-clause-heavy : goal.quantifier-returns-in_err-value-in-Each-clause-heavy
+quantifier-returns-in_err-value-in-Each-clause-heavy t c = λ env h o.
+    let p = err_from_is_err_and c.from_residual-in_err-value-in-Each.result c.from_residual-in_err-value-in-Each.ensures.1 in
+    let same : value_of (shape c.args.e.now) env ≡ joined_all And (bodies_of c.deref-in-Each.result.now c.in-Each.name env (value_of (shape c.deref.result.now) env)) =
+    ap (λ n. value_of (node_shape c.args.e.now.line n) env) c.in-Each.is
+    ∙ (ap (λ d. joined_all And (bodies_of c.in-Each.body.value c.in-Each.name env (value_of (shape d) env))) (sym c.deref.ensures)
+    ∙ ap (λ d. joined_all And (bodies_of d c.in-Each.name env (value_of (shape c.deref.result.now) env))) (sym c.deref-in-Each.ensures)) in
+    rw (p.1, p.2) (λ e. subst (λ w. c.args.room < weight w) (sym same) (c.in_err-value-in-Each.ensures.heavy env h e))
+
+pub quantifier-returns-in_ok-value-in-Exists-clause-holds : goal.quantifier-returns-in_ok-value-in-Exists-clause-holds
+quantifier-returns-in_ok-value-in-Exists-clause-holds t c = λ env h o.
+    let same : value_of (shape c.args.e.now) env ≡ joined_all Or (bodies_of c.deref-in-Exists-2.result.now c.in-Exists.name env (value_of (shape c.deref-in-Exists.result.now) env)) =
+    ap (λ n. value_of (node_shape c.args.e.now.line n) env) c.in-Exists.is
+    ∙ (ap (λ d. joined_all Or (bodies_of c.in-Exists.body.value c.in-Exists.name env (value_of (shape d) env))) (sym c.deref-in-Exists.ensures)
+    ∙ ap (λ d. joined_all Or (bodies_of d c.in-Exists.name env (value_of (shape c.deref-in-Exists.result.now) env))) (sym c.deref-in-Exists-2.ensures)) in
+    subst (λ w. Holds c.joined_bodies-in-Exists.new.self c.in_ok-value-in-Exists.value w) (sym same) (c.in_ok-value-in-Exists.ensures.holds env h)
+
+pub quantifier-returns-in_err-value-in-Exists-clause-heavy : goal.quantifier-returns-in_err-value-in-Exists-clause-heavy
+quantifier-returns-in_err-value-in-Exists-clause-heavy t c = λ env h o.
+    let p = err_from_is_err_and c.from_residual-in_err-value-in-Exists.result c.from_residual-in_err-value-in-Exists.ensures.1 in
+    let same : value_of (shape c.args.e.now) env ≡ joined_all Or (bodies_of c.deref-in-Exists-2.result.now c.in-Exists.name env (value_of (shape c.deref-in-Exists.result.now) env)) =
+    ap (λ n. value_of (node_shape c.args.e.now.line n) env) c.in-Exists.is
+    ∙ (ap (λ d. joined_all Or (bodies_of c.in-Exists.body.value c.in-Exists.name env (value_of (shape d) env))) (sym c.deref-in-Exists.ensures)
+    ∙ ap (λ d. joined_all Or (bodies_of d c.in-Exists.name env (value_of (shape c.deref-in-Exists.result.now) env))) (sym c.deref-in-Exists-2.ensures)) in
+    rw (p.1, p.2) (λ e. subst (λ w. c.args.room < weight w) (sym same) (c.in_err-value-in-Exists.ensures.heavy env h e))
+
+pub quantifier-returns-in_ok-value-in-Count-clause-holds : goal.quantifier-returns-in_ok-value-in-Count-clause-holds
+quantifier-returns-in_ok-value-in-Count-clause-holds t c = λ env h o.
+    let same : value_of (shape c.args.e.now) env ≡ counted c.in-Count.op c.in-Count.number (bodies_of c.deref-in-Count-2.result.now c.in-Count.name env (value_of (shape c.deref-in-Count.result.now) env)) =
+    ap (λ n. value_of (node_shape c.args.e.now.line n) env) c.in-Count.is
+    ∙ (ap (λ d. counted c.in-Count.op c.in-Count.number (bodies_of c.in-Count.body.value c.in-Count.name env (value_of (shape d) env))) (sym c.deref-in-Count.ensures)
+    ∙ ap (λ d. counted c.in-Count.op c.in-Count.number (bodies_of d c.in-Count.name env (value_of (shape c.deref-in-Count.result.now) env))) (sym c.deref-in-Count-2.ensures)) in
+    subst (λ w. Holds c.counted_bodies.new.self c.in_ok-value-in-Count.value w) (sym same) (c.in_ok-value-in-Count.ensures.holds env h)
+
+pub quantifier-returns-in_err-value-in-Count-clause-heavy : goal.quantifier-returns-in_err-value-in-Count-clause-heavy
+quantifier-returns-in_err-value-in-Count-clause-heavy t c = λ env h o.
+    let p = err_from_is_err_and c.from_residual-in_err-value-in-Count.result c.from_residual-in_err-value-in-Count.ensures.1 in
+    let same : value_of (shape c.args.e.now) env ≡ counted c.in-Count.op c.in-Count.number (bodies_of c.deref-in-Count-2.result.now c.in-Count.name env (value_of (shape c.deref-in-Count.result.now) env)) =
+    ap (λ n. value_of (node_shape c.args.e.now.line n) env) c.in-Count.is
+    ∙ (ap (λ d. counted c.in-Count.op c.in-Count.number (bodies_of c.in-Count.body.value c.in-Count.name env (value_of (shape d) env))) (sym c.deref-in-Count.ensures)
+    ∙ ap (λ d. counted c.in-Count.op c.in-Count.number (bodies_of d c.in-Count.name env (value_of (shape c.deref-in-Count.result.now) env))) (sym c.deref-in-Count-2.ensures)) in
+    rw (p.1, p.2) (λ e. subst (λ w. c.args.room < weight w) (sym same) (c.in_err-value-in-Count.ensures.heavy env h e))
+
+pub build_all-returns-in_err-member-clause-heavy : goal.build_all-returns-in_err-member-clause-heavy
+build_all-returns-in_err-member-clause-heavy t c = λ env h.
+    let p = err_from_is_err_and c.from_residual-in_err-member.result c.from_residual-in_err-member.ensures.1 in
+    let fits = fits_later c.args.scope.now c.args.self.now c.loop-e.self env c.loop-e.invariant.later h in
+    rw (p.1, p.2)
+    (λ e. omega (
+      arith,
+      c.in_err-member.ensures.heavy env fits e,
+      c.loop-e.invariant.weight env h,
+      weight_within c.args.es.now c.loop-e.e-index c.e-item.result env (found_at c.args.es.now c.args.es.now c.loop-e.e-index c.e-item.result refl c.loop-e-test.true c.e-item.is),
+    ))
+
+pub build_all-loop-e-preserved : goal.build_all-loop-e-preserved
+build_all-loop-e-preserved t c =
+    subst (λ (done : List Stored). BuiltSoFar c.args.self.now c.build.new.self c.args.scope.now (take (c.loop-e.e-index + 1) c.args.es.now) done c.args.room
+    (c.loop-e.left - c.in_ok-member.member.weight)) (sym c.in_ok-push.ensures.pushed)
+    (built_more c.args.self.now c.loop-e.self c.build.new.self c.args.scope.now c.args.es.now c.loop-e.e-index c.e-item.result c.loop-e.members c.in_ok-member.member
+    c.args.room c.loop-e.left c.loop-e.invariant
+    (found_at c.args.es.now c.args.es.now c.loop-e.e-index c.e-item.result refl c.loop-e-test.true c.e-item.is)
+    c.in_ok-member.ensures.later c.in_ok-member.ensures.holds c.in_ok-member.ensures.light)
+
+pub joined_bodies-returns-in_err-first-clause-heavy : goal.joined_bodies-returns-in_err-first-clause-heavy
+joined_bodies-returns-in_err-first-clause-heavy t c = λ env h.
+    let p = err_from_is_err_and c.from_residual-in_err-first.result c.from_residual-in_err-first.ensures.1 in
+    let s = value_of (shape c.args.set.now) env in
+    let heads = c.in_ok-set.ensures.head env h in
+    let v = get_or (members s) 0 (truth_value false) in
+    let at : slice_get (members s) 0 ≡ Some v = member_at (members s) 0 c.member_count-count.result (c.member_count-count.ensures s heads) (omega arith) in
+    rw (p.1, p.2)
+    (λ e. omega (
+      arith,
+      c.in_err-first.ensures.heavy env s v h heads at e,
+      joined_first c.args.op (bodies_of c.args.body.now c.args.name.now env s) (value_of (shape c.args.body.now) (bind c.args.name.now v env))
+          (body_at c.args.body.now c.args.name.now env s v 0 at),
+    ))
+
+pub joined_bodies-loop-i-init : goal.joined_bodies-loop-i-init
+joined_bodies-loop-i-init t c = record {
+  later = later_then c.args.self.now c.body.new.self c.formula_leaf.new.self c.in_ok-first.ensures.later c.in_ok-all.ensures.later;
+  light = omega (arith, c.in_ok-all.ensures.weight, c.in_ok-first.ensures.light);
+  holds = λ env s h heads.
+      let v = get_or (members s) 0 (truth_value false) in
+      let at : slice_get (members s) 0 ≡ Some v = member_at (members s) 0 c.member_count-count.result (c.member_count-count.ensures s heads) (omega arith) in
+      let w = value_of (shape c.args.body.now) (bind c.args.name.now v env) in
+      subst (λ x. Holds c.formula_leaf.new.self c.in_ok-all.all x)
+      (joined_one c.args.op (bodies_of c.args.body.now c.args.name.now env s) w (body_at c.args.body.now c.args.name.now env s v 0 at))
+      (c.in_ok-all.ensures.holds w (c.in_ok-first.ensures.holds env s v h heads at));
+}
+
+pub joined_bodies-returns-in_err-left-clause-heavy : goal.joined_bodies-returns-in_err-left-clause-heavy
+joined_bodies-returns-in_err-left-clause-heavy t c = λ env h.
+    let p = err_from_is_err_and c.from_residual-in_err-left.result c.from_residual-in_err-left.ensures.1 in
+    let i = c.loop-i.i in
+    let s = value_of (shape c.args.set.now) env in
+    let heads = c.in_ok-set.ensures.head env h in
+    let v = get_or (members s) i (truth_value false) in
+    let at : slice_get (members s) i ≡ Some v = member_at (members s) i c.member_count-count.result (c.member_count-count.ensures s heads) c.loop-i-test.true in
+    let bodies = bodies_of c.args.body.now c.args.name.now env s in
+    let w = value_of (shape c.args.body.now) (bind c.args.name.now v env) in
+    rw (p.1, p.2)
+    (λ e. omega (
+      arith,
+      c.in_err-left.ensures.heavy,
+      c.loop-i.invariant.light,
+      holds_weight (joined_all c.args.op (take i bodies)) c.loop-i.self c.loop-i.all (c.loop-i.invariant.holds env s h heads),
+      joined_within c.args.op bodies i w (body_at c.args.body.now c.args.name.now env s v i at) c.loop-i.auto.i,
+    ))
+
+pub joined_bodies-returns-in_err-next-clause-heavy : goal.joined_bodies-returns-in_err-next-clause-heavy
+joined_bodies-returns-in_err-next-clause-heavy t c = λ env h.
+    let p = err_from_is_err_and c.from_residual-in_err-next.result c.from_residual-in_err-next.ensures.1 in
+    let i = c.loop-i.i in
+    let s = value_of (shape c.args.set.now) env in
+    let heads = c.in_ok-set.ensures.head env h in
+    let v = get_or (members s) i (truth_value false) in
+    let at : slice_get (members s) i ≡ Some v = member_at (members s) i c.member_count-count.result (c.member_count-count.ensures s heads) c.loop-i-test.true in
+    let bodies = bodies_of c.args.body.now c.args.name.now env s in
+    let w = value_of (shape c.args.body.now) (bind c.args.name.now v env) in
+    let fits = fits_later c.args.scope.now c.args.self.now c.loop-i.self env c.loop-i.invariant.later h in
+    let there = heads_later c.in_ok-set.set c.args.self.now c.loop-i.self s c.loop-i.invariant.later heads in
+    rw (p.1, p.2)
+    (λ e. omega (
+      arith,
+      c.in_err-next.ensures.heavy env s v fits there at e,
+      c.in_ok-left.ensures.left,
+      c.loop-i.invariant.light,
+      holds_weight (joined_all c.args.op (take i bodies)) c.loop-i.self c.loop-i.all (c.loop-i.invariant.holds env s h heads),
+      joined_within c.args.op bodies i w (body_at c.args.body.now c.args.name.now env s v i at) c.loop-i.auto.i,
+    ))
+
+pub joined_bodies-loop-i-preserved : goal.joined_bodies-loop-i-preserved
+joined_bodies-loop-i-preserved t c =
+    let i = c.loop-i.i in
+    let now = c.loop-i.self in
+    let mid = c.body-in-loop-i.new.self in
+    let new = c.joined.new.self in
+    record {
+      later = later_then c.args.self.now now new c.loop-i.invariant.later (later_then now mid new c.in_ok-next.ensures.later c.in_ok-joined.ensures.later);
+      light = omega (arith, c.in_ok-joined.ensures.weight, c.in_ok-next.ensures.light, c.in_ok-left.ensures.left, c.loop-i.invariant.light);
+      holds = λ env s h heads.
+          let v = get_or (members s) i (truth_value false) in
+          let at : slice_get (members s) i ≡ Some v = member_at (members s) i c.member_count-count.result (c.member_count-count.ensures s heads) c.loop-i-test.true in
+          let bodies = bodies_of c.args.body.now c.args.name.now env s in
+          let w = value_of (shape c.args.body.now) (bind c.args.name.now v env) in
+          let fits = fits_later c.args.scope.now c.args.self.now now env c.loop-i.invariant.later h in
+          let there = heads_later c.in_ok-set.set c.args.self.now now s c.loop-i.invariant.later heads in
+          subst (λ x. Holds new c.in_ok-joined.joined x)
+          (joined_next c.args.op bodies i w (body_at c.args.body.now c.args.name.now env s v i at) c.loop-i.auto.i)
+          (c.in_ok-joined.ensures.holds (joined_all c.args.op (take i bodies)) w
+          (holds_later (joined_all c.args.op (take i bodies)) now mid c.loop-i.all c.in_ok-next.ensures.later (c.loop-i.invariant.holds env s h heads))
+          (c.in_ok-next.ensures.holds env s v fits there at));
+    }
+
+pub joined_bodies-returns-clause-holds : goal.joined_bodies-returns-clause-holds
+joined_bodies-returns-clause-holds t c = λ env h.
+    let s = value_of (shape c.args.set.now) env in
+    let heads = c.in_ok-set.ensures.head env h in
+    let bodies = bodies_of c.args.body.now c.args.name.now env s in
+    let whole : take c.loop-i.i bodies ≡ bodies =
+    take_all c.loop-i.i bodies (omega (arith, bodies_count c.args.body.now c.args.name.now env s, c.member_count-count.ensures s heads)) in
+    subst (λ vs. Holds c.loop-i.self c.loop-i.all (joined_all c.args.op vs)) whole (c.loop-i.invariant.holds env s h heads)
+
+pub counted_bodies-returns-in_err-next-clause-heavy : goal.counted_bodies-returns-in_err-next-clause-heavy
+counted_bodies-returns-in_err-next-clause-heavy t c = λ env h.
+    let p = err_from_is_err_and c.from_residual-in_err-next.result c.from_residual-in_err-next.ensures.1 in
+    let i = c.loop-i.i in
+    let s = value_of (shape c.args.set.now) env in
+    let heads = c.in_ok-set.ensures.head env h in
+    let v = get_or (members s) i (truth_value false) in
+    let at : slice_get (members s) i ≡ Some v = member_at (members s) i c.member_count-count.result (c.member_count-count.ensures s heads) c.loop-i-test.true in
+    let bodies = bodies_of c.args.body.now c.args.name.now env s in
+    let w = value_of (shape c.args.body.now) (bind c.args.name.now v env) in
+    let fits = fits_later c.args.scope.now c.args.self.now c.loop-i.self env c.loop-i.invariant.later h in
+    let there = heads_later c.in_ok-set.set c.args.self.now c.loop-i.self s c.loop-i.invariant.later heads in
+    let here = body_at c.args.body.now c.args.name.now env s v i at in
+    rw (p.1, p.2)
+    (λ e. omega (
+      arith,
+      c.in_err-next.ensures.heavy env s v fits there at e,
+      c.loop-i.invariant.weight env s h heads,
+      sum_within bodies i w here,
+      counted_weight c.args.op c.args.number bodies (omega (arith, slice_get_within bodies i w here)),
+    ))
+
+pub counted_bodies-loop-i-preserved : goal.counted_bodies-loop-i-preserved
+counted_bodies-loop-i-preserved t c =
+    let i = c.loop-i.i in
+    let now = c.loop-i.self in
+    let mid = c.body.new.self in
+    let new = c.formula.new.self in
+    let next : IsLater now new = later_then now mid new c.in_ok-next.ensures.later c.in_ok-node.ensures.later in
+    subst (λ (nodes : List ℕ). CountedSoFar c.args.self.now new c.args.scope.now c.in_ok-set.set c.args.body.now c.args.name.now c.args.room (i + 1) nodes
+    (c.loop-i.left - c.in_ok-next.next.weight)) (sym c.in_ok-push.ensures.items) (record {
+      later = later_then c.args.self.now now new c.loop-i.invariant.later next;
+      inside = omega (arith, c.loop-i.invariant.inside);
+      count = omega (arith, length_push c.loop-i.bodies.items c.in_ok-node.node, c.loop-i.invariant.count);
+      are = are_push new.nodes c.loop-i.bodies.items c.in_ok-node.node
+          (are_grows now.nodes new.nodes c.loop-i.bodies.items next.keeps.nodes c.loop-i.invariant.are) c.in_ok-node.ensures.is;
+      have = λ env s h heads.
+          let v = get_or (members s) i (truth_value false) in
+          let at : slice_get (members s) i ≡ Some v = member_at (members s) i c.member_count-count.result (c.member_count-count.ensures s heads) c.loop-i-test.true in
+          let bodies = bodies_of c.args.body.now c.args.name.now env s in
+          let w = value_of (shape c.args.body.now) (bind c.args.name.now v env) in
+          let fits = fits_later c.args.scope.now c.args.self.now now env c.loop-i.invariant.later h in
+          let there = heads_later c.in_ok-set.set c.args.self.now now s c.loop-i.invariant.later heads in
+          have_next new.nodes c.loop-i.bodies.items bodies i c.in_ok-node.node w (body_at c.args.body.now c.args.name.now env s v i at)
+          (have_grows now.nodes new.nodes c.loop-i.bodies.items (map formula_of (take i bodies)) next.keeps.nodes (c.loop-i.invariant.have env s h heads))
+          (c.in_ok-node.ensures.has w (c.in_ok-next.ensures.holds env s v fits there at));
+      weight = λ env s h heads.
+          let v = get_or (members s) i (truth_value false) in
+          let at : slice_get (members s) i ≡ Some v = member_at (members s) i c.member_count-count.result (c.member_count-count.ensures s heads) c.loop-i-test.true in
+          let bodies = bodies_of c.args.body.now c.args.name.now env s in
+          let w = value_of (shape c.args.body.now) (bind c.args.name.now v env) in
+          let fits = fits_later c.args.scope.now c.args.self.now now env c.loop-i.invariant.later h in
+          let there = heads_later c.in_ok-set.set c.args.self.now now s c.loop-i.invariant.later heads in
+          omega (
+            arith,
+            c.loop-i.invariant.weight env s h heads,
+            sum_next bodies i w (body_at c.args.body.now c.args.name.now env s v i at),
+            holds_weight w mid c.in_ok-next.next (c.in_ok-next.ensures.holds env s v fits there at),
+            c.in_ok-next.ensures.light,
+          );
+    })
+
+pub counted_bodies-returns-in_err-beside-clause-heavy : goal.counted_bodies-returns-in_err-beside-clause-heavy
+counted_bodies-returns-in_err-beside-clause-heavy t c = λ env h.
+    let p = err_from_is_err_and c.from_residual-in_err-beside.result c.from_residual-in_err-beside.ensures.1 in
+    let s = value_of (shape c.args.set.now) env in
+    let heads = c.in_ok-set.ensures.head env h in
+    let bodies = bodies_of c.args.body.now c.args.name.now env s in
+    let count : length bodies ≡ c.member_count-count.result = bodies_count c.args.body.now c.args.name.now env s ∙ sym (c.member_count-count.ensures s heads) in
+    let whole : take c.loop-i.i bodies ≡ bodies = take_all c.loop-i.i bodies (omega (arith, count)) in
+    let own : c.len.result ≡ length bodies = omega (arith, count, c.loop-i.invariant.count, c.len.ensures) in
+    let beside : counting_weight c.len.result c.args.number ≡ counting_weight (length bodies) c.args.number = ap (λ n. counting_weight n c.args.number) own in
+    let sum : c.args.room ≡ c.loop-i.left + sum_by weight bodies =
+    subst (λ vs. c.args.room ≡ c.loop-i.left + sum_by weight vs) whole (c.loop-i.invariant.weight env s h heads) in
+    rw (p.1, p.2) (λ e. omega (arith, c.in_err-beside.ensures.heavy, sum, beside, counted_weight c.args.op c.args.number bodies (omega (arith, count))))
+
+pub counted_bodies-returns-clause-later : goal.counted_bodies-returns-clause-later
+counted_bodies-returns-clause-later t c =
+    later_then c.args.self.now c.loop-i.self c.gates.new.self c.loop-i.invariant.later c.in_ok-node-2.ensures.later
+
+pub counted_bodies-returns-clause-holds : goal.counted_bodies-returns-clause-holds
+counted_bodies-returns-clause-holds t c = λ env h.
+    let s = value_of (shape c.args.set.now) env in
+    let heads = c.in_ok-set.ensures.head env h in
+    let bodies = bodies_of c.args.body.now c.args.name.now env s in
+    let count : length bodies ≡ c.member_count-count.result = bodies_count c.args.body.now c.args.name.now env s ∙ sym (c.member_count-count.ensures s heads) in
+    let whole : take c.loop-i.i bodies ≡ bodies = take_all c.loop-i.i bodies (omega (arith, count)) in
+    let own : c.len.result ≡ length bodies = omega (arith, count, c.loop-i.invariant.count, c.len.ensures) in
+    let beside : counting_weight c.len.result c.args.number ≡ counting_weight (length bodies) c.args.number = ap (λ n. counting_weight n c.args.number) own in
+    let sum : c.args.room ≡ c.loop-i.left + sum_by weight bodies =
+    subst (λ vs. c.args.room ≡ c.loop-i.left + sum_by weight vs) whole (c.loop-i.invariant.weight env s h heads) in
+    let have : HaveFormulas c.loop-i.self.nodes c.deref.result.now (map formula_of bodies) =
+    subst (λ ns. HaveFormulas c.loop-i.self.nodes ns (map formula_of bodies)) (sym c.deref.ensures.value)
+    (subst (λ vs. HaveFormulas c.loop-i.self.nodes c.loop-i.bodies.items (map formula_of vs)) whole (c.loop-i.invariant.have env s h heads)) in
+    let has = subst (λ n. Has c.gates.new.self.nodes c.in_ok-node-2.node (formula (counted_formula (map formula_of bodies) (counting c.args.op n c.args.number))))
+    (length-map bodies formula_of) (c.in_ok-node-2.ensures.has (map formula_of bodies) have) in
+    subst (λ x. Holds c.gates.new.self (record { place = Node c.in_ok-node-2.node; weight = (c.args.room - c.loop-i.left) + c.in_ok-beside.beside; fault = c.fault.result }) x)
+    (sym (counted_is_some c.args.op c.args.number bodies (omega (arith, count))))
+    (omega (arith, sum, beside, c.in_ok-beside.ensures.weight), (c.in_ok-node-2.node, refl, has, c.fault.ensures (formula (counted_formula (map formula_of bodies) (counting c.args.op (length bodies) c.args.number))) has))

@@ -1,0 +1,53 @@
+//! Why an expression isn't unfolded.
+
+ghost use Rattle.std.specs.Prelude.{◌≡◌, ◌+◌, ◌<◌, IfOk, IfErr};
+ghost use Rattle.unfold.specs.declared.fault.UnfoldFault.TheVariants.{Heavy, Memory};
+
+use std::alloc::{AllocError, AllocFailed};
+
+/// Why an expression isn't unfolded.
+#[derive(Clone, Copy, PartialEq, Eq, Debug)]
+pub enum UnfoldFault {
+    /// Its weight is above the room that is left.
+    Heavy,
+    /// Memory is wanting.
+    Memory,
+}
+
+impl<T: Drop> From<AllocFailed<T>> for UnfoldFault {
+    ghost from_gives = { λ _ e. e ≡ Memory };
+
+    fn from(_refused: AllocFailed<T>) -> UnfoldFault {
+        UnfoldFault::Memory
+    }
+}
+
+impl From<AllocError> for UnfoldFault {
+    ghost from_gives = { λ _ e. e ≡ Memory };
+
+    fn from(_refused: AllocError) -> UnfoldFault {
+        UnfoldFault::Memory
+    }
+}
+
+/// The room that is left beside a weight.
+pub(crate) fn less(room: u32, weight: u32) -> Result<u32, UnfoldFault>
+    ensures left { IfOk result (λ left. left + weight ≡ room) }
+    ensures heavy { IfErr result (λ why. room < weight) }
+{
+    match room.checked_sub(weight) {
+        Some(left) => Ok(left),
+        None => Err(UnfoldFault::Heavy),
+    }
+}
+
+/// The number of levels that may be nested within one more level. The program's stack ends long before this number.
+pub(crate) fn deeper(levels: u32) -> Result<u32, UnfoldFault>
+    ensures left { IfOk result (λ left. left + 1 ≡ levels) }
+    ensures none { IfErr result (λ why. why ≡ Memory) }
+{
+    match levels.checked_sub(1) {
+        Some(left) => Ok(left),
+        None => Err(UnfoldFault::Memory),
+    }
+}

@@ -1,0 +1,225 @@
+//! What names and picked fields lead to, without a look at what they leave aside.
+
+ghost use Rattle.std.specs.Prelude.{◌≡◌, ℕ, Some, length, position, slice_get, IfOk, IfErr};
+ghost use Rattle.std.specs.Str.{bytes_eq};
+ghost use Rattle.c2po_tree.specs.Shape.{shape};
+ghost use Rattle.unfold.specs.declared.fault.UnfoldFault.TheVariants.{Memory};
+ghost use Rattle.unfold.specs.Environment.{Env, bind, fields_in, value_of};
+ghost use Rattle.unfold.specs.Heads.{Heads, HoldMembers, Names};
+ghost use Rattle.unfold.specs.Stands.{Fits, Holds, StandsFor};
+ghost use Rattle.unfold.specs.Values.{Value, members, picked};
+
+use crate::fault::deeper;
+use crate::scope::{Head, Named, Scope};
+use crate::values::{Entry, Place, Stored, Whole};
+use crate::{UnfoldFault, Unfolding};
+use c2po_tree::{Expr, Node};
+use mltl_base::Name;
+
+impl Unfolding {
+    /// What a declared name stands for.
+    fn declared<'a>(&self, name: &Name) -> Named<'a>
+        ensures { (env : Env) → StandsFor self.now env → Names self.now result (env name.now) }
+    {
+        match self.names.find(name) {
+            None => Named::Nothing,
+            Some(Entry::Struct(i)) => Named::Struct(i),
+            Some(Entry::Value(stored)) => Named::Held(stored),
+        }
+    }
+
+    /// What a name stands for: the innermost variable of that name, else what is declared.
+    fn look<'a>(&self, scope: &'a Scope<'a>, name: &Name) -> Named<'a>
+        ensures { (env : Env) → Fits self.now scope.now env → Names self.now result (env name.now) }
+    {
+        match scope {
+            Scope::Top => self.declared(name),
+            Scope::Open {
+                name: own,
+                expr,
+                within,
+                outer,
+            } => {
+                if name.bytes() == own.bytes() {
+                    Named::Open(within, expr)
+                } else {
+                    self.look(outer, name)
+                }
+            }
+            Scope::Held {
+                name: own,
+                stored,
+                outer,
+            } => {
+                if name.bytes() == own.bytes() {
+                    Named::Held(*stored)
+                } else {
+                    self.look(outer, name)
+                }
+            }
+        }
+    }
+
+    /// The place of a field among those of a struct.
+    fn field_place(&self, scope: &Scope<'_>, whole: &Name, field: &Name) -> Option<usize>
+        ensures { (env : Env) → Fits self.now scope.now env
+            → result ≡ position (bytes_eq field.now) (fields_in (env whole.now)) }
+    {
+        let Named::Struct(i) = self.look(scope, whole) else {
+            return None;
+        };
+        let fields = self.structs.as_slice().get(i as usize)?;
+        place_of(fields.as_slice(), field)
+    }
+
+    /// The part of a stored struct's value that a field names; another value is its own part.
+    fn held_part(&self, scope: &Scope<'_>, stored: Stored, field: &Name) -> Stored
+        ensures { (env : Env) (v : Value) → Fits self.now scope.now env → Holds self.now stored v
+            → Holds self.now result (picked (λ y. fields_in (env y)) field.now v) }
+    {
+        let Place::Parts(i) = stored.place else {
+            return stored;
+        };
+        let Some(parts) = self.parts.as_slice().get(i as usize) else {
+            return stored;
+        };
+        let Whole::Struct(whole) = &parts.whole else {
+            return stored;
+        };
+        let Some(place) = self.field_place(scope, whole, field) else {
+            return stored;
+        };
+        match parts.members.as_slice().get(place) {
+            Some(part) => *part,
+            None => stored,
+        }
+    }
+
+    /// What an expression leads to.
+    #[cycle(heading)]
+    pub(crate) fn head<'a>(
+        &self,
+        levels: u32,
+        scope: &'a Scope<'a>,
+        e: &'a Expr,
+    ) -> Result<Head<'a>, UnfoldFault>
+        ensures head { (env : Env) → Fits self.now scope.now env
+            → IfOk result (λ h. Heads self.now h (value_of (shape e.now) env)) }
+        ensures memory { IfErr result (λ why. why ≡ Memory) }
+    {
+        let levels = deeper(levels)?;
+        match &e.node {
+            Node::Ref(name) => match self.look(scope, name) {
+                Named::Open(within, expr) => self.head(levels, within, expr),
+                Named::Held(stored) => Ok(Head::Held(stored)),
+                Named::Nothing | Named::Struct(_) => Ok(Head::Nothing),
+            },
+            Node::Pick(whole, field) => {
+                let whole = self.head(levels, scope, whole)?;
+                self.part(levels, scope, whole, field)
+            }
+            Node::Build(name, parts) => Ok(Head::Struct(scope, name, parts.as_slice())),
+            Node::Group(members) => Ok(Head::Set(scope, members.as_slice())),
+            _ => Ok(Head::Leaf(scope, e)),
+        }
+    }
+
+    /// What the part that a field names leads to; what has no such part is its own.
+    #[cycle(heading)]
+    fn part<'a>(
+        &self,
+        levels: u32,
+        scope: &'a Scope<'a>,
+        whole: Head<'a>,
+        field: &Name,
+    ) -> Result<Head<'a>, UnfoldFault>
+        ensures head { (env : Env) (v : Value) → Fits self.now scope.now env → Heads self.now whole.entry v
+            → IfOk result (λ h. Heads self.now h (picked (λ y. fields_in (env y)) field.now v)) }
+        ensures memory { IfErr result (λ why. why ≡ Memory) }
+    {
+        let levels = deeper(levels)?;
+        match whole {
+            Head::Struct(within, name, parts) => {
+                let Some(place) = self.field_place(scope, name, field) else {
+                    return Ok(whole);
+                };
+                match parts.get(place) {
+                    Some(part) => {
+                        let part = self.head(levels, within, part)?;
+                        Ok(part)
+                    }
+                    None => Ok(whole),
+                }
+            }
+            Head::Held(stored) => Ok(Head::Held(self.held_part(scope, stored, field))),
+            Head::Nothing | Head::Set(..) | Head::Leaf(..) => Ok(whole),
+        }
+    }
+
+    /// The number of members of a set; nothing else has any.
+    pub(crate) fn member_count(&self, set: &Head<'_>) -> usize
+        ensures { (v : Value) → Heads self.now set.now v → result ≡ length (members v) }
+    {
+        match *set {
+            Head::Set(_, members) => members.len(),
+            Head::Held(stored) => self.held_members(stored).len(),
+            Head::Nothing | Head::Struct(..) | Head::Leaf(..) => 0,
+        }
+    }
+
+    /// The members of a stored set; nothing else has any.
+    fn held_members(&self, stored: Stored) -> &[Stored]
+        ensures { (v : Value) → Holds self.now stored v → HoldMembers self.now result.now v }
+    {
+        let Place::Parts(i) = stored.place else {
+            return &[];
+        };
+        let Some(parts) = self.parts.as_slice().get(i as usize) else {
+            return &[];
+        };
+        match &parts.whole {
+            Whole::Set => parts.members.as_slice(),
+            Whole::Struct(_) => &[],
+        }
+    }
+
+    /// The scope in which a variable stands for member `i` of a set.
+    pub(crate) fn member_scope<'a>(
+        &self,
+        scope: &'a Scope<'a>,
+        name: &'a Name,
+        set: &Head<'a>,
+        i: usize,
+    ) -> Scope<'a>
+        ensures { (env : Env) (s v : Value) → Fits self.now scope.now env → Heads self.now set.now s
+            → slice_get (members s) i ≡ Some v → Fits self.now result (bind name.now v env) }
+    {
+        match *set {
+            Head::Set(within, members) => match members.get(i) {
+                Some(expr) => Scope::Open {
+                    name,
+                    expr,
+                    within,
+                    outer: scope,
+                },
+                None => *scope,
+            },
+            Head::Held(stored) => match self.held_members(stored).get(i) {
+                Some(member) => Scope::Held {
+                    name,
+                    stored: *member,
+                    outer: scope,
+                },
+                None => *scope,
+            },
+            Head::Nothing | Head::Struct(..) | Head::Leaf(..) => *scope,
+        }
+    }
+}
+
+/// The place of a name among names.
+fn place_of(names: &[Name], name: &Name) -> Option<usize>
+    ensures { result ≡ position (bytes_eq name.now) names.now }
+{
+    names.iter().position(|own| name.bytes() == own.bytes())
+}

@@ -1,0 +1,267 @@
+//! Nodes of whole numbers and of formulas.
+
+ghost use Rattle.std.specs.Prelude.{◌≡◌, ◌+◌, ◌^◌, ◌<◌, ℕ, [], ◌∷◌, ◌++◌, length, slice_get, IfOk, OnOk};
+ghost use Rattle.mltl_base.specs.declared.limits.TheConstants.{MAX_BOUND};
+ghost use Rattle.plain_nodes.specs.Nodes.{Has, IsBounded, IsFormed, IsFormula, IsNumber, constant_formula, formula, number, tree_of, trees};
+ghost use Rattle.unfold.specs.declared.values.Place.TheVariants.{Node};
+ghost use Rattle.unfold.specs.Leaves.{node_sort, sort_of};
+ghost use Rattle.unfold.specs.Stands.{Holds, IsLater};
+ghost use Rattle.unfold.specs.Values.{Value, compared, computed, formula_of, interval, inverted, leaf, joined, number_value, opposite, ranged_value, term_of, weight, windowed_value};
+
+use crate::Unfolding;
+use crate::values::{Place, Stored};
+use mltl_base::limits::MAX_BOUND;
+use mltl_base::{ArithOp, BetweenOp, CompareOp, Interval, LogicOp, WindowOp};
+use node_facts::Nodes;
+use plain_nodes::Plain;
+use std::alloc::AllocError;
+
+/// What a node unfolds to.
+#[derive(Clone, Copy, PartialEq, Eq)]
+pub(crate) enum Sort {
+    Number,
+    Formula,
+    Nothing,
+}
+
+/// The sort of a node.
+fn sort_of_node(node: &Plain) -> Sort
+    ensures { result ≡ node_sort node.now }
+{
+    match node {
+        Plain::Number(_) | Plain::Signal(_) | Plain::Minus(_) | Plain::Arith(..) => Sort::Number,
+        _ => Sort::Formula,
+    }
+}
+
+/// The sort of node `n`.
+fn sort_at(nodes: &Nodes, n: u32) -> Sort
+    ensures { result ≡ sort_of (slice_get (trees nodes.now) n) }
+{
+    match nodes.as_slice().get(n as usize) {
+        Some(node) => sort_of_node(node),
+        None => Sort::Nothing,
+    }
+}
+
+/// The interval of an operator with these bounds; where it is out of bounds, the nearest one.
+fn interval_of(low: u64, high: u64) -> Interval
+    ensures { result ≡ interval low high }
+{
+    let hi = high.min(u64::from(MAX_BOUND)) as u32;
+    let lo = low.min(u64::from(hi)) as u32;
+    Interval { lo, hi }
+}
+
+impl Unfolding {
+    /// Puts a node behind the others. At 2^32 nodes memory is wanting.
+    pub(crate) fn add_node(&mut self, node: Plain) -> Result<u32, AllocError>
+        ensures pushed { OnOk result (self.new ≡ record self.old { nodes = self.old.nodes ++ node ∷ [] }) }
+        ensures place { IfOk result (λ n. n ≡ length self.old.nodes) }
+    {
+        let place = self.nodes.push(node)?;
+        Ok(place)
+    }
+
+    /// A node behind the others, whose operands are among them.
+    pub(crate) fn place(&mut self, node: Plain) -> Result<u32, AllocError>
+        requires formed { (signals : ℕ) → IsFormed signals (trees self.old.nodes) node }
+        ensures later { OnOk result (IsLater self.old self.new) }
+        ensures has { IfOk result (λ n. Has self.new.nodes n (tree_of (trees self.old.nodes) node)) }
+    {
+        let place = self.add_node(node)?;
+        Ok(place)
+    }
+
+    /// A stored value that is a node behind the others.
+    fn leaf(&mut self, node: Plain, weight: u32) -> Result<Stored, AllocError>
+        requires formed { (signals : ℕ) → IsFormed signals (trees self.old.nodes) node }
+        ensures later { OnOk result (IsLater self.old self.new) }
+        ensures weight { IfOk result (λ s. s.weight ≡ weight) }
+        ensures holds { IfOk result (λ s. Holds self.new s (leaf (tree_of (trees self.old.nodes) node) weight)) }
+    {
+        let place = self.place(node)?;
+        Ok(Stored {
+            place: Place::Node(place),
+            weight,
+            fault: self.nodes.fault(place),
+        })
+    }
+
+    /// A node with the whole number of a value; of a value of another kind nothing is asked.
+    fn number(&mut self, stored: Stored) -> Result<u32, AllocError>
+        ensures later { OnOk result (IsLater self.old self.new) }
+        ensures is { IfOk result (λ n. IsNumber (slice_get (trees self.new.nodes) n)) }
+        ensures has { (v : Value) → Holds self.old stored v
+            → IfOk result (λ n. Has self.new.nodes n (number (term_of v))) }
+    {
+        if let Place::Node(n) = stored.place {
+            if sort_at(&self.nodes, n) == Sort::Number {
+                return Ok(n);
+            }
+        }
+        self.place(Plain::Number(0))
+    }
+
+    /// A node with the formula of a value; of a value of another kind nothing is asked.
+    pub(crate) fn formula(&mut self, stored: Stored) -> Result<u32, AllocError>
+        ensures later { OnOk result (IsLater self.old self.new) }
+        ensures is { IfOk result (λ n. IsFormula (slice_get (trees self.new.nodes) n)) }
+        ensures has { (v : Value) → Holds self.old stored v
+            → IfOk result (λ n. Has self.new.nodes n (formula (formula_of v))) }
+    {
+        if let Place::Node(n) = stored.place {
+            if sort_at(&self.nodes, n) == Sort::Formula {
+                return Ok(n);
+            }
+        }
+        self.place(Plain::Truth(false))
+    }
+
+    /// A number.
+    pub(crate) fn number_leaf(&mut self, n: i64) -> Result<Stored, AllocError>
+        ensures later { OnOk result (IsLater self.old self.new) }
+        ensures weight { IfOk result (λ s. s.weight ≡ 1) }
+        ensures holds { IfOk result (λ s. Holds self.new s (number_value n)) }
+    {
+        self.leaf(Plain::Number(n), 1)
+    }
+
+    /// A truth with a weight.
+    pub(crate) fn truth_leaf(&mut self, truth: bool, weight: u32) -> Result<Stored, AllocError>
+        ensures later { OnOk result (IsLater self.old self.new) }
+        ensures weight { IfOk result (λ s. s.weight ≡ weight) }
+        ensures holds { IfOk result (λ s. Holds self.new s (leaf (formula (constant_formula truth)) weight)) }
+    {
+        self.leaf(Plain::Truth(truth), weight)
+    }
+
+    /// A value as a formula.
+    pub(crate) fn formula_leaf(&mut self, a: Stored) -> Result<Stored, AllocError>
+        ensures later { OnOk result (IsLater self.old self.new) }
+        ensures weight { IfOk result (λ s. s.weight ≡ a.weight) }
+        ensures holds { (v : Value) → Holds self.old a v
+            → IfOk result (λ s. Holds self.new s (leaf (formula (formula_of v)) (weight v))) }
+    {
+        let place = self.formula(a)?;
+        Ok(Stored {
+            place: Place::Node(place),
+            weight: a.weight,
+            fault: self.nodes.fault(place),
+        })
+    }
+
+    /// The negation of a whole number.
+    pub(crate) fn opposite(&mut self, a: Stored) -> Result<Stored, AllocError>
+        requires { a.weight + 1 < 2 ^ 32 }
+        ensures later { OnOk result (IsLater self.old self.new) }
+        ensures weight { IfOk result (λ s. s.weight ≡ a.weight + 1) }
+        ensures holds { (v : Value) → Holds self.old a v → IfOk result (λ s. Holds self.new s (opposite v)) }
+    {
+        let n = self.number(a)?;
+        self.leaf(Plain::Minus(n), a.weight + 1)
+    }
+
+    /// The negation of a formula.
+    pub(crate) fn inverted(&mut self, a: Stored) -> Result<Stored, AllocError>
+        requires { a.weight + 1 < 2 ^ 32 }
+        ensures later { OnOk result (IsLater self.old self.new) }
+        ensures weight { IfOk result (λ s. s.weight ≡ a.weight + 1) }
+        ensures holds { (v : Value) → Holds self.old a v → IfOk result (λ s. Holds self.new s (inverted v)) }
+    {
+        let n = self.formula(a)?;
+        self.leaf(Plain::Not(n), a.weight + 1)
+    }
+
+    /// Two whole numbers under an operator.
+    pub(crate) fn computed(
+        &mut self,
+        op: ArithOp,
+        a: Stored,
+        b: Stored,
+    ) -> Result<Stored, AllocError>
+        requires { a.weight + b.weight + 1 < 2 ^ 32 }
+        ensures later { OnOk result (IsLater self.old self.new) }
+        ensures weight { IfOk result (λ s. s.weight ≡ a.weight + b.weight + 1) }
+        ensures holds { (v w : Value) → Holds self.old a v → Holds self.old b w
+            → IfOk result (λ s. Holds self.new s (computed op v w)) }
+    {
+        let left = self.number(a)?;
+        let right = self.number(b)?;
+        let value = self.leaf(Plain::Arith(op, left, right), a.weight + b.weight + 1)?;
+        Ok(value)
+    }
+
+    /// A comparison of two whole numbers.
+    pub(crate) fn compared(
+        &mut self,
+        op: CompareOp,
+        a: Stored,
+        b: Stored,
+    ) -> Result<Stored, AllocError>
+        requires { a.weight + b.weight + 1 < 2 ^ 32 }
+        ensures later { OnOk result (IsLater self.old self.new) }
+        ensures weight { IfOk result (λ s. s.weight ≡ a.weight + b.weight + 1) }
+        ensures holds { (v w : Value) → Holds self.old a v → Holds self.old b w
+            → IfOk result (λ s. Holds self.new s (compared op v w)) }
+    {
+        let left = self.number(a)?;
+        let right = self.number(b)?;
+        let value = self.leaf(Plain::Compare(op, left, right), a.weight + b.weight + 1)?;
+        Ok(value)
+    }
+
+    /// Two formulas under an operator.
+    pub(crate) fn joined(&mut self, op: LogicOp, a: Stored, b: Stored) -> Result<Stored, AllocError>
+        requires { a.weight + b.weight + 1 < 2 ^ 32 }
+        ensures later { OnOk result (IsLater self.old self.new) }
+        ensures weight { IfOk result (λ s. s.weight ≡ a.weight + b.weight + 1) }
+        ensures holds { (v w : Value) → Holds self.old a v → Holds self.old b w
+            → IfOk result (λ s. Holds self.new s (joined op v w)) }
+    {
+        let left = self.formula(a)?;
+        let right = self.formula(b)?;
+        let value = self.leaf(Plain::Logic(op, left, right), a.weight + b.weight + 1)?;
+        Ok(value)
+    }
+
+    /// A temporal operator over a formula.
+    pub(crate) fn windowed(
+        &mut self,
+        op: WindowOp,
+        low: u64,
+        high: u64,
+        a: Stored,
+    ) -> Result<Stored, AllocError>
+        requires { a.weight + 1 < 2 ^ 32 }
+        ensures later { OnOk result (IsLater self.old self.new) }
+        ensures weight { IfOk result (λ s. s.weight ≡ a.weight + 1) }
+        ensures holds { (v : Value) → Holds self.old a v
+            → IfOk result (λ s. Holds self.new s (windowed_value op low high v)) }
+    {
+        let n = self.formula(a)?;
+        self.leaf(Plain::Window(op, interval_of(low, high), n), a.weight + 1)
+    }
+
+    /// A temporal operator between formulas.
+    pub(crate) fn ranged(
+        &mut self,
+        op: BetweenOp,
+        low: u64,
+        high: u64,
+        a: Stored,
+        b: Stored,
+    ) -> Result<Stored, AllocError>
+        requires { a.weight + b.weight + 1 < 2 ^ 32 }
+        ensures later { OnOk result (IsLater self.old self.new) }
+        ensures weight { IfOk result (λ s. s.weight ≡ a.weight + b.weight + 1) }
+        ensures holds { (v w : Value) → Holds self.old a v → Holds self.old b w
+            → IfOk result (λ s. Holds self.new s (ranged_value op low high v w)) }
+    {
+        let left = self.formula(a)?;
+        let right = self.formula(b)?;
+        let node = Plain::Between(op, interval_of(low, high), left, right);
+        let value = self.leaf(node, a.weight + b.weight + 1)?;
+        Ok(value)
+    }
+}

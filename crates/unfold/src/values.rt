@@ -1,0 +1,40 @@
+//! Values that are unfolded.
+
+use mltl_base::{List, Name};
+use mltl_ranges::NoRange;
+
+/// Where a value is stored: as a node of plain formulas, or as parts of a struct or a set.
+#[derive(Clone, Copy)]
+pub enum Place {
+    Node(u32),
+    Parts(u32),
+}
+
+/// A stored value with its weight, and with the first of its whole numbers' faults.
+#[derive(Clone, Copy)]
+pub struct Stored {
+    pub place: Place,
+    pub weight: u32,
+    pub fault: Option<NoRange>,
+}
+
+/// What parts belong to.
+#[derive(Drop)]
+pub enum Whole {
+    Struct(Name),
+    Set,
+}
+
+/// The parts of a struct's value, or the members of a set.
+#[derive(Drop)]
+pub struct Parts {
+    pub whole: Whole,
+    pub members: List<Stored>,
+}
+
+/// What a declared name stands for: a struct by its number, or a value.
+#[derive(Clone, Copy)]
+pub enum Entry {
+    Struct(u32),
+    Value(Stored),
+}
