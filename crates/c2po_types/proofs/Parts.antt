@@ -1,0 +1,29 @@
+-- What is found by parts, where no part has a fault.
+use Rattle.std.proofs.Common.{◌≡◌, Bool, true, false, Ok, Err, refl, sym, subst, if◌then◌else◌}
+use Rattle.std.proofs.Common.{ℕ, Option, Some, None}
+use Rattle.mltl_base.specs.Ranges.{NoRange}
+use Rattle.c2po_types.specs.FirstFault.{State, ranged}
+use Rattle.c2po_kinds.specs.declared.fault.TypeFault.{TypeFault}
+use Rattle.c2po_kinds.specs.Checking.{Checked, ◌>>=◌, Fails}
+use Rattle.c2po_kinds.proofs.Turns.{fails-bind}
+
+pub bind-ok : {X Y : Type 0} (m : Checked X) (f : X → Checked Y) (y : Y) → (m >>= f) ≡ Ok y → (x : X) × (m ≡ Ok x) × (f x ≡ Ok y)
+bind-ok (Ok x) f y h = (x, refl, h)
+bind-ok (Err fault) f y h = absurd (cc)
+
+pub unless-ok : {X : Type 0} (b : Bool) (fault : TypeFault) (m : Checked X) (x : X) → (if b then Err fault else m) ≡ Ok x → m ≡ Ok x
+unless-ok true fault m x h = absurd (cc)
+unless-ok false fault m x h = h
+
+pub when-ok : {X : Type 0} (b : Bool) (fault : TypeFault) (m : Checked X) (x : X) → (if b then m else Err fault) ≡ Ok x → m ≡ Ok x
+when-ok true fault m x h = h
+when-ok false fault m x h = absurd (cc)
+
+pub ranged-ok : (line : ℕ) (why : Option NoRange) (m : Checked State) (t : State) → ranged line why m ≡ Ok t → m ≡ Ok t
+ranged-ok line None m t h = h
+ranged-ok line (Some why) m t h = absurd (cc)
+
+-- a fault of the second part is one of the whole, where the first has none
+pub fails-second : {X Y Z : Type 0} (fault : TypeFault) (m : Checked X) (x : X) (n : Checked Y) (f : X → Y → Checked Z) → m ≡ Ok x → Fails fault n
+    → Fails fault (m >>= λ x. n >>= f x)
+fails-second fault m x n f h k = subst (λ r. Fails fault (r >>= λ y. n >>= f y)) (sym h) (fails-bind fault n (f x) k)

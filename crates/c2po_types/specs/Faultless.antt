@@ -1,0 +1,12 @@
+use Rattle.std.specs.Prelude.{◌≡◌, List, None}
+use Rattle.c2po_tree.specs.ItemShape.{ItemShape}
+use Rattle.c2po_tree.specs.Names.{ArePlainItems}
+use Rattle.c2po_kinds.specs.declared.kind.Signal.{Signal}
+use Rattle.c2po_types.specs.FirstFault.{first_fault}
+use Rattle.c2po_types.specs.Signals.{signals_of}
+
+-- a specification has no fault, its names are made of letters, digits and `_`, and these are its signals
+pub record IsFaultless (items : List ItemShape) (signals : List Signal) : Type 0 where
+  pub faultless : first_fault items ≡ None
+  pub plain : ArePlainItems items
+  pub signals_are : signals ≡ signals_of items

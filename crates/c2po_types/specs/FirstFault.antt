@@ -1,0 +1,125 @@
+-- The first fault of a specification: items in the order of the text, within an item names and kinds first, then the
+-- weight of what it unfolds to, divisors and ranges, and tenses.
+
+use Rattle.std.specs.Prelude.{ℕ, suc, ◌+◌, nat_le, Bool, ◌||◌, List, [], ◌∷◌, map, length, drop, Option, Some, None, Ok, Err, if◌then◌else◌}
+use Rattle.mltl_base.specs.declared.limits.TheConstants.{MAX_WEIGHT}
+use Rattle.mltl_base.specs.declared.interval.Engine.{Engine}
+use Rattle.mltl_base.specs.declared.interval.Engine.TheVariants.{Ft, Pt}
+use Rattle.mltl_base.specs.Formula.{Formula}
+use Rattle.mltl_base.specs.Ranges.{NoRange, divisor, wide}
+use Rattle.c2po_tree.specs.Shape.{Shape}
+use Rattle.c2po_tree.specs.ItemShape.{TypeShape, FieldShape, BodyShape, ItemShape, structure, input, define, formula, contract}
+use Rattle.c2po_kinds.specs.declared.kind.Signal.{Signal}
+use Rattle.c2po_kinds.specs.declared.declarations.Declarations.{Declarations}
+use Rattle.c2po_kinds.specs.declared.fault.TypeFault.{TypeFault}
+use Rattle.c2po_kinds.specs.declared.fault.TypeFault.TheVariants as fault
+use Rattle.c2po_kinds.specs.Checking.{Checked, ◌>>=◌, in_turn}
+use Rattle.c2po_kinds.specs.Items.{Labels, nothing, with_struct, with_input, define_kind, with_value, with_label, formula_kind, contract_kind}
+use Rattle.node_facts.specs.Faults.{formula_fault, or_later}
+use Rattle.node_facts.specs.Tenses.{has_past, has_future}
+use Rattle.unfold.specs.Environment.{Env, no_names, declare, fields, value, signal_value, value_of}
+use Rattle.unfold.specs.Values.{Value, weight, formula_of}
+use Rattle.unfold.specs.Faults.{value_fault}
+
+-- What is known behind some items: what they declare, the names of outputs, what names stand for, and the weight of the
+-- outputs together.
+pub record State : Type 0 where
+  pub declared : Declarations
+  pub labels : Labels
+  pub values : Env
+  pub total : ℕ
+
+-- before the first item
+abbrev pub start : State
+start = record { declared = nothing; labels = []; values = no_names; total = 0 }
+
+-- a weight within the limit
+abbrev pub not_wide : ℕ → ℕ → Checked State → Checked State
+not_wide line w rest = if nat_le w MAX_WEIGHT then rest else Err (fault.Wide line)
+
+-- whole numbers that have ranges
+abbrev pub range_fault : ℕ → NoRange → TypeFault
+range_fault line divisor = fault.Divisor line
+range_fault line wide = fault.Range line
+
+abbrev pub ranged : ℕ → Option NoRange → Checked State → Checked State
+ranged line None rest = rest
+ranged line (Some why) rest = Err (range_fault line why)
+
+-- whether a formula has an operator of the other tense than its engine's
+abbrev pub other_tense : Engine → Bool → Bool → Bool
+other_tense Ft past future = past
+other_tense Pt past future = future
+
+abbrev pub is_mixed : Engine → Formula → Bool
+is_mixed engine p = other_tense engine (has_past p) (has_future p)
+
+-- a formula of one tense
+abbrev pub one_tense : ℕ → Bool → Checked State → Checked State
+one_tense line mixed rest = if mixed then Err (fault.Tense line) else rest
+
+-- signals stand for their numbers
+abbrev pub with_signals : ℕ → List Signal → Env → Env
+with_signals n [] env = env
+with_signals n (s ∷ ss) env = with_signals (suc n) ss (declare s.name (value (signal_value s.truth n)) env)
+
+-- a definition stands for a value
+abbrev pub defined : ℕ → List ℕ → Declarations → Value → State → Checked State
+defined line x d v s = not_wide line (weight v) (ranged line (value_fault v)
+    (Ok (record { declared = d; labels = s.labels; values = declare x (value v) s.values; total = s.total })))
+
+-- an output with so much weight
+abbrev pub with_out : ℕ → Labels → ℕ → Option NoRange → Bool → State → Checked State
+with_out line labels w why mixed s = not_wide line (s.total + w) (ranged line why (one_tense line mixed
+    (Ok (record { declared = s.declared; labels = labels; values = s.values; total = s.total + w }))))
+
+-- an output with a formula
+abbrev pub one_out : ℕ → Engine → Labels → Value → State → Checked State
+one_out line engine labels v s = with_out line labels (weight v) (formula_fault (formula_of v)) (is_mixed engine (formula_of v)) s
+
+-- an output with a contract
+abbrev pub two_out : ℕ → Engine → Labels → Value → Value → State → Checked State
+two_out line engine labels v w s = with_out line labels (weight v + weight w) (or_later (formula_fault (formula_of v)) (formula_fault (formula_of w)))
+    (is_mixed engine (formula_of v) || is_mixed engine (formula_of w)) s
+
+-- one more item of each sort
+abbrev pub struct_step : ℕ → List ℕ → List FieldShape → State → Checked State
+struct_step line x fs s = with_struct line x fs s.declared >>= λ d.
+    Ok (record { declared = d; labels = s.labels; values = declare x (fields (map (λ f. f.name) fs)) s.values; total = s.total })
+
+abbrev pub input_step : ℕ → List (List ℕ) → TypeShape → State → Checked State
+input_step line xs t s = with_input line xs t s.declared >>= λ d. let n = length s.declared.signals in
+    Ok (record { declared = d; labels = s.labels; values = with_signals n (drop n d.signals) s.values; total = s.total })
+
+abbrev pub define_step : ℕ → List ℕ → Shape → State → Checked State
+define_step line x e s = define_kind line x e s.declared >>= λ k. defined line x (with_value x k s.declared) (value_of e s.values) s
+
+abbrev pub formula_step : ℕ → Engine → Option (List ℕ) → Shape → State → Checked State
+formula_step line engine label e s = with_label line label s.labels >>= λ labels. formula_kind line e s.declared >>= λ _.
+    one_out line engine labels (value_of e s.values) s
+
+abbrev pub contract_step : ℕ → Engine → Option (List ℕ) → Shape → Shape → State → Checked State
+contract_step line engine label e f s = with_label line label s.labels >>= λ labels. contract_kind line e f s.declared >>= λ _.
+    two_out line engine labels (value_of e s.values) (value_of f s.values) s
+
+abbrev pub body_step : ℕ → BodyShape → State → Checked State
+body_step line (structure x fs) s = struct_step line x fs s
+body_step line (input xs t) s = input_step line xs t s
+body_step line (define x e) s = define_step line x e s
+body_step line (formula engine label e) s = formula_step line engine label e s
+body_step line (contract engine label e f) s = contract_step line engine label e f s
+
+abbrev pub item_step : ItemShape → State → Checked State
+item_step item s = body_step item.line item.body s
+
+-- what is known behind all items, or the first fault
+unfoldable pub checked : List ItemShape → Checked State
+checked items = in_turn item_step items start
+
+abbrev pub fault_of : {X : Type 0} → Checked X → Option TypeFault
+fault_of (Ok x) = None
+fault_of (Err fault) = Some fault
+
+-- the first fault of a specification
+abbrev pub first_fault : List ItemShape → Option TypeFault
+first_fault items = fault_of (checked items)

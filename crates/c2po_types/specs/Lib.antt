@@ -1,0 +1,4 @@
+pub mod Faultless
+pub mod FirstFault
+pub mod Signals
+pub mod Reaching

@@ -1,0 +1,39 @@
+-- How far the check has come.
+
+use Rattle.std.specs.Prelude.{◌≡◌, ℕ, Ok, Err}
+use Rattle.unfold.specs.declared.fault.UnfoldFault.{UnfoldFault}
+use Rattle.unfold.specs.declared.fault.UnfoldFault.TheVariants as unfolded
+use Rattle.unfold.specs.declared.fault.UnfoldFault.TheVariants.{Heavy}
+use Rattle.c2po_kinds.specs.declared.fault.TypeFault.{TypeFault}
+use Rattle.c2po_kinds.specs.declared.fault.TypeFault.TheVariants.{Wide, Memory}
+use Rattle.c2po_kinds.specs.Checking.{Checked, Fails}
+use Rattle.node_facts.specs.Facts.{told_fault}
+use Rattle.node_facts.specs.Faults.{formula_fault}
+use Rattle.node_facts.specs.Tenses.{has_past, has_future}
+use Rattle.unfold.specs.declared.unfolding.Unfolded.{Unfolded}
+use Rattle.unfold.specs.Values.{Value, formula_of, weight as weight_of}
+use Rattle.unfold.specs.Environment.{Env}
+use Rattle.unfold.specs.Stands.{StandsFor}
+use Rattle.c2po_types.specs.declared.progress.Progress.{Progress}
+use Rattle.c2po_types.specs.FirstFault.{State}
+
+-- what is known, where the unfolding stands for what names stand for
+abbrev pub state_of : Progress → Env → State
+state_of p env = record { declared = p.declared; labels = p.labels; values = env; total = p.total }
+
+-- the check comes as far as the definition, or to its fault
+abbrev pub Reaches : Checked Progress → Checked State → Type 0
+Reaches (Ok p) found = (env : Env) × StandsFor p.values env × (found ≡ Ok (state_of p env))
+Reaches (Err fault) found = Fails fault found
+
+-- the fault of an item that isn't unfolded
+abbrev pub unfold_fault : ℕ → UnfoldFault → TypeFault
+unfold_fault line Heavy = Wide line
+unfold_fault line unfolded.Memory = Memory
+
+-- what is known of an unfolded formula is that of its value
+pub record Unfolds (found : Unfolded) (v : Value) : Type 0 where
+  pub weight : found.weight ≡ weight_of v
+  pub fault : told_fault found.fault ≡ formula_fault (formula_of v)
+  pub past : found.tenses.past ≡ has_past (formula_of v)
+  pub future : found.tenses.future ≡ has_future (formula_of v)

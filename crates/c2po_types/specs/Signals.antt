@@ -1,0 +1,20 @@
+-- The signals of a specification.
+
+use Rattle.std.specs.Prelude.{ℕ, Bool, false, List, [], codes, map}
+use Rattle.std.specs.List.{flat_map}
+use Rattle.std.specs.Str.{bytes_eq}
+use Rattle.c2po_tree.specs.ItemShape.{TypeShape, BodyShape, ItemShape, type_named, set_of, structure, input, define, formula, contract}
+use Rattle.c2po_kinds.specs.declared.kind.Signal.{Signal}
+
+-- whether a type is that of truths
+abbrev pub is_bool : TypeShape → Bool
+is_bool (type_named x) = bytes_eq x (codes "bool")
+is_bool (set_of t) = false
+
+abbrev pub body_signals : BodyShape → List Signal
+body_signals (input xs t) = map (λ x. record { name = x; truth = is_bool t }) xs
+body_signals _ = []
+
+-- the names of all INPUT items in order
+abbrev pub signals_of : List ItemShape → List Signal
+signals_of items = flat_map (λ item. body_signals item.body) items

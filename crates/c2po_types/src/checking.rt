@@ -1,0 +1,49 @@
+//! The check of a whole specification.
+
+ghost use Rattle.std.specs.Prelude.{◌≡◌, ◌≢◌, None, Some, map, IfOk, IfErr, OnOk};
+ghost use Rattle.c2po_tree.specs.Names.{ArePlainItems};
+ghost use Rattle.c2po_tree.specs.ItemShape.{item_shape, spec_shape};
+ghost use Rattle.c2po_types.specs.FirstFault.{checked, first_fault};
+ghost use Rattle.c2po_types.specs.Reaching.{Reaches};
+
+use crate::TypedSpec;
+use crate::progress::Progress;
+use crate::steps::step;
+use c2po_kinds::{Declarations, NameTable, TypeFault};
+use c2po_tree::{Item, SpecTree};
+use std::alloc::Global;
+use tree_copy::copy_tree;
+use unfold::Unfolding;
+
+/// What is known behind all items.
+fn run(alloc: Global, items: &[Item]) -> Result<Progress, TypeFault>
+    ensures { Reaches result (checked (map item_shape items.now)) }
+{
+    let mut progress = Progress {
+        declared: Declarations::new(alloc),
+        labels: NameTable::new(alloc),
+        values: Unfolding::new(alloc),
+        total: 0,
+    };
+    for item in items {
+        progress = step(alloc, progress, item)?;
+    }
+    Ok(progress)
+}
+
+/// The specification of a tree, where it has no fault.
+///
+/// Items are taken in the order of the text. Within an item names and kinds come first, operands before operators and
+/// from left to right; then the weight of what it unfolds to, divisors and ranges, and tenses.
+///
+/// Errors: the first fault with its line; `Memory` where memory is wanting.
+pub fn check(alloc: Global, tree: &SpecTree) -> Result<TypedSpec, TypeFault>
+    requires plain { ArePlainItems (spec_shape tree.now) }
+    ensures unchanged { IfOk result (λ spec. spec_shape spec ≡ spec_shape tree.now) }
+    ensures faultless { OnOk result (first_fault (spec_shape tree.now) ≡ None) }
+    ensures first { IfErr result (λ fault. fault ≢ TypeFault.Memory → first_fault (spec_shape tree.now) ≡ Some fault) }
+{
+    let Progress { declared, .. } = run(alloc, tree.items.as_slice())?;
+    let copy = copy_tree(alloc, tree)?;
+    Ok(TypedSpec::of(copy, declared.signals))
+}

@@ -1,0 +1,16 @@
+//! How far the check of a specification has come.
+
+use c2po_kinds::{Declarations, NameTable};
+use unfold::Unfolding;
+
+/// What is known behind some items.
+#[derive(Drop)]
+pub struct Progress {
+    pub declared: Declarations,
+    /// The names of outputs, which have a space of their own.
+    pub labels: NameTable<()>,
+    /// What names stand for.
+    pub values: Unfolding,
+    /// The weight of the outputs together.
+    pub total: u32,
+}
