@@ -9,6 +9,7 @@ pub mod building;
 pub mod counting;
 pub mod fault;
 pub mod heads;
+pub mod laws;
 pub mod leaves;
 pub mod scope;
 pub mod unfolding;
