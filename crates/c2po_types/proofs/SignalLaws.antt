@@ -14,15 +14,14 @@ use Rattle.c2po_kinds.specs.declared.kind.Meaning.{Meaning}
 use Rattle.c2po_kinds.specs.declared.kind.Meaning.TheVariants.{Struct, Value}
 use Rattle.c2po_kinds.specs.declared.kind.Signal.{Signal}
 use Rattle.c2po_kinds.specs.declared.declarations.Declarations.{Declarations}
-use Rattle.c2po_kinds.specs.declared.fault.TypeFault.{TypeFault}
 use Rattle.c2po_kinds.specs.declared.fault.TypeFault.TheVariants.{Twice, Signals, Kind as Kinds}
 use Rattle.c2po_kinds.specs.Checking.{Checked, ◌>>=◌, in_turn}
-use Rattle.c2po_kinds.specs.Kinds.{plain, same_base, truth, whole, same_kind, set_kind}
+use Rattle.c2po_kinds.specs.Kinds.{plain, same_base, truth, whole, set_kind}
 use Rattle.c2po_kinds.specs.Items.{Labels, new, with_field, signal_kind, struct_kind, type_kind, truth_of, with_struct, with_signal, with_input, define_kind, with_value, with_label, formula_kind, contract_kind}
 use Rattle.unfold.specs.Environment.{value_of}
 use Rattle.unfold.specs.Values as values
 use Rattle.unfold.specs.Faults.{value_fault}
-use Rattle.c2po_types.specs.FirstFault.{State, start, checked, not_wide, ranged, one_tense, defined, with_out, one_out, two_out, struct_step, input_step, define_step, formula_step, contract_step, body_step, item_step}
+use Rattle.c2po_types.specs.FirstFault.{State, start, checked, ranged, defined, with_out, body_step, item_step}
 use Rattle.c2po_types.specs.Signals.{is_bool, body_signals, signals_of}
 use Rattle.c2po_types.proofs.Parts.{bind-ok, unless-ok, when-ok, ranged-ok}
 

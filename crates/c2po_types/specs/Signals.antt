@@ -1,9 +1,9 @@
 -- The signals of a specification.
 
-use Rattle.std.specs.Prelude.{ℕ, Bool, false, List, [], codes, map}
+use Rattle.std.specs.Prelude.{Bool, false, List, [], codes, map}
 use Rattle.std.specs.List.{flat_map}
 use Rattle.std.specs.Str.{bytes_eq}
-use Rattle.c2po_tree.specs.ItemShape.{TypeShape, BodyShape, ItemShape, type_named, set_of, structure, input, define, formula, contract}
+use Rattle.c2po_tree.specs.ItemShape.{TypeShape, BodyShape, ItemShape, type_named, set_of, input}
 use Rattle.c2po_kinds.specs.declared.kind.Signal.{Signal}
 
 -- whether a type is that of truths

@@ -31,7 +31,7 @@ fn found(alloc: Global, text: &str) -> Result<String, Fail> {
 
 // What follows `INPUT p, q: bool; x: int;` in line 1; `@` stands for a newline.
 const ROWS: &str = "\
- => ++-
+@ => ++-
 DEFINE s := {p, x}; => Kind(1)
 @FTSPEC f: foreach(p: {q})(p); => Twice(2)
 FTSPEC f: x; => Kind(1)

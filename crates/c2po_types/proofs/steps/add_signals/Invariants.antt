@@ -1,4 +1,4 @@
-use Rattle.std.proofs.Common.{◌≡◌, ◌≤◌, drop}
+use Rattle.std.proofs.Common.{◌≡◌, drop}
 use Rattle.unfold.specs.Environment.{Env}
 use Rattle.unfold.specs.Stands.{StandsFor}
 use Rattle.c2po_types.specs.FirstFault.{with_signals}
