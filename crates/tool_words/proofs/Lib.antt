@@ -1,0 +1,4 @@
+pub mod CommandLaws
+pub mod NumberLaws
+pub mod Examples
+pub mod HelpLaws

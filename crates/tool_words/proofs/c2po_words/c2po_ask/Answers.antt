@@ -1,0 +1,7 @@
+use Rattle.std.proofs.Common.{◌∙◌, ap}
+use Rattle.clap.specs.Words.{is_simple_and_free}
+use Rattle.tool_words.proofs.CommandLaws.{c2po_simple}
+use Rattle.tool_words.proofs.c2po_words.c2po_ask.Goals as goal
+
+pub matches_in-requires : goal.matches_in-requires
+matches_in-requires c = ap is_simple_and_free c.in_ok-command.ensures ∙ c2po_simple

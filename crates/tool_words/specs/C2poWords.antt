@@ -1,0 +1,82 @@
+-- What the words of `c2po` ask for.
+
+use Rattle.std.specs.Prelude.{Bool, true, false, ◌||◌, if◌then◌else◌, Option, Some, is_some, unwrap_or, option_map, List, [], ◌∷◌, codes}
+use Rattle.std.specs.Option.{option_map_or}
+use Rattle.clap.specs.Words.{App, Row, Rule, Text, first_of}
+use Rattle.tool_words.specs.declared.c2po_words.C2poAsk as c2po_ask
+use Rattle.tool_words.specs.declared.c2po_words.Compile as told
+use Rattle.tool_words.specs.Reading.{command_of, flag, option, positional, is_help, is_set, found_in}
+
+-- `-o FILE` or `--output FILE`; 111 is `o`
+abbrev pub output : Rule
+output = record (option (codes "output")) { short = Some 111 }
+
+-- `c2po [--header FILE] [-o FILE] [--table] [--simplify] SPEC`, `c2po --upgrade [-o FILE] PROGRAM` or `c2po --show [-o FILE] PROGRAM`
+unfoldable pub command : App
+command = command_of (codes "c2po")
+    (option (codes "header") ∷ output ∷ flag (codes "table") ∷ flag (codes "simplify") ∷ flag (codes "upgrade") ∷ flag (codes "show")
+    ∷ positional (codes "file") ∷ [])
+
+-- a compilation; without a file the table goes to the standard output
+pub record CompileAsked : Type 0 where
+  pub header : Option Text
+  pub out : Option Text
+  pub table : Bool
+  pub simplify : Bool
+  pub spec : Text
+
+-- what the words may ask for; an upgrade and a text have the file that is written, and the program
+pub data Asked : Type 0 where
+  help : Asked
+  compile : CompileAsked → Asked
+  upgrade : Text → Text → Asked
+  show : Option Text → Text → Asked
+  nothing : Asked
+
+-- the file of `-o`
+abbrev pub named : List Row → Option Text
+named found = first_of (codes "output") found
+
+-- the same, or `spec.bin`
+abbrev pub named_or_default : List Row → Text
+named_or_default found = unwrap_or (named found) (codes "spec.bin")
+
+-- `--table` goes to a file only where `-o` names it
+abbrev pub compile_in : List Row → Text → CompileAsked
+compile_in found spec = record {
+  header = first_of (codes "header") found;
+  out = if is_set (codes "table") found then named found else Some (named_or_default found);
+  table = is_set (codes "table") found;
+  simplify = is_set (codes "simplify") found;
+  spec = spec;
+}
+
+-- an option is given that serves compiling alone
+abbrev pub is_compiling : List Row → Bool
+is_compiling found = is_some (first_of (codes "header") found) || (is_set (codes "table") found || is_set (codes "simplify") found)
+
+-- `--upgrade` and `--show`, in this order, exclude each other and what serves compiling alone
+abbrev pub asked_by : Bool → Bool → List Row → Text → Asked
+asked_by false false found file = compile (compile_in found file)
+asked_by true false found file = if is_compiling found then nothing else upgrade (named_or_default found) file
+asked_by false true found file = if is_compiling found then nothing else show (named found) file
+asked_by true true found file = nothing
+
+-- what the arguments ask for that clap found; a file has to be there
+abbrev pub asked_in : List Row → Asked
+asked_in found = option_map_or (asked_by (is_set (codes "upgrade") found) (is_set (codes "show") found) found) (first_of (codes "file") found) nothing
+
+-- Help where the words are `--help` or `-h` alone. Else what the command finds in them; nothing where it doesn't take them.
+abbrev pub ask : List Text → Asked
+ask words = if is_help words then help else option_map_or asked_in (found_in command words) nothing
+
+-- what an answer tells
+abbrev pub compile_of : told.Compile → CompileAsked
+compile_of c = record { header = option_map (λ name. name.now) c.header; out = option_map (λ name. name.now) c.out; table = c.table; simplify = c.simplify; spec = c.spec.now }
+
+abbrev pub asked_of : c2po_ask.C2poAsk → Asked
+asked_of c2po_ask.TheVariants.Help = help
+asked_of (c2po_ask.TheVariants.Compile c) = compile (compile_of c)
+asked_of (c2po_ask.TheVariants.Upgrade out program) = upgrade out.now program.now
+asked_of (c2po_ask.TheVariants.Show out program) = show (option_map (λ name. name.now) out) program.now
+asked_of c2po_ask.TheVariants.Nothing = nothing

@@ -1,0 +1,3 @@
+pub mod Reading
+pub mod R2u2Words
+pub mod C2poWords

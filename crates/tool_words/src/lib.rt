@@ -1,0 +1,18 @@
+//! The words of the two programs' command lines, and what they ask for.
+//!
+//! Help is asked for by the one word `--help`, or the one word `-h`. All other words are read by `clap`, as one command
+//! with options, flags and positionals; how numbers are spelled and which words stand together is checked after that.
+#![tactic(auto)]
+
+mod c2po_words;
+mod numbers;
+mod r2u2_words;
+mod reading;
+mod words;
+
+pub use c2po_words::{C2poAsk, Compile, c2po_ask};
+pub use r2u2_words::{R2u2Ask, Run, r2u2_ask};
+pub use words::Words;
+
+#[cfg(test)]
+mod tests;

@@ -1,0 +1,33 @@
+//! Numbers among the words of a command line.
+
+ghost use Rattle.std.specs.Prelude.{◌≡◌, ◌≤◌, IfSome};
+ghost use Rattle.tool_words.specs.Reading.{number_in};
+
+/// The numbers that an option takes.
+#[derive(Clone, Copy)]
+pub(crate) struct Numbers {
+    /// The most digits, leading zeros among them.
+    pub digits: usize,
+    pub least: u64,
+    pub greatest: u64,
+}
+
+impl Numbers {
+    /// The number that a text spells in plain decimal digits, or `None` where it spells none that is taken.
+    pub fn read(self, text: &str) -> Option<u64>
+        ensures read { result ≡ number_in self.digits self.least self.greatest text.now }
+        ensures within { IfSome result (λ n. (self.least ≤ n) × (n ≤ self.greatest)) }
+    {
+        // `parse` takes a leading plus, which no plain number has
+        if text.starts_with('+') {
+            return None;
+        }
+        if text.len() > self.digits {
+            return None;
+        }
+        match text.parse::<u64>() {
+            Ok(n) if self.least <= n && n <= self.greatest => Some(n),
+            _ => None,
+        }
+    }
+}

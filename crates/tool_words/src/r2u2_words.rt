@@ -1,0 +1,175 @@
+//! What the words of `r2u2` ask for.
+
+ghost use Rattle.std.specs.Prelude.{◌≡◌, ◌≤◌, ◌^◌, IfOk, IfSome, option_map};
+ghost use Rattle.clap.specs.Words.{app_of};
+ghost use Rattle.tool_words.specs.R2u2Words as r2u2;
+ghost use Rattle.tool_words.specs.Reading.{rows};
+
+use crate::Words;
+use crate::numbers::Numbers;
+use crate::reading::{
+    asks_for_help, bare_command, flag, is_set, matches_in, option, positional, value_of,
+};
+use clap::{ArgMatches, Command};
+use mltl_base::Style;
+use mltl_base::limits::{MAX_MISSION, TIMED_MISSION};
+use std::alloc::{AllocError, Global};
+
+/// A run of the monitor over a trace.
+#[derive(Clone, Copy, PartialEq, Eq, Debug)]
+pub struct Run<'a> {
+    /// Whether the file is a specification, and not a program.
+    pub source: bool,
+    pub style: Style,
+    /// Whether the rows of the trace are stamped.
+    pub timed: bool,
+    /// The mission time: the most lines of the trace, and with stamps the most times.
+    pub mission: u64,
+    pub file: &'a str,
+    /// The trace, where `-` is the standard input.
+    pub trace: &'a str,
+}
+
+/// What the words of `r2u2` ask for.
+#[derive(Clone, Copy, PartialEq, Eq, Debug)]
+pub enum R2u2Ask<'a> {
+    Help,
+    Run(Run<'a>),
+    /// A run over so many rows that are made from the seed.
+    Demo { seed: u32, rows: u32 },
+    /// The words aren't taken.
+    Nothing,
+}
+
+/// What `--mission-time` takes.
+const MISSION_TIMES: Numbers = Numbers {
+    digits: 13,
+    least: 1,
+    greatest: MAX_MISSION,
+};
+
+/// What stands before the comma of `--demo`.
+const SEEDS: Numbers = Numbers {
+    digits: 10,
+    least: 0,
+    greatest: 4_294_967_295,
+};
+
+/// What stands behind it.
+const ROW_COUNTS: Numbers = Numbers {
+    digits: 10,
+    least: 1,
+    greatest: 10_000_000,
+};
+
+/// What the words of `r2u2` ask for, its own name not among them. It fails only for want of memory.
+pub fn r2u2_ask<'a>(alloc: Global, words: &'a Words) -> Result<R2u2Ask<'a>, AllocError>
+    ensures asked { IfOk result (λ asked. r2u2.asked_of asked ≡ r2u2.ask words.now) }
+    ensures bounds { IfOk result r2u2.IsInBounds }
+{
+    if asks_for_help(words) {
+        return Ok(R2u2Ask::Help);
+    }
+    match matches_in(command(alloc)?, words)? {
+        Some(matches) => Ok(asked_in(&matches)),
+        None => Ok(R2u2Ask::Nothing),
+    }
+}
+
+fn command<'a>(alloc: Global) -> Result<Command<'a>, AllocError>
+    ensures { IfOk result (λ made. app_of made ≡ r2u2.command) }
+{
+    bare_command(alloc, "r2u2")
+        .arg(flag(alloc, "source"))?
+        .arg(flag(alloc, "runs"))?
+        .arg(flag(alloc, "timed"))?
+        .arg(option(alloc, "mission-time"))?
+        .arg(option(alloc, "demo"))?
+        .arg(positional(alloc, "file"))?
+        .arg(positional(alloc, "trace"))
+}
+
+fn asked_in<'a>(matches: &ArgMatches<'a>) -> R2u2Ask<'a>
+    ensures asked { r2u2.asked_of result ≡ r2u2.asked_in (rows matches.now) }
+    ensures bounds { r2u2.IsInBounds result }
+{
+    match value_of(matches, "demo") {
+        Some(word) => {
+            if is_alone(matches) {
+                demo_in(word)
+            } else {
+                R2u2Ask::Nothing
+            }
+        }
+        None => match run_in(matches) {
+            Some(run) => R2u2Ask::Run(run),
+            None => R2u2Ask::Nothing,
+        },
+    }
+}
+
+/// Whether no file is given, and no option beside `--demo`.
+fn is_alone(matches: &ArgMatches<'_>) -> bool
+    ensures { result ≡ r2u2.is_demo_alone (rows matches.now) }
+{
+    !is_set(matches, "source")
+        && !is_set(matches, "runs")
+        && !is_set(matches, "timed")
+        && value_of(matches, "mission-time").is_none()
+        && value_of(matches, "file").is_none()
+}
+
+/// What the word `SEED,ROWS` asks for.
+fn demo_in<'a>(word: &str) -> R2u2Ask<'a>
+    ensures asked { r2u2.asked_of result ≡ r2u2.demo_in word.now }
+    ensures bounds { r2u2.IsInBounds result }
+{
+    let Some((seed, rows)) = word.split_once(',') else {
+        return R2u2Ask::Nothing;
+    };
+    match (SEEDS.read(seed), ROW_COUNTS.read(rows)) {
+        (Some(seed), Some(rows)) => R2u2Ask::Demo {
+            seed: seed as u32,
+            rows: rows as u32,
+        },
+        _ => R2u2Ask::Nothing,
+    }
+}
+
+/// The run over a file, or `None` where none is given or the mission time can't be read.
+fn run_in<'a>(matches: &ArgMatches<'a>) -> Option<Run<'a>>
+    ensures asked { option_map r2u2.run_of result ≡ r2u2.run_in (rows matches.now) }
+    ensures bounds { IfSome result (λ run. (1 ≤ run.mission) × (run.mission ≤ 2 ^ 40)) }
+{
+    let file = value_of(matches, "file")?;
+    let mission = mission_time(matches)?;
+    Some(Run {
+        source: is_set(matches, "source"),
+        style: style(matches),
+        timed: is_set(matches, "timed"),
+        mission,
+        file,
+        trace: value_of(matches, "trace").unwrap_or("-"),
+    })
+}
+
+fn style(matches: &ArgMatches<'_>) -> Style
+    ensures { result ≡ r2u2.style_in (rows matches.now) }
+{
+    if is_set(matches, "runs") {
+        Style::Runs
+    } else {
+        Style::Each
+    }
+}
+
+fn mission_time(matches: &ArgMatches<'_>) -> Option<u64>
+    ensures read { result ≡ r2u2.mission_in (rows matches.now) }
+    ensures bounds { IfSome result (λ n. (1 ≤ n) × (n ≤ 2 ^ 40)) }
+{
+    match value_of(matches, "mission-time") {
+        Some(word) => MISSION_TIMES.read(word),
+        None if is_set(matches, "timed") => Some(TIMED_MISSION),
+        None => Some(MAX_MISSION),
+    }
+}
