@@ -1,0 +1,4 @@
+pub mod Cases
+pub mod Forms
+pub mod Meaning
+pub mod Delays

@@ -1,0 +1,47 @@
+-- What stands in a formula.
+
+use Rattle.std.specs.Prelude.{◌≡◌, ◌≤◌, ◌⊎◌}
+use Rattle.mltl_base.specs.declared.interval.Interval.{Interval}
+use Rattle.mltl_base.specs.declared.limits.TheConstants.{MAX_BOUND}
+use Rattle.mltl_base.specs.Atoms.{Atom}
+use Rattle.mltl_base.specs.Formula.{Formula, truth, falsity, atom, negation, conjunction, disjunction, implication, equivalence, finally, globally, until, release, once, historically, since}
+
+-- the interval runs upward, and no further than the limit
+abbrev pub IsBounded : Interval → Type 0
+IsBounded i = (i.lo ≤ i.hi) × (i.hi ≤ MAX_BOUND)
+
+-- each interval of a formula does
+abbrev pub AreBounded : Formula → Type 0
+AreBounded truth = Unit {0}
+AreBounded falsity = Unit {0}
+AreBounded (atom a) = Unit {0}
+AreBounded (negation p) = AreBounded p
+AreBounded (conjunction p q) = AreBounded p × AreBounded q
+AreBounded (disjunction p q) = AreBounded p × AreBounded q
+AreBounded (implication p q) = AreBounded p × AreBounded q
+AreBounded (equivalence p q) = AreBounded p × AreBounded q
+AreBounded (finally i p) = IsBounded i × AreBounded p
+AreBounded (globally i p) = IsBounded i × AreBounded p
+AreBounded (until i p q) = IsBounded i × (AreBounded p × AreBounded q)
+AreBounded (release i p q) = IsBounded i × (AreBounded p × AreBounded q)
+AreBounded (once i p) = IsBounded i × AreBounded p
+AreBounded (historically i p) = IsBounded i × AreBounded p
+AreBounded (since i p q) = IsBounded i × (AreBounded p × AreBounded q)
+
+-- the atom stands in the formula
+abbrev pub HasAtom : Formula → Atom → Type 0
+HasAtom truth b = ⊥
+HasAtom falsity b = ⊥
+HasAtom (atom a) b = a ≡ b
+HasAtom (negation p) b = HasAtom p b
+HasAtom (conjunction p q) b = HasAtom p b ⊎ HasAtom q b
+HasAtom (disjunction p q) b = HasAtom p b ⊎ HasAtom q b
+HasAtom (implication p q) b = HasAtom p b ⊎ HasAtom q b
+HasAtom (equivalence p q) b = HasAtom p b ⊎ HasAtom q b
+HasAtom (finally i p) b = HasAtom p b
+HasAtom (globally i p) b = HasAtom p b
+HasAtom (until i p q) b = HasAtom p b ⊎ HasAtom q b
+HasAtom (release i p q) b = HasAtom p b ⊎ HasAtom q b
+HasAtom (once i p) b = HasAtom p b
+HasAtom (historically i p) b = HasAtom p b
+HasAtom (since i p q) b = HasAtom p b ⊎ HasAtom q b

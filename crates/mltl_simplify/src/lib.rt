@@ -1,0 +1,9 @@
+//! Simplified formulas: the rules, and what they keep.
+#![tactic(auto)]
+
+mod laws;
+
+pub use laws::{
+    simplified_examples, simplified_formulas_keep_their_form, simplified_formulas_mean_the_same,
+    simplified_verdicts_are_settled,
+};
