@@ -1,0 +1,5 @@
+pub mod Kinds
+pub mod Conditions
+pub mod Image
+pub mod Limits
+pub mod Samples
