@@ -1,0 +1,77 @@
+-- The time that a line of a stamped trace begins with.
+
+use Rattle.std.specs.Prelude.{ℕ, ◌-◌, ◌+◌, ◌==◌, min, Bool, true, ◌&&◌, ◌||◌, if◌then◌else◌, nat_lt, nat_le, Option, Some, None, List, [], ◌∷◌, length, take, drop, slice_index}
+use Rattle.std.specs.Char.{is_ascii_digit}
+use Rattle.std.specs.List.{list_all, prefix_len}
+use Rattle.std.specs.Str.Parse.{digits_value}
+use Rattle.sparse_feed.specs.declared.stamp.Stamp.{Stamp}
+use Rattle.sparse_feed.specs.declared.stamp.Stamp.TheVariants.{At, Blank, Bad, Order, Late}
+
+-- blanks are spaces and tabs
+abbrev pub is_blank : ℕ → Bool
+is_blank byte = (byte == 32) || (byte == 9)
+
+-- a line of nothing else
+abbrev pub is_blank_line : List ℕ → Bool
+is_blank_line line = list_all is_blank line
+
+-- the digits at the front of a text, as many as can be, and what is behind them
+abbrev pub digits_at_front : List ℕ → List ℕ
+digits_at_front text = take (prefix_len is_ascii_digit text) text
+
+abbrev pub behind_digits : List ℕ → List ℕ
+behind_digits text = drop (prefix_len is_ascii_digit text) text
+
+-- a stamp ends at a comma or with its line
+abbrev pub ends_stamp : List ℕ → Bool
+ends_stamp [] = true
+ends_stamp (byte ∷ bytes) = byte == 44
+
+-- a line begins with a stamp: the sign `@`, one or more digits, and then a comma or the line's end
+abbrev pub has_stamp : List ℕ → Bool
+has_stamp line = (slice_index line 0 == 64) && (nat_lt 0 (prefix_len is_ascii_digit (drop 1 line)) && ends_stamp (behind_digits (drop 1 line)))
+
+-- the digits of a stamp, and the time that they write
+unfoldable pub stamp_digits : List ℕ → List ℕ
+stamp_digits line = digits_at_front (drop 1 line)
+
+abbrev pub time_of : List ℕ → ℕ
+time_of line = digits_value 10 (stamp_digits line)
+
+-- the place behind the stamp and its comma, or the line's length where it has none
+abbrev pub place_behind : List ℕ → ℕ
+place_behind line = min (length line) (length (stamp_digits line) + 2)
+
+-- the first time is 0, and times rise
+abbrev pub may_follow : Option ℕ → ℕ → Bool
+may_follow None time = time == 0
+may_follow (Some last) time = nat_lt last time
+
+-- what a time says, by the time before it and the mission time
+abbrev pub timed : Option ℕ → ℕ → ℕ → ℕ → Stamp
+timed last mission place time =
+    if may_follow last time then (if nat_le mission time then Late else At time place) else Order
+
+-- what a line says: nothing, a fault in the order of faults, or its time and the place behind its stamp
+abbrev pub stamp_meaning : List ℕ → Option ℕ → ℕ → Stamp
+stamp_meaning line last mission =
+    if is_blank_line line then Blank
+    else if has_stamp line then timed last mission (place_behind line) (time_of line)
+    else Bad
+
+-- a fact of a time and a place, where a line has them
+abbrev pub IfAt : Stamp → (ℕ → ℕ → Type 0) → Type 0
+IfAt (At time place) P = P time place
+IfAt Blank P = Unit {0}
+IfAt Bad P = Unit {0}
+IfAt Order P = Unit {0}
+IfAt Late P = Unit {0}
+
+-- how many times lie between a time and the one before it, none before the first
+abbrev pub times_between : Option ℕ → ℕ → ℕ
+times_between None time = 0
+times_between (Some last) time = time - (last + 1)
+
+-- a number, where it has 64 bits
+abbrev pub in_64_bits : ℕ → Option ℕ
+in_64_bits n = if nat_lt n 18446744073709551616 then Some n else None

@@ -1,0 +1,128 @@
+//! The time that a line begins with.
+
+ghost use Rattle.std.specs.Prelude.{◌≡◌, ◌≤◌, ◌<◌, ℕ, IsTrue, IsSome, IfSome, ◌↔◌, length};
+ghost use Rattle.std.specs.Char.{is_ascii_digit};
+ghost use Rattle.std.specs.List.{list_all, prefix_len};
+ghost use Rattle.std.specs.Str.Parse.{digits_value};
+ghost use Rattle.sparse_feed.specs.Stamps.{IfAt, has_stamp, in_64_bits, is_blank, is_blank_line as is_all_blank, may_follow as may_come_after, stamp_digits as digits_of, stamp_meaning, timed as timed_as, times_between};
+
+use std::str;
+
+/// What a line says of its time.
+#[derive(Clone, Copy, PartialEq, Eq, Debug)]
+pub enum Stamp {
+    /// The time, and the place of the first byte behind the comma, or the line's length where it has no comma.
+    At(u64, usize),
+    /// Nothing but spaces and tabs.
+    Blank,
+    /// The line doesn't begin with `@`, one or more digits, and then a comma or its end.
+    Bad,
+    /// The first time isn't 0, or the time isn't above the one before.
+    Order,
+    /// The time is at least the mission time.
+    Late,
+}
+
+fn is_blank_line(line: &[u8]) -> bool
+    ensures { result ≡ is_all_blank line.now }
+{
+    line.iter().all(|byte| *byte == b' ' || *byte == b'\t')
+}
+
+/// How many digits stand at the front.
+fn digits_size(text: &[u8]) -> usize
+    ensures longest { result ≡ prefix_len is_ascii_digit text.now }
+    ensures inside { result ≤ length text.now }
+{
+    text.iter().take_while(|byte| byte.is_ascii_digit()).count()
+}
+
+/// The digits of the stamp that a line begins with, if it begins with one.
+#[tactic(auto, using(crate::proofs::Digits::prefix_digits), unfolding(crate::specs::Stamps::stamp_digits))]
+fn stamp_digits(line: &[u8]) -> Option<&[u8]>
+    ensures stamp { IsSome result ↔ IsTrue (has_stamp line.now) }
+    ensures digits { IfSome result (λ digits. digits.now ≡ digits_of line.now) }
+    ensures some { IfSome result (λ digits. 0 < length digits.now) }
+    ensures alone { IfSome result (λ digits. IsTrue (list_all is_ascii_digit digits.now)) }
+{
+    let text = match line {
+        [b'@', text @ ..] => text,
+        _ => return None,
+    };
+    let size = digits_size(text);
+    if size == 0 {
+        return None;
+    }
+    match &text[size..] {
+        [] | [b',', ..] => Some(&text[..size]),
+        _ => None,
+    }
+}
+
+/// The number that digits write, where it has 64 bits.
+fn number_of(digits: &[u8]) -> Option<u64>
+    requires some { 0 < length digits.now }
+    requires alone { IsTrue (list_all is_ascii_digit digits.now) }
+    ensures { result ≡ in_64_bits (digits_value 10 digits.now) }
+{
+    match str::from_utf8(digits) {
+        Ok(text) => text.parse::<u64>().ok(),
+        Err(_) => unreachable!(),
+    }
+}
+
+/// Whether the first time is 0, and a later one above the one before. One without a number has more than 64 bits.
+fn may_follow(last: Option<u64>, time: Option<u64>) -> bool
+    ensures { (n : ℕ) → time ≡ in_64_bits n → result ≡ may_come_after last n }
+{
+    match (last, time) {
+        (None, Some(time)) => time == 0,
+        (None, None) => false,
+        (Some(last), Some(time)) => last < time,
+        (Some(_), None) => true,
+    }
+}
+
+/// What a time says. One without a number has more than 64 bits.
+fn timed(last: Option<u64>, mission: u64, place: usize, time: Option<u64>) -> Stamp
+    ensures { (n : ℕ) → time ≡ in_64_bits n → result ≡ timed_as last mission place n }
+{
+    if !may_follow(last, time) {
+        return Stamp::Order;
+    }
+    match time {
+        Some(time) if time < mission => Stamp::At(time, place),
+        _ => Stamp::Late,
+    }
+}
+
+/// The time of a line, by the time of the line before it and by the mission time, or its first fault. A stamp may have
+/// leading zeros and any number of digits. The row begins at the place that is answered with the time. It takes no memory.
+pub fn stamp_of(line: &[u8], last: Option<u64>, mission: u64) -> Stamp
+    ensures told { result ≡ stamp_meaning line.now last mission }
+    ensures within { IfAt result (λ time place. place ≤ length line.now) }
+    ensures follows { IfAt result (λ time place. IsTrue (may_come_after last time)) }
+    ensures early { IfAt result (λ time place. time < mission) }
+{
+    if is_blank_line(line) {
+        return Stamp::Blank;
+    }
+    match stamp_digits(line) {
+        Some(digits) => {
+            let place = line.len().min(digits.len() + 2);
+            timed(last, mission, place, number_of(digits))
+        }
+        None => Stamp::Bad,
+    }
+}
+
+/// How many times lie between a time and the one before it; 0 for the first.
+pub fn gap(last: Option<u64>, time: u64) -> u64
+    requires { IsTrue (may_come_after last time) }
+    ensures { result ≡ times_between last time }
+{
+    match last {
+        Some(last) => time - last - 1,
+        None => 0,
+    }
+}

@@ -1,0 +1,108 @@
+-- What a line of a trace says to a program: a row, nothing, or its first fault.
+
+use Rattle.std.specs.Prelude.{◌≡◌, ℕ, suc, ◌==◌, ℤ, pos, neg_ℤ, int_le, Bool, false, ◌&&◌, ◌||◌, if◌then◌else◌, nat_lt, List, [], ◌∷◌, length, take, Result, Ok, Err}
+use Rattle.std.specs.Char.{is_ascii_digit}
+use Rattle.std.specs.List.{list_all, list_any, slice_split}
+use Rattle.std.specs.Ordering.{int_eq}
+use Rattle.std.specs.Str.Parse.{signed_digits_value, without_leading_sign}
+use Rattle.mltl_base.specs.Atoms.{Row}
+use Rattle.mltl_base.specs.declared.operators.BzOp as bz
+use Rattle.mltl_base.specs.declared.program.Program.{Program}
+use Rattle.trace_feed.specs.Blanks.{is_blank_line, trimmed}
+use Rattle.trace_feed.specs.declared.fields.FieldFault.{FieldFault}
+use Rattle.trace_feed.specs.declared.fields.FieldFault.TheVariants.{NotWhole, OutOfRange}
+use Rattle.trace_feed.specs.declared.fields.Reading.{Reading}
+use Rattle.trace_feed.specs.declared.fields.Reading.TheVariants.{Unread, Whole, Truth}
+use Rattle.trace_feed.specs.declared.rows.RowAnswer as answer
+
+-- the fields of a line stand between its commas
+abbrev pub is_comma : ℕ → Bool
+is_comma byte = byte == 44
+
+abbrev pub fields_of : List ℕ → List (List ℕ)
+fields_of line = slice_split is_comma line
+
+-- a whole number is one or more decimal digits, which one sign may lead
+abbrev pub is_numeral : List ℕ → Bool
+is_numeral field = nat_lt 0 (length (without_leading_sign field)) && list_all is_ascii_digit (without_leading_sign field)
+
+-- a whole number of 32 bits with its sign
+abbrev pub has_32_bits : ℤ → Bool
+has_32_bits n = int_le (neg_ℤ (pos 2147483648)) n && int_le n (pos 2147483647)
+
+-- a truth
+abbrev pub is_bit : ℤ → Bool
+is_bit n = int_eq n (pos 0) || int_eq n (pos 1)
+
+-- the number that a field writes, where it writes one, and one of the range
+abbrev pub in_range : (ℤ → Bool) → ℤ → Result ℤ FieldFault
+in_range range n = if range n then Ok n else Err OutOfRange
+
+abbrev pub number_in : (ℤ → Bool) → List ℕ → Result ℤ FieldFault
+number_in range field = if is_numeral field then in_range range (signed_digits_value 10 field) else Err NotWhole
+
+-- what a field holds, in a column that is read so; a column that isn't read may hold anything, and counts as 0
+abbrev pub value_of : Reading → List ℕ → Result ℤ FieldFault
+value_of Unread field = Ok (pos 0)
+value_of Whole field = number_in has_32_bits (trimmed field)
+value_of Truth field = number_in is_bit (trimmed field)
+
+-- the instruction reads the column as a truth
+abbrev pub reads_truth : ℕ → bz.BzOp → Bool
+reads_truth c (bz.TheVariants.IsTrue d) = d == c
+reads_truth c op = false
+
+-- the instruction reads the column as a whole number
+abbrev pub reads_whole : ℕ → bz.BzOp → Bool
+reads_whole c (bz.TheVariants.Column d) = d == c
+reads_whole c op = false
+
+-- how instructions read a column: as a truth where one does so
+abbrev pub reading_of : List bz.BzOp → ℕ → Reading
+reading_of ops c =
+    if list_any (reads_truth c) ops then Truth
+    else if list_any (reads_whole c) ops then Whole
+    else Unread
+
+-- a row with a number for each column; a blank line, which is none; a line with fewer fields than columns; the first
+-- column whose field isn't a whole number, or isn't one of its range
+pub data LineMeaning : Type 0 where
+  row : Row → LineMeaning
+  blank : LineMeaning
+  too_few : LineMeaning
+  not_whole : ℕ → LineMeaning
+  out_of_range : ℕ → LineMeaning
+
+-- a number in front of a row; a fault stays
+abbrev pub put_in_front : ℤ → LineMeaning → LineMeaning
+put_in_front n (row values) = row (n ∷ values)
+put_in_front n blank = blank
+put_in_front n too_few = too_few
+put_in_front n (not_whole c) = not_whole c
+put_in_front n (out_of_range c) = out_of_range c
+
+-- what the field of column c says, with those behind it
+abbrev pub joined : ℕ → Result ℤ FieldFault → LineMeaning → LineMeaning
+joined c (Ok n) others = put_in_front n others
+joined c (Err NotWhole) others = not_whole c
+joined c (Err OutOfRange) others = out_of_range c
+
+-- the row of the fields of column c and those behind it, or the first fault
+unfoldable pub row_from : (ℕ → Reading) → ℕ → List (List ℕ) → LineMeaning
+row_from reading c [] = row []
+row_from reading c (field ∷ fields) = joined c (value_of (reading c) field) (row_from reading (suc c) fields)
+
+-- what a line says; fields past the width aren't read
+abbrev pub line_meaning : Program → List ℕ → LineMeaning
+line_meaning program line =
+    if is_blank_line line then blank
+    else if nat_lt (length (fields_of line)) program.width then too_few
+    else row_from (reading_of program.bz) 0 (take program.width (fields_of line))
+
+-- an answer, with the numbers that came with it, tells what a line says
+abbrev pub Tells : answer.RowAnswer → Row → LineMeaning → Type 0
+Tells answer.TheVariants.Good values meaning = meaning ≡ row values
+Tells answer.TheVariants.Blank values meaning = meaning ≡ blank
+Tells answer.TheVariants.Width values meaning = meaning ≡ too_few
+Tells (answer.TheVariants.NotWhole c) values meaning = meaning ≡ not_whole c
+Tells (answer.TheVariants.OutOfRange c) values meaning = meaning ≡ out_of_range c

@@ -1,0 +1,45 @@
+//! Spaces and tabs, which don't count around fields and names.
+
+ghost use Rattle.std.specs.Prelude.{◌≡◌, ◌≤◌, length};
+ghost use Rattle.std.specs.List.{prefix_len, suffix_len};
+ghost use Rattle.trace_feed.specs.Blanks.{is_blank, is_blank_line as is_all_blank, trimmed as without_blanks};
+
+fn is_blank(byte: u8) -> bool
+    ensures { result ≡ is_blank byte }
+{
+    byte == b' ' || byte == b'\t'
+}
+
+/// Whether a line has nothing but blanks.
+pub fn is_blank_line(line: &[u8]) -> bool
+    ensures { result ≡ is_all_blank line.now }
+{
+    line.iter().all(|byte| is_blank(*byte))
+}
+
+fn blanks_at_front(bytes: &[u8]) -> usize
+    ensures longest { result ≡ prefix_len is_blank bytes.now }
+    ensures inside { result ≤ length bytes.now }
+{
+    bytes.iter().take_while(|byte| is_blank(**byte)).count()
+}
+
+fn blanks_at_end(bytes: &[u8]) -> usize
+    ensures longest { result ≡ suffix_len is_blank bytes.now }
+    ensures inside { result ≤ length bytes.now }
+{
+    bytes
+        .iter()
+        .rev()
+        .take_while(|byte| is_blank(**byte))
+        .count()
+}
+
+/// The bytes without the blanks around them.
+#[tactic(auto, unfolding(crate::specs::Blanks::trimmed))]
+pub fn trimmed(bytes: &[u8]) -> &[u8]
+    ensures { result.now ≡ without_blanks bytes.now }
+{
+    let rest = &bytes[blanks_at_front(bytes)..];
+    &rest[..rest.len() - blanks_at_end(rest)]
+}

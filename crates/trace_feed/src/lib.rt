@@ -1,0 +1,23 @@
+//! The lines of a trace: where its header puts the signals, and what each row holds.
+//!
+//! A header begins with `#` and names the columns, as one record of CSV. A row is cut at its commas and nowhere else, and
+//! read without memory: of a checked program, the columns that its instructions name.
+#![tactic(auto)]
+
+mod blanks;
+mod columns;
+mod fields;
+mod header_fault;
+mod laws;
+mod marks;
+mod names;
+mod rows;
+
+pub use columns::{header, header_of, in_order};
+pub use fields::{FieldFault, Reading};
+pub use header_fault::HeaderFault;
+pub use laws::rows_are_fit;
+pub use rows::{RowAnswer, row_fields};
+
+#[cfg(test)]
+mod tests;
