@@ -1,0 +1,17 @@
+use Rattle.std.proofs.Common.{◌≡◌, ◌+◌, drop}
+use Rattle.plain_nodes.specs.Nodes.{AreSound, Grows}
+use Rattle.unfold.specs.Environment.{Env}
+use Rattle.unfold.specs.Stands.{StandsFor, nodes_of}
+use Rattle.c2po_types.specs.FirstFault.{with_signals}
+use Rattle.set_expand.specs.Standing.{signals_named}
+use Rattle.set_expand.proofs.steps.add_signals.Given as goal
+
+-- the signals so far stand for their numbers, and those that are left make the whole
+abbrev pub invariant-loop-name : goal.invariant-loop-name
+invariant-loop-name l = record {
+  number : l.number ≡ l.from + l.name-index;
+  stand : (env : Env) → StandsFor l.fn.values env → (now : Env) × StandsFor l.values now
+      × (with_signals l.number (signals_named l.truth (drop l.name-index l.names)) now ≡ with_signals l.from (signals_named l.truth l.names) env);
+  sound : AreSound l.from (nodes_of l.fn.values) → AreSound l.number (nodes_of l.values);
+  grows : Grows (nodes_of l.fn.values) (nodes_of l.values);
+}

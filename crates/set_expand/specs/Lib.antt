@@ -1,0 +1,4 @@
+pub mod Outputs
+pub mod Kinds
+pub mod Weights
+pub mod Standing

@@ -1,0 +1,77 @@
+-- What the outputs of a specification ask for: the plain formulas that their expressions stand for.
+
+use Rattle.std.specs.Prelude.{ℕ, ◌+◌, ◌≡◌, Option, Some, None, List, [], ◌∷◌, ◌++◌, length, map, All, decimal}
+use Rattle.mltl_base.specs.Reports.{formula, contract}
+use Rattle.mltl_base.specs.Subformulas.{Asked, formulas_of}
+use Rattle.c2po_tree.specs.ItemShape as item
+use Rattle.c2po_tree.specs.ItemShape.{BodyShape, ItemShape}
+use Rattle.c2po_tree.specs.Names.{IsPlainName}
+use Rattle.node_facts.specs.Faults.{formula_fault}
+use Rattle.unfold.specs.Values.{formula_of}
+use Rattle.unfold.specs.Environment.{Env, no_names, declare, fields, value, value_of}
+use Rattle.c2po_types.specs.FirstFault.{with_signals}
+use Rattle.c2po_types.specs.Signals.{body_signals}
+
+-- What is known at a place between items: what names stand for, and the numbers of signals and of outputs before it.
+pub record Place : Type 0 where
+  pub values : Env
+  pub signals : ℕ
+  pub outputs : ℕ
+
+-- before the first item
+abbrev pub before : Place
+before = record { values = no_names; signals = 0; outputs = 0 }
+
+-- a name stands for its definition's value, and signals are numbered in the order of declaration
+abbrev pub values_behind : BodyShape → Place → Env
+values_behind (item.structure x fs) p = declare x (fields (map (λ f. f.name) fs)) p.values
+values_behind (item.input xs t) p = with_signals p.signals (body_signals (item.input xs t)) p.values
+values_behind (item.define x e) p = declare x (value (value_of e p.values)) p.values
+values_behind (item.formula engine label e) p = p.values
+values_behind (item.contract engine label e f) p = p.values
+
+-- the name of an output: its label, or the decimal text of its number
+abbrev pub name_of : ℕ → Option (List ℕ) → List ℕ
+name_of k (Some x) = x
+name_of k None = decimal k
+
+-- the outputs that an item declares at a place: one or none
+abbrev pub asked_at : BodyShape → Place → List Asked
+asked_at (item.structure x fs) p = []
+asked_at (item.input xs t) p = []
+asked_at (item.define x e) p = []
+asked_at (item.formula engine label e) p = record {
+  engine = engine;
+  name = name_of p.outputs label;
+  output = formula (formula_of (value_of e p.values));
+} ∷ []
+asked_at (item.contract engine label e f) p = record {
+  engine = engine;
+  name = name_of p.outputs label;
+  output = contract (formula_of (value_of e p.values)) (formula_of (value_of f p.values));
+} ∷ []
+
+-- what is known behind an item
+abbrev pub behind : BodyShape → Place → Place
+behind body p = record {
+  values = values_behind body p;
+  signals = p.signals + length (body_signals body);
+  outputs = p.outputs + length (asked_at body p);
+}
+
+-- the outputs of items from a place on
+unfoldable pub asked_from : List ItemShape → Place → List Asked
+asked_from [] p = []
+asked_from (i ∷ items) p = asked_at i.body p ++ asked_from items (behind i.body p)
+
+-- the outputs of a specification in order, counted from 0
+unfoldable pub outputs_of : List ItemShape → List Asked
+outputs_of items = asked_from items before
+
+-- each whole number of the output has a range, and each divisor is a number other than 0
+abbrev pub HasRanges : Asked → Type 0
+HasRanges asked = All (λ p. formula_fault p ≡ None) (formulas_of asked.output)
+
+-- the output's name is made of letters, digits and `_`
+abbrev pub HasPlainName : Asked → Type 0
+HasPlainName asked = IsPlainName asked.name

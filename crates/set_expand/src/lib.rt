@@ -1,0 +1,22 @@
+//! Unfolding of a whole specification: its outputs as one list of shared nodes.
+//!
+//! `outputs_of` in this crate's `specs/` says what the outputs of a specification ask for: names stand for the values of
+//! their definitions, fields and sets are taken apart, and quantifiers become formulas over their bodies. [`expand`]
+//! gives nodes that unfold to it, operands before the nodes that use them.
+//!
+//! ```text
+//! let spec = check(alloc, &parse(alloc, &lex(alloc, b"INPUT p: bool; FTSPEC foreach(v: {p, !p})(v);")?)?)?;
+//! let expanded = expand(alloc, &spec)?; // one output, named 0, over the nodes p, !p and p && !p
+//! ```
+#![tactic(auto)]
+
+pub mod expanding;
+pub mod laws;
+pub mod names;
+pub mod progress;
+pub mod steps;
+#[cfg(test)]
+mod tests;
+
+pub use expanding::expand;
+pub use plain_nodes::{Expanded, Plain, PlainOut};
