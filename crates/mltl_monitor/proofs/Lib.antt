@@ -1,0 +1,6 @@
+pub mod LastRows
+pub mod Taking
+pub mod Telling
+pub mod Keeping
+pub mod Settled
+pub mod Alike

@@ -1,0 +1,44 @@
+-- What an answer says of the reports that were open.
+
+use Rattle.std.proofs.Common.{◌≡◌, ◌↔◌, Bool, Option, None, Some, List, [], ◌∷◌, refl, ap, sym, subst, ◌∙◌}
+use Rattle.std.specs.Prelude.{IfNone, IsNone, IsTrue}
+use Rattle.mltl_base.specs.declared.program.Program.{Program}
+use Rattle.mltl_base.specs.declared.report.Report.{Report}
+use Rattle.mltl_base.specs.declared.report.Style.{Style}
+use Rattle.mltl_base.specs.declared.report.Style.TheVariants.{Each}
+use Rattle.mltl_base.specs.Atoms.{Row}
+use Rattle.mltl_base.specs.Programs.{outputs}
+use Rattle.contract_status.specs.Open as status
+use Rattle.contract_status.proofs.Opening.{no_other}
+use Rattle.mltl_monitor.specs.declared.running.Running.{Running}
+use Rattle.mltl_monitor.specs.Running.{GivesFirst, HasTaken, IsDrained, open_of}
+
+-- what is given of places is given of what runs
+pub gives_of_places : (style : Style) (program : Program) (result : Option Report) (before after : Running) (rows : List Row) → before.checked ≡ program → after.checked ≡ program → status.GivesFirst style program rows before.outs after.outs result
+    → GivesFirst style result before after rows
+gives_of_places style program None before after rows e e' gives = subst (λ (p : Program). status.open_of style p rows before.outs ≡ []) (sym e) gives
+gives_of_places style program (Some report) before after rows e e' gives =
+    ap (λ (p : Program). status.open_of style p rows before.outs) e ∙ gives ∙ ap (λ (p : Program). report ∷ status.open_of style p rows after.outs) (sym e')
+
+-- nothing is open in one style: so it is in each
+pub drained_in_all : (running : Running) (style : Style) → ((rows : List Row) → HasTaken running rows → open_of style running rows ≡ []) → IsDrained running
+drained_in_all running style none other rows taken = no_other style other rows 0 (outputs running.checked) running.outs (none rows taken)
+
+-- none is given exactly where nothing is open
+pub none_where_drained : (style : Style) (result : Option Report) (before after : Running) → ((rows : List Row) → HasTaken before rows → GivesFirst style result before after rows)
+    → (rows : List Row) × HasTaken before rows → IsNone result ↔ IsDrained before
+none_where_drained style None before after gives some = (λ _. drained_in_all before style gives, λ _. refl)
+none_where_drained style (Some report) before after gives some =
+    (λ h. cc, λ drained. let given : open_of style before some.0 ≡ report ∷ open_of style after some.0 = gives some.0 some.1 in let none : open_of style before some.0 ≡ [] = drained style some.0 some.1 in absurd cc)
+
+-- and where none is given nothing is open afterwards
+pub none_leaves_drained : (style : Style) (result : Option Report) (before after : Running) → ((rows : List Row) → HasTaken before rows → GivesFirst style result before after rows)
+    → (IsNone result → after ≡ before) → IfNone result (IsDrained after)
+none_leaves_drained style None before after gives same = subst IsDrained (sym (same refl)) (drained_in_all before style gives)
+none_leaves_drained style (Some report) before after gives same = tt
+
+-- an answer that tells of one list of rows tells of each
+pub tells_drained : (answer : Bool) (running : Running) → ((style : Style) (rows : List Row) → HasTaken running rows → IsTrue answer ↔ (open_of style running rows ≡ []))
+    → (rows : List Row) × HasTaken running rows → IsTrue answer ↔ IsDrained running
+tells_drained answer running tells some =
+    (λ h style rows taken. (tells style rows taken).0 h, λ drained. (tells Each some.0 some.1).1 (drained Each some.0 some.1))

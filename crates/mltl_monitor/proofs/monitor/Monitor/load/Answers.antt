@@ -1,0 +1,19 @@
+use Rattle.std.proofs.Common.{◌≡◌, ap, sym, ◌∙◌, arith, [], length}
+use Rattle.mltl_base.specs.declared.program.Program.{Program}
+use Rattle.mltl_monitor.proofs.LastRows.{none_before}
+use Rattle.mltl_monitor.proofs.monitor.Monitor.load.Goals as goal
+
+pub returns-clause-stands : goal.returns-clause-stands
+returns-clause-stands c = record { taken = c.in_ok-running.ensures.stands; last = λ before row is. absurd (none_before before row is) }
+
+pub invariant_of-result : goal.invariant_of-result
+invariant_of-result c =
+    let same = c.in_ok-running.ensures.program in
+    let width : c.program.result.now.width ≡ c.in_ok-running.running.checked.width = ap (λ (p : Program). p.width) (c.program.ensures.program ∙ sym same) in
+    record {
+      some = ([], record { taken = c.in_ok-running.ensures.stands; last = λ before row is. absurd (none_before before row is) });
+      early = omega (arith, c.in_ok-running.ensures.taken);
+      numbers = c.in_ok-running.ensures.numbers ∙ ap (λ (p : Program). length p.bz) (sym same);
+      last_wide = c.in_ok-last.ensures.len ∙ width;
+      read_wide = c.in_ok-read.ensures.len ∙ width;
+    }

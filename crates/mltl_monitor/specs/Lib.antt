@@ -1,0 +1,3 @@
+pub mod Running
+pub mod Monitoring
+pub mod TakingLines

@@ -1,0 +1,174 @@
+//! The monitor.
+
+use crate::running::Running;
+use crate::state::State;
+use mltl_base::Report;
+use obs_verify::Checked;
+use scq_ring::steps::Steps;
+use std::alloc::{AllocError, Global};
+use std::marker::Model;
+use std::mem;
+use std::sync::ledger::Ledger;
+use trace_feed::{RowAnswer, row_fields};
+
+/// A monitor of a checked program. It takes rows one by one, and gives the reports that each row brings before it takes
+/// the next. All its memory is taken by `load`. Contracts see its state.
+#[derive(Drop)]
+pub struct Monitor {
+    state: State,
+}
+
+impl Model for Monitor {
+    ghost use Rattle.mltl_monitor.specs.declared.state.State.{State as Shown};
+    ghost use Rattle.mltl_monitor.specs.contracts.state.State.{the_row};
+    ghost use Rattle.mltl_monitor.specs.Monitoring.{IsSound};
+
+    ghost Value = { Shown };
+
+    ghost coded = { the_row.coded };
+
+    ghost view = { λ monitor. monitor.state };
+
+    ghost invariant = { λ monitor. IsSound monitor.state };
+}
+
+impl Monitor {
+    ghost use Rattle.std.specs.Prelude.{◌≡◌, ◌+◌, ◌^◌, ◌<◌, ◌≤◌, ◌↔◌, List, [], length, IfOk, IfNone, IfSome, IsNone, IsTrue};
+    ghost use Rattle.mltl_base.specs.declared.report.Style.{Style as Form};
+    ghost use Rattle.mltl_base.specs.declared.report.Style.TheVariants.{Each, Runs};
+    ghost use Rattle.mltl_base.specs.Atoms.{Row};
+    ghost use Rattle.mltl_base.specs.Programs.{IsFit};
+    ghost use Rattle.mltl_monitor.specs.Running.{row_work};
+    ghost use Rattle.trace_feed.specs.Rows.{Tells, line_meaning};
+    ghost use Rattle.mltl_monitor.specs.TakingLines.{TakesLine};
+    ghost use Rattle.mltl_monitor.specs.Monitoring.{Gives, GivesFirst, IsDrained, IsSame, Stands, TakesRow, last_of, left_to_tell, open_of, program_of, read_of, taken_by};
+
+    /// A monitor that has taken no rows. All its memory is taken here.
+    pub fn load(alloc: Global, checked: Checked) -> Result<Monitor, AllocError>
+        ensures program { IfOk result (λ monitor. program_of monitor ≡ checked) }
+        ensures taken { IfOk result (λ monitor. taken_by monitor ≡ 0) }
+        ensures stands { IfOk result (λ monitor. Stands monitor []) }
+        ensures drained { IfOk result IsDrained }
+    {
+        let width = checked.program().width as usize;
+        let last = vec![in alloc; 0; width]?;
+        let read = vec![in alloc; 0; width]?;
+        let running = Running::load(alloc, checked)?;
+        Ok(Monitor {
+            state: State {
+                running,
+                last,
+                read,
+            },
+        })
+    }
+
+    /// The program.
+    pub fn checked(&self) -> &Checked
+        ensures program { result.now ≡ program_of self.now }
+    {
+        &self.state.running.checked
+    }
+
+    /// Takes the next row, of one number for each column. Its steps are the reads and writes of queues and boxes.
+    pub fn advance<L: Ledger>(&mut self, fields: &[i64], steps: &mut Steps<L>)
+        requires drained { IsDrained self.old }
+        requires early { taken_by self.old < 2 ^ 40 }
+        requires fit { IsFit (program_of self.old) fields.now }
+        ensures takes { TakesRow fields.now self.old self.new }
+        ensures counted { steps.new ≤ steps.old + row_work (program_of self.old) }
+    {
+        self.state.last.copy_from_slice(fields);
+        self.state.running.take(fields, steps);
+    }
+
+    /// Takes the row of a line, if the line is one. `Good`: its row was taken; otherwise nothing changed.
+    pub fn take_line(&mut self, line: &[u8]) -> RowAnswer
+        requires drained { IsDrained self.old }
+        requires early { taken_by self.old < 2 ^ 40 }
+        ensures line { TakesLine result line.now self.old self.new }
+        ensures program { program_of self.new ≡ program_of self.old }
+    {
+        let answer = self.read_line(line);
+        if let RowAnswer::Good = answer {
+            self.take_read();
+        }
+        answer
+    }
+
+    /// Reads the row of a line, if the line is one, and keeps it aside. Nothing else changes.
+    pub fn read_line(&mut self, line: &[u8]) -> RowAnswer
+        ensures told { Tells result (read_of self.new) (line_meaning (program_of self.old) line.now) }
+        ensures fit { result ≡ RowAnswer.Good → IsFit (program_of self.old) (read_of self.new) }
+        ensures same { IsSame self.old self.new }
+    {
+        row_fields(line, &self.state.running.checked, &mut self.state.read)
+    }
+
+    /// Takes the last row once more. A row that was read stays.
+    pub fn repeat_last(&mut self)
+        requires begun { 0 < taken_by self.old }
+        requires drained { IsDrained self.old }
+        requires early { taken_by self.old < 2 ^ 40 }
+        ensures takes { TakesRow (last_of self.old) self.old self.new }
+        ensures read { read_of self.new ≡ read_of self.old }
+    {
+        self.state.running.take_uncounted(&self.state.last);
+    }
+
+    /// Takes the row that was read.
+    pub fn take_read(&mut self)
+        requires fit { IsFit (program_of self.old) (read_of self.old) }
+        requires drained { IsDrained self.old }
+        requires early { taken_by self.old < 2 ^ 40 }
+        ensures takes { TakesRow (read_of self.old) self.old self.new }
+    {
+        mem::swap(&mut self.state.last, &mut self.state.read);
+        self.state.running.take_uncounted(&self.state.last);
+    }
+
+    /// The next report of the last row, one for each newly known time. `None`, and no change, where none is left.
+    pub fn next_report(&mut self) -> Option<Report>
+        ensures first { (rows : List Row) → Stands self.old rows → GivesFirst Each result self.old self.new rows }
+        ensures stands { (rows : List Row) → Stands self.old rows → Stands self.new rows }
+        ensures none { IsNone result ↔ IsDrained self.old }
+        ensures same { IfNone result (self.new ≡ self.old) }
+        ensures drained { IfNone result (IsDrained self.new) }
+        ensures moved { IfSome result (λ report. Gives report self.old self.new) }
+        ensures exists { IfSome result (λ report. report.out < length (program_of self.old).outs) }
+        ensures taken { IfSome result (λ report. report.time < taken_by self.old) }
+        ensures early { IfSome result (λ report. report.time < 2 ^ 40) }
+        ensures fewer { IfSome result (λ _. left_to_tell self.new < left_to_tell self.old) }
+        ensures program { program_of self.new ≡ program_of self.old }
+        ensures as_many { taken_by self.new ≡ taken_by self.old }
+    {
+        self.state.running.next_report()
+    }
+
+    /// The next report of the last row, one for each longest stretch of newly known times with one word, with its last
+    /// time. `None`, and no change, where none is left.
+    pub fn next_run(&mut self) -> Option<Report>
+        ensures first { (rows : List Row) → Stands self.old rows → GivesFirst Runs result self.old self.new rows }
+        ensures stands { (rows : List Row) → Stands self.old rows → Stands self.new rows }
+        ensures none { IsNone result ↔ IsDrained self.old }
+        ensures same { IfNone result (self.new ≡ self.old) }
+        ensures drained { IfNone result (IsDrained self.new) }
+        ensures moved { IfSome result (λ report. Gives report self.old self.new) }
+        ensures exists { IfSome result (λ report. report.out < length (program_of self.old).outs) }
+        ensures taken { IfSome result (λ report. report.time < taken_by self.old) }
+        ensures early { IfSome result (λ report. report.time < 2 ^ 40) }
+        ensures fewer { IfSome result (λ _. left_to_tell self.new < left_to_tell self.old) }
+        ensures program { program_of self.new ≡ program_of self.old }
+        ensures as_many { taken_by self.new ≡ taken_by self.old }
+    {
+        self.state.running.next_run()
+    }
+
+    /// Whether all reports were given.
+    pub fn is_drained(&self) -> bool
+        ensures drained { IsTrue result ↔ IsDrained self.now }
+        ensures open { (style : Form) (rows : List Row) → Stands self.now rows → IsTrue result ↔ (open_of style self.now rows ≡ []) }
+    {
+        self.state.running.is_drained()
+    }
+}

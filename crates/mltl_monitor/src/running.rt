@@ -1,0 +1,141 @@
+//! What runs in a monitor.
+
+use booleanizer::Bz;
+use contract_status::Outs;
+use ft_engine::Ft;
+use mltl_base::Report;
+use obs_verify::Checked;
+use pt_boxes::Pt;
+use scq_ring::steps::Steps;
+use std::alloc::{AllocError, Global};
+use std::marker::Brand;
+use std::sync::ledger::{Blank, Ledger};
+
+/// A checked program, its Booleanizer, its engines, its outputs, and the number of rows that they have taken.
+#[derive(Drop)]
+pub struct Running {
+    pub checked: Checked,
+    pub bz: Bz,
+    pub ft: Ft,
+    pub pt: Pt,
+    pub outs: Outs,
+    pub taken: u64,
+}
+
+impl Running {
+    ghost use Rattle.std.specs.Prelude.{◌≡◌, ◌+◌, ◌^◌, ◌<◌, ◌≤◌, ◌↔◌, List, [], length, IfOk, IfSome, IsNone, IsTrue};
+    ghost use Rattle.mltl_base.specs.declared.report.Style.{Style};
+    ghost use Rattle.mltl_base.specs.declared.report.Style.TheVariants.{Each, Runs};
+    ghost use Rattle.mltl_base.specs.Atoms.{Row};
+    ghost use Rattle.mltl_base.specs.Programs.{IsFit};
+    ghost use Rattle.mltl_monitor.specs.Running.{GivesFirst, HasTaken, IsDrained, TakesRow, after_report, left_to_tell, open_of, row_work};
+
+    /// The engines of a program, before the first row. All memory is taken here.
+    pub fn load(alloc: Global, checked: Checked) -> Result<Running, AllocError>
+        ensures program { IfOk result (λ running. running.checked ≡ checked) }
+        ensures taken { IfOk result (λ running. running.taken ≡ 0) }
+        ensures numbers { IfOk result (λ running. length running.bz ≡ length checked.bz) }
+        ensures stands { IfOk result (λ running. HasTaken running []) }
+        ensures drained { IfOk result IsDrained }
+    {
+        let bz = Bz::make(alloc, &checked)?;
+        let ft = Ft::make(alloc, &checked)?;
+        let pt = Pt::make(alloc, &checked)?;
+        let outs = Outs::make(alloc, &checked)?;
+        Ok(Running {
+            checked,
+            bz,
+            ft,
+            pt,
+            outs,
+            taken: 0,
+        })
+    }
+
+    /// Takes a row. It takes no memory.
+    pub fn take<L: Ledger>(&mut self, fields: &[i64], steps: &mut Steps<L>)
+        requires some { (rows : List Row) × HasTaken self.old rows }
+        requires drained { IsDrained self.old }
+        requires early { self.old.taken < 2 ^ 40 }
+        requires numbers { length self.old.bz ≡ length self.old.checked.bz }
+        requires fit { IsFit self.old.checked fields.now }
+        ensures takes { TakesRow fields.now self.old self.new }
+        ensures numbers { length self.new.bz ≡ length self.old.checked.bz }
+        ensures counted { steps.new ≤ steps.old + row_work self.old.checked }
+    {
+        self.bz.row(&self.checked, fields);
+        self.ft.row(&self.checked, &self.bz, steps);
+        self.pt.row(&self.checked, &self.bz, steps);
+        self.taken += 1;
+    }
+
+    /// Takes a row, and counts nothing. It takes no memory.
+    pub fn take_uncounted(&mut self, fields: &[i64])
+        requires some { (rows : List Row) × HasTaken self.old rows }
+        requires drained { IsDrained self.old }
+        requires early { self.old.taken < 2 ^ 40 }
+        requires numbers { length self.old.bz ≡ length self.old.checked.bz }
+        requires fit { IsFit self.old.checked fields.now }
+        ensures takes { TakesRow fields.now self.old self.new }
+        ensures numbers { length self.new.bz ≡ length self.old.checked.bz }
+    {
+        self.take_over::<Brand>(fields, Blank::new(1));
+    }
+
+    /// Takes a row over a counter of its own.
+    fn take_over<L: Ledger>(&mut self, fields: &[i64], blank: Blank)
+        requires name { blank.name ≡ L.name }
+        requires parts { blank.parts ≡ L.parts }
+        requires some_parts { 0 < blank.parts }
+        requires some { (rows : List Row) × HasTaken self.old rows }
+        requires drained { IsDrained self.old }
+        requires early { self.old.taken < 2 ^ 40 }
+        requires numbers { length self.old.bz ≡ length self.old.checked.bz }
+        requires fit { IsFit self.old.checked fields.now }
+        ensures takes { TakesRow fields.now self.old self.new }
+        ensures numbers { length self.new.bz ≡ length self.old.checked.bz }
+    {
+        self.take(fields, &mut Steps::<L>::start(blank));
+    }
+
+    /// The first report that is open, one for each time. `None`, and no change, where none is.
+    pub fn next_report(&mut self) -> Option<Report>
+        requires some { (rows : List Row) × HasTaken self.old rows }
+        requires early { self.old.taken ≤ 2 ^ 40 }
+        ensures first { (rows : List Row) → HasTaken self.old rows → GivesFirst Each result self.old self.new rows }
+        ensures stands { (rows : List Row) → HasTaken self.old rows → HasTaken self.new rows }
+        ensures none { IsNone result → self.new ≡ self.old }
+        ensures moved { IfSome result (λ report. self.new ≡ after_report report self.old) }
+        ensures exists { IfSome result (λ report. report.out < length self.old.checked.outs) }
+        ensures taken { IfSome result (λ report. report.time < self.old.taken) }
+        ensures fewer { IfSome result (λ _. left_to_tell self.new < left_to_tell self.old) }
+    {
+        self.outs
+            .next(&self.checked, &self.ft, &self.pt, self.taken)
+    }
+
+    /// The first report that is open, one for each longest stretch of one word. `None`, and no change, where none is.
+    pub fn next_run(&mut self) -> Option<Report>
+        requires some { (rows : List Row) × HasTaken self.old rows }
+        requires early { self.old.taken ≤ 2 ^ 40 }
+        ensures first { (rows : List Row) → HasTaken self.old rows → GivesFirst Runs result self.old self.new rows }
+        ensures stands { (rows : List Row) → HasTaken self.old rows → HasTaken self.new rows }
+        ensures none { IsNone result → self.new ≡ self.old }
+        ensures moved { IfSome result (λ report. self.new ≡ after_report report self.old) }
+        ensures exists { IfSome result (λ report. report.out < length self.old.checked.outs) }
+        ensures taken { IfSome result (λ report. report.time < self.old.taken) }
+        ensures fewer { IfSome result (λ _. left_to_tell self.new < left_to_tell self.old) }
+    {
+        self.outs
+            .next_run(&self.checked, &self.ft, &self.pt, self.taken)
+    }
+
+    /// Whether no report is open, in either style.
+    pub fn is_drained(&self) -> bool
+        requires some { (rows : List Row) × HasTaken self.now rows }
+        ensures open { (style : Style) (rows : List Row) → HasTaken self.now rows → IsTrue result ↔ (open_of style self.now rows ≡ []) }
+    {
+        self.outs
+            .drained(&self.checked, &self.ft, &self.pt, self.taken)
+    }
+}

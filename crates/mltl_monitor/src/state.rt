@@ -1,0 +1,11 @@
+//! What contracts see of a monitor.
+
+use crate::running::Running;
+
+/// What runs, the fields of the row that was taken last, and those of a row that was read and isn't taken yet.
+#[derive(Drop)]
+pub struct State {
+    pub running: Running,
+    pub last: Vec<i64>,
+    pub read: Vec<i64>,
+}
