@@ -1,0 +1,5 @@
+pub mod TellLaws
+pub mod LineLaws
+pub mod WatchLaws
+pub mod WatchEnds
+pub mod RowTurns

@@ -1,0 +1,3 @@
+pub mod Trace
+pub mod Watch
+pub mod Telling

@@ -1,0 +1,184 @@
+//! The loop over a trace.
+
+ghost use Rattle.std.specs.Prelude.{◌≡◌, ◌≤◌, ◌<◌, ◌^◌, [], ◌↔◌, IsSome, IsNone, IfNone, IfSome, List, length};
+ghost use Rattle.mltl_base.specs.Atoms.{Row};
+ghost use Rattle.mltl_base.specs.Lines.{lines_of_reports};
+ghost use Rattle.mltl_base.specs.Programs.{output_names};
+ghost use Rattle.tool_io.specs.Log.{OnLog};
+ghost use Rattle.mltl_monitor.specs.Monitoring.{program_of, taken_by, IsDrained, Stands, left_to_tell, GivesFirst, open_of};
+ghost use Rattle.trace_watch.specs.Trace.{is_marked, trace_rows};
+ghost use Rattle.trace_watch.specs.Watch.{IsWatch, WatchCause, first_of};
+ghost use Rattle.trace_watch.specs.Telling.{TellCause, StepCause, SendsText, IsDrainedIf, TakesIt, Steps, Turns, text_of};
+
+use crate::{TraceWhy, Watched};
+use contract_status::line_of;
+use mltl_base::{Report, Style};
+use mltl_monitor::Monitor;
+use tool_io::{Host, Line, LineCut, Place, Put, put_all};
+use trace_feed::RowAnswer;
+
+/// The next report in a style.
+fn next(monitor: &mut Monitor, style: Style) -> Option<Report>
+    ensures first { (rows : List Row) → Stands monitor.old rows → GivesFirst style result monitor.old monitor.new rows }
+    ensures stands { (rows : List Row) → Stands monitor.old rows → Stands monitor.new rows }
+    ensures none { IsNone result ↔ IsDrained monitor.old }
+    ensures drained { IfNone result (IsDrained monitor.new) }
+    ensures fewer { IfSome result (λ _. left_to_tell monitor.new < left_to_tell monitor.old) }
+    ensures program { program_of monitor.new ≡ program_of monitor.old }
+    ensures exists { IfSome result (λ report. report.out < length (program_of monitor.new).outs) }
+    ensures early { IfSome result (λ report. report.time < 2 ^ 40) }
+{
+    match style {
+        Style::Each => monitor.next_report(),
+        Style::Runs => monitor.next_run(),
+    }
+}
+
+/// Writes the lines of all reports that are still to be given. Answers whether all went out.
+fn tell<H: Host>(monitor: &mut Monitor, host: &mut H, style: Style) -> bool
+    ensures cause { TellCause result (H.faults host.old) (H.faults host.new) }
+    ensures log { (rows : List Row) → Stands monitor.old rows → OnLog (H.log host.old) (H.log host.new) (SendsText result (lines_of_reports (output_names (program_of monitor.old)) (open_of style monitor.old rows))) }
+    ensures stands { (rows : List Row) → Stands monitor.old rows → Stands monitor.new rows }
+    ensures program { program_of monitor.new ≡ program_of monitor.old }
+    ensures drained { IsDrainedIf result monitor.new }
+{
+    while let Some(report) = next(monitor, style) {
+        let line = line_of(&report, monitor.checked());
+        if let Put::Failed = put_all(host, Place::Out, &line) {
+            return false;
+        }
+    }
+    true
+}
+
+/// Takes the line of the last Row, and tells what it brings: nothing where it is blank.
+fn take<H: Host>(
+    monitor: &mut Monitor,
+    cut: &LineCut,
+    host: &mut H,
+    style: Style,
+) -> Result<(), Watched>
+    requires row { IsSome cut.now.row }
+    requires drained { IsDrained monitor.old }
+    requires early { taken_by monitor.old < 2 ^ 40 }
+    ensures cause { StepCause result (H.faults host.old) (H.faults host.new) }
+    ensures log { (rows : List Row) → Stands monitor.old rows → OnLog (H.log host.old) (H.log host.new) (TakesIt result (program_of monitor.old) style rows cut.now monitor.new) }
+    ensures program { program_of monitor.new ≡ program_of monitor.old }
+{
+    let number = cut.number();
+    match monitor.take_line(cut.line()) {
+        RowAnswer::Good => {
+            if tell(monitor, host, style) {
+                Ok(())
+            } else {
+                Err(Watched::WriteFault)
+            }
+        }
+        RowAnswer::Blank => Ok(()),
+        RowAnswer::Width => Err(Watched::BadTrace(number, TraceWhy::Width)),
+        RowAnswer::NotWhole(column) => {
+            Err(Watched::BadTrace(number, TraceWhy::NotWhole(column)))
+        }
+        RowAnswer::OutOfRange(column) => {
+            Err(Watched::BadTrace(number, TraceWhy::OutOfRange(column)))
+        }
+    }
+}
+
+/// Whether the line of the last Row is the first of the trace and begins with `#`.
+fn is_header(cut: &LineCut) -> bool
+    requires row { IsSome cut.now.row }
+    ensures { result ≡ is_marked cut.now.number (text_of cut.now) }
+{
+    cut.number() == 1 && matches!(cut.line(), [b'#', ..])
+}
+
+/// Takes the line of the last Row, where `before` lines behind the header stand before it. Answers how many stand
+/// behind it, or how the loop ends.
+fn step<H: Host>(
+    monitor: &mut Monitor,
+    cut: &LineCut,
+    host: &mut H,
+    mission: u64,
+    before: u64,
+    style: Style,
+) -> Result<u64, Watched>
+    requires row { IsSome cut.now.row }
+    requires drained { IsDrained monitor.old }
+    requires counted { taken_by monitor.old ≤ before }
+    requires within { before ≤ mission }
+    requires mission { mission ≤ 2 ^ 40 }
+    ensures cause { StepCause result (H.faults host.old) (H.faults host.new) }
+    ensures log { (rows : List Row) → Stands monitor.old rows → OnLog (H.log host.old) (H.log host.new) (Steps result (program_of monitor.old) style mission before rows cut.now monitor.new) }
+    ensures program { program_of monitor.new ≡ program_of monitor.old }
+{
+    if is_header(cut) {
+        return Ok(before);
+    }
+    if before == mission {
+        return Err(Watched::TooLong);
+    }
+    take(monitor, cut, host, style)?;
+    Ok(before + 1)
+}
+
+/// Cuts one more line, where `before` lines behind the header stand before it, and takes it. Answers how many stand
+/// behind it, or how the loop ends.
+fn turn<H: Host>(
+    monitor: &mut Monitor,
+    cut: &mut LineCut,
+    host: &mut H,
+    mission: u64,
+    before: u64,
+    style: Style,
+) -> Result<u64, Watched>
+    requires drained { IsDrained monitor.old }
+    requires counted { taken_by monitor.old ≤ before }
+    requires within { before ≤ mission }
+    requires mission { mission ≤ 2 ^ 40 }
+    ensures cause { StepCause result (H.faults host.old) (H.faults host.new) }
+    ensures log { (rows : List Row) → Stands monitor.old rows → OnLog (H.log host.old) (H.log host.new) (Turns result (program_of monitor.old) mission before rows cut.old cut.new monitor.new (Steps result (program_of monitor.old) style mission before rows cut.new monitor.new)) }
+    ensures program { program_of monitor.new ≡ program_of monitor.old }
+{
+    match cut.next_line(host, Place::Trace) {
+        Line::Row => step(monitor, cut, host, mission, before, style),
+        Line::End => Err(Watched::Done),
+        Line::ReadFault => Err(Watched::ReadFault),
+        Line::LongLine if before == mission => Err(Watched::TooLong),
+        Line::LongLine => {
+            let number = cut.number().saturating_add(1);
+            Err(Watched::BadTrace(number, TraceWhy::LongLine))
+        }
+    }
+}
+
+/// Watches a trace: takes its lines one by one from the place `Trace`, and writes the verdict lines that each brings to
+/// the place `Out` before it reads on. A header is passed over, and a line past `mission` lines behind it ends the
+/// loop. It takes no memory.
+///
+/// Lines are counted from the first that the cut gives next, and numbered as the cut numbers them; the header is a
+/// line with the number 1 that begins with `#`. Where the loop ends by a fault, the lines of the rows before are out,
+/// or, after a failed write, a front of them.
+pub fn watch<H: Host>(
+    monitor: &mut Monitor,
+    cut: &mut LineCut,
+    host: &mut H,
+    mission: u64,
+    style: Style,
+) -> Watched
+    requires no_rows { Stands monitor.old [] }
+    requires drained { IsDrained monitor.old }
+    requires mission { mission ≤ 2 ^ 40 }
+    requires numbered { cut.old.number ≤ 1 }
+    ensures cause { WatchCause result (H.faults host.old) (H.faults host.new) }
+    ensures log { OnLog (H.log host.old) (H.log host.new) (IsWatch (program_of monitor.old) style (trace_rows (program_of monitor.old) mission (first_of cut.old)) cut.old cut.new monitor.new result) }
+    ensures program { program_of monitor.new ≡ program_of monitor.old }
+{
+    let mut before = 0;
+    loop {
+        match turn(monitor, cut, host, mission, before, style) {
+            Ok(now) => before = now,
+            Err(watched) => return watched,
+        }
+    }
+}
