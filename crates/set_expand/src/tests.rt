@@ -3,14 +3,15 @@
 use crate::{Expanded, PlainOut, expand};
 use c2po_lexer::lex;
 use c2po_parse::parse;
-use c2po_types::{TypedSpec, check};
+use c2po_types::{TypeFault, TypedSpec, check};
 use mltl_base::Name;
 use mltl_base::limits::MAX_SPEC_BYTES;
 use std::alloc::Global;
 use std::str;
 use std::test::Fail;
 
-fn checked(alloc: Global, text: &str) -> Result<TypedSpec, Fail> {
+// what the check of a text answers
+fn answer(alloc: Global, text: &str) -> Result<Result<TypedSpec, TypeFault>, Fail> {
     if text.len() > MAX_SPEC_BYTES {
         return Err(Fail::from("a long text"));
     }
@@ -20,7 +21,11 @@ fn checked(alloc: Global, text: &str) -> Result<TypedSpec, Fail> {
     let Ok(tree) = parse(alloc, &tokens) else {
         return Err(Fail::from("no tree"));
     };
-    match check(alloc, &tree) {
+    Ok(check(alloc, &tree))
+}
+
+fn checked(alloc: Global, text: &str) -> Result<TypedSpec, Fail> {
+    match answer(alloc, text)? {
         Ok(spec) => Ok(spec),
         Err(_) => Err(Fail::from("no specification")),
     }
@@ -88,5 +93,50 @@ fn long_chains_of_definitions_unfold(rt: HostRuntime) -> Result<(), Fail> {
     let spec = checked(rt.alloc(), text.as_str())?;
     let expanded = expand(rt.alloc(), &spec)?;
     assert_eq!(rt; expanded.nodes.len(), 20_001);
+    Ok(())
+}
+
+// so many signals, at most 250 in an item
+fn signals(alloc: Global, count: u32) -> Result<String, Fail> {
+    let mut text = String::new(alloc);
+    for i in 0..count {
+        if i % 250 != 0 {
+            write!(text, ", s{i}")?;
+        } else if i == 0 {
+            write!(text, "INPUT s{i}")?;
+        } else {
+            write!(text, ": bool; INPUT s{i}")?;
+        }
+    }
+    text.push_str(": bool;")?;
+    Ok(text)
+}
+
+#[test]
+fn one_signal_above_the_limit_is_refused(rt: HostRuntime) -> Result<(), Fail> {
+    let more = answer(rt.alloc(), signals(rt.alloc(), 65_537)?.as_str())?;
+    assert!(rt; matches!(more, Err(TypeFault::Signals(1))));
+    Ok(())
+}
+
+// the names of so many signals
+fn names(alloc: Global, count: u32) -> Result<String, Fail> {
+    let mut text = String::new(alloc);
+    text.push_str("s0")?;
+    for i in 1..count {
+        write!(text, ", s{i}")?;
+    }
+    Ok(text)
+}
+
+#[test]
+fn pairs_of_300_members_are_too_wide(rt: HostRuntime) -> Result<(), Fail> {
+    let names = names(rt.alloc(), 300)?;
+    let mut text = format!(in rt.alloc(); "INPUT {names}: int;\nDEFINE s := ")?;
+    text.push_str("{")?;
+    text.push_str(names.as_str())?;
+    text.push_str("};\nFTSPEC\n  f: foreach(x: s)(foreach(y: s)(x < y));")?;
+    let wide = answer(rt.alloc(), text.as_str())?;
+    assert!(rt; matches!(wide, Err(TypeFault::Wide(4))));
     Ok(())
 }
