@@ -1,0 +1,6 @@
+pub mod LimitLaws
+pub mod ImageLaws
+pub mod ColumnLaws
+pub mod NameLaws
+pub mod CompiledLaws
+pub mod TellingLaws

@@ -1,0 +1,5 @@
+pub mod Refusals
+pub mod Front
+pub mod Limits
+pub mod Image
+pub mod Compiled

@@ -1,0 +1,159 @@
+//! Why a specification isn't compiled.
+
+ghost use Rattle.std.specs.Prelude.{◌≡◌};
+ghost use Rattle.spec_compile.specs.Refusals.{build_refusal, check_refusal, header_refusal, token_refusal, tree_refusal};
+
+use c2po_lexer::LexFault;
+use c2po_parse::ParseFault;
+use c2po_types::TypeFault;
+use mltl_base::Name;
+use obs_build::BuildFault;
+use std::alloc::AllocError;
+use trace_feed::HeaderFault;
+
+/// Why a specification is refused.
+#[derive(Clone, Copy, PartialEq, Eq, Debug)]
+pub enum Refusal {
+    /// A byte that begins no token.
+    Letter,
+    /// A word of more than 64 bytes.
+    LongWord,
+    /// A number above 9,223,372,036,854,775,807.
+    Number,
+    /// An item of more than 1,024 tokens.
+    TooManyTokens,
+    /// An item that isn't in the grammar.
+    Grammar,
+    /// A name that isn't declared.
+    Unknown,
+    /// A name that is declared twice.
+    Twice,
+    /// A value of another kind than its place asks for.
+    Kind,
+    /// A struct built with another number of arguments than it has fields.
+    Count,
+    /// A field that the struct doesn't have.
+    Field,
+    /// An interval or a number of a quantifier past its bounds.
+    Bounds,
+    /// More signals than the limit.
+    Signals,
+    /// A value that unfolds to more than the limit.
+    Wide,
+    /// A divisor that isn't one number other than 0.
+    Divisor,
+    /// A whole number that may leave 64 bits.
+    Range,
+    /// Future and past operators in one formula.
+    Tense,
+    /// More instructions than the limit.
+    TooManyNodes,
+    /// A worst-case delay above the limit.
+    TooLate,
+    /// More queue slots and boxes than the limit.
+    TooManySlots,
+}
+
+/// What is wrong with a header line.
+#[derive(Drop)]
+pub enum HeaderWhy {
+    /// The line doesn't begin with `#`.
+    NoHeader,
+    /// No column has the name of this signal.
+    Missing(Name),
+    /// More than one column has the name of this signal.
+    Twice(Name),
+}
+
+/// Why a specification isn't compiled.
+#[derive(Drop)]
+pub enum CompileFault {
+    /// The specification has a fault, or is past a limit. Lines count from 1; line 0 stands for the whole specification.
+    Refused(u32, Refusal),
+    /// The header line doesn't name the signals.
+    BadHeader(HeaderWhy),
+    /// Memory is wanting.
+    Memory,
+}
+
+impl From<LexFault> for CompileFault {
+    ghost from_gives = { λ fault e. e ≡ token_refusal fault };
+
+    fn from(fault: LexFault) -> CompileFault {
+        match fault {
+            LexFault::Letter(line) => CompileFault::Refused(line, Refusal::Letter),
+            LexFault::LongWord(line) => CompileFault::Refused(line, Refusal::LongWord),
+            LexFault::Number(line) => CompileFault::Refused(line, Refusal::Number),
+            LexFault::Memory => CompileFault::Memory,
+        }
+    }
+}
+
+impl From<ParseFault> for CompileFault {
+    ghost from_gives = { λ fault e. e ≡ tree_refusal fault };
+
+    fn from(fault: ParseFault) -> CompileFault {
+        match fault {
+            ParseFault::TooManyTokens(line) => CompileFault::Refused(line, Refusal::TooManyTokens),
+            ParseFault::Grammar(line) => CompileFault::Refused(line, Refusal::Grammar),
+            ParseFault::Memory => CompileFault::Memory,
+        }
+    }
+}
+
+impl From<TypeFault> for CompileFault {
+    ghost from_gives = { λ fault e. e ≡ check_refusal fault };
+
+    fn from(fault: TypeFault) -> CompileFault {
+        match fault {
+            TypeFault::Unknown(line) => CompileFault::Refused(line, Refusal::Unknown),
+            TypeFault::Twice(line) => CompileFault::Refused(line, Refusal::Twice),
+            TypeFault::Kind(line) => CompileFault::Refused(line, Refusal::Kind),
+            TypeFault::Count(line) => CompileFault::Refused(line, Refusal::Count),
+            TypeFault::Field(line) => CompileFault::Refused(line, Refusal::Field),
+            TypeFault::Bounds(line) => CompileFault::Refused(line, Refusal::Bounds),
+            TypeFault::Signals(line) => CompileFault::Refused(line, Refusal::Signals),
+            TypeFault::Wide(line) => CompileFault::Refused(line, Refusal::Wide),
+            TypeFault::Divisor(line) => CompileFault::Refused(line, Refusal::Divisor),
+            TypeFault::Range(line) => CompileFault::Refused(line, Refusal::Range),
+            TypeFault::Tense(line) => CompileFault::Refused(line, Refusal::Tense),
+            TypeFault::Memory => CompileFault::Memory,
+        }
+    }
+}
+
+impl From<BuildFault> for CompileFault {
+    ghost from_gives = { λ fault e. e ≡ build_refusal fault };
+
+    fn from(fault: BuildFault) -> CompileFault {
+        match fault {
+            BuildFault::TooManyNodes => CompileFault::Refused(0, Refusal::TooManyNodes),
+            BuildFault::TooLate => CompileFault::Refused(0, Refusal::TooLate),
+            BuildFault::TooManySlots => CompileFault::Refused(0, Refusal::TooManySlots),
+            BuildFault::Memory => CompileFault::Memory,
+        }
+    }
+}
+
+impl From<HeaderFault> for CompileFault {
+    ghost from_gives = { λ fault e. e ≡ header_refusal fault };
+
+    fn from(fault: HeaderFault) -> CompileFault {
+        match fault {
+            HeaderFault::NoHeader => CompileFault::BadHeader(HeaderWhy::NoHeader),
+            HeaderFault::Missing(name) => CompileFault::BadHeader(HeaderWhy::Missing(name)),
+            HeaderFault::Twice(name) => CompileFault::BadHeader(HeaderWhy::Twice(name)),
+            HeaderFault::Memory => CompileFault::Memory,
+        }
+    }
+}
+
+impl From<AllocError> for CompileFault {
+    ghost use Rattle.spec_compile.specs.declared.fault.CompileFault.TheVariants.{Memory};
+
+    ghost from_gives = { λ _ e. e ≡ Memory };
+
+    fn from(_refused: AllocError) -> CompileFault {
+        CompileFault::Memory
+    }
+}

@@ -1,0 +1,25 @@
+//! What compiled programs tell: the law is the contract of a function with an empty body.
+
+ghost use Rattle.std.specs.Prelude.{◌≡◌, ℕ, List as Seq, Ok, Option as Maybe, map};
+ghost use Rattle.mltl_base.specs.Atoms.{Row};
+ghost use Rattle.mltl_base.specs.Programs.{output_names, outputs};
+ghost use Rattle.mltl_base.specs.Reports.{delay, reports};
+ghost use Rattle.mltl_base.specs.declared.program.Columns.{Columns as Places};
+ghost use Rattle.mltl_base.specs.declared.program.Program.{Program as Observer};
+ghost use Rattle.mltl_base.specs.declared.report.Style.{Style as Form};
+ghost use Rattle.spec_compile.specs.Image.{plain_outputs};
+ghost use Rattle.spec_compile.specs.Compiled.{columns_by, image_of_text, outputs_in, signals_in};
+
+/// The program of a text tells what the plain outputs of the text tell over the columns of its signals: the same reports
+/// of all rows in either style, with the same worst-case delays, under the same names.
+pub fn programs_tell_their_texts()
+    ensures reports { (style : Form) (text : Seq ℕ) (header : Maybe (Seq ℕ)) (columns : Places) (program : Observer) (rows : Seq Row) →
+        image_of_text text header ≡ Ok program → columns_by (signals_in text) header ≡ Ok columns →
+        reports style (outputs program) rows ≡ reports style (plain_outputs columns (outputs_in text)) rows }
+    ensures delays { (text : Seq ℕ) (header : Maybe (Seq ℕ)) (columns : Places) (program : Observer) →
+        image_of_text text header ≡ Ok program → columns_by (signals_in text) header ≡ Ok columns →
+        map delay (outputs program) ≡ map delay (plain_outputs columns (outputs_in text)) }
+    ensures names { (text : Seq ℕ) (header : Maybe (Seq ℕ)) (columns : Places) (program : Observer) →
+        image_of_text text header ≡ Ok program → columns_by (signals_in text) header ≡ Ok columns →
+        output_names program ≡ map (λ asked. asked.name) (outputs_in text) }
+{}

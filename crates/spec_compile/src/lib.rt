@@ -1,0 +1,28 @@
+//! The compiler: from the text of a specification to a checked program.
+//!
+//! [`front`] reads a text: its tokens, the trees of its items, and the check of those. [`back`] makes the program of a
+//! checked specification, over the columns of its signals. [`compile`] does both, and takes the columns from the header
+//! line of a trace. What program a text and a header line stand for, or why they are refused, is `image_of_text` in this
+//! crate's `specs/`.
+//!
+//! ```text
+//! let text = b"INPUT p, q: bool; FTSPEC f: p && F[0,2] q;";
+//! let checked = compile(alloc, text, Some(b"# q,p"))?; // q in column 0, p in column 1
+//! ```
+#![tactic(auto)]
+
+mod compiling;
+mod fault;
+pub mod laws;
+mod names;
+mod program;
+mod signals;
+mod text;
+
+pub use compiling::{columns_of, compile};
+pub use fault::{CompileFault, HeaderWhy, Refusal};
+pub use program::back;
+pub use text::front;
+
+#[cfg(test)]
+mod tests;

@@ -1,0 +1,41 @@
+//! From a checked specification to its program.
+
+ghost use Rattle.std.specs.Prelude.{◌≡◌, None, length, IfErr, IfOk, OnOk};
+ghost use Rattle.c2po_tree.specs.ItemShape.{spec_shape};
+ghost use Rattle.c2po_types.specs.Signals.{signals_of as declared};
+ghost use Rattle.obs_files.specs.Names.{NamesFit};
+ghost use Rattle.set_expand.specs.Outputs.{outputs_of};
+ghost use Rattle.spec_compile.specs.Refusals.{IsFirstRefusal};
+ghost use Rattle.spec_compile.specs.Limits.{limit_refusal};
+ghost use Rattle.spec_compile.specs.Image.{AreColumnsFor, image, over_columns};
+
+use crate::CompileFault;
+use crate::names::are_countable;
+use crate::signals::signals_of;
+use c2po_types::TypedSpec;
+use mltl_base::Columns;
+use obs_build::build;
+use obs_verify::Checked;
+use set_expand::expand;
+use std::alloc::Global;
+
+/// The image of a specification over the columns of its signals, one column for each.
+///
+/// Errors: `Refused` with line 0 and the first limit that is exceeded: instructions, then delays, then slots; `Memory`
+/// where memory is wanting, and at 2^32 bytes of names, which no text reaches. `BadHeader` never comes.
+pub fn back(alloc: Global, spec: &TypedSpec, columns: &Columns) -> Result<Checked, CompileFault>
+    requires columns { AreColumnsFor (length (declared (spec_shape spec.now))) columns.now }
+    ensures image { IfOk result (λ checked. checked
+        ≡ image columns.now (declared (spec_shape spec.now)) (outputs_of (spec_shape spec.now))) }
+    ensures within { OnOk result (limit_refusal (over_columns columns.now (outputs_of (spec_shape spec.now))) ≡ None) }
+    ensures refused { IfErr result (λ fault.
+        IsFirstRefusal (limit_refusal (over_columns columns.now (outputs_of (spec_shape spec.now)))) fault) }
+    ensures names { IfOk result NamesFit }
+{
+    let expanded = expand(alloc, spec)?;
+    let checked = build(alloc, &expanded, signals_of(spec), columns)?;
+    if !are_countable(checked.program()) {
+        return Err(CompileFault::Memory);
+    }
+    Ok(checked)
+}

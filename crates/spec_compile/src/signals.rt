@@ -1,0 +1,26 @@
+//! The signals of a checked specification.
+
+ghost use Rattle.std.specs.Prelude.{◌≡◌, ◌≤◌, length};
+ghost use Rattle.c2po_tree.specs.ItemShape.{spec_shape};
+ghost use Rattle.c2po_tree.specs.Names.{ArePlainItems};
+ghost use Rattle.c2po_types.specs.Signals.{signals_of as declared};
+ghost use Rattle.set_expand.specs.Kinds.{HaveOwnNames};
+
+use c2po_kinds::Signal;
+use c2po_types::TypedSpec;
+use mltl_base::List;
+use mltl_base::limits::MAX_SIGNALS;
+use set_expand::laws::signals_are_told_apart;
+
+/// The signals in order of declaration, which have names of their own. All names are made of letters, digits and `_`.
+pub fn signals_of(spec: &TypedSpec) -> &List<Signal>
+    ensures signals { result.now ≡ declared (spec_shape spec.now) }
+    ensures named { HaveOwnNames result.now }
+    ensures few { length result.now ≤ MAX_SIGNALS }
+    ensures plain { ArePlainItems (spec_shape spec.now) }
+{
+    signals_are_told_apart();
+    // It has no fault, and plain names.
+    let _tree = spec.tree();
+    spec.signals()
+}
