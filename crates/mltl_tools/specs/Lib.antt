@@ -1,11 +1,8 @@
 pub mod Codes
 pub mod Messages
-pub mod FirstForm
-pub mod FirstText
-pub mod FirstEngine
-pub mod Monitoring
-pub mod Trace
-pub mod Watch
-pub mod Telling
+pub mod Asking
+pub mod ProgramBy
+pub mod Outcome
+pub mod Settled
 pub mod Run
 pub mod Phases

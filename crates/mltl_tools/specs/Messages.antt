@@ -5,10 +5,10 @@ use Rattle.mltl_base.specs.declared.interval.Part as part
 use Rattle.tool_io.specs.declared.host.Place as place
 use Rattle.mltl_tools.specs.declared.message.Tool as tool
 use Rattle.mltl_tools.specs.declared.status.Status as status
-use Rattle.mltl_tools.specs.declared.status.Refusal as refusal
-use Rattle.mltl_tools.specs.declared.status.ProgramFault as fault
-use Rattle.mltl_tools.specs.declared.status.HeaderWhy as header
-use Rattle.mltl_tools.specs.declared.status.TraceWhy as trace
+use Rattle.spec_compile.specs.declared.fault.Refusal as refusal
+use Rattle.obs_files.specs.declared.fault.ProgramFault as fault
+use Rattle.spec_compile.specs.declared.fault.HeaderWhy as header
+use Rattle.trace_watch.specs.declared.status.TraceWhy as trace
 
 -- the name of a program
 abbrev pub tool_name : tool.Tool → List ℕ
@@ -139,3 +139,8 @@ message t status.TheVariants.Done = []
 message t status.TheVariants.Helped = usage t
 message t status.TheVariants.Usage = usage t
 message t s = told_by t s
+
+-- what goes to the user on the error output: the message, but nothing where help was given
+abbrev pub told_to_user : tool.Tool → status.Status → List ℕ
+told_to_user t status.TheVariants.Helped = []
+told_to_user t s = message t s

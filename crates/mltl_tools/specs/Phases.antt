@@ -1,52 +1,60 @@
 -- What each phase of a run tells.
 
-use Rattle.std.specs.Prelude.{◌≡◌, ℕ, ◌<◌, ◌≤◌, ◌⊎◌, Bool, true, false, Option, Some, None, Result, Ok, Err, List, [], ◌∷◌, length, Vec}
+use Rattle.std.specs.Prelude.{◌≡◌, ℕ, ◌<◌, ◌≤◌, ◌⊎◌, Bool, true, false, if◌then◌else◌, Option, Some, None, Result, Ok, Err, List, [], ◌∷◌, ◌++◌, length, Vec}
 use Rattle.std.specs.List.{concat}
 use Rattle.std.specs.declared.alloc.Global.{Global}
-use Rattle.mltl_base.specs.declared.report.Style.TheVariants.{Each}
+use Rattle.mltl_base.specs.declared.program.Program.{Program}
 use Rattle.tool_io.specs.declared.host.Place as place
 use Rattle.tool_io.specs.declared.whole.WholeFault.{WholeFault}
 use Rattle.tool_io.specs.declared.whole.WholeFault.TheVariants as fault
-use Rattle.tool_io.specs.Log.{Event, Attached, Missed, taken, given, ended_from, names_of, IsFront, Reads, meets_end, Prompt}
+use Rattle.tool_io.specs.Log.{Event, Attached, Missed, taken, given, ended_from, names_of, IsFront, Reads, meets_end, Prompt, WritesFront, Writes}
 use Rattle.tool_io.specs.Host.{NoFault}
 use Rattle.tool_io.specs.Whole.{Takes}
-use Rattle.tool_io.specs.Cutting.{Cutting, HasNoNewline, OnlyWhereNeeded, next_number}
-use Rattle.mltl_tools.specs.declared.first_form.FirstForm.{FirstForm}
-use Rattle.mltl_tools.specs.declared.monitor.Monitor.{Monitor}
-use Rattle.mltl_tools.specs.declared.status.TraceWhy.TheVariants.{LongLine}
-use Rattle.mltl_tools.specs.declared.status.Watched as watched
+use Rattle.tool_io.specs.Cutting.{Cutting, HasNoNewline, IsRow, OnlyWhereNeeded, line_text, lines_of, next_number}
+use Rattle.c2po_tree.specs.ItemShape.{spec_shape}
+use Rattle.obs_files.specs.Faults.{opened}
+use Rattle.spec_compile.specs.Front.{items_in, first_refusal}
+use Rattle.tool_words.specs.R2u2Words.{RunAsked}
+use Rattle.trace_feed.specs.Header.{begins_header}
+use Rattle.mltl_monitor.specs.declared.state.State.{State}
+use Rattle.trace_watch.specs.declared.status.TraceWhy.TheVariants.{LongLine}
+use Rattle.trace_watch.specs.declared.status.Watched as watched
+use Rattle.trace_watch.specs.Trace.{trace_rows}
+use Rattle.trace_watch.specs.Watch.{OnlyRun, IsWatch, first_of}
+use Rattle.mltl_tools.specs.declared.message.Tool.TheVariants.{R2u2}
+use Rattle.mltl_tools.specs.declared.opening.Opened.{Opened}
+use Rattle.mltl_tools.specs.declared.opening.Opened.TheVariants as file
 use Rattle.mltl_tools.specs.declared.status.Status as status
-use Rattle.mltl_tools.specs.declared.status.CompileFault.{CompileFault}
-use Rattle.mltl_tools.specs.declared.status.CompileFault.TheVariants as compile
-use Rattle.mltl_tools.specs.FirstText.{form_of_text, IsFaultOf}
-use Rattle.mltl_tools.specs.Trace.{due}
-use Rattle.mltl_tools.specs.Watch.{OnlyRun, IsWatch}
-use Rattle.mltl_tools.specs.Run.{text_limit, mission, ReadsAttached, ReadsFirstLine, LinesOutcome, Silent, OpensAsTold, RunCause}
+use Rattle.mltl_tools.specs.Messages.{usage}
+use Rattle.mltl_tools.specs.Asking.{file_place}
+use Rattle.mltl_tools.specs.ProgramBy.{file_refusal, program_by, program_over}
+use Rattle.mltl_tools.specs.Outcome.{due_by, Silent, LinesOutcome}
+use Rattle.mltl_tools.specs.Run.{trace_of, trace_ended, lines_in, ReadsAttached, ReadsFirstLine, OpensAsTold, RunCause}
 
--- the text of a specification, or why there is none
-abbrev pub TextLog : Result (Vec ℕ Global) status.Status → List ℕ → List Event → Type 0
-TextLog (Ok text) name events = (log : List Event) × (events ≡ Attached place.TheVariants.Spec name ∷ log) × Takes place.TheVariants.Spec text.items true log × (length text.items ≤ text_limit)
-TextLog (Err (status.TheVariants.OpenFault place.TheVariants.Spec)) name events = (events ≡ Missed place.TheVariants.Spec name ∷ []) ⊎ (events ≡ [])
-TextLog (Err (status.TheVariants.ReadFault place.TheVariants.Spec)) name events = (log : List Event) × (bytes : List ℕ) × (events ≡ Attached place.TheVariants.Spec name ∷ log) × Takes place.TheVariants.Spec bytes false log × (length bytes ≤ text_limit)
-TextLog (Err (status.TheVariants.TextTooLong place.TheVariants.Spec)) name events = (log : List Event) × (bytes : List ℕ) × (events ≡ Attached place.TheVariants.Spec name ∷ log) × Takes place.TheVariants.Spec bytes false log × (text_limit < length bytes)
-TextLog (Err status.TheVariants.Memory) name events = (log : List Event) × (bytes : List ℕ) × (events ≡ Attached place.TheVariants.Spec name ∷ log) × Takes place.TheVariants.Spec bytes false log × (length bytes ≤ text_limit)
-TextLog (Err answer) name events = ⊥
+-- The bytes of a file, or why there are none: it was read at this place under this name, to this limit.
+abbrev pub FileLog : Result (Vec ℕ Global) status.Status → place.Place → ℕ → List ℕ → List Event → Type 0
+FileLog (Ok bytes) p limit name events = (log : List Event) × (events ≡ Attached p name ∷ log) × Takes p bytes.items true log × (length bytes.items ≤ limit)
+FileLog (Err (status.TheVariants.OpenFault q)) p limit name events = (q ≡ p) × ((events ≡ Missed p name ∷ []) ⊎ (events ≡ []))
+FileLog (Err (status.TheVariants.ReadFault q)) p limit name events = (q ≡ p) × (log : List Event) × (bytes : List ℕ) × (events ≡ Attached p name ∷ log) × Takes p bytes false log × (length bytes ≤ limit)
+FileLog (Err (status.TheVariants.TextTooLong q)) p limit name events = (q ≡ p) × (log : List Event) × (bytes : List ℕ) × (events ≡ Attached p name ∷ log) × Takes p bytes false log × (limit < length bytes)
+FileLog (Err status.TheVariants.Memory) p limit name events = (log : List Event) × (bytes : List ℕ) × (events ≡ Attached p name ∷ log) × Takes p bytes false log × (length bytes ≤ limit)
+FileLog (Err answer) p limit name events = ⊥
 
-abbrev pub TextCause : Result (Vec ℕ Global) status.Status → (place.Place → ℕ) → (place.Place → ℕ) → Type 0
-TextCause (Ok text) before now = NoFault before now
-TextCause (Err answer) before now = RunCause answer before now
+-- what the answer of a phase says of the counts of faults
+abbrev pub PhaseCause : {T : Type 0} → Result T status.Status → (place.Place → ℕ) → (place.Place → ℕ) → Type 0
+PhaseCause (Ok value) before now = NoFault before now
+PhaseCause (Err answer) before now = RunCause answer before now
 
--- the status of a run whose specification wasn't read whole
-abbrev pub status_without : WholeFault → status.Status
-status_without fault.TooLong = status.TheVariants.TextTooLong place.TheVariants.Spec
-status_without fault.ReadFault = status.TheVariants.ReadFault place.TheVariants.Spec
-status_without fault.Memory = status.TheVariants.Memory
+-- the status of a run whose file wasn't read whole
+abbrev pub unread : place.Place → WholeFault → status.Status
+unread p fault.TooLong = status.TheVariants.TextTooLong p
+unread p fault.ReadFault = status.TheVariants.ReadFault p
+unread p fault.Memory = status.TheVariants.Memory
 
--- the status of a run whose specification isn't compiled
-abbrev pub status_by : CompileFault → status.Status
-status_by (compile.Refused line why) = status.TheVariants.Refused line why
-status_by (compile.BadHeader why) = status.TheVariants.BadHeader why
-status_by compile.Memory = status.TheVariants.Memory
+-- what was made of a file: a specification that says its items, or the program that its bytes spell
+abbrev pub Opens : Opened → Bool → List ℕ → Type 0
+Opens (file.Spec spec) source bytes = (source ≡ true) × (first_refusal bytes ≡ None) × (spec_shape spec ≡ items_in bytes)
+Opens (file.Program checked) source bytes = (source ≡ false) × (opened bytes ≡ Ok checked)
 
 -- the first line of the trace was read, and nothing was cut
 pub record FirstRead (cut : Cutting) (events : List Event) : Type 0 where
@@ -56,15 +64,30 @@ pub record FirstRead (cut : Cutting) (events : List Event) : Type 0 where
   pub pending : cut.pending ≡ concat pieces
   pub ended : cut.ended ≡ meets_end false pieces
 
-abbrev pub FirstLog : Result (Unit {0}) status.Status → Cutting → List Event → Type 0
-FirstLog (Ok u) cut events = FirstRead cut events × (next_number cut ≡ 1) × (cut.number ≤ 1)
+-- the first line stands in front of what a cut gives next; or the trace has none
+abbrev pub StandsFirst : Option (List ℕ) → List ℕ → Bool → Type 0
+StandsFirst None pending ended = (pending ≡ []) × (ended ≡ true)
+StandsFirst (Some raw) pending ended = (rest : List ℕ) × (pending ≡ raw ++ rest) × (length raw ≤ 65536) × IsRow raw rest ended
+
+-- the cut gives the first line of the trace next
+pub record IsFirst (cut : Cutting) : Type 0 where
+  pub numbered : next_number cut ≡ 1
+  pub low : cut.number ≤ 1
+  pub stands : StandsFirst cut.row cut.pending cut.ended
+
+-- the header, where the first line is one
+abbrev pub header_of_row : Option (List ℕ) → Option (List ℕ)
+header_of_row None = None
+header_of_row (Some raw) = if begins_header (line_text raw) then Some (line_text raw) else None
+
+abbrev pub header_at : Cutting → Option (List ℕ)
+header_at cut = header_of_row cut.row
+
+abbrev pub FirstLog : Result Bool status.Status → Cutting → List Event → Type 0
+FirstLog (Ok any) cut events = FirstRead cut events × IsFirst cut
 FirstLog (Err (status.TheVariants.BadTrace number LongLine)) cut events = FirstRead cut events × (number ≡ 1) × HasNoNewline cut.pending × (length cut.pending ≡ 65536)
 FirstLog (Err (status.TheVariants.ReadFault place.TheVariants.Trace)) cut events = FirstRead cut events × HasNoNewline cut.pending × (length cut.pending < 65536) × (cut.ended ≡ false)
 FirstLog (Err answer) cut events = ⊥
-
-abbrev pub FirstCause : Result (Unit {0}) status.Status → (place.Place → ℕ) → (place.Place → ℕ) → Type 0
-FirstCause (Ok u) before now = NoFault before now
-FirstCause (Err answer) before now = RunCause answer before now
 
 -- the status of a run whose loop ended so
 abbrev pub status_of : watched.Watched → status.Status
@@ -75,59 +98,79 @@ status_of watched.TheVariants.ReadFault = status.TheVariants.ReadFault place.The
 status_of watched.TheVariants.WriteFault = status.TheVariants.WriteFault place.TheVariants.Out
 
 -- the loop ran over what the cut had and what was read, with a monitor that is kept; or memory was wanting before
-pub record RanLoop (form : FirstForm) (start : Cutting) (answer : status.Status) (kept : Option Monitor) (events : List Event) : Type 0 where
+pub record RanLoop (program : Program) (asked : RunAsked) (start : Cutting) (answer : status.Status) (kept : Option State) (events : List Event) : Type 0 where
   pub cut : Cutting
-  pub monitor : Monitor
+  pub monitor : State
   pub ended_so : watched.Watched
   pub is : answer ≡ status_of ended_so
-  pub watch : IsWatch form Each mission start cut monitor ended_so events
+  pub watch : IsWatch program asked.style (trace_rows program asked.mission (first_of start)) start cut monitor ended_so events
   pub kept_is : kept ≡ Some monitor
 
-pub record NoMemory (answer : status.Status) (kept : Option Monitor) (events : List Event) : Type 0 where
+pub record NoMemory (answer : status.Status) (kept : Option State) (events : List Event) : Type 0 where
   pub is : answer ≡ status.TheVariants.Memory
   pub no_monitor : kept ≡ None
   pub no_events : events ≡ []
 
-abbrev pub LoopLog : FirstForm → Cutting → status.Status → Option Monitor → List Event → Type 0
-LoopLog form start answer kept events = NoMemory answer kept events ⊎ RanLoop form start answer kept events
+abbrev pub LoopLog : Program → RunAsked → Cutting → status.Status → Option State → List Event → Type 0
+LoopLog program asked start answer kept events = NoMemory answer kept events ⊎ RanLoop program asked start answer kept events
+
+-- the header or a limit refused the program, or memory was wanting for it
+pub record NoProgram (asked : RunAsked) (bytes : List ℕ) (start : Cutting) (answer : status.Status) (kept : Option State) (events : List Event) : Type 0 where
+  pub why : (answer ≡ status.TheVariants.Memory) ⊎ (program_by asked.source bytes (header_at start) ≡ Err answer)
+  pub no_monitor : kept ≡ None
+  pub no_events : events ≡ []
+
+-- there is a program, which ran
+pub record HasProgram (asked : RunAsked) (bytes : List ℕ) (start : Cutting) (answer : status.Status) (kept : Option State) (events : List Event) : Type 0 where
+  pub program : Program
+  pub is : program_by asked.source bytes (header_at start) ≡ Ok program
+  pub loop : LoopLog program asked start answer kept events
+
+-- the log of a run whose first line was read
+abbrev pub RanRows : RunAsked → List ℕ → Cutting → status.Status → Option State → List Event → Type 0
+RanRows asked bytes start answer kept events = NoProgram asked bytes start answer kept events ⊎ HasProgram asked bytes start answer kept events
 
 -- the log of a run over the lines of an attached trace
-pub record RanLines (form : FirstForm) (answer : status.Status) (kept : Option Monitor) (events : List Event) : Type 0 where
+pub record RanLines (asked : RunAsked) (bytes : List ℕ) (answer : status.Status) (kept : Option State) (events : List Event) : Type 0 where
   pub only : OnlyRun events
-  pub prompt : Prompt (due form Each mission false) [] events
-  pub outcome : LinesOutcome answer form (taken place.TheVariants.Trace events) (ended_from false place.TheVariants.Trace events) (given place.TheVariants.Out events) kept
+  pub prompt : Prompt (due_by asked (program_over asked.source bytes (lines_in events)) false) [] events
+  pub outcome : LinesOutcome answer asked (program_over asked.source bytes (lines_in events)) (trace_ended events) (trace_of events) (given place.TheVariants.Out events) kept
   pub early : answer ≡ status.TheVariants.Memory → ReadsFirstLine events
 
 -- how a run over a trace that is to be attached ends
-abbrev pub TraceOutcome : status.Status → FirstForm → List ℕ → Bool → List ℕ → Option Monitor → Type 0
-TraceOutcome (status.TheVariants.OpenFault place.TheVariants.Trace) form bytes ended out kept = Silent out kept
-TraceOutcome answer form bytes ended out kept = LinesOutcome answer form bytes ended out kept
+abbrev pub TraceOutcome : status.Status → RunAsked → List ℕ → List Event → Option State → Type 0
+TraceOutcome (status.TheVariants.OpenFault place.TheVariants.Trace) asked bytes events kept = Silent (given place.TheVariants.Out events) kept
+TraceOutcome answer asked bytes events kept =
+    LinesOutcome answer asked (program_over asked.source bytes (lines_in events)) (trace_ended events) (trace_of events) (given place.TheVariants.Out events) kept
 
--- the log of a run over a trace that is to be attached
-pub record RanTrace (form : FirstForm) (trace : List ℕ) (answer : status.Status) (kept : Option Monitor) (events : List Event) : Type 0 where
-  pub names : IsFront (names_of events) ((place.TheVariants.Trace, trace) ∷ [])
+-- the log of a run over a trace that is to be attached; nothing is read of the file
+pub record RanTrace (asked : RunAsked) (bytes : List ℕ) (answer : status.Status) (kept : Option State) (events : List Event) : Type 0 where
+  pub names : IsFront (names_of events) ((place.TheVariants.Trace, asked.trace) ∷ [])
   pub attached : ReadsAttached [] events
-  pub no_text : taken place.TheVariants.Spec events ≡ []
-  pub no_text_end : (ended : Bool) → ended_from ended place.TheVariants.Spec events ≡ ended
-  pub prompt : Prompt (due form Each mission false) [] events
-  pub outcome : TraceOutcome answer form (taken place.TheVariants.Trace events) (ended_from false place.TheVariants.Trace events) (given place.TheVariants.Out events) kept
+  pub no_file : taken (file_place asked.source) events ≡ []
+  pub no_file_end : (ended : Bool) → ended_from ended (file_place asked.source) events ≡ ended
+  pub prompt : Prompt (due_by asked (program_over asked.source bytes (lines_in events)) false) [] events
+  pub outcome : TraceOutcome answer asked bytes events kept
   pub opened : OpensAsTold answer events
   pub early : answer ≡ status.TheVariants.Memory → ReadsFirstLine events
   pub quiet : given place.TheVariants.Err events ≡ []
 
--- a text that says no form, or for which memory is wanting
-pub record NoForm (text : List ℕ) (answer : status.Status) (kept : Option Monitor) (events : List Event) : Type 0 where
-  pub fault : CompileFault
-  pub is : answer ≡ status_by fault
-  pub is_fault : IsFaultOf text fault
+-- the file is refused by itself, or memory was wanting for it
+pub record NotOpened (asked : RunAsked) (bytes : List ℕ) (answer : status.Status) (kept : Option State) (events : List Event) : Type 0 where
+  pub why : (answer ≡ status.TheVariants.Memory) ⊎ (file_refusal asked.source bytes ≡ Some answer)
   pub no_monitor : kept ≡ None
   pub no_events : events ≡ []
 
--- a text that says a form, by which the trace was run over
-pub record SaysForm (text trace : List ℕ) (answer : status.Status) (kept : Option Monitor) (events : List Event) : Type 0 where
-  pub form : FirstForm
-  pub says : form_of_text text ≡ Ok form
-  pub ran : RanTrace form trace answer kept events
+-- it isn't, and the trace was run over
+pub record IsOpened (asked : RunAsked) (bytes : List ℕ) (answer : status.Status) (kept : Option State) (events : List Event) : Type 0 where
+  pub unrefused : file_refusal asked.source bytes ≡ None
+  pub ran : RanTrace asked bytes answer kept events
 
-abbrev pub RanText : List ℕ → List ℕ → status.Status → Option Monitor → List Event → Type 0
-RanText text trace answer kept events = NoForm text answer kept events ⊎ SaysForm text trace answer kept events
+abbrev pub RanFile : RunAsked → List ℕ → status.Status → Option State → List Event → Type 0
+RanFile asked bytes answer kept events = NotOpened asked bytes answer kept events ⊎ IsOpened asked bytes answer kept events
+
+-- help went out whole, or a front of it
+abbrev pub HelpLog : status.Status → List Event → Type 0
+HelpLog status.TheVariants.Helped events = Writes place.TheVariants.Out (usage R2u2) events
+HelpLog (status.TheVariants.WriteFault place.TheVariants.Out) events = WritesFront place.TheVariants.Out (usage R2u2) events
+HelpLog answer events = ⊥

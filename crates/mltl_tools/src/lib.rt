@@ -1,27 +1,25 @@
-//! The monitor `r2u2` as a library: the reading of its words, the monitor over a loaded specification, the loop over a
-//! trace and the top call.
+//! The monitor `r2u2` as a library: its top call, with what it is made of.
+//!
+//! [`r2u2_main`] reads the words, the specification or the program that they name, and the trace. It compiles with
+//! [`front`] and [`back`], or opens a program file; then a [`Monitor`] of the program runs over the trace by [`watch`].
 #![tactic(auto)]
 
-mod first_engine;
-mod first_form;
-mod first_rows;
-mod first_text;
 mod message;
-mod monitor;
+mod opening;
 mod r2u2_run;
+mod reading;
+mod running;
 mod status;
 mod text;
-mod trace_loop;
-mod words;
 
-pub use first_form::{FirstForm, Literal, MAX_OUTS};
-pub use first_text::front;
 pub use message::{Tool, message_of};
-pub use monitor::Monitor;
+pub use mltl_monitor::Monitor;
+pub use obs_files::{ProgramFault, image};
 pub use r2u2_run::r2u2_main;
-pub use status::{CompileFault, HeaderWhy, ProgramFault, Refusal, Status, TraceWhy, Watched};
-pub use trace_loop::watch;
-pub use words::Words;
+pub use spec_compile::{CompileFault, HeaderWhy, Refusal, back, compile, front};
+pub use status::Status;
+pub use tool_words::Words;
+pub use trace_watch::{TraceWhy, Watched, watch};
 
 #[cfg(test)]
 mod tests;

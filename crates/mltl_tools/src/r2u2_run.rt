@@ -1,200 +1,145 @@
 //! The top call of the monitor.
 
-ghost use Rattle.std.specs.Prelude.{◌≡◌, ◌≢◌, ◌≤◌, ◌↔◌, None, IfOk, length};
+ghost use Rattle.std.specs.Prelude.{◌≡◌, ◌≢◌, ◌≤◌, ◌↔◌, ◌^◌, None, length};
 ghost use Rattle.tool_io.specs.Log.{OnLog};
-ghost use Rattle.tool_io.specs.Cutting.{fresh, next_number};
-ghost use Rattle.mltl_tools.specs.Run.{RunCause, ask, nothing, Asks, Ran, CauseAt, IsRun};
+ghost use Rattle.tool_io.specs.Host.{WriteCause};
+ghost use Rattle.tool_io.specs.Whole.{PutAllLog};
 ghost use Rattle.tool_io.specs.declared.host.Place.{Place as Where};
 ghost use Rattle.tool_io.specs.declared.host.Place.TheVariants.{Err};
-ghost use Rattle.mltl_tools.specs.Phases.{TextLog, TextCause, FirstLog, FirstCause, status_without, status_of, status_by, LoopLog, RanLines, RanTrace, RanText};
+ghost use Rattle.tool_words.specs.R2u2Words.{IsInBounds, asked_of, run as words_run, run_of};
+ghost use Rattle.mltl_tools.specs.Asking.{ask, file_limit, help, nothing, over, served};
+ghost use Rattle.mltl_tools.specs.Messages.{told_to_user};
+ghost use Rattle.mltl_tools.specs.declared.message.Tool.TheVariants.{R2u2};
+ghost use Rattle.mltl_tools.specs.Run.{CauseAt, IsRun, Ran, RunCause};
+ghost use Rattle.mltl_tools.specs.Phases.{HelpLog, RanFile};
 
-use crate::trace_loop::watch;
-use crate::{
-    CompileFault, FirstForm, Monitor, Status, Tool, TraceWhy, Watched, Words, front, message_of,
-};
-use mltl_base::Style;
-use mltl_base::limits::{MAX_MISSION, MAX_SPEC_BYTES};
+use crate::opening::open_file;
+use crate::reading::read_file;
+use crate::running::run_trace;
+use crate::{Monitor, Status, Tool, Words, message_of};
 use std::alloc::Global;
-use tool_io::{Attached, Host, Line, LineCut, Place, WholeFault, put_all, read_whole};
+use tool_io::{Host, Place, Put, put_all};
+use tool_words::{R2u2Ask, Run, r2u2_ask};
 
-/// Reads a specification whole.
-fn read_spec<H: Host>(alloc: Global, host: &mut H, name: &str) -> Result<Vec<u8>, Status>
-    ensures cause { TextCause result (H.faults host.old) (H.faults host.new) }
-    ensures log { OnLog (H.log host.old) (H.log host.new) (TextLog result name.now) }
+/// Writes the usage line on `Out`.
+fn give_help<H: Host>(host: &mut H) -> Status
+    ensures cause { RunCause result (H.faults host.old) (H.faults host.new) }
+    ensures log { OnLog (H.log host.old) (H.log host.new) (HelpLog result) }
 {
-    if let Attached::Failed = host.attach(Place::Spec, name) {
-        return Err(Status::OpenFault(Place::Spec));
-    }
-    match read_whole(alloc, host, Place::Spec, MAX_SPEC_BYTES) {
-        Ok(text) => Ok(text),
-        Err(fault) => Err(status_without_text(fault)),
+    let usage = message_of(Tool::R2u2, &Status::Helped);
+    match put_all(host, Place::Out, &usage) {
+        Put::Wrote(_) => Status::Helped,
+        Put::Failed => Status::WriteFault(Place::Out),
     }
 }
 
-fn status_without_text(fault: WholeFault) -> Status
-    ensures { result ≡ status_without fault }
-{
-    match fault {
-        WholeFault::TooLong => Status::TextTooLong(Place::Spec),
-        WholeFault::ReadFault => Status::ReadFault(Place::Spec),
-        WholeFault::Memory => Status::Memory,
-    }
-}
-
-/// Reads the first line of the trace, and lets the cut give it once more.
-fn read_first_line<H: Host>(cut: &mut LineCut, host: &mut H) -> Result<(), Status>
-    requires { cut.old ≡ fresh }
-    ensures cause { FirstCause result (H.faults host.old) (H.faults host.new) }
-    ensures log { OnLog (H.log host.old) (H.log host.new) (FirstLog result cut.new) }
-{
-    match cut.next_line(host, Place::Trace) {
-        Line::Row => {
-            cut.keep();
-            Ok(())
-        }
-        Line::End => Ok(()),
-        Line::LongLine => Err(Status::BadTrace(1, TraceWhy::LongLine)),
-        Line::ReadFault => Err(Status::ReadFault(Place::Trace)),
-    }
-}
-
-fn status_after(watched: Watched) -> Status
-    ensures { result ≡ status_of watched }
-{
-    match watched {
-        Watched::Done => Status::Done,
-        Watched::BadTrace(number, why) => Status::BadTrace(number, why),
-        Watched::TooLong => Status::TooLong,
-        Watched::ReadFault => Status::ReadFault(Place::Trace),
-        Watched::WriteFault => Status::WriteFault(Place::Out),
-    }
-}
-
-/// Loads the monitor and watches the trace.
-fn watch_form<H: Host>(
+/// Opens the bytes of the file, and runs over the trace.
+fn run_bytes<H: Host>(
     alloc: Global,
-    form: FirstForm,
-    cut: &mut LineCut,
+    asked: &Run<'_>,
+    bytes: &[u8],
     host: &mut H,
     kept: &mut Option<Monitor>,
 ) -> Status
-    requires few { length form.outs ≤ 1024 }
-    requires numbered { cut.old.number ≤ 1 }
+    requires within { length bytes.now ≤ file_limit asked.now.source }
+    requires mission { asked.now.mission ≤ 2 ^ 40 }
     requires none_kept { kept.old ≡ None }
     ensures cause { RunCause result (H.faults host.old) (H.faults host.new) }
-    ensures log { OnLog (H.log host.old) (H.log host.new) (LoopLog form cut.old result kept.new) }
+    ensures log { OnLog (H.log host.old) (H.log host.new) (RanFile (run_of asked.now) bytes.now result kept.new) }
 {
-    let mut monitor = match Monitor::load(alloc, form) {
-        Ok(monitor) => monitor,
-        Err(_) => return Status::Memory,
-    };
-    let watched = watch(&mut monitor, cut, host, MAX_MISSION, Style::Each);
-    *kept = Some(monitor);
-    status_after(watched)
-}
-
-/// Reads the first line of an attached trace, and watches the trace.
-fn run_lines<H: Host>(
-    alloc: Global,
-    form: FirstForm,
-    host: &mut H,
-    kept: &mut Option<Monitor>,
-) -> Status
-    requires few { length form.outs ≤ 1024 }
-    requires none_kept { kept.old ≡ None }
-    ensures cause { RunCause result (H.faults host.old) (H.faults host.new) }
-    ensures log { OnLog (H.log host.old) (H.log host.new) (RanLines form result kept.new) }
-{
-    let mut cut = match LineCut::make(alloc) {
-        Ok(cut) => cut,
-        Err(_) => return Status::Memory,
-    };
-    match read_first_line(&mut cut, host) {
-        Ok(()) => watch_form(alloc, form, &mut cut, host, kept),
+    match open_file(alloc, asked.source, bytes) {
+        Ok(opened) => run_trace(alloc, asked, opened, host, kept),
         Err(status) => status,
     }
 }
 
-/// Attaches the trace, and runs over its lines.
-fn run_trace<H: Host>(
+/// Reads the file, and runs over the trace.
+fn run_file<H: Host>(
     alloc: Global,
-    form: FirstForm,
-    trace: &str,
+    asked: &Run<'_>,
     host: &mut H,
     kept: &mut Option<Monitor>,
 ) -> Status
-    requires few { length form.outs ≤ 1024 }
+    requires mission { asked.now.mission ≤ 2 ^ 40 }
     requires none_kept { kept.old ≡ None }
     ensures cause { RunCause result (H.faults host.old) (H.faults host.new) }
-    ensures log { OnLog (H.log host.old) (H.log host.new) (RanTrace form trace.now result kept.new) }
+    ensures log { OnLog (H.log host.old) (H.log host.new) (Ran (over (run_of asked.now)) result kept.new) }
 {
-    if let Attached::Failed = host.attach(Place::Trace, trace) {
-        return Status::OpenFault(Place::Trace);
-    }
-    run_lines(alloc, form, host, kept)
-}
-
-fn status_of_fault(fault: CompileFault) -> Status
-    ensures { result ≡ status_by fault }
-{
-    match fault {
-        CompileFault::Refused(line, why) => Status::Refused(line, why),
-        CompileFault::BadHeader(why) => Status::BadHeader(why),
-        CompileFault::Memory => Status::Memory,
+    match read_file(alloc, asked.source, asked.file, host) {
+        Ok(bytes) => run_bytes(alloc, asked, &bytes, host, kept),
+        Err(status) => status,
     }
 }
 
-/// Compiles a specification, and runs over the trace.
-fn run_text<H: Host>(
+/// A run over stamped rows isn't served yet.
+fn run_unstamped<H: Host>(
     alloc: Global,
-    text: &[u8],
-    trace: &str,
+    asked: &Run<'_>,
     host: &mut H,
     kept: &mut Option<Monitor>,
 ) -> Status
-    requires within { length text.now ≤ 1048576 }
+    requires mission { asked.now.mission ≤ 2 ^ 40 }
     requires none_kept { kept.old ≡ None }
     ensures cause { RunCause result (H.faults host.old) (H.faults host.new) }
-    ensures log { OnLog (H.log host.old) (H.log host.new) (RanText text.now trace.now result kept.new) }
+    ensures log { OnLog (H.log host.old) (H.log host.new) (Ran (served (words_run (run_of asked.now))) result kept.new) }
 {
-    match front(alloc, text) {
-        Ok(form) => run_trace(alloc, form, trace, host, kept),
-        Err(fault) => status_of_fault(fault),
-    }
-}
-
-/// The names of the specification and of the trace, if the words are `--source` and these.
-fn names_asked(words: &Words) -> Option<(&str, &str)>
-    ensures { Asks result (ask words.now) }
-{
-    if words.len() == 3 && words.get(0) == "--source" {
-        Some((words.get(1), words.get(2)))
+    if asked.timed {
+        Status::Usage
     } else {
-        None
+        run_file(alloc, asked, host, kept)
+    }
+}
+
+/// Does what was asked for.
+fn run_asked<H: Host>(
+    alloc: Global,
+    asked: R2u2Ask<'_>,
+    host: &mut H,
+    kept: &mut Option<Monitor>,
+) -> Status
+    requires bounds { IsInBounds asked }
+    requires none_kept { kept.old ≡ None }
+    ensures cause { RunCause result (H.faults host.old) (H.faults host.new) }
+    ensures log { OnLog (H.log host.old) (H.log host.new) (Ran (served (asked_of asked.entry)) result kept.new) }
+{
+    match asked {
+        R2u2Ask::Help => give_help(host),
+        R2u2Ask::Run(asked) => run_unstamped(alloc, &asked, host, kept),
+        R2u2Ask::Demo { .. } => Status::Usage,
+        R2u2Ask::Nothing => Status::Usage,
     }
 }
 
 /// Does what the words ask for.
 fn run<H: Host>(alloc: Global, words: &Words, host: &mut H, kept: &mut Option<Monitor>) -> Status
     requires none_kept { kept.old ≡ None }
+    ensures usage { result ≢ Status.Memory → (result ≡ Status.Usage) ↔ (ask words.now ≡ nothing) }
+    ensures helped { result ≡ Status.Helped → ask words.now ≡ help }
     ensures cause { RunCause result (H.faults host.old) (H.faults host.new) }
     ensures log { OnLog (H.log host.old) (H.log host.new) (Ran (ask words.now) result kept.new) }
 {
-    let (spec, trace) = match names_asked(words) {
-        Some(names) => names,
-        None => return Status::Usage,
-    };
-    match read_spec(alloc, host, spec) {
-        Ok(text) => run_text(alloc, &text, trace, host, kept),
-        Err(status) => status,
+    match r2u2_ask(alloc, words) {
+        Ok(asked) => run_asked(alloc, asked, host, kept),
+        Err(_) => Status::Memory,
     }
+}
+
+/// Tells the user on `Err` how the run ended; nothing where help was given.
+fn tell_user<H: Host>(status: &Status, host: &mut H) -> Put
+    ensures cause { WriteCause result (H.faults host.old) (H.faults host.new) Err }
+    ensures log { OnLog (H.log host.old) (H.log host.new) (PutAllLog result Err (told_to_user R2u2 status.now)) }
+{
+    if let Status::Helped = status {
+        return Put::Wrote(0);
+    }
+    put_all(host, Place::Err, &message_of(Tool::R2u2, status))
 }
 
 /// The top call of r2u2: does what the words ask for, and tells the user on `Err` what went wrong.
 ///
-/// The words are `--source`, the name of a specification and that of a trace; `-` is the standard input. Before it
-/// reads on in the trace, the verdict lines of all whole lines that it has taken are out. The monitor that ran is left
-/// in `kept`.
+/// It runs over a trace, with a specification or with a program file, or gives help; stamped rows and demos are asked for
+/// by words that are `Usage` yet. Before it reads on in the trace, the verdict lines of all whole lines that it has taken
+/// are out. The monitor that ran is left in `kept`.
 pub fn r2u2_main<H: Host>(
     alloc: Global,
     words: &Words,
@@ -202,12 +147,12 @@ pub fn r2u2_main<H: Host>(
     kept: &mut Option<Monitor>,
 ) -> Status
     requires none_kept { kept.old ≡ None }
-    ensures usage { (result ≡ Status.Usage) ↔ (ask words.now ≡ nothing) }
+    ensures usage { result ≢ Status.Memory → (result ≡ Status.Usage) ↔ (ask words.now ≡ nothing) }
+    ensures helped { result ≡ Status.Helped → ask words.now ≡ help }
     ensures cause { (p : Where) → p ≢ Err → CauseAt result p (H.faults host.old p) (H.faults host.new p) }
     ensures log { OnLog (H.log host.old) (H.log host.new) (IsRun (ask words.now) result kept.new (H.faults host.old) (H.faults host.new)) }
 {
     let status = run(alloc, words, host, kept);
-    let message = message_of(Tool::R2u2, &status);
-    let _ = put_all(host, Place::Err, &message);
+    let _ = tell_user(&status, host);
     status
 }
