@@ -42,8 +42,11 @@ pub fn compile(
     back(alloc, &spec, &columns)
 }
 
-/// The columns of a specification's signals.
-fn columns_of(
+/// The columns of a specification's signals: those that a header line of at most 65,535 bytes names; without one each
+/// signal stands in the column of its number.
+///
+/// Errors: `BadHeader` where the line doesn't name each signal once; `Memory` where memory is wanting.
+pub fn columns_of(
     alloc: Global,
     spec: &TypedSpec,
     header_line: Option<&[u8]>,

@@ -19,7 +19,7 @@ mod program;
 mod signals;
 mod text;
 
-pub use compiling::compile;
+pub use compiling::{columns_of, compile};
 pub use fault::{CompileFault, HeaderWhy, Refusal};
 pub use program::back;
 pub use text::front;

@@ -3,4 +3,3 @@ pub mod LineLaws
 pub mod WatchLaws
 pub mod WatchEnds
 pub mod RowTurns
-pub mod StampedTurns

@@ -22,7 +22,7 @@ use Rattle.trace_watch.specs.Trace.{TraceRows, Stop, Clean, ends_by, behind_head
 use Rattle.trace_watch.specs.Telling.{CutsNone, TellsFront}
 use Rattle.trace_watch.specs.Watch.{OnlyRun, HasTold, IsTold, Outcome, IsWatch}
 use Rattle.trace_watch.proofs.LineLaws.{row_line, OnlyRun-append, OnlyRun-writes}
-use Rattle.trace_watch.proofs.WatchLaws.{HasWatched, IsLedBy, IsLedBy-same, IsLedBy-then, line_bytes, line_ended, prompt_then, line_follows, line_given, line_only, lines_append}
+use Rattle.trace_watch.proofs.WatchLaws.{HasWatched, IsLedBy, IsLedBy-same, IsLedBy-then, line_bytes, line_ended, line_no_more, prompt_then, line_follows, line_given, line_only, lines_append}
 
 -- a front of a front, and one of more
 IsFront-more : {X : Type 0} (front whole all rest : List X) → IsFront front whole → all ≡ whole ++ rest → IsFront front all
@@ -71,6 +71,7 @@ module _ (program : Program) (style : Style) (rows_in : List (List ℕ) → Trac
     prompt = Prompt-from_by (due program style rows_in false) start.pending (events ++ reads) (prompt_then program style rows_in start cut new monitor rest before Keeps events reads has answer cuts);
     outcome = outcome;
     ended = line_ended program style rows_in start cut new monitor rest before Keeps events reads has answer cuts;
+    no_more = line_no_more program style rows_in start cut new monitor rest before Keeps events reads has answer cuts;
     only = line_only program style rows_in start cut new monitor rest before Keeps events reads has answer cuts;
   }
 
@@ -131,6 +132,9 @@ module _ (program : Program) (style : Style) (rows_in : List (List ℕ) → Trac
         prompt = Prompt-from_by (due program style rows_in false) start.pending ((events ++ reads) ++ wrote) (PromptBy-append (due program style rows_in false) start.pending [] (events ++ reads) wrote (prompt_then program style rows_in start cut new monitor rest before Keeps events reads has line_answer.TheVariants.Row cuts) (Writes-prompt (due program style rows_in false) (start.pending ++ taken Trace (events ++ reads)) (given Out (events ++ reads)) Out sends.sent wrote sends.writes));
         outcome = (record { rest = sends.unsent ++ behind; split = whole }, record { program_kept = tells.kept.program_kept; front = tells.kept.front; is_front = IsFront-more tells.kept.front front _ tail tells.kept.is_front rows; stands = tells.kept.stands });
         ended = line_ended program style rows_in start cut new monitor rest before Keeps events reads has line_answer.TheVariants.Row cuts ∙ sym (ended_from-append start.ended Trace (events ++ reads) wrote ∙ Writes-ended (ended_from start.ended Trace (events ++ reads)) Out Trace sends.sent wrote sends.writes);
+        no_more = λ met.
+            let was = line_no_more program style rows_in start cut new monitor rest before Keeps events reads has line_answer.TheVariants.Row cuts met in
+            (was.0, taken-append Trace (events ++ reads) wrote ∙ ap (λ b. b ++ taken Trace wrote) was.1 ∙ Writes-taken Out Trace sends.sent wrote sends.writes);
         only = OnlyRun-append (events ++ reads) wrote (line_only program style rows_in start cut new monitor rest before Keeps events reads has line_answer.TheVariants.Row cuts) (subst OnlyRun (sym sends.writes.are) (OnlyRun-writes sends.writes.pieces));
       }
 

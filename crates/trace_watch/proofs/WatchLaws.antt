@@ -22,7 +22,7 @@ use Rattle.tool_io.proofs.Prompting.{PromptBy, PromptBy-append, Writes-prompt}
 use Rattle.mltl_monitor.specs.declared.state.State.{State}
 use Rattle.trace_watch.specs.Trace.{TraceRows, Clean, ends_by, is_marked, is_header, behind_header, due}
 use Rattle.trace_watch.specs.Telling.{TellsAll, WritesNone, text_of}
-use Rattle.trace_watch.specs.Watch.{OnlyRun, HasTold, first_of}
+use Rattle.trace_watch.specs.Watch.{OnlyRun, ReadsNoMore, HasTold, first_of}
 use Rattle.trace_watch.proofs.LineLaws.{is_header-short, first_early, OnlyRun-reads, OnlyRun-writes, OnlyRun-append, Follows, reads_prompt, no_reads, true_false, row_follows, row_line}
 
 -- lines of rows and of more rows
@@ -64,6 +64,7 @@ pub record HasWatched (program : Program) (style : Style) (rows_in : List (List 
   pub keeps : Keeps rows
   pub prompt : PromptBy (due program style rows_in false) start.pending [] events
   pub ended : cut.ended ≡ ended_from start.ended Trace events
+  pub no_more : ReadsNoMore start cut events
   pub only : OnlyRun events
   pub early : next_number cut ≤ before + 2
 
@@ -83,6 +84,7 @@ HasWatched-none program style start monitor rest Keeps low kept clean keeps = re
   keeps = keeps;
   prompt = tt;
   ended = refl;
+  no_more = λ met. (met, refl);
   only = tt;
   early = first_early start low;
 }
@@ -130,6 +132,15 @@ module _ (program : Program) (style : Style) (rows_in : List (List ℕ) → Trac
   pub line_ended : (answer : line_answer.Line) → CutsLine Trace cut new answer reads → new.ended ≡ ended_from start.ended Trace (events ++ reads)
   line_ended answer cuts =
       cuts.ended ∙ ap (λ v. meets_end v cuts.pieces) has.ended ∙ sym (Reads-ended (ended_from start.ended Trace events) Trace cuts.pieces reads cuts.reads) ∙ sym (ended_from-append start.ended Trace events reads)
+
+  -- once the end was met nothing more was read
+  pub line_no_more : (answer : line_answer.Line) → CutsLine Trace cut new answer reads → ReadsNoMore start new (events ++ reads)
+  line_no_more answer cuts met =
+      let was = has.no_more met in
+      let none = cuts.no_more was.0 in (
+        cuts.ended ∙ ap (λ pieces. meets_end cut.ended pieces) none ∙ was.0,
+        taken-append Trace events reads ∙ ap (λ bytes. bytes ++ taken Trace reads) was.1 ∙ Reads-taken Trace cuts.pieces reads cuts.reads ∙ ap concat none,
+      )
 
   -- all that was taken follows the cut
   pub line_follows : (answer : line_answer.Line) (cuts : CutsLine Trace cut new answer reads) → Follows cut new.ended (cut.pending ++ concat cuts.pieces)
@@ -188,6 +199,9 @@ module _ (program : Program) (style : Style) (rows_in : List (List ℕ) → Trac
         keeps = keeps;
         prompt = PromptBy-append due_of start.pending [] (events ++ reads) wrote (prompt_then line_answer.TheVariants.Row cuts) (Writes-prompt due_of (start.pending ++ taken Trace (events ++ reads)) (given Out (events ++ reads)) Out text wrote writes);
         ended = line_ended line_answer.TheVariants.Row cuts ∙ sym (ended_from-append start.ended Trace (events ++ reads) wrote ∙ Writes-ended (ended_from start.ended Trace (events ++ reads)) Out Trace text wrote writes);
+        no_more = λ met.
+            let was = line_no_more line_answer.TheVariants.Row cuts met in
+            (was.0, taken-append Trace (events ++ reads) wrote ∙ ap (λ bytes. bytes ++ taken Trace wrote) was.1 ∙ Writes-taken Out Trace text wrote writes);
         only = OnlyRun-append (events ++ reads) wrote (line_only line_answer.TheVariants.Row cuts) (subst OnlyRun (sym writes.are) (OnlyRun-writes writes.pieces));
         early = early;
       }

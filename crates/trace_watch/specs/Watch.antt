@@ -56,11 +56,16 @@ Outcome watched.TheVariants.WriteFault program style rows_in ended bytes out mon
 abbrev pub first_of : Cutting → ℕ
 first_of cut = next_number cut
 
+-- once the end was met nothing more is read
+abbrev pub ReadsNoMore : Cutting → Cutting → List Event → Type 0
+ReadsNoMore start cut events = start.ended ≡ true → (cut.ended ≡ true) × (taken Trace events ≡ [])
+
 -- the log of a run that began with this cut and ended with that one
 pub record IsWatch (program : Program) (style : Style) (rows_in : List (List ℕ) → TraceRows) (start cut : Cutting) (monitor : State) (answer : watched.Watched) (events : List Event) : Type 0 where
   pub prompt : Prompt (due program style rows_in false) start.pending events
   pub outcome : Outcome answer program style rows_in cut.ended (start.pending ++ taken Trace events) (given Out events) monitor
   pub ended : cut.ended ≡ ended_from start.ended Trace events
+  pub no_more : ReadsNoMore start cut events
   pub only : OnlyRun events
 
 -- a read or a write that failed raised the count of its place, and nothing else changes a count

@@ -2,7 +2,7 @@
 
 ghost use Rattle.std.specs.Prelude.{◌<◌, ◌≤◌, ◌^◌};
 
-use crate::{TraceWhy, Watched, watch, watch_timed};
+use crate::{TraceWhy, Watched, watch};
 use mltl_base::{BzOp, Engine, FtOp, Interval, List, Name, Out, Program, PtOp, Sizes, Style};
 use mltl_monitor::Monitor;
 use obs_verify::{Checked, has_layout, verify};
@@ -149,8 +149,6 @@ fn answer_of(alloc: Global, answer: &Watched) -> Result<String, Fail> {
         )?,
         Watched::BadTrace(line, TraceWhy::OutOfRange(c)) => format!(in alloc; "{line} range {c}")?,
         Watched::BadTrace(line, TraceWhy::LongLine) => format!(in alloc; "{line} long")?,
-        Watched::BadTrace(line, TraceWhy::Stamp) => format!(in alloc; "{line} stamp")?,
-        Watched::BadTrace(line, TraceWhy::Order) => format!(in alloc; "{line} order")?,
         Watched::BadTrace(line, _) => format!(in alloc; "{line} another")?,
     })
 }
@@ -165,11 +163,11 @@ fn host_of(alloc: Global, trace: &[u8], block: usize) -> Result<MemHost, Fail>
     Ok(host)
 }
 
-/// The answer of a run over the trace of a host, and what went out. The words are those of a table.
+/// The answer of a run over the trace of a host, and what went out.
 fn shown(
     alloc: Global,
     program: &str,
-    words: &str,
+    style: Style,
     mission: u64,
     host: &mut MemHost,
 ) -> Result<String, Fail>
@@ -180,30 +178,25 @@ fn shown(
     let Attached::Ready = host.attach(Place::Trace, "trace") else {
         return Err(Fail::from("a trace"));
     };
-    let runs = words.ends_with("runs");
-    let style = if runs { Style::Runs } else { Style::Each };
-    let watched = if words.starts_with("timed") {
-        watch_timed(&mut monitor, &mut cut, host, mission, style)
-    } else {
-        watch(&mut monitor, &mut cut, host, mission, style)
-    };
+    let watched = watch(&mut monitor, &mut cut, host, mission, style);
     let answer = answer_of(alloc, &watched)?;
     let out = str::from_utf8(host.out()).unwrap_or("?");
     Ok(format!(in alloc; "{answer}:{out}")?)
 }
 
-/// Whether a run shows what a line of the table says: program, words, mission time, trace, and what is shown.
+/// Whether a run shows what a line of the table says: program, style, mission time, trace, and what is shown.
 fn is_shown(alloc: Global, line: &str, block: usize) -> Result<bool, Fail>
     requires { 0 < block }
 {
     let mut parts = line.split('|');
     let program = parts.next().unwrap_or("");
-    let words = parts.next().unwrap_or("");
+    let runs = parts.next().unwrap_or("") == "runs";
+    let style = if runs { Style::Runs } else { Style::Each };
     let mission = u64::from(digit(parts.next().unwrap_or(""), 0));
     let trace = bytes_of(alloc, parts.next().unwrap_or(""))?;
     let want = bytes_of(alloc, parts.next().unwrap_or(""))?;
     let mut host = host_of(alloc, &trace, block)?;
-    let text = shown(alloc, program, words, mission, &mut host)?;
+    let text = shown(alloc, program, style, mission, &mut host)?;
     Ok(text.as_bytes() == want.as_slice())
 }
 
@@ -227,16 +220,7 @@ tt;L0 L1 A01;1 1 1;;;fF2|each|9|1,1^~0,1|done:f:0,T~f:1,F~
 tt;L0 L1 A01;1 1 1;;;fF2|each|9|# p,q~1,1~1,2~|3 range 1:f:0,T~
 ti;L0;1;;;fF0|each|9|1,-5~0,1.5~|2 not whole 1:f:0,T~
 ti;L0;1;;;fF0|each|9|1,2147483647~0,2147483648~|2 range 1:f:0,T~
-t;T L0 U0101;1 1 2;T L0 S0101;0 0 1;fF2 oP2|each|9|0~1~|done:o:0,F~f:0,T~f:1,T~o:1,T~
-t;T L0 U0102;1 1 3;;;fF2|timed|9|@0,0~@3,1~|done:f:0,F~f:1,T~f:2,T~f:3,T~
-t;T L0 U0102;1 1 3;;;fF2|timed runs|9|@0,0~@3,1~|done:f:0,F~f:3,T~
-t;L0;1;;;fF0|timed|9|# p~@0,1~ ~@0,0~|4 order:f:0,T~
-t;L0;1;;;fF0|timed|9|@1,1~|1 order:
-t;L0;1;;;fF0|timed|9|@0,1~1~|2 stamp:f:0,T~
-t;L0;1;;;fF0|timed|3|@0,1~@3,0~|past:f:0,T~
-t;L0;1;;;fF0|timed|2|@0,1~~~|past:f:0,T~
-t;L0;1;;;fF0|timed|9|@0,1~@2,2~|2 range 0:f:0,T~
-t;L0;1;;;fF0|timed|9|@0~|1 width:";
+t;T L0 U0101;1 1 2;T L0 S0101;0 0 1;fF2 oP2|each|9|0~1~|done:o:0,F~f:0,T~f:1,T~o:1,T~";
 
 #[test]
 fn traces_show_their_lines(rt: HostRuntime) -> Result<(), Fail> {
@@ -267,7 +251,7 @@ fn failing_calls(rt: HostRuntime) -> Result<(), Fail> {
         let want = bytes_of(rt.alloc(), parts.next().unwrap_or(""))?;
         let mut host = host_of(rt.alloc(), b"1\n0\n1\n", 4)?;
         host.fail(place, call)?;
-        let text = shown(rt.alloc(), "t;L0;1;;;fF0", "each", 9, &mut host)?;
+        let text = shown(rt.alloc(), "t;L0;1;;;fF0", Style::Each, 9, &mut host)?;
         assert_eq!(rt; text.as_bytes(), want.as_slice(), "{line}");
     }
     Ok(())
@@ -278,13 +262,13 @@ fn lines_that_are_too_long(rt: HostRuntime) -> Result<(), Fail> {
     let mut long = Vec::from_array(rt.alloc(), [b'#'])?;
     long.resize(65_536, b'1')?;
     let mut first = host_of(rt.alloc(), &long, 4096)?;
-    let text = shown(rt.alloc(), "t;L0;1;;;fF0", "each", 1, &mut first)?;
+    let text = shown(rt.alloc(), "t;L0;1;;;fF0", Style::Each, 1, &mut first)?;
     assert_eq!(rt; text.as_str(), "1 long:");
 
     let mut trace = bytes_of(rt.alloc(), "1~")?;
     trace.extend_from_slice(&long)?;
     let mut later = host_of(rt.alloc(), &trace, 4096)?;
-    let text = shown(rt.alloc(), "t;L0;1;;;fF0", "each", 1, &mut later)?;
+    let text = shown(rt.alloc(), "t;L0;1;;;fF0", Style::Each, 1, &mut later)?;
     assert_eq!(rt; text.as_str(), "past:f:0,T\n");
     Ok(())
 }

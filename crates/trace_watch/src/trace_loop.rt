@@ -5,7 +5,7 @@ ghost use Rattle.mltl_base.specs.Atoms.{Row};
 ghost use Rattle.mltl_base.specs.Lines.{lines_of_reports};
 ghost use Rattle.mltl_base.specs.Programs.{output_names};
 ghost use Rattle.tool_io.specs.Log.{OnLog};
-ghost use Rattle.mltl_monitor.specs.Monitoring.{program_of, taken_by, last_of, read_of, IsDrained, Stands, left_to_tell, GivesFirst, open_of};
+ghost use Rattle.mltl_monitor.specs.Monitoring.{program_of, taken_by, IsDrained, Stands, left_to_tell, GivesFirst, open_of};
 ghost use Rattle.trace_watch.specs.Trace.{is_marked, trace_rows};
 ghost use Rattle.trace_watch.specs.Watch.{IsWatch, WatchCause, first_of};
 ghost use Rattle.trace_watch.specs.Telling.{TellCause, StepCause, SendsText, IsDrainedIf, TakesIt, Steps, Turns, text_of};
@@ -27,9 +27,6 @@ fn next(monitor: &mut Monitor, style: Style) -> Option<Report>
     ensures program { program_of monitor.new ≡ program_of monitor.old }
     ensures exists { IfSome result (λ report. report.out < length (program_of monitor.new).outs) }
     ensures early { IfSome result (λ report. report.time < 2 ^ 40) }
-    ensures as_many { taken_by monitor.new ≡ taken_by monitor.old }
-    ensures last { last_of monitor.new ≡ last_of monitor.old }
-    ensures read { read_of monitor.new ≡ read_of monitor.old }
 {
     match style {
         Style::Each => monitor.next_report(),
@@ -38,14 +35,11 @@ fn next(monitor: &mut Monitor, style: Style) -> Option<Report>
 }
 
 /// Writes the lines of all reports that are still to be given. Answers whether all went out.
-pub(crate) fn tell<H: Host>(monitor: &mut Monitor, host: &mut H, style: Style) -> bool
+fn tell<H: Host>(monitor: &mut Monitor, host: &mut H, style: Style) -> bool
     ensures cause { TellCause result (H.faults host.old) (H.faults host.new) }
     ensures log { (rows : List Row) → Stands monitor.old rows → OnLog (H.log host.old) (H.log host.new) (SendsText result (lines_of_reports (output_names (program_of monitor.old)) (open_of style monitor.old rows))) }
     ensures stands { (rows : List Row) → Stands monitor.old rows → Stands monitor.new rows }
     ensures program { program_of monitor.new ≡ program_of monitor.old }
-    ensures as_many { taken_by monitor.new ≡ taken_by monitor.old }
-    ensures last { last_of monitor.new ≡ last_of monitor.old }
-    ensures read { read_of monitor.new ≡ read_of monitor.old }
     ensures drained { IsDrainedIf result monitor.new }
 {
     while let Some(report) = next(monitor, style) {
@@ -92,7 +86,7 @@ fn take<H: Host>(
 }
 
 /// Whether the line of the last Row is the first of the trace and begins with `#`.
-pub(crate) fn is_header(cut: &LineCut) -> bool
+fn is_header(cut: &LineCut) -> bool
     requires row { IsSome cut.now.row }
     ensures { result ≡ is_marked cut.now.number (text_of cut.now) }
 {
