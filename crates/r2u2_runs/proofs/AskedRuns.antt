@@ -1,0 +1,132 @@
+-- Runs by what the words ask for: help, nothing, or a file for which memory is wanting before it is read.
+
+use Rattle.std.proofs.Common.{◌≡◌, ◌≢◌, ◌↔◌, ℕ, ◌≤◌, ◌<◌, ◌⊎◌, Bool, true, false, if◌then◌else◌, Option, Some, None, List, [], ◌∷◌, ◌++◌, length, map, refl, sym, ◌∙◌, ap, subst, arith, inl, inr}
+use Rattle.std.proofs.lemmas.List.{append-nil}
+use Rattle.tool_io.specs.declared.host.Place as place
+use Rattle.tool_io.specs.declared.host.Place.TheVariants.{Trace, Out}
+use Rattle.tool_io.specs.declared.host.Place.TheVariants as at
+use Rattle.tool_io.specs.Log.{Event, Took, Gave, given, names_of, Prompt, Writes}
+use Rattle.tool_io.proofs.LogLaws.{Writes-given, Writes-given_elsewhere, Writes-names}
+use Rattle.tool_io.proofs.Prompting.{Prompt-from_by, Writes-prompt}
+use Rattle.tool_words.specs.R2u2Words.{RunAsked}
+use Rattle.tool_words.specs.R2u2Words as words
+use Rattle.mltl_monitor.specs.declared.state.State.{State}
+use Rattle.tool_runs.specs.declared.message.Tool.TheVariants.{R2u2}
+use Rattle.tool_runs.specs.declared.status.Status as status
+use Rattle.tool_runs.specs.Messages.{usage}
+use Rattle.tool_runs.specs.Attaching.{OpensAsTold, ReadsAttached}
+use Rattle.tool_runs.specs.Files.{file_limit}
+use Rattle.tool_runs.specs.Telling.{HelpLog}
+use Rattle.tool_runs.proofs.AttachLaws.{no_reads_none, writes_unread}
+use Rattle.r2u2_runs.specs.Asking.{Ask, help, over, nothing, served, ask, asked_names}
+use Rattle.r2u2_runs.specs.Outcome.{due_by}
+use Rattle.r2u2_runs.specs.Run.{found_in, FileOutcome, HelpOutcome, NothingOutcome, OutcomeOf, TriesSecond, IsPrompt, Ran}
+
+-- help, or a front of it, went out
+help_ran : (answer : status.Status) (sent : List ℕ) (events : List Event) → Writes Out sent events → OutcomeOf answer help events None → OpensAsTold answer events → (answer ≡ status.TheVariants.Memory → ⊥) → Ran help answer None events
+help_ran answer sent events writes outcome opened some = record {
+  names = record { rest = []; split = sym (append-nil (names_of events) ∙ Writes-names Out sent events writes) };
+  second = tt;
+  attached = λ before after p piece is. absurd (writes_unread Out writes.pieces before after p piece (sym writes.are ∙ is));
+  prompt = Prompt-from_by (λ bytes. []) [] events (Writes-prompt (λ bytes. []) [] [] Out sent events writes);
+  outcome = outcome;
+  opened = opened;
+  early = λ memory. absurd (some memory);
+  quiet = Writes-given_elsewhere Out at.Err sent events refl writes;
+}
+
+pub run_help : (answer : status.Status) (events : List Event) → HelpLog R2u2 answer events → Ran help answer None events
+run_help status.TheVariants.Helped events writes =
+    help_ran status.TheVariants.Helped (usage R2u2) events writes (Writes-given Out (usage R2u2) events writes, refl) tt (λ is. cc)
+run_help (status.TheVariants.WriteFault place.TheVariants.Out) events fronts =
+    help_ran (status.TheVariants.WriteFault Out) fronts.sent events fronts.writes
+    (record { rest = fronts.unsent; split = fronts.split ∙ ap (λ b. b ++ fronts.unsent) (sym (Writes-given Out fronts.sent events fronts.writes)) }, refl) tt (λ is. cc)
+run_help answer events is = absurd is
+
+-- nothing was done
+second_none : (asked : Ask) → TriesSecond asked []
+second_none help = tt
+second_none (over asked) = λ two. let none : 1 < 0 = two in absurd (omega (arith, none))
+second_none nothing = tt
+
+prompt_none : (asked : Ask) → IsPrompt asked []
+prompt_none help = Prompt-from_by (λ bytes. []) [] [] tt
+prompt_none (over asked) = Prompt-from_by (due_by asked (found_in asked []) false) [] [] tt
+prompt_none nothing = Prompt-from_by (λ bytes. []) [] [] tt
+
+memory_none : (asked : Ask) → OutcomeOf status.TheVariants.Memory asked [] None
+memory_none help = record { no_lines = refl; no_monitor = refl }
+memory_none (over asked) = (omega arith, record { no_lines = refl; no_monitor = refl })
+memory_none nothing = record { no_lines = refl; no_monitor = refl }
+
+run_none : (asked : Ask) (answer : status.Status) → OutcomeOf answer asked [] None → OpensAsTold answer [] → Ran asked answer None []
+run_none asked answer outcome opened = record {
+  names = record { rest = asked_names asked; split = refl };
+  second = second_none asked;
+  attached = no_reads_none;
+  prompt = prompt_none asked;
+  outcome = outcome;
+  opened = opened;
+  early = λ memory before after piece is. absurd (none before after piece is);
+  quiet = refl;
+}
+  where
+    none : (before after : List Event) (piece : List ℕ) → [] ≡ before ++ Took Trace piece ∷ after → ⊥
+    none [] after piece is = cc
+    none (event ∷ before) after piece is = cc
+
+pub run_no_memory : (asked : Ask) → Ran asked status.TheVariants.Memory None []
+run_no_memory asked = run_none asked status.TheVariants.Memory (memory_none asked) tt
+
+pub run_nothing : (asked : Ask) → asked ≡ nothing → Ran asked status.TheVariants.Usage None []
+run_nothing asked is = subst (λ a. Ran a status.TheVariants.Usage None []) (sym is) (run_none nothing status.TheVariants.Usage (record { no_lines = refl; no_monitor = refl }) tt)
+
+-- stamped rows are asked for as nothing
+pub served_run : (asked : RunAsked) (answer : status.Status) (kept : Option State) (events : List Event) → asked.timed ≡ false → Ran (over asked) answer kept events → Ran (served (words.run asked)) answer kept events
+served_run asked answer kept events is ran = subst (λ a. Ran a answer kept events) (sym (ap (λ (b : Bool). if b then nothing else over asked) is)) ran
+
+pub served_stamped : (asked : RunAsked) → asked.timed ≡ true → Ran (served (words.run asked)) status.TheVariants.Usage None []
+served_stamped asked is = run_nothing (served (words.run asked)) (ap (λ (b : Bool). if b then nothing else over asked) is)
+
+-- how an answer tells what was asked
+asks_over : (answer : status.Status) (asked : RunAsked) (file : List ℕ) (file_end : Bool) (bytes : List ℕ) (ended : Bool) (out : List ℕ) (kept : Option State) → FileOutcome answer asked file file_end bytes ended out kept → (answer ≡ status.TheVariants.Usage → ⊥) × (answer ≡ status.TheVariants.Helped → ⊥)
+asks_over answer asked file file_end bytes ended out kept is = (
+  λ same. (subst (λ s. FileOutcome s asked file file_end bytes ended out kept) same is).lines,
+  λ same. (subst (λ s. FileOutcome s asked file file_end bytes ended out kept) same is).lines,
+)
+
+nothing_usage : (answer : status.Status) (out : List ℕ) (kept : Option State) → NothingOutcome answer out kept → answer ≢ status.TheVariants.Memory → answer ≡ status.TheVariants.Usage
+nothing_usage status.TheVariants.Usage out kept is some = refl
+nothing_usage status.TheVariants.Memory out kept is some = absurd (some refl)
+nothing_usage answer out kept is some = absurd is
+
+pub run_usage : (asked : Ask) (answer : status.Status) (kept : Option State) (events : List Event) → Ran asked answer kept events → answer ≢ status.TheVariants.Memory → (answer ≡ status.TheVariants.Usage) ↔ (asked ≡ nothing)
+run_usage help answer kept events ran some = (λ same. absurd (subst (λ s. HelpOutcome s (given Out events) kept) same ran.outcome), λ is. cc)
+run_usage (over asked) answer kept events ran some = (λ same. absurd ((asks_over answer asked _ _ _ _ _ kept ran.outcome).0 same), λ is. cc)
+run_usage nothing answer kept events ran some = (λ same. refl, λ is. nothing_usage answer (given Out events) kept ran.outcome some)
+
+pub run_helped : (asked : Ask) (answer : status.Status) (kept : Option State) (events : List Event) → Ran asked answer kept events → answer ≡ status.TheVariants.Helped → asked ≡ help
+run_helped help answer kept events ran is = refl
+run_helped (over asked) answer kept events ran is = absurd ((asks_over answer asked _ _ _ _ _ kept ran.outcome).1 is)
+run_helped nothing answer kept events ran is = absurd (subst (λ s. NothingOutcome s (given Out events) kept) is ran.outcome)
+
+-- what was read of the words
+pub asked_served : (words_asked : words.Asked) (list : List (List ℕ)) → words_asked ≡ words.ask list → served words_asked ≡ ask list
+unfolding ask
+asked_served words_asked list is = ap served is
+
+-- an answer is that of memory, or comes of what others come of
+pub memory_or : (answer : status.Status) (P : Type 0) → (answer ≢ status.TheVariants.Memory → P) → (answer ≡ status.TheVariants.Memory) ⊎ P
+memory_or status.TheVariants.Memory P other = inl refl
+memory_or status.TheVariants.Done P other = inr (other (λ is. cc))
+memory_or status.TheVariants.Helped P other = inr (other (λ is. cc))
+memory_or status.TheVariants.Usage P other = inr (other (λ is. cc))
+memory_or (status.TheVariants.Refused line why) P other = inr (other (λ is. cc))
+memory_or (status.TheVariants.BadProgram fault) P other = inr (other (λ is. cc))
+memory_or (status.TheVariants.BadHeader why) P other = inr (other (λ is. cc))
+memory_or (status.TheVariants.BadTrace number why) P other = inr (other (λ is. cc))
+memory_or status.TheVariants.TooLong P other = inr (other (λ is. cc))
+memory_or (status.TheVariants.TextTooLong p) P other = inr (other (λ is. cc))
+memory_or (status.TheVariants.OpenFault p) P other = inr (other (λ is. cc))
+memory_or (status.TheVariants.ReadFault p) P other = inr (other (λ is. cc))
+memory_or (status.TheVariants.WriteFault p) P other = inr (other (λ is. cc))

@@ -1,0 +1,280 @@
+-- A run of a file: its bytes, and then its trace.
+
+use Rattle.std.proofs.Common.{◌≡◌, ◌≢◌, ℕ, ◌≤◌, ◌<◌, ◌⊎◌, Bool, true, false, ◌||◌, Option, Some, None, Result, Ok, Err, List, [], ◌∷◌, ◌++◌, length, map, Vec, refl, sym, ◌∙◌, ap, subst, arith, append_assoc, inl, inr}
+use Rattle.std.specs.declared.alloc.Global.{Global}
+use Rattle.std.proofs.lemmas.List.{append-nil}
+use Rattle.mltl_base.specs.declared.program.Program.{Program}
+use Rattle.tool_io.specs.declared.host.Place as place
+use Rattle.tool_io.specs.declared.host.Place.TheVariants.{Spec, Trace, Out}
+use Rattle.tool_io.specs.declared.host.Place.TheVariants as at
+use Rattle.tool_io.specs.Log.{Event, Attached, Missed, Took, Gave, same_place, taken, given, ended_from, names_of, Reads, Prompt}
+use Rattle.tool_io.specs.Whole.{Takes}
+use Rattle.tool_io.specs.Cutting.{HasNoNewline, lines_of}
+use Rattle.tool_io.proofs.LogLaws.{same_place-self, taken-append, given-append, ended_from-append, names_of-append, Reads-taken, Reads-taken_elsewhere, Reads-given, Reads-names, Reads-ended, Reads-ended_elsewhere}
+use Rattle.tool_io.proofs.Prompting.{PromptBy, PromptBy-append, PromptBy-from, Prompt-from_by}
+use Rattle.tool_words.specs.R2u2Words.{RunAsked}
+use Rattle.mltl_monitor.specs.declared.state.State.{State}
+use Rattle.tool_runs.specs.declared.status.Status as status
+use Rattle.tool_runs.specs.Attaching.{OpensAsTold, ReadsAttached, is_attached}
+use Rattle.tool_runs.specs.Files.{file_limit, file_place}
+use Rattle.tool_runs.specs.Reading.{FileLog}
+use Rattle.tool_runs.proofs.AttachLaws.{ReadsAttached-append, file_attached, file_reads, is_attached-append, missed_none, no_reads_none, or_true, split_at}
+use Rattle.r2u2_runs.specs.Asking.{over}
+use Rattle.r2u2_runs.specs.ProgramBy.{file_refusal, unless_long, unless_refused, begins_long, header_in, program_by, program_over}
+use Rattle.r2u2_runs.specs.Outcome.{due_by, Silent, NeverRan, LinesOutcome}
+use Rattle.r2u2_runs.specs.Run.{file_of, file_ended, trace_of, trace_ended, lines_in, found_in, IsReadable, ReadsFirstLine, ByLines, FileOutcome, Ran}
+use Rattle.r2u2_runs.specs.Phases.{NotOpened, IsOpened, RanFile, TraceOutcome, RanTrace}
+use Rattle.r2u2_runs.proofs.Refusing.{Refuses, file_refuses}
+use Rattle.r2u2_runs.proofs.TraceRuns.{trace_elsewhere}
+
+no_trace : (source : Bool) (before after : List Event) (pieces : List (List ℕ)) (piece : List ℕ) → map (Took (file_place source)) pieces ≡ before ++ Took Trace piece ∷ after → ⊥
+no_trace true before after pieces piece is = let same = file_reads at.Spec before after pieces Trace piece is in cc
+no_trace false before after pieces piece is = let same = file_reads at.Program before after pieces Trace piece is in cc
+
+file_prompt : (source : Bool) (due_of : List ℕ → List ℕ) (read sent : List ℕ) (pieces : List (List ℕ)) → PromptBy due_of read sent (map (Took (file_place source)) pieces)
+file_prompt true due_of read sent [] = tt
+file_prompt true due_of read sent (piece ∷ pieces) = file_prompt true due_of read sent pieces
+file_prompt false due_of read sent [] = tt
+file_prompt false due_of read sent (piece ∷ pieces) = file_prompt false due_of read sent pieces
+
+not_attached : (p q : place.Place) (pieces : List (List ℕ)) → is_attached p (map (Took q) pieces) ≡ false
+not_attached p q [] = refl
+not_attached p q (piece ∷ pieces) = not_attached p q pieces
+
+early_read : (source : Bool) (name : List ℕ) (pieces : List (List ℕ)) (log : List Event) → Reads (file_place source) pieces log → ReadsFirstLine (Attached (file_place source) name ∷ log)
+early_read source name pieces log is [] after piece at_it = cc
+early_read source name pieces log is (event ∷ before) after piece at_it = absurd (no_trace source before after pieces piece (sym is ∙ (let rest : log ≡ before ++ Took Trace piece ∷ after = cc in rest)))
+
+-- the log of reading a file: its bytes, and whether the end was met
+pub record HasRead (source : Bool) (name bytes : List ℕ) (ended : Bool) (events : List Event) : Type 0 where
+  pub names : names_of events ≡ (file_place source, name) ∷ []
+  pub attached : ReadsAttached [] events
+  pub file : taken (file_place source) events ≡ bytes
+  pub file_end : ended_from false (file_place source) events ≡ ended
+  pub no_trace_bytes : taken Trace events ≡ []
+  pub no_trace_end : ended_from false Trace events ≡ false
+  pub no_lines : given Out events ≡ []
+  pub quiet : given at.Err events ≡ []
+  pub prompt : (due_of : List ℕ → List ℕ) → PromptBy due_of [] [] events
+  pub opened : is_attached (file_place source) events ≡ true
+  pub unopened : is_attached Trace events ≡ false
+  pub early : ReadsFirstLine events
+
+has_read : (source : Bool) (name bytes : List ℕ) (ended : Bool) (log : List Event) → Takes (file_place source) bytes ended log → HasRead source name bytes ended (Attached (file_place source) name ∷ log)
+has_read source name bytes ended log takes =
+    let p = file_place source in
+    let pieces = takes.pieces in
+    let are = takes.are in
+    record {
+      names = ap (λ names. (p, name) ∷ names) (Reads-names p pieces log are);
+      attached = subst (λ l. ReadsAttached [] (Attached p name ∷ l)) (sym are) (file_attached p name pieces);
+      file = Reads-taken p pieces log are ∙ sym takes.joined;
+      file_end = Reads-ended false p pieces log are ∙ takes.end;
+      no_trace_bytes = Reads-taken_elsewhere p Trace pieces log (trace_elsewhere source) are;
+      no_trace_end = Reads-ended_elsewhere false p Trace pieces log (trace_elsewhere source) are;
+      no_lines = Reads-given p Out pieces log are;
+      quiet = Reads-given p at.Err pieces log are;
+      prompt = λ due_of. subst (PromptBy due_of [] []) (sym are) (file_prompt source due_of [] [] pieces);
+      opened = ap (λ v. v || is_attached p log) (same_place-self p);
+      unopened = ap (λ v. v || is_attached Trace log) (trace_elsewhere source) ∙ ap (is_attached Trace) are ∙ not_attached Trace p pieces;
+      early = early_read source name pieces log are;
+    }
+
+silent : Silent [] None
+silent = record { no_lines = refl; no_monitor = refl }
+
+-- one place was tried, and no second one
+one_tried : (names : List (place.Place × List ℕ)) (one : place.Place × List ℕ) → names ≡ one ∷ [] → 1 < length names → ⊥
+one_tried names one is two = let less : 1 < 1 = subst (λ ns. 1 < length ns) is two in omega (arith, less)
+
+-- a run whose file was read, and nothing more: the log is that of the file
+run_read : (asked : RunAsked) (bytes : List ℕ) (ended : Bool) (answer : status.Status) (events : List Event) (read : HasRead asked.source asked.file bytes ended events) → FileOutcome answer asked bytes ended [] false [] None → OpensAsTold answer events → Ran (over asked) answer None events
+run_read asked bytes ended answer events read outcome opened =
+    let due_of = due_by asked (found_in asked events) false in
+    record {
+      names = record { rest = (Trace, asked.trace) ∷ []; split = ap (λ names. names ++ (Trace, asked.trace) ∷ []) (sym read.names) };
+      second = λ two. absurd (one_tried (names_of events) (file_place asked.source, asked.file) read.names two);
+      attached = read.attached;
+      prompt = Prompt-from_by due_of [] events (read.prompt due_of);
+      outcome =
+          subst (λ b. FileOutcome answer asked b (file_ended asked events) (trace_of events) (trace_ended events) (given Out events) None) (sym read.file)
+          (subst (λ v. FileOutcome answer asked bytes v (trace_of events) (trace_ended events) (given Out events) None) (sym read.file_end)
+          (subst (λ b. FileOutcome answer asked bytes ended b (trace_ended events) (given Out events) None) (sym read.no_trace_bytes)
+          (subst (λ v. FileOutcome answer asked bytes ended [] v (given Out events) None) (sym read.no_trace_end)
+          (subst (λ b. FileOutcome answer asked bytes ended [] false b None) (sym read.no_lines) outcome))));
+      opened = opened;
+      early = λ memory. read.early;
+      quiet = read.quiet;
+    }
+
+-- the file couldn't be attached
+open_outcome : (source : Bool) (asked : RunAsked) → asked.source ≡ source → FileOutcome (status.TheVariants.OpenFault (file_place source)) asked [] false [] false [] None
+open_outcome true asked is = (ap file_place (sym is), refl, silent)
+open_outcome false asked is = (ap file_place (sym is), refl, silent)
+
+missed : (asked : RunAsked) (events : List Event) → (events ≡ Missed (file_place asked.source) asked.file ∷ []) ⊎ (events ≡ []) → Ran (over asked) (status.TheVariants.OpenFault (file_place asked.source)) None events
+missed asked events (inl is) = subst (Ran (over asked) (status.TheVariants.OpenFault (file_place asked.source)) None) (sym is) (record {
+  names = record { rest = (Trace, asked.trace) ∷ []; split = refl };
+  second = λ two. absurd (one_tried ((file_place asked.source, asked.file) ∷ []) (file_place asked.source, asked.file) refl two);
+  attached = missed_none (file_place asked.source) asked.file;
+  prompt = Prompt-from_by (due_by asked (found_in asked (Missed (file_place asked.source) asked.file ∷ [])) false) [] (Missed (file_place asked.source) asked.file ∷ []) tt;
+  outcome = open_outcome asked.source asked refl;
+  opened = refl;
+  early = λ memory. cc;
+  quiet = refl;
+})
+missed asked events (inr is) = subst (Ran (over asked) (status.TheVariants.OpenFault (file_place asked.source)) None) (sym is) (record {
+  names = record { rest = (file_place asked.source, asked.file) ∷ (Trace, asked.trace) ∷ []; split = refl };
+  second = λ two. let none : 1 < 0 = two in absurd (omega (arith, none));
+  attached = no_reads_none;
+  prompt = Prompt-from_by (due_by asked (found_in asked []) false) [] [] tt;
+  outcome = open_outcome asked.source asked refl;
+  opened = refl;
+  early = λ memory. cc;
+  quiet = refl;
+})
+
+-- it couldn't be read whole
+read_outcome : (source : Bool) (asked : RunAsked) (bytes : List ℕ) → asked.source ≡ source → length bytes ≤ file_limit asked.source → FileOutcome (status.TheVariants.ReadFault (file_place source)) asked bytes false [] false [] None
+read_outcome true asked bytes is fits = (ap file_place (sym is), fits, silent)
+read_outcome false asked bytes is fits = (ap file_place (sym is), fits, silent)
+
+pub run_unread : (asked : RunAsked) (answer : status.Status) (events : List Event) → FileLog (Err answer) (file_place asked.source) (file_limit asked.source) asked.file events → Ran (over asked) answer None events
+run_unread asked (status.TheVariants.OpenFault p) events is = subst (λ q. Ran (over asked) (status.TheVariants.OpenFault q) None events) (sym is.0) (missed asked events is.1)
+run_unread asked (status.TheVariants.ReadFault p) events is =
+    let p_is = is.0 in
+    let log = is.1 in
+    let bytes = is.2 in
+    subst (λ q. Ran (over asked) (status.TheVariants.ReadFault q) None events) (sym p_is)
+    (subst (Ran (over asked) (status.TheVariants.ReadFault (file_place asked.source)) None) (sym is.3)
+    (let read = has_read asked.source asked.file bytes false log is.4 in
+    run_read asked bytes false (status.TheVariants.ReadFault (file_place asked.source)) (Attached (file_place asked.source) asked.file ∷ log) read (read_outcome asked.source asked bytes refl is.5) read.opened))
+run_unread asked (status.TheVariants.TextTooLong p) events is =
+    let log = is.1 in
+    let bytes = is.2 in
+    subst (Ran (over asked) (status.TheVariants.TextTooLong p) None) (sym is.3)
+    (run_read asked bytes false (status.TheVariants.TextTooLong p) (Attached (file_place asked.source) asked.file ∷ log) (has_read asked.source asked.file bytes false log is.4) (is.0, is.5, silent) tt)
+run_unread asked status.TheVariants.Memory events is =
+    subst (Ran (over asked) status.TheVariants.Memory None) (sym is.2)
+    (run_read asked is.1 false status.TheVariants.Memory (Attached (file_place asked.source) asked.file ∷ is.0) (has_read asked.source asked.file is.1 false is.0 is.3) (is.4, silent) tt)
+run_unread asked answer events is = absurd is
+
+-- how the outcome over a trace is one of the run
+file_outcome : (answer : status.Status) (asked : RunAsked) (bytes : List ℕ) (events : List Event) (kept : Option State) → IsReadable asked bytes true → TraceOutcome answer asked bytes events kept → FileOutcome answer asked bytes true (trace_of events) (trace_ended events) (given Out events) kept
+file_outcome status.TheVariants.Done asked bytes events kept readable is = record { whole = refl; within = readable.within; lines = is }
+file_outcome status.TheVariants.TooLong asked bytes events kept readable is = record { whole = refl; within = readable.within; lines = is }
+file_outcome (status.TheVariants.Refused line why) asked bytes events kept readable is = record { whole = refl; within = readable.within; lines = is }
+file_outcome (status.TheVariants.BadProgram fault) asked bytes events kept readable is = record { whole = refl; within = readable.within; lines = is }
+file_outcome (status.TheVariants.BadTrace number why) asked bytes events kept readable is = record { whole = refl; within = readable.within; lines = is }
+file_outcome (status.TheVariants.ReadFault Trace) asked bytes events kept readable is = (readable, record { whole = refl; within = readable.within; lines = is })
+file_outcome (status.TheVariants.WriteFault Out) asked bytes events kept readable is = record { whole = refl; within = readable.within; lines = is }
+file_outcome (status.TheVariants.OpenFault Trace) asked bytes events kept readable is = (readable, is)
+file_outcome status.TheVariants.Memory asked bytes events kept readable is = (readable.within, is)
+file_outcome answer asked bytes events kept readable is = absurd is
+
+-- what was opened before the trace, and by it
+run_opened : (answer : status.Status) (asked : RunAsked) (bytes : List ℕ) (kept : Option State) (first second : List Event) → is_attached Trace first ≡ false → TraceOutcome answer asked bytes second kept → OpensAsTold answer second → OpensAsTold answer (first ++ second)
+run_opened (status.TheVariants.OpenFault Trace) asked bytes kept first second unopened is opened = is_attached-append Trace first second ∙ ap (λ v. v || is_attached Trace second) unopened ∙ opened
+run_opened (status.TheVariants.OpenFault p) asked bytes kept first second unopened is opened = absurd is
+run_opened (status.TheVariants.ReadFault Trace) asked bytes kept first second unopened is opened = is_attached-append Trace first second ∙ ap (λ v. is_attached Trace first || v) opened ∙ or_true (is_attached Trace first)
+run_opened (status.TheVariants.ReadFault p) asked bytes kept first second unopened is opened = absurd is
+run_opened answer asked bytes kept first second unopened is opened = tt
+
+-- the first line's reads behind the file's
+early_both : (first second : List Event) → ReadsFirstLine first → taken Trace first ≡ [] → ReadsFirstLine second → ReadsFirstLine (first ++ second)
+early_both first second a none b before after piece is =
+    elim (split_at first second before after (Took Trace piece) is) [
+      | inl found ↦ a before found.0 piece found.1
+      | inr found ↦ subst (λ x. HasNoNewline (taken Trace x)) (sym found.1) (subst HasNoNewline (sym (taken-append Trace first found.0 ∙ ap (λ bytes. bytes ++ taken Trace found.0) none)) (b found.0 after piece found.2))
+    ]
+
+-- the file is readable, and the trace was run over
+module _ (asked : RunAsked) (bytes : List ℕ) (answer : status.Status) (kept : Option State) (first second : List Event) (read : HasRead asked.source asked.file bytes true first) (within : length bytes ≤ file_limit asked.source) (is : IsOpened asked bytes answer kept second) where
+  abbrev p : place.Place
+  p = file_place asked.source
+
+  abbrev all : List Event
+  all = first ++ second
+
+  all_file : taken p all ≡ bytes
+  all_file = taken-append p first second ∙ ap (λ b. b ++ taken p second) read.file ∙ ap (λ b. bytes ++ b) is.ran.no_file ∙ append-nil bytes
+
+  all_file_end : ended_from false p all ≡ true
+  all_file_end = ended_from-append false p first second ∙ is.ran.no_file_end (ended_from false p first) ∙ read.file_end
+
+  all_trace : trace_of all ≡ trace_of second
+  all_trace = taken-append Trace first second ∙ ap (λ b. b ++ taken Trace second) read.no_trace_bytes
+
+  all_ended : trace_ended all ≡ trace_ended second
+  all_ended = ended_from-append false Trace first second ∙ ap (λ v. ended_from v Trace second) read.no_trace_end
+
+  all_out : given Out all ≡ given Out second
+  all_out = given-append Out first second ∙ ap (λ b. b ++ given Out second) read.no_lines
+
+  all_found : found_in asked all ≡ program_over asked.source bytes (lines_in second)
+  all_found =
+      ap (λ b. program_over asked.source b (lines_in all)) all_file
+      ∙ ap (program_over asked.source bytes) (ap (λ v. lines_of v (trace_of all)) all_ended ∙ ap (lines_of (trace_ended second)) all_trace)
+
+  readable : IsReadable asked bytes true
+  readable = record { whole = refl; within = within; unrefused = is.unrefused }
+
+  abbrev due_of : List ℕ → List ℕ
+  due_of = due_by asked (program_over asked.source bytes (lines_in second)) false
+
+  all_prompt : Prompt due_of [] all
+  all_prompt =
+      let later : PromptBy due_of (taken Trace first) (given Out first) second =
+      subst (λ b. PromptBy due_of b (given Out first) second) (sym read.no_trace_bytes) (subst (λ b. PromptBy due_of [] b second) (sym read.no_lines) (PromptBy-from due_of [] second is.ran.prompt)) in
+      Prompt-from_by due_of [] all (PromptBy-append due_of [] [] first second (read.prompt due_of) later)
+
+  pub run_opened_file : Ran (over asked) answer kept all
+  run_opened_file = record {
+    names = record { rest = is.ran.names.rest; split = ap (λ names. (p, asked.file) ∷ names) is.ran.names.split ∙ ap (λ names. names ++ (names_of second ++ is.ran.names.rest)) (sym read.names) ∙ sym (append_assoc (names_of first) (names_of second) is.ran.names.rest) ∙ ap (λ names. names ++ is.ran.names.rest) (sym (names_of-append first second)) };
+    second = λ two. subst (λ b. IsReadable asked b (file_ended asked all)) (sym all_file) (subst (IsReadable asked bytes) (sym all_file_end) readable);
+    attached = ReadsAttached-append first second read.attached is.ran.attached;
+    prompt = subst (λ f. Prompt (due_by asked f false) [] all) (sym all_found) all_prompt;
+    outcome =
+        subst (λ b. FileOutcome answer asked b (file_ended asked all) (trace_of all) (trace_ended all) (given Out all) kept) (sym all_file)
+        (subst (λ v. FileOutcome answer asked bytes v (trace_of all) (trace_ended all) (given Out all) kept) (sym all_file_end)
+        (subst (λ b. FileOutcome answer asked bytes true b (trace_ended all) (given Out all) kept) (sym all_trace)
+        (subst (λ v. FileOutcome answer asked bytes true (trace_of second) v (given Out all) kept) (sym all_ended)
+        (subst (λ b. FileOutcome answer asked bytes true (trace_of second) (trace_ended second) b kept) (sym all_out)
+        (file_outcome answer asked bytes second kept readable is.ran.outcome)))));
+    opened = run_opened answer asked bytes kept first second read.unopened is.ran.outcome is.ran.opened;
+    early = λ memory. early_both first second read.early read.no_trace_bytes (is.ran.early memory);
+    quiet = given-append at.Err first second ∙ ap (λ b. b ++ given at.Err second) read.quiet ∙ is.ran.quiet;
+  }
+
+-- the file is refused by itself
+refused_over : (source : Bool) (bytes : List ℕ) (lines : List (List ℕ)) (answer : status.Status) → file_refusal source bytes ≡ Some answer → program_over source bytes lines ≡ Err answer
+unfolding program_over
+refused_over source bytes lines answer is = ap (λ o. unless_refused o (unless_long (begins_long lines) (program_by source bytes (header_in lines)))) is
+
+closed_outcome : (answer : status.Status) (asked : RunAsked) (bytes : List ℕ) → Refuses answer → length bytes ≤ file_limit asked.source → program_over asked.source bytes [] ≡ Err answer → FileOutcome answer asked bytes true [] false [] None
+closed_outcome (status.TheVariants.Refused line why) asked bytes speaks fits is = record { whole = refl; within = fits; lines = record { refused = is; silent = silent } }
+closed_outcome (status.TheVariants.BadProgram fault) asked bytes speaks fits is = record { whole = refl; within = fits; lines = record { refused = is; silent = silent } }
+closed_outcome (status.TheVariants.BadTrace number why) asked bytes speaks fits is = record { whole = refl; within = fits; lines = inl (record { refused = is; silent = silent }) }
+closed_outcome status.TheVariants.Memory asked bytes speaks fits is = (fits, silent)
+closed_outcome answer asked bytes speaks fits is = absurd speaks
+
+closed_opened : (answer : status.Status) (events : List Event) → Refuses answer → OpensAsTold answer events
+closed_opened (status.TheVariants.OpenFault p) events speaks = absurd speaks
+closed_opened (status.TheVariants.ReadFault p) events speaks = absurd speaks
+closed_opened answer events speaks = tt
+
+run_closed : (asked : RunAsked) (bytes : List ℕ) (answer : status.Status) (first : List Event) → HasRead asked.source asked.file bytes true first → length bytes ≤ file_limit asked.source → (answer ≡ status.TheVariants.Memory) ⊎ (file_refusal asked.source bytes ≡ Some answer) → Ran (over asked) answer None first
+run_closed asked bytes answer first read fits (inl memory) = subst (λ s. Ran (over asked) s None first) (sym memory) (run_read asked bytes true status.TheVariants.Memory first read (fits, silent) tt)
+run_closed asked bytes answer first read fits (inr refused) =
+    let speaks = file_refuses asked.source bytes answer refused in
+    run_read asked bytes true answer first read (closed_outcome answer asked bytes speaks fits (refused_over asked.source bytes [] answer refused)) (closed_opened answer first speaks)
+
+pub run_file_ran : (asked : RunAsked) (bytes : Vec ℕ Global) (answer : status.Status) (kept : Option State) (first second : List Event) → FileLog (Ok bytes) (file_place asked.source) (file_limit asked.source) asked.file first → RanFile asked bytes.items answer kept second → Ran (over asked) answer kept (first ++ second)
+run_file_ran asked bytes answer kept first second read (inl closed) =
+    let was = subst (HasRead asked.source asked.file bytes.items true) (sym read.1) (has_read asked.source asked.file bytes.items true read.0 read.2) in
+    subst (λ k. Ran (over asked) answer k (first ++ second)) (sym closed.no_monitor)
+    (subst (λ e. Ran (over asked) answer None (first ++ e)) (sym closed.no_events)
+    (subst (Ran (over asked) answer None) (sym (append-nil first)) (run_closed asked bytes.items answer first was read.3 closed.why)))
+run_file_ran asked bytes answer kept first second read (inr is) =
+    let was = subst (HasRead asked.source asked.file bytes.items true) (sym read.1) (has_read asked.source asked.file bytes.items true read.0 read.2) in
+    run_opened_file asked bytes.items answer kept first second was read.3 is

@@ -1,0 +1,117 @@
+-- What a file and a header give, from the answers of the calls that read them.
+
+use Rattle.std.proofs.Common.{◌≡◌, ◌≢◌, ◌∙◌, ℕ, ◌==◌, Bool, true, false, if◌then◌else◌, Option, Some, None, Result, Ok, Err, List, map, IfOk, OnOk, IfErr, refl, sym, ap, subst}
+use Rattle.mltl_base.specs.declared.program.Columns.{Columns}
+use Rattle.mltl_base.specs.declared.program.Program.{Program}
+use Rattle.c2po_tree.specs.ItemShape.{ItemShape}
+use Rattle.c2po_types.specs.Signals.{signals_of}
+use Rattle.set_expand.specs.Outputs.{outputs_of}
+use Rattle.obs_verify.specs.Bound.{bound}
+use Rattle.obs_files.specs.declared.fault.FileFault.{FileFault}
+use Rattle.obs_files.specs.declared.fault.FileFault.TheVariants as file
+use Rattle.obs_files.specs.Faults.{Tells, opened}
+use Rattle.trace_feed.specs.declared.header_fault.HeaderFault.{HeaderFault}
+use Rattle.trace_feed.specs.declared.header_fault.HeaderFault.TheVariants as header_fault
+use Rattle.trace_feed.specs.Header.{header_meaning}
+use Rattle.spec_compile.specs.declared.fault.CompileFault.{CompileFault}
+use Rattle.spec_compile.specs.declared.fault.CompileFault.TheVariants as compile
+use Rattle.spec_compile.specs.Refusals.{header_refusal, IsFirstRefusal}
+use Rattle.spec_compile.specs.Front.{items_in, refusal_in, first_refusal}
+use Rattle.spec_compile.specs.Limits.{limit_refusal}
+use Rattle.spec_compile.specs.Image.{over_columns, image}
+use Rattle.spec_compile.specs.Compiled.{columns_by, image_of_text}
+use Rattle.spec_compile.proofs.CompiledLaws.{header_answer, back_answers, back_refuses}
+use Rattle.r2u2_runs.specs.declared.opening.Opened.{Opened}
+use Rattle.r2u2_runs.specs.declared.opening.Opened.TheVariants as made
+use Rattle.tool_runs.specs.declared.status.Status.{Status}
+use Rattle.tool_runs.specs.declared.status.Status.TheVariants.{Memory}
+use Rattle.tool_runs.specs.Files.{file_status}
+use Rattle.r2u2_runs.specs.ProgramBy.{compile_status, header_status, with_status, refusal_of, file_refusal, bound_over, bound_under, opened_under, program_by}
+use Rattle.r2u2_runs.specs.Phases.{Opens}
+use Rattle.std.specs.Prelude.{option_map}
+
+-- a specification that is refused, or isn't
+pub spec_refused : (text : List ℕ) (fault : CompileFault) → IsFirstRefusal (first_refusal text) fault → compile_status fault ≢ Memory → file_refusal true text ≡ Some (compile_status fault)
+unfolding file_refusal
+spec_refused text (compile.Refused line why) is some = ap (option_map compile_status) is
+spec_refused text (compile.BadHeader why) is some = absurd is
+spec_refused text compile.Memory is some = absurd (some refl)
+
+pub spec_unrefused : (text : List ℕ) → first_refusal text ≡ None → file_refusal true text ≡ None
+unfolding file_refusal
+spec_unrefused text none = ap (option_map compile_status) none
+
+-- a program file that is refused, or isn't
+pub program_refused : (bytes : List ℕ) (fault : FileFault) → Tells (Err fault) (opened bytes) → file_status fault ≢ Memory → file_refusal false bytes ≡ Some (file_status fault)
+unfolding file_refusal
+program_refused bytes (file.Program fault) is some = ap refusal_of is
+program_refused bytes file.Memory is some = absurd (some refl)
+
+pub program_unrefused : (bytes : List ℕ) (program : Program) → opened bytes ≡ Ok program → file_refusal false bytes ≡ None
+unfolding file_refusal
+program_unrefused bytes program is = ap refusal_of is
+
+-- a status other than that of memory comes of another fault
+some_fault : (fault : CompileFault) → compile_status fault ≢ Memory → fault ≢ compile.Memory
+some_fault fault some is = some (ap compile_status is)
+
+-- the header doesn't name the signals of a specification
+pub header_refuses : (source : Bool) (text : List ℕ) (header : Option (List ℕ)) (items : List ItemShape) (fault : CompileFault) → source ≡ true → first_refusal text ≡ None → items ≡ items_in text
+    → (fault ≢ compile.Memory → refusal_in header_refusal (columns_by (signals_of items) header) ≡ Some fault) → compile_status fault ≢ Memory → program_by source text header ≡ Err (compile_status fault)
+unfolding program_by
+header_refuses source text header items fault is none same refused some =
+    subst (λ s. program_by s text header ≡ Err (compile_status fault)) (sym is)
+    (ap (with_status compile_status) (header_answer text header items fault none same (refused (some_fault fault some))))
+
+-- its program, and the limits that refuse it
+pub spec_program : (source : Bool) (text : List ℕ) (header : Option (List ℕ)) (items : List ItemShape) (columns : Columns) (program : Program) → source ≡ true → first_refusal text ≡ None → items ≡ items_in text
+    → columns_by (signals_of items) header ≡ Ok columns → program ≡ image columns (signals_of items) (outputs_of items) → limit_refusal (over_columns columns (outputs_of items)) ≡ None → program_by source text header ≡ Ok program
+unfolding program_by
+spec_program source text header items columns program is none same found made within =
+    subst (λ s. program_by s text header ≡ Ok program) (sym is)
+    (ap (with_status compile_status) (back_answers text header items columns (Ok program) none same found made within))
+
+pub limit_refuses : (source : Bool) (text : List ℕ) (header : Option (List ℕ)) (items : List ItemShape) (columns : Columns) (fault : CompileFault) → source ≡ true → first_refusal text ≡ None → items ≡ items_in text
+    → columns_by (signals_of items) header ≡ Ok columns → IsFirstRefusal (limit_refusal (over_columns columns (outputs_of items))) fault → compile_status fault ≢ Memory → program_by source text header ≡ Err (compile_status fault)
+unfolding program_by
+limit_refuses source text header items columns fault is none same found refused some =
+    subst (λ s. program_by s text header ≡ Err (compile_status fault)) (sym is)
+    (ap (with_status compile_status) (back_refuses text header items columns (Err fault) none same found refused (some_fault fault some)))
+
+-- a program file under a header
+pub file_program : (source : Bool) (bytes : List ℕ) (header : Option (List ℕ)) (program : Program) (found : Result Program Status) → source ≡ false → opened bytes ≡ Ok program → bound_under header program ≡ found → program_by source bytes header ≡ found
+unfolding program_by
+file_program source bytes header program found is spells same =
+    subst (λ s. program_by s bytes header ≡ found) (sym is) (ap (opened_under header) spells ∙ same)
+
+-- a program of version 2 under a header
+under_line : (line : List ℕ) (program : Program) → program.version ≡ 2 → bound_under (Some line) program ≡ bound_over program (header_meaning (map (λ s. s.name) program.signals) line)
+under_line line program two =
+    ap (λ (n : ℕ). if n == 2 then bound_over program (header_meaning (map (λ s. s.name) program.signals) line) else Ok program) two
+
+pub bound_found : (line : List ℕ) (program : Program) (columns : Columns) (now : Program) → program.version ≡ 2 → header_meaning (map (λ s. s.name) program.signals) line ≡ Ok columns → now ≡ bound program columns.width columns.of_signal → bound_under (Some line) program ≡ Ok now
+bound_found line program columns now two found is = under_line line program two ∙ ap (bound_over program) found ∙ ap Ok (sym is)
+
+pub bound_refused : (line : List ℕ) (program : Program) (fault : HeaderFault) → program.version ≡ 2 → (fault ≢ header_fault.Memory → header_meaning (map (λ s. s.name) program.signals) line ≡ Err fault) → header_status fault ≢ Memory → bound_under (Some line) program ≡ Err (header_status fault)
+bound_refused line program fault two refused some =
+    under_line line program two ∙ ap (bound_over program) (refused (λ is. some (ap header_status is)))
+
+-- what was opened isn't refused by itself
+pub opens_unrefused : (made : Opened) (source : Bool) (bytes : List ℕ) → Opens made source bytes → file_refusal source bytes ≡ None
+opens_unrefused (made.Spec spec) source bytes is = subst (λ s. file_refusal s bytes ≡ None) (sym is.0) (spec_unrefused bytes is.1)
+opens_unrefused (made.Program checked) source bytes is = subst (λ s. file_refusal s bytes ≡ None) (sym is.0) (program_unrefused bytes checked is.1)
+
+-- a program file that was opened, under a header
+pub file_programs : (result : Result Program Status) (header : Option (List ℕ)) (program : Program) (opened_so : Opened) → opened_so ≡ made.Program program → IfOk result (λ bound. bound_under header program ≡ Ok bound)
+    → IfOk result (λ bound. (source : Bool) (bytes : List ℕ) → Opens opened_so source bytes → program_by source bytes header ≡ Ok bound)
+file_programs (Ok now) header program opened_so is found = λ source bytes opens.
+    let spells = subst (λ o. Opens o source bytes) is opens in
+    file_program source bytes header program (Ok now) spells.0 spells.1 found
+file_programs (Err answer) header program opened_so is found = tt
+
+pub file_refusals : (result : Result Program Status) (header : Option (List ℕ)) (program : Program) (opened_so : Opened) → opened_so ≡ made.Program program → IfErr result (λ answer. answer ≢ Memory → bound_under header program ≡ Err answer)
+    → IfErr result (λ answer. answer ≢ Memory → (source : Bool) (bytes : List ℕ) → Opens opened_so source bytes → program_by source bytes header ≡ Err answer)
+file_refusals (Ok now) header program opened_so is refused = tt
+file_refusals (Err answer) header program opened_so is refused = λ some source bytes opens.
+    let spells = subst (λ o. Opens o source bytes) is opens in
+    file_program source bytes header program (Err answer) spells.0 spells.1 (refused some)

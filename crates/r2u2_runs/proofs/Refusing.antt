@@ -1,0 +1,235 @@
+-- Which statuses a file, a header and the limits of a program give.
+
+use Rattle.std.proofs.Common.{◌≡◌, ◌∙◌, ℕ, ◌==◌, Bool, true, false, if◌then◌else◌, Option, Some, None, Result, Ok, Err, List, [], ◌∷◌, length, map, refl, sym, ap, subst}
+use Rattle.std.specs.Prelude.{option_map}
+use Rattle.std.specs.Option.{option_or}
+use Rattle.mltl_base.specs.declared.program.Columns.{Columns}
+use Rattle.mltl_base.specs.declared.program.Program.{Program}
+use Rattle.mltl_base.specs.Subformulas.{Asked}
+use Rattle.c2po_lexer.specs.declared.fault.LexFault.{LexFault}
+use Rattle.c2po_lexer.specs.declared.fault.LexFault.TheVariants as lexed
+use Rattle.c2po_lexer.specs.Tokens.{tokens_of}
+use Rattle.c2po_parse.specs.declared.fault.ParseFault.{ParseFault}
+use Rattle.c2po_parse.specs.declared.fault.ParseFault.TheVariants as parsed
+use Rattle.c2po_parse.specs.Specification.{spec_of}
+use Rattle.c2po_kinds.specs.declared.fault.TypeFault.{TypeFault}
+use Rattle.c2po_kinds.specs.declared.fault.TypeFault.TheVariants as checked
+use Rattle.c2po_kinds.specs.declared.kind.Signal.{Signal}
+use Rattle.c2po_types.specs.FirstFault.{first_fault}
+use Rattle.obs_files.specs.declared.fault.FileFault.{FileFault}
+use Rattle.obs_files.specs.declared.fault.FileFault.TheVariants as file
+use Rattle.obs_files.specs.Faults.{opened}
+use Rattle.trace_feed.specs.declared.header_fault.HeaderFault.{HeaderFault}
+use Rattle.trace_feed.specs.declared.header_fault.HeaderFault.TheVariants as header_fault
+use Rattle.trace_feed.specs.Header.{begins_header, times, first_place, column_of, columns_of, in_front, of_width, names_of, header_meaning}
+use Rattle.spec_compile.specs.declared.fault.CompileFault.{CompileFault}
+use Rattle.spec_compile.specs.declared.fault.CompileFault.TheVariants as compile
+use Rattle.spec_compile.specs.declared.fault.Refusal.TheVariants as limits
+use Rattle.spec_compile.specs.Refusals.{token_refusal, tree_refusal, check_refusal, header_refusal}
+use Rattle.spec_compile.specs.Front.{items_in, tokens_in, refusal_in, first_refusal}
+use Rattle.spec_compile.specs.Limits.{has_many_nodes, is_late, has_many_slots, limit_refusal}
+use Rattle.spec_compile.specs.Image.{over_columns, image}
+use Rattle.spec_compile.specs.Compiled.{columns_by, signals_in, outputs_in, image_within, image_under, image_of_text}
+use Rattle.spec_compile.specs.Compiled as text
+use Rattle.tool_runs.specs.declared.status.Status.{Status}
+use Rattle.tool_runs.specs.declared.status.Status.TheVariants.{Refused, BadProgram, BadTrace, Memory}
+use Rattle.tool_runs.specs.Files.{file_status}
+use Rattle.r2u2_runs.specs.ProgramBy.{compile_status, header_status, with_status, refusal_of, file_refusal, bound_over, bound_under, opened_under, program_by}
+
+-- a status by which there is no program
+abbrev pub Refuses : Status → Type 0
+Refuses (Refused line refusal) = Unit {0}
+Refuses (BadProgram fault) = Unit {0}
+Refuses (BadTrace number why) = Unit {0}
+Refuses Memory = Unit {0}
+Refuses status = ⊥
+
+-- the same of what was found, and of a refusal that may be
+abbrev pub IsFound : Result Program Status → Type 0
+IsFound (Ok program) = Unit {0}
+IsFound (Err status) = Refuses status
+
+abbrev pub MayRefuse : Option Status → Type 0
+MayRefuse None = Unit {0}
+MayRefuse (Some status) = Refuses status
+
+-- the header, if there is one, begins with `#`
+abbrev pub IsMarked : Option (List ℕ) → Type 0
+IsMarked None = Unit {0}
+IsMarked (Some line) = begins_header line ≡ true
+
+-- a fault that names a signal
+abbrev Names : {T : Type 0} → Result T HeaderFault → Type 0
+Names (Ok value) = Unit {0}
+Names (Err header_fault.NoHeader) = ⊥
+Names (Err fault) = Unit {0}
+
+column_names : (names : List (List ℕ)) (signal : List ℕ) → Names (column_of names signal)
+column_names names signal =
+    elim (times names signal == 0) as (λ b. Names (if b then Err (header_fault.Missing signal) else if times names signal == 1 then Ok (first_place names signal) else Err (header_fault.Twice signal))) [
+      | true ↦ tt
+      | false ↦ elim (times names signal == 1) as (λ b. Names (if b then Ok (first_place names signal) else Err (header_fault.Twice signal))) [ true ↦ tt | false ↦ tt ]
+    ]
+
+front_names : (first : Result ℕ HeaderFault) (rest : Result (List ℕ) HeaderFault) → Names first → Names rest → Names (in_front first rest)
+front_names (Ok column) (Ok columns) a b = tt
+front_names (Ok column) (Err header_fault.NoHeader) a b = b
+front_names (Ok column) (Err (header_fault.Missing name)) a b = tt
+front_names (Ok column) (Err (header_fault.Twice name)) a b = tt
+front_names (Ok column) (Err header_fault.Memory) a b = tt
+front_names (Err header_fault.NoHeader) rest a b = a
+front_names (Err (header_fault.Missing name)) rest a b = tt
+front_names (Err (header_fault.Twice name)) rest a b = tt
+front_names (Err header_fault.Memory) rest a b = tt
+
+columns_names : (names signals : List (List ℕ)) → Names (columns_of names signals)
+columns_names names [] = tt
+columns_names names (signal ∷ signals) = front_names (column_of names signal) (columns_of names signals) (column_names names signal) (columns_names names signals)
+
+width_names : (width : ℕ) (found : Result (List ℕ) HeaderFault) → Names found → Names (of_width width found)
+width_names width (Ok columns) is = tt
+width_names width (Err header_fault.NoHeader) is = is
+width_names width (Err (header_fault.Missing name)) is = tt
+width_names width (Err (header_fault.Twice name)) is = tt
+width_names width (Err header_fault.Memory) is = tt
+
+line_names : (signals : List (List ℕ)) (line : List ℕ) → begins_header line ≡ true → Names (header_meaning signals line)
+line_names signals line begins =
+    subst (λ b. Names (if b then of_width (length (names_of line)) (columns_of (names_of line) signals) else Err header_fault.NoHeader)) (sym begins)
+    (width_names (length (names_of line)) (columns_of (names_of line) signals) (columns_names (names_of line) signals))
+
+by_names : (signals : List Signal) (header : Option (List ℕ)) → IsMarked header → Names (columns_by signals header)
+by_names signals None marked = tt
+by_names signals (Some line) marked = line_names (map (λ s. s.name) signals) line marked
+
+-- a refusal of a specification that doesn't speak of a missing header
+abbrev Speaks : CompileFault → Type 0
+Speaks fault = Refuses (compile_status fault)
+
+abbrev MaySpeak : Option CompileFault → Type 0
+MaySpeak None = Unit {0}
+MaySpeak (Some fault) = Speaks fault
+
+token_speaks : (fault : LexFault) → Speaks (token_refusal fault)
+token_speaks (lexed.Letter line) = tt
+token_speaks (lexed.LongWord line) = tt
+token_speaks (lexed.Number line) = tt
+token_speaks lexed.Memory = tt
+
+tree_speaks : (fault : ParseFault) → Speaks (tree_refusal fault)
+tree_speaks (parsed.TooManyTokens line) = tt
+tree_speaks (parsed.Grammar line) = tt
+tree_speaks parsed.Memory = tt
+
+check_speaks : (fault : TypeFault) → Speaks (check_refusal fault)
+check_speaks (checked.Unknown line) = tt
+check_speaks (checked.Twice line) = tt
+check_speaks (checked.Kind line) = tt
+check_speaks (checked.Count line) = tt
+check_speaks (checked.Field line) = tt
+check_speaks (checked.Bounds line) = tt
+check_speaks (checked.Signals line) = tt
+check_speaks (checked.Wide line) = tt
+check_speaks (checked.Divisor line) = tt
+check_speaks (checked.Range line) = tt
+check_speaks (checked.Tense line) = tt
+check_speaks checked.Memory = tt
+
+refusal_speaks : {A E : Type 0} (refusal : E → CompileFault) (found : Result A E) → ((fault : E) → Speaks (refusal fault)) → MaySpeak (refusal_in refusal found)
+refusal_speaks refusal (Ok value) each = tt
+refusal_speaks refusal (Err fault) each = each fault
+
+map_speaks : (found : Option TypeFault) → MaySpeak (option_map check_refusal found)
+map_speaks None = tt
+map_speaks (Some fault) = check_speaks fault
+
+or_speaks : (first second : Option CompileFault) → MaySpeak first → MaySpeak second → MaySpeak (option_or first second)
+or_speaks None second a b = b
+or_speaks (Some fault) second a b = a
+
+first_speaks : (bytes : List ℕ) → MaySpeak (first_refusal bytes)
+first_speaks bytes =
+    or_speaks (refusal_in token_refusal (tokens_of bytes)) (option_or (refusal_in tree_refusal (spec_of (tokens_in bytes))) (option_map check_refusal (first_fault (items_in bytes)))) (refusal_speaks token_refusal (tokens_of bytes) token_speaks)
+    (or_speaks (refusal_in tree_refusal (spec_of (tokens_in bytes))) (option_map check_refusal (first_fault (items_in bytes))) (refusal_speaks tree_refusal (spec_of (tokens_in bytes)) tree_speaks) (map_speaks (first_fault (items_in bytes))))
+
+limit_speaks : (outs : List Asked) → MaySpeak (limit_refusal outs)
+unfolding limit_refusal
+limit_speaks outs =
+    elim (has_many_nodes outs) as (λ b. MaySpeak (if b then Some (compile.Refused 0 limits.TooManyNodes) else if is_late outs then Some (compile.Refused 0 limits.TooLate) else if has_many_slots outs then Some (compile.Refused 0 limits.TooManySlots) else None)) [
+      | true ↦ tt
+      | false ↦ elim (is_late outs) as (λ b. MaySpeak (if b then Some (compile.Refused 0 limits.TooLate) else if has_many_slots outs then Some (compile.Refused 0 limits.TooManySlots) else None)) [
+        | true ↦ tt
+        | false ↦ elim (has_many_slots outs) as (λ b. MaySpeak (if b then Some (compile.Refused 0 limits.TooManySlots) else None)) [ true ↦ tt | false ↦ tt ]
+      ]
+    ]
+
+-- what was found of a text, with its statuses
+abbrev HasStatus : Result Program CompileFault → Type 0
+HasStatus found = IsFound (with_status compile_status found)
+
+unless_speaks : (refusal : Option CompileFault) (found : Result Program CompileFault) → MaySpeak refusal → HasStatus found → HasStatus (text.unless_refused refusal found)
+unless_speaks None found a b = b
+unless_speaks (Some fault) found a b = a
+
+under_speaks : (signals : List Signal) (outs : List Asked) (found : Result Columns HeaderFault) → Names found → HasStatus (image_under signals outs found)
+under_speaks signals outs (Ok columns) names = unless_speaks (limit_refusal (over_columns columns outs)) (Ok (image columns signals outs)) (limit_speaks (over_columns columns outs)) tt
+under_speaks signals outs (Err header_fault.NoHeader) names = absurd names
+under_speaks signals outs (Err (header_fault.Missing name)) names = tt
+under_speaks signals outs (Err (header_fault.Twice name)) names = tt
+under_speaks signals outs (Err header_fault.Memory) names = tt
+
+text_speaks : (bytes : List ℕ) (header : Option (List ℕ)) → IsMarked header → HasStatus (image_of_text bytes header)
+unfolding image_of_text
+text_speaks bytes header marked =
+    unless_speaks (first_refusal bytes) (image_under (signals_in bytes) (outputs_in bytes) (columns_by (signals_in bytes) header)) (first_speaks bytes)
+    (under_speaks (signals_in bytes) (outputs_in bytes) (columns_by (signals_in bytes) header) (by_names (signals_in bytes) header marked))
+
+-- a program under a header
+over_speaks : (program : Program) (found : Result Columns HeaderFault) → Names found → IsFound (bound_over program found)
+over_speaks program (Ok columns) names = tt
+over_speaks program (Err header_fault.NoHeader) names = absurd names
+over_speaks program (Err (header_fault.Missing name)) names = tt
+over_speaks program (Err (header_fault.Twice name)) names = tt
+over_speaks program (Err header_fault.Memory) names = tt
+
+bound_speaks : (header : Option (List ℕ)) (program : Program) → IsMarked header → IsFound (bound_under header program)
+bound_speaks None program marked = tt
+bound_speaks (Some line) program marked =
+    elim (program.version == 2) as (λ b. IsFound (if b then bound_over program (header_meaning (map (λ s. s.name) program.signals) line) else Ok program)) [
+      | true ↦ over_speaks program (header_meaning (map (λ s. s.name) program.signals) line) (line_names (map (λ s. s.name) program.signals) line marked)
+      | false ↦ tt
+    ]
+
+fault_speaks : (fault : FileFault) → Refuses (file_status fault)
+fault_speaks (file.Program fault) = tt
+fault_speaks file.Memory = tt
+
+opened_speaks : (header : Option (List ℕ)) (found : Result Program FileFault) → IsMarked header → IsFound (opened_under header found)
+opened_speaks header (Ok program) marked = bound_speaks header program marked
+opened_speaks header (Err fault) marked = fault_speaks fault
+
+-- what a file gives under a header is a program, or a status by which there is none
+pub program_speaks : (source : Bool) (bytes : List ℕ) (header : Option (List ℕ)) → IsMarked header → IsFound (program_by source bytes header)
+unfolding program_by
+program_speaks true bytes header marked = text_speaks bytes header marked
+program_speaks false bytes header marked = opened_speaks header (opened bytes) marked
+
+pub program_refuses : (source : Bool) (bytes : List ℕ) (header : Option (List ℕ)) (answer : Status) → IsMarked header → program_by source bytes header ≡ Err answer → Refuses answer
+program_refuses source bytes header answer marked is = subst IsFound is (program_speaks source bytes header marked)
+
+-- so does a file by itself
+map_refuses : (found : Option CompileFault) → MaySpeak found → MayRefuse (option_map compile_status found)
+map_refuses None is = tt
+map_refuses (Some fault) is = is
+
+of_refuses : (found : Result Program FileFault) → MayRefuse (refusal_of found)
+of_refuses (Ok program) = tt
+of_refuses (Err fault) = fault_speaks fault
+
+file_speaks : (source : Bool) (bytes : List ℕ) → MayRefuse (file_refusal source bytes)
+unfolding file_refusal
+file_speaks true bytes = map_refuses (first_refusal bytes) (first_speaks bytes)
+file_speaks false bytes = of_refuses (opened bytes)
+
+pub file_refuses : (source : Bool) (bytes : List ℕ) (answer : Status) → file_refusal source bytes ≡ Some answer → Refuses answer
+file_refuses source bytes answer is = subst MayRefuse is (file_speaks source bytes)

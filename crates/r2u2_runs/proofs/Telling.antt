@@ -1,0 +1,89 @@
+-- What the lines of a run tell of the formulas of its file.
+
+use Rattle.std.proofs.Common.{◌≡◌, ◌∙◌, ℕ, Bool, true, false, Option, Some, None, Result, Ok, Err, List, map, refl, sym, ap}
+use Rattle.mltl_base.specs.declared.program.Columns.{Columns}
+use Rattle.mltl_base.specs.declared.program.Program.{Program}
+use Rattle.mltl_base.specs.declared.report.Style.{Style}
+use Rattle.mltl_base.specs.Atoms.{Row}
+use Rattle.mltl_base.specs.Lines.{lines, lines_of_reports}
+use Rattle.mltl_base.specs.Programs.{outputs, output_names}
+use Rattle.mltl_base.specs.Reports.{Output, reports}
+use Rattle.mltl_base.specs.Subformulas.{Asked}
+use Rattle.mltl_base.proofs.Telling.{told_words, reports_rise}
+use Rattle.mltl_base.proofs.Words.{word_settled, word_known}
+use Rattle.c2po_kinds.specs.declared.kind.Signal.{Signal}
+use Rattle.trace_feed.specs.declared.header_fault.HeaderFault.{HeaderFault}
+use Rattle.tool_words.specs.R2u2Words.{RunAsked}
+use Rattle.spec_compile.specs.declared.fault.CompileFault.{CompileFault}
+use Rattle.spec_compile.specs.Front.{first_refusal}
+use Rattle.spec_compile.specs.Image.{plain_outputs}
+use Rattle.spec_compile.specs.Compiled.{columns_by, signals_in, outputs_in, image_under, image_of_text}
+use Rattle.spec_compile.specs.Compiled as text
+use Rattle.spec_compile.proofs.TellingLaws.{text_reports, text_names}
+use Rattle.tool_runs.specs.declared.status.Status.{Status}
+use Rattle.r2u2_runs.specs.ProgramBy.{compile_status, with_status, file_refusal, program_by, header_in, begins_long, unless_long, unless_refused, program_over}
+use Rattle.r2u2_runs.specs.Settled.{AreSettled, TellsOf, TellsFile, IsSettledBy}
+
+-- the reports of any outputs are settled after any rows
+are_settled : (style : Style) (outs : List Output) (rows : List Row) → AreSettled style outs rows
+are_settled style outs rows = record {
+  each_once = λ k o is. told_words style k outs rows o is;
+  in_order = λ k o is. reports_rise style k outs rows o is;
+  settled = λ o t w is. word_settled rows o t w is;
+  in_time = λ o t early. word_known rows o t early;
+}
+
+-- a program that was found was found without its statuses, in spite of refusals, and of a long line
+status_found : (found : Result Program CompileFault) (program : Program) → with_status compile_status found ≡ Ok program → found ≡ Ok program
+status_found (Ok other) program is = let same : other ≡ program = cc in ap Ok same
+status_found (Err fault) program is = absurd (cc)
+
+text_found : (refusal : Option CompileFault) (found : Result Program CompileFault) (program : Program) → text.unless_refused refusal found ≡ Ok program → found ≡ Ok program
+text_found None found program is = is
+text_found (Some fault) found program is = absurd (cc)
+
+refusal_found : (refusal : Option Status) (found : Result Program Status) (program : Program) → unless_refused refusal found ≡ Ok program → found ≡ Ok program
+refusal_found None found program is = is
+refusal_found (Some answer) found program is = absurd (cc)
+
+long_found : (long : Bool) (found : Result Program Status) (program : Program) → unless_long long found ≡ Ok program → found ≡ Ok program
+long_found false found program is = is
+long_found true found program is = absurd (cc)
+
+over_found : (source : Bool) (bytes : List ℕ) (raws : List (List ℕ)) (program : Program) → program_over source bytes raws ≡ Ok program → program_by source bytes (header_in raws) ≡ Ok program
+unfolding program_over
+over_found source bytes raws program is =
+    long_found (begins_long raws) (program_by source bytes (header_in raws)) program
+    (refusal_found (file_refusal source bytes) (unless_long (begins_long raws) (program_by source bytes (header_in raws))) program is)
+
+-- a text has a program only where its signals have columns
+columns_under : (signals : List Signal) (outs : List Asked) (found : Result Columns HeaderFault) (program : Program) → image_under signals outs found ≡ Ok program → (columns : Columns) × (found ≡ Ok columns)
+columns_under signals outs (Ok columns) program is = (columns, refl)
+columns_under signals outs (Err fault) program is = absurd (cc)
+
+columns_found : (bytes : List ℕ) (header : Option (List ℕ)) (program : Program) → image_of_text bytes header ≡ Ok program → (columns : Columns) × (columns_by (signals_in bytes) header ≡ Ok columns)
+unfolding image_of_text
+columns_found bytes header program is =
+    columns_under (signals_in bytes) (outputs_in bytes) (columns_by (signals_in bytes) header) program
+    (text_found (first_refusal bytes) (image_under (signals_in bytes) (outputs_in bytes) (columns_by (signals_in bytes) header)) program is)
+
+tells_text : (style : Style) (bytes : List ℕ) (header : Option (List ℕ)) (program : Program) (rows : List Row) → image_of_text bytes header ≡ Ok program → TellsFile true style bytes header program rows
+tells_text style bytes header program rows is =
+    let found = columns_found bytes header program is in
+    let plain = plain_outputs found.0 (outputs_in bytes) in (
+      found.0,
+      found.1,
+      record {
+        lines_are = ap (λ names. lines_of_reports names (reports style (outputs program) rows)) (text_names bytes header found.0 program is found.1)
+            ∙ ap (lines_of_reports (map (λ (o : Asked). o.name) (outputs_in bytes))) (text_reports style bytes header found.0 program rows is found.1);
+        settled = are_settled style plain rows;
+      },
+    )
+
+tells_file : (source : Bool) (style : Style) (bytes : List ℕ) (header : Option (List ℕ)) (program : Program) (rows : List Row) → program_by source bytes header ≡ Ok program → TellsFile source style bytes header program rows
+unfolding program_by
+tells_file true style bytes header program rows is = tells_text style bytes header program rows (status_found (image_of_text bytes header) program is)
+tells_file false style bytes header program rows is = record { lines_are = refl; settled = are_settled style (outputs program) rows }
+
+pub settled_by : (asked : RunAsked) (bytes : List ℕ) (raws : List (List ℕ)) (ended : Bool) (trace : List ℕ) → IsSettledBy asked bytes (header_in raws) (program_over asked.source bytes raws) ended trace
+settled_by asked bytes raws ended trace program is rows more split = tells_file asked.source asked.style bytes (header_in raws) program rows (over_found asked.source bytes raws program is)

@@ -1,0 +1,23 @@
+use Rattle.std.proofs.Common.{None, ap, subst, sym}
+use Rattle.tool_words.specs.R2u2Words.{asked_of}
+use Rattle.tool_io.proofs.LogLaws.{OnLog-none, OnLog-map}
+use Rattle.r2u2_runs.specs.Asking.{served}
+use Rattle.r2u2_runs.specs.Run.{Ran}
+use Rattle.r2u2_runs.proofs.AskedRuns.{run_help, run_nothing}
+use Rattle.r2u2_runs.proofs.r2u2_run.run_asked.Goals as goal
+
+pub returns-in-Help-clause-log : goal.returns-in-Help-clause-log
+returns-in-Help-clause-log g c =
+    OnLog-map _ _ _ c.give_help.ensures.log
+    (λ events told. rw c.requires.none_kept (subst (λ asked. Ran (served (asked_of asked)) c.give_help.result None events) (sym c.in-Help.is) (run_help c.give_help.result events told)))
+
+pub returns-in-Run-clause-log : goal.returns-in-Run-clause-log
+returns-in-Run-clause-log g c =
+    OnLog-map _ _ _ c.run_unstamped.ensures.log
+    (λ events ran. subst (λ asked. Ran (served (asked_of asked)) c.run_unstamped.result c.run_unstamped.new.kept events) (sym c.in-Run.is) ran)
+
+pub returns-in-Demo-clause-log : goal.returns-in-Demo-clause-log
+returns-in-Demo-clause-log g c = OnLog-none _ _ (rw c.requires.none_kept (run_nothing (served (asked_of c.args.asked)) (ap (λ asked. served (asked_of asked)) c.in-Demo.is)))
+
+pub returns-in-Nothing-clause-log : goal.returns-in-Nothing-clause-log
+returns-in-Nothing-clause-log g c = OnLog-none _ _ (rw c.requires.none_kept (run_nothing (served (asked_of c.args.asked)) (ap (λ asked. served (asked_of asked)) c.in-Nothing.is)))

@@ -1,0 +1,32 @@
+-- What the words of r2u2 ask for, of what it does.
+
+use Rattle.std.specs.Prelude.{ℕ, Bool, true, false, if◌then◌else◌, List, [], ◌∷◌}
+use Rattle.mltl_base.specs.declared.limits.TheConstants.{MAX_SPEC_BYTES, MAX_PROGRAM_BYTES}
+use Rattle.tool_io.specs.declared.host.Place.{Place}
+use Rattle.tool_io.specs.declared.host.Place.TheVariants.{Spec, Program, Trace}
+use Rattle.tool_words.specs.declared.r2u2_words.R2u2Ask.{R2u2Ask}
+use Rattle.tool_words.specs.R2u2Words.{Asked, RunAsked, asked_of}
+use Rattle.tool_words.specs.R2u2Words as words
+use Rattle.tool_runs.specs.Files.{file_place}
+
+-- help, a run over a trace, or nothing
+pub data Ask : Type 0 where
+  help : Ask
+  over : RunAsked → Ask
+  nothing : Ask
+
+-- of what words may ask for; stamped rows and demos aren't served
+abbrev pub served : Asked → Ask
+served words.help = help
+served (words.run asked) = if asked.timed then nothing else over asked
+served (words.demo seed rows) = nothing
+served words.nothing = nothing
+
+unfoldable pub ask : List (List ℕ) → Ask
+ask list = served (words.ask list)
+
+-- the places that are to be attached, with their names, in order
+abbrev pub asked_names : Ask → List (Place × List ℕ)
+asked_names help = []
+asked_names (over asked) = (file_place asked.source, asked.file) ∷ (Trace, asked.trace) ∷ []
+asked_names nothing = []

@@ -1,0 +1,171 @@
+//! From the bytes of a file to the program that runs over a trace.
+
+ghost use Rattle.std.specs.Prelude.{◌≡◌, ◌≢◌, ◌≤◌, Bool, Err, List as Seq, ℕ, None, Ok, OnOk, Option as Maybe, Some, IfErr, IfOk, length};
+ghost use Rattle.std.specs.Option.{ForSome, option_copied};
+ghost use Rattle.obs_files.specs.Faults.{opened as opened_by};
+ghost use Rattle.tool_runs.specs.Causes.{TellsNoCall};
+ghost use Rattle.tool_runs.specs.Files.{file_limit, file_status};
+ghost use Rattle.r2u2_runs.specs.ProgramBy.{bound_under, compile_status, file_refusal, header_status, program_by};
+ghost use Rattle.r2u2_runs.specs.Phases.{Opens};
+
+use c2po_types::TypedSpec;
+use obs_files::{FileFault, open};
+use obs_verify::{Checked, rebind};
+use spec_compile::{CompileFault, HeaderWhy, back, columns_of, front};
+use std::alloc::Global;
+use tool_runs::Status;
+use trace_feed::{HeaderFault, header_of};
+use trace_watch::TraceWhy;
+
+/// A file that was read and isn't refused by itself.
+#[derive(Drop)]
+pub(crate) enum Opened {
+    /// A specification without a fault.
+    Spec(TypedSpec),
+    /// A well-formed program.
+    Program(Checked),
+}
+
+/// What the bytes of a specification, or of a program file, stand for.
+pub(crate) fn open_file(alloc: Global, source: bool, bytes: &[u8]) -> Result<Opened, Status>
+    requires { length bytes.now ≤ file_limit source }
+    ensures opens { IfOk result (λ opened. Opens opened source bytes.now) }
+    ensures unrefused { OnOk result (file_refusal source bytes.now ≡ None) }
+    ensures refused { IfErr result (λ status. status ≢ Status.Memory → file_refusal source bytes.now ≡ Some status) }
+    ensures no_call { IfErr result TellsNoCall }
+{
+    if source {
+        open_spec(alloc, bytes)
+    } else {
+        open_program(alloc, bytes)
+    }
+}
+
+fn open_spec(alloc: Global, text: &[u8]) -> Result<Opened, Status>
+    requires { length text.now ≤ 1048576 }
+    ensures opens { IfOk result (λ opened. Opens opened Bool.true text.now) }
+    ensures unrefused { OnOk result (file_refusal Bool.true text.now ≡ None) }
+    ensures refused { IfErr result (λ status. status ≢ Status.Memory → file_refusal Bool.true text.now ≡ Some status) }
+    ensures no_call { IfErr result TellsNoCall }
+{
+    match front(alloc, text) {
+        Ok(spec) => Ok(Opened::Spec(spec)),
+        Err(fault) => Err(status_of_compile(fault)),
+    }
+}
+
+fn open_program(alloc: Global, bytes: &[u8]) -> Result<Opened, Status>
+    ensures opens { IfOk result (λ opened. Opens opened Bool.false bytes.now) }
+    ensures unrefused { OnOk result (file_refusal Bool.false bytes.now ≡ None) }
+    ensures refused { IfErr result (λ status. status ≢ Status.Memory → file_refusal Bool.false bytes.now ≡ Some status) }
+    ensures no_call { IfErr result TellsNoCall }
+{
+    match open(alloc, bytes) {
+        Ok(checked) => Ok(Opened::Program(checked)),
+        Err(fault) => Err(status_of_file(fault)),
+    }
+}
+
+/// The program that runs over a trace with this header, or with none.
+pub(crate) fn program_for(
+    alloc: Global,
+    opened: Opened,
+    header: Option<&[u8]>,
+) -> Result<Checked, Status>
+    requires line { ForSome header (λ line. length line.now ≤ 65535) }
+    ensures program { IfOk result (λ checked. (source : Bool) (bytes : Seq ℕ) → Opens opened source bytes →
+        program_by source bytes (option_copied header.entry) ≡ Ok checked) }
+    ensures refused { IfErr result (λ status. status ≢ Status.Memory → (source : Bool) (bytes : Seq ℕ) → Opens opened source bytes →
+        program_by source bytes (option_copied header.entry) ≡ Err status) }
+    ensures no_call { IfErr result TellsNoCall }
+{
+    match opened {
+        Opened::Spec(spec) => compiled(alloc, &spec, header),
+        Opened::Program(checked) => bound_to(alloc, checked, header),
+    }
+}
+
+/// The program of a specification, whose signals stand in the columns of a header.
+fn compiled(alloc: Global, spec: &TypedSpec, header: Option<&[u8]>) -> Result<Checked, Status>
+    requires line { ForSome header (λ line. length line.now ≤ 65535) }
+    ensures program { IfOk result (λ checked. (source : Bool) (bytes : Seq ℕ) → Opens (Opened.Spec spec.now) source bytes →
+        program_by source bytes (option_copied header.entry) ≡ Ok checked) }
+    ensures refused { IfErr result (λ status. status ≢ Status.Memory → (source : Bool) (bytes : Seq ℕ) → Opens (Opened.Spec spec.now) source bytes →
+        program_by source bytes (option_copied header.entry) ≡ Err status) }
+    ensures no_call { IfErr result TellsNoCall }
+{
+    let columns = match columns_of(alloc, spec, header) {
+        Ok(columns) => columns,
+        Err(fault) => return Err(status_of_compile(fault)),
+    };
+    match back(alloc, spec, &columns) {
+        Ok(checked) => Ok(checked),
+        Err(fault) => Err(status_of_compile(fault)),
+    }
+}
+
+/// A program whose stored signals stand in the columns of a header. One of version 1 stores none.
+fn bound_to(alloc: Global, checked: Checked, header: Option<&[u8]>) -> Result<Checked, Status>
+    requires line { ForSome header (λ line. length line.now ≤ 65535) }
+    ensures program { IfOk result (λ bound. bound_under (option_copied header.entry) checked ≡ Ok bound) }
+    ensures refused { IfErr result (λ status. status ≢ Status.Memory → bound_under (option_copied header.entry) checked ≡ Err status) }
+    ensures no_call { IfErr result TellsNoCall }
+{
+    match header {
+        Some(line) if checked.program().version == 2 => bound_by(alloc, checked, line),
+        _ => Ok(checked),
+    }
+}
+
+/// A program of version 2 whose stored signals stand in the columns of a header.
+fn bound_by(alloc: Global, checked: Checked, line: &[u8]) -> Result<Checked, Status>
+    requires version { checked.version ≡ 2 }
+    requires line { length line.now ≤ 65535 }
+    ensures program { IfOk result (λ bound. bound_under (Some line.now) checked ≡ Ok bound) }
+    ensures refused { IfErr result (λ status. status ≢ Status.Memory → bound_under (Some line.now) checked ≡ Err status) }
+    ensures no_call { IfErr result TellsNoCall }
+{
+    match header_of(alloc, line, &checked) {
+        Ok(columns) => Ok(rebind(checked, &columns)),
+        Err(fault) => Err(status_of_header(fault)),
+    }
+}
+
+fn status_of_compile(fault: CompileFault) -> Status
+    ensures status { result ≡ compile_status fault }
+    ensures no_call { TellsNoCall result }
+{
+    match fault {
+        CompileFault::Refused(line, why) => Status::Refused(line, why),
+        CompileFault::BadHeader(HeaderWhy::NoHeader) => Status::BadHeader(HeaderWhy::NoHeader),
+        CompileFault::BadHeader(HeaderWhy::Missing(name)) => {
+            Status::BadTrace(1, TraceWhy::Missing(name))
+        }
+        CompileFault::BadHeader(HeaderWhy::Twice(name)) => {
+            Status::BadTrace(1, TraceWhy::Twice(name))
+        }
+        CompileFault::Memory => Status::Memory,
+    }
+}
+
+fn status_of_file(fault: FileFault) -> Status
+    ensures status { result ≡ file_status fault }
+    ensures no_call { TellsNoCall result }
+{
+    match fault {
+        FileFault::Program(fault) => Status::BadProgram(fault),
+        FileFault::Memory => Status::Memory,
+    }
+}
+
+fn status_of_header(fault: HeaderFault) -> Status
+    ensures status { result ≡ header_status fault }
+    ensures no_call { TellsNoCall result }
+{
+    match fault {
+        HeaderFault::NoHeader => Status::BadHeader(HeaderWhy::NoHeader),
+        HeaderFault::Missing(name) => Status::BadTrace(1, TraceWhy::Missing(name)),
+        HeaderFault::Twice(name) => Status::BadTrace(1, TraceWhy::Twice(name)),
+        HeaderFault::Memory => Status::Memory,
+    }
+}

@@ -1,0 +1,118 @@
+//! A run over a trace, from its attachment to its end.
+
+ghost use Rattle.std.specs.Prelude.{◌≡◌, ◌≤◌, ◌^◌, List as Seq, ℕ, None, is_some};
+ghost use Rattle.tool_io.specs.Log.{OnLog};
+ghost use Rattle.tool_words.specs.R2u2Words.{run_of};
+ghost use Rattle.tool_runs.specs.Causes.{RunCause};
+ghost use Rattle.r2u2_runs.specs.Phases.{IsFirst, LoopLog, Opens, RanLines, RanRows, RanTrace, status_of};
+
+use crate::opening::{Opened, program_for};
+use crate::reading::{header_line, read_first_line};
+use mltl_monitor::Monitor;
+use obs_verify::Checked;
+use std::alloc::Global;
+use tool_io::{Attached, Host, LineCut, Place};
+use tool_runs::Status;
+use tool_words::Run;
+use trace_watch::{Watched, watch};
+
+/// Attaches the trace, and runs over its lines.
+pub(crate) fn run_trace<H: Host>(
+    alloc: Global,
+    asked: &Run<'_>,
+    opened: Opened,
+    host: &mut H,
+    kept: &mut Option<Monitor>,
+) -> Status
+    requires mission { asked.now.mission ≤ 2 ^ 40 }
+    requires none_kept { kept.old ≡ None }
+    ensures cause { RunCause result (H.faults host.old) (H.faults host.new) }
+    ensures log { (bytes : Seq ℕ) → Opens opened asked.now.source bytes → OnLog (H.log host.old) (H.log host.new) (RanTrace (run_of asked.now) bytes result kept.new) }
+{
+    if let Attached::Failed = host.attach(Place::Trace, asked.trace) {
+        return Status::OpenFault(Place::Trace);
+    }
+    run_lines(alloc, asked, opened, host, kept)
+}
+
+/// Runs over the lines of an attached trace.
+fn run_lines<H: Host>(
+    alloc: Global,
+    asked: &Run<'_>,
+    opened: Opened,
+    host: &mut H,
+    kept: &mut Option<Monitor>,
+) -> Status
+    requires mission { asked.now.mission ≤ 2 ^ 40 }
+    requires none_kept { kept.old ≡ None }
+    ensures cause { RunCause result (H.faults host.old) (H.faults host.new) }
+    ensures log { (bytes : Seq ℕ) → Opens opened asked.now.source bytes → OnLog (H.log host.old) (H.log host.new) (RanLines (run_of asked.now) bytes result kept.new) }
+{
+    let mut cut = match LineCut::make(alloc) {
+        Ok(cut) => cut,
+        Err(_) => return Status::Memory,
+    };
+    match read_first_line(&mut cut, host) {
+        Ok(any) => run_rows(alloc, asked, opened, &mut cut, any, host, kept),
+        Err(status) => status,
+    }
+}
+
+/// Makes the program that the first line of the trace asks for, and watches the trace.
+fn run_rows<H: Host>(
+    alloc: Global,
+    asked: &Run<'_>,
+    opened: Opened,
+    cut: &mut LineCut,
+    any: bool,
+    host: &mut H,
+    kept: &mut Option<Monitor>,
+) -> Status
+    requires mission { asked.now.mission ≤ 2 ^ 40 }
+    requires first { IsFirst cut.old }
+    requires any { any ≡ is_some cut.old.row }
+    requires none_kept { kept.old ≡ None }
+    ensures cause { RunCause result (H.faults host.old) (H.faults host.new) }
+    ensures log { (bytes : Seq ℕ) → Opens opened asked.now.source bytes → OnLog (H.log host.old) (H.log host.new) (RanRows (run_of asked.now) bytes cut.old result kept.new) }
+{
+    match program_for(alloc, opened, header_line(cut, any)) {
+        Ok(checked) => watch_rows(alloc, asked, checked, cut, host, kept),
+        Err(status) => status,
+    }
+}
+
+/// Loads the monitor, and watches the trace.
+fn watch_rows<H: Host>(
+    alloc: Global,
+    asked: &Run<'_>,
+    checked: Checked,
+    cut: &mut LineCut,
+    host: &mut H,
+    kept: &mut Option<Monitor>,
+) -> Status
+    requires mission { asked.now.mission ≤ 2 ^ 40 }
+    requires numbered { cut.old.number ≤ 1 }
+    requires none_kept { kept.old ≡ None }
+    ensures cause { RunCause result (H.faults host.old) (H.faults host.new) }
+    ensures log { OnLog (H.log host.old) (H.log host.new) (LoopLog checked (run_of asked.now) cut.old result kept.new) }
+{
+    let mut monitor = match Monitor::load(alloc, checked) {
+        Ok(monitor) => monitor,
+        Err(_) => return Status::Memory,
+    };
+    let watched = watch(&mut monitor, cut, host, asked.mission, asked.style);
+    *kept = Some(monitor);
+    status_after(watched)
+}
+
+fn status_after(watched: Watched) -> Status
+    ensures { result ≡ status_of watched }
+{
+    match watched {
+        Watched::Done => Status::Done,
+        Watched::BadTrace(number, why) => Status::BadTrace(number, why),
+        Watched::TooLong => Status::TooLong,
+        Watched::ReadFault => Status::ReadFault(Place::Trace),
+        Watched::WriteFault => Status::WriteFault(Place::Out),
+    }
+}

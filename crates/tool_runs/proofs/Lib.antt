@@ -1,0 +1,3 @@
+pub mod PhaseLaws
+pub mod AttachLaws
+pub mod CauseLaws

@@ -1,0 +1,146 @@
+-- The messages of both programs, in bytes.
+
+use Rattle.std.specs.Prelude.{ℕ, ◌+◌, ◌==◌, if◌then◌else◌, List, [], ◌++◌, codes, decimal}
+use Rattle.mltl_base.specs.declared.interval.Part as part
+use Rattle.tool_io.specs.declared.host.Place as place
+use Rattle.tool_runs.specs.declared.message.Tool as tool
+use Rattle.tool_runs.specs.declared.status.Status as status
+use Rattle.spec_compile.specs.declared.fault.Refusal as refusal
+use Rattle.obs_files.specs.declared.fault.ProgramFault as fault
+use Rattle.spec_compile.specs.declared.fault.HeaderWhy as header
+use Rattle.trace_watch.specs.declared.status.TraceWhy as trace
+
+-- the name of a program
+abbrev pub tool_name : tool.Tool → List ℕ
+tool_name tool.TheVariants.C2po = codes "c2po"
+tool_name tool.TheVariants.R2u2 = codes "r2u2"
+
+-- what a program's words may be
+abbrev pub usage : tool.Tool → List ℕ
+usage tool.TheVariants.C2po = codes "usage: c2po [--header FILE] [-o FILE] [--table] [--simplify] SPEC | c2po --upgrade [-o FILE] PROGRAM | c2po --show [-o FILE] PROGRAM\n"
+usage tool.TheVariants.R2u2 = codes "usage: r2u2 [--source] [--runs] [--timed] [--mission-time N] FILE [TRACE] | r2u2 --demo SEED,ROWS\n"
+
+-- why a specification is refused
+abbrev pub refusal_text : refusal.Refusal → List ℕ
+refusal_text refusal.TheVariants.Letter = codes "bad character"
+refusal_text refusal.TheVariants.LongWord = codes "word too long"
+refusal_text refusal.TheVariants.Number = codes "number too large"
+refusal_text refusal.TheVariants.TooManyTokens = codes "item too long"
+refusal_text refusal.TheVariants.Grammar = codes "syntax"
+refusal_text refusal.TheVariants.Unknown = codes "unknown name"
+refusal_text refusal.TheVariants.Twice = codes "name declared twice"
+refusal_text refusal.TheVariants.Kind = codes "wrong kind"
+refusal_text refusal.TheVariants.Count = codes "wrong number of arguments"
+refusal_text refusal.TheVariants.Field = codes "unknown field"
+refusal_text refusal.TheVariants.Bounds = codes "bad interval"
+refusal_text refusal.TheVariants.Signals = codes "too many signals"
+refusal_text refusal.TheVariants.Wide = codes "expansion too large"
+refusal_text refusal.TheVariants.Divisor = codes "bad divisor"
+refusal_text refusal.TheVariants.Range = codes "number range"
+refusal_text refusal.TheVariants.Tense = codes "mixed tense"
+refusal_text refusal.TheVariants.TooManyNodes = codes "too many nodes"
+refusal_text refusal.TheVariants.TooLate = codes "delay too large"
+refusal_text refusal.TheVariants.TooManySlots = codes "too many slots"
+
+-- a part of a program
+abbrev pub part_name : part.Part → List ℕ
+part_name part.TheVariants.Bz = codes "bz"
+part_name part.TheVariants.Ft = codes "ft"
+part_name part.TheVariants.Pt = codes "pt"
+
+-- a fault's name and its number, and with the part between them
+abbrev pub numbered : List ℕ → ℕ → List ℕ
+numbered name n = name ++ codes " " ++ decimal n
+
+abbrev pub parted : List ℕ → part.Part → ℕ → List ℕ
+parted name p n = name ++ codes " " ++ part_name p ++ codes " " ++ decimal n
+
+-- what is wrong with a program file
+abbrev pub fault_text : fault.ProgramFault → List ℕ
+fault_text fault.TheVariants.Short = codes "short"
+fault_text fault.TheVariants.Magic = codes "magic"
+fault_text fault.TheVariants.Version = codes "version"
+fault_text (fault.TheVariants.Reserved at) = numbered (codes "reserved") at
+fault_text (fault.TheVariants.Opcode at) = numbered (codes "opcode") at
+fault_text fault.TheVariants.Trailing = codes "trailing"
+fault_text (fault.TheVariants.NameBytes k) = numbered (codes "namebytes") k
+fault_text (fault.TheVariants.SignalBytes k) = numbered (codes "signalbytes") k
+fault_text fault.TheVariants.Width = codes "width"
+fault_text (fault.TheVariants.Signal k) = numbered (codes "signal") k
+fault_text (fault.TheVariants.Operand p i) = parted (codes "operand") p i
+fault_text (fault.TheVariants.Interval p i) = parted (codes "interval") p i
+fault_text (fault.TheVariants.Divisor i) = numbered (codes "divisor") i
+fault_text (fault.TheVariants.Range i) = numbered (codes "range") i
+fault_text (fault.TheVariants.TooLate i) = numbered (codes "toolate") i
+fault_text (fault.TheVariants.Output k) = numbered (codes "output") k
+fault_text (fault.TheVariants.Size p i) = parted (codes "size") p i
+fault_text fault.TheVariants.TooManySlots = codes "toomanyslots"
+
+-- a name that no column has, and one that more than one column has
+abbrev pub missing_text : List ℕ → List ℕ
+missing_text name = codes "name " ++ name ++ codes " missing"
+
+abbrev pub twice_text : List ℕ → List ℕ
+twice_text name = codes "name " ++ name ++ codes " twice"
+
+-- what is wrong with a header
+abbrev pub header_text : header.HeaderWhy → List ℕ
+header_text header.TheVariants.NoHeader = codes "no header"
+header_text (header.TheVariants.Missing name) = missing_text name
+header_text (header.TheVariants.Twice name) = twice_text name
+
+-- what is wrong with a line of a trace; a column counts from 1 here
+abbrev pub trace_text : trace.TraceWhy → List ℕ
+trace_text trace.TheVariants.Width = codes "too few fields"
+trace_text (trace.TheVariants.NotWhole column) = codes "not a whole number in column " ++ decimal (column + 1)
+trace_text (trace.TheVariants.OutOfRange column) = codes "out of range in column " ++ decimal (column + 1)
+trace_text trace.TheVariants.LongLine = codes "line too long"
+trace_text (trace.TheVariants.Missing name) = missing_text name
+trace_text (trace.TheVariants.Twice name) = twice_text name
+trace_text trace.TheVariants.Stamp = codes "bad time stamp"
+trace_text trace.TheVariants.Order = codes "times not rising"
+
+-- what a place holds
+abbrev pub place_name : place.Place → List ℕ
+place_name place.TheVariants.Spec = codes "specification"
+place_name place.TheVariants.Header = codes "header"
+place_name place.TheVariants.Program = codes "program"
+place_name place.TheVariants.Trace = codes "trace"
+place_name place.TheVariants.Out = codes "output"
+place_name place.TheVariants.Err = codes "error output"
+
+-- the line of a specification, where there is one
+abbrev pub line_text : ℕ → List ℕ
+line_text n = if n == 0 then [] else codes "line " ++ decimal n ++ codes ": "
+
+-- what a status says behind the program's name
+abbrev pub status_text : status.Status → List ℕ
+status_text status.TheVariants.Done = []
+status_text status.TheVariants.Helped = []
+status_text status.TheVariants.Usage = []
+status_text (status.TheVariants.Refused n why) = line_text n ++ refusal_text why
+status_text (status.TheVariants.BadProgram fault) = codes "program: " ++ fault_text fault
+status_text (status.TheVariants.BadHeader why) = codes "header: " ++ header_text why
+status_text (status.TheVariants.BadTrace n why) = codes "trace line " ++ decimal n ++ codes ": " ++ trace_text why
+status_text status.TheVariants.TooLong = codes "trace longer than the mission time"
+status_text (status.TheVariants.TextTooLong p) = place_name p ++ codes " too long"
+status_text (status.TheVariants.OpenFault p) = codes "cannot open " ++ place_name p
+status_text (status.TheVariants.ReadFault p) = codes "cannot read " ++ place_name p
+status_text (status.TheVariants.WriteFault p) = codes "cannot write " ++ place_name p
+status_text status.TheVariants.Memory = codes "out of memory"
+
+-- the line with the program's name
+abbrev pub told_by : tool.Tool → status.Status → List ℕ
+told_by t s = tool_name t ++ codes ": " ++ status_text s ++ codes "\n"
+
+-- the message of a status: nothing for success, the usage line for help and for words that ask for nothing
+abbrev pub message : tool.Tool → status.Status → List ℕ
+message t status.TheVariants.Done = []
+message t status.TheVariants.Helped = usage t
+message t status.TheVariants.Usage = usage t
+message t s = told_by t s
+
+-- what goes to the user on the error output: the message, but nothing where help was given
+abbrev pub told_to_user : tool.Tool → status.Status → List ℕ
+told_to_user t status.TheVariants.Helped = []
+told_to_user t s = message t s

@@ -1,0 +1,301 @@
+//! The messages of both programs.
+
+ghost use Rattle.std.specs.Prelude.{◌≡◌, ◌+◌, ◌≤◌, ◌++◌, length, decimal};
+ghost use Rattle.arrayvec.specs.ArrayVec.{array_vec_len};
+ghost use Rattle.tool_runs.specs.Messages.{message, usage, tool_name, refusal_text, part_name, numbered, parted, fault_text, missing_text, twice_text, header_text, trace_text, place_name, line_text, status_text};
+
+use crate::Status;
+use crate::text::add;
+use arrayvec::ArrayVec;
+use itoa::Buffer;
+use mltl_base::{Name, Part};
+use obs_files::ProgramFault;
+use spec_compile::{HeaderWhy, Refusal};
+use tool_io::Place;
+use trace_watch::TraceWhy;
+
+/// A program of the product.
+#[derive(Clone, Copy, PartialEq, Eq, Debug)]
+pub enum Tool {
+    C2po,
+    R2u2,
+}
+
+/// The bytes of a message.
+type Text = ArrayVec<u8, 192>;
+
+/// The message of a status, with its newline: nothing for success, the usage line for help and for words that ask for
+/// nothing, and else the program's name and what is wrong.
+pub fn message_of(tool: Tool, status: &Status) -> ArrayVec<u8, 192>
+    ensures { result.items ≡ message tool status.now }
+{
+    let mut text = ArrayVec::new();
+    match status {
+        Status::Done => {}
+        Status::Helped | Status::Usage => add(&mut text, usage_of(tool).as_bytes()),
+        _ => {
+            add(&mut text, name_of_tool(tool).as_bytes());
+            add(&mut text, b": ");
+            add_status(&mut text, status);
+            add(&mut text, b"\n");
+        }
+    }
+    text
+}
+
+fn add_number(text: &mut Text, n: u64)
+    requires { array_vec_len text.old + 20 ≤ 192 }
+    ensures items { text.new.items ≡ text.old.items ++ decimal n }
+    ensures len { array_vec_len text.new ≤ array_vec_len text.old + 20 }
+{
+    let mut buffer = Buffer::new();
+    add(text, buffer.format(n).as_bytes());
+}
+
+fn usage_of(tool: Tool) -> &'static str
+    ensures text { result.now ≡ usage tool }
+    ensures short { length result.now ≤ 192 }
+{
+    match tool {
+        Tool::C2po => {
+            "usage: c2po [--header FILE] [-o FILE] [--table] [--simplify] SPEC | c2po --upgrade [-o FILE] PROGRAM | c2po --show [-o FILE] PROGRAM\n"
+        }
+        Tool::R2u2 => {
+            "usage: r2u2 [--source] [--runs] [--timed] [--mission-time N] FILE [TRACE] | r2u2 --demo SEED,ROWS\n"
+        }
+    }
+}
+
+fn name_of_tool(tool: Tool) -> &'static str
+    ensures text { result.now ≡ tool_name tool }
+    ensures short { length result.now ≡ 4 }
+{
+    match tool {
+        Tool::C2po => "c2po",
+        Tool::R2u2 => "r2u2",
+    }
+}
+
+fn add_status(text: &mut Text, status: &Status)
+    requires { array_vec_len text.old ≤ 6 }
+    ensures items { text.new.items ≡ text.old.items ++ status_text status.now }
+    ensures len { array_vec_len text.new ≤ 191 }
+{
+    match status {
+        Status::Done | Status::Helped | Status::Usage => {}
+        Status::Refused(line, why) => add_refusal(text, *line, *why),
+        Status::BadProgram(fault) => {
+            add(text, b"program: ");
+            add_fault(text, *fault);
+        }
+        Status::BadHeader(why) => {
+            add(text, b"header: ");
+            add_header(text, why);
+        }
+        Status::BadTrace(line, why) => {
+            add(text, b"trace line ");
+            add_number(text, *line);
+            add(text, b": ");
+            add_trace(text, why);
+        }
+        Status::TooLong => add(text, b"trace longer than the mission time"),
+        Status::Memory => add(text, b"out of memory"),
+        Status::TextTooLong(place) => {
+            add(text, name_of_place(*place).as_bytes());
+            add(text, b" too long");
+        }
+        Status::OpenFault(place) => add_place(text, b"cannot open ", *place),
+        Status::ReadFault(place) => add_place(text, b"cannot read ", *place),
+        Status::WriteFault(place) => add_place(text, b"cannot write ", *place),
+    }
+}
+
+fn add_place(text: &mut Text, what: &[u8], place: Place)
+    requires { array_vec_len text.old + length what.now ≤ 160 }
+    ensures items { text.new.items ≡ text.old.items ++ (what.now ++ place_name place) }
+    ensures len { array_vec_len text.new ≤ array_vec_len text.old + length what.now + 13 }
+{
+    add(text, what);
+    add(text, name_of_place(place).as_bytes());
+}
+
+fn name_of_place(place: Place) -> &'static str
+    ensures text { result.now ≡ place_name place }
+    ensures short { length result.now ≤ 13 }
+{
+    match place {
+        Place::Spec => "specification",
+        Place::Header => "header",
+        Place::Program => "program",
+        Place::Trace => "trace",
+        Place::Out => "output",
+        Place::Err => "error output",
+    }
+}
+
+fn add_refusal(text: &mut Text, line: u32, why: Refusal)
+    requires { array_vec_len text.old ≤ 6 }
+    ensures items { text.new.items ≡ text.old.items ++ (line_text line ++ refusal_text why) }
+    ensures len { array_vec_len text.new ≤ 191 }
+{
+    add_line(text, line);
+    add(text, words_of(why).as_bytes());
+}
+
+fn add_line(text: &mut Text, line: u32)
+    requires { array_vec_len text.old ≤ 6 }
+    ensures items { text.new.items ≡ text.old.items ++ line_text line }
+    ensures len { array_vec_len text.new ≤ 60 }
+{
+    if line == 0 {
+        return;
+    }
+    add(text, b"line ");
+    add_number(text, u64::from(line));
+    add(text, b": ");
+}
+
+fn words_of(why: Refusal) -> &'static str
+    ensures text { result.now ≡ refusal_text why }
+    ensures short { length result.now ≤ 25 }
+{
+    match why {
+        Refusal::Letter => "bad character",
+        Refusal::LongWord => "word too long",
+        Refusal::Number => "number too large",
+        Refusal::TooManyTokens => "item too long",
+        Refusal::Grammar => "syntax",
+        Refusal::Unknown => "unknown name",
+        Refusal::Twice => "name declared twice",
+        Refusal::Kind => "wrong kind",
+        Refusal::Count => "wrong number of arguments",
+        Refusal::Field => "unknown field",
+        Refusal::Bounds => "bad interval",
+        Refusal::Signals => "too many signals",
+        Refusal::Wide => "expansion too large",
+        Refusal::Divisor => "bad divisor",
+        Refusal::Range => "number range",
+        Refusal::Tense => "mixed tense",
+        Refusal::TooManyNodes => "too many nodes",
+        Refusal::TooLate => "delay too large",
+        Refusal::TooManySlots => "too many slots",
+    }
+}
+
+fn add_fault(text: &mut Text, fault: ProgramFault)
+    requires { array_vec_len text.old ≤ 15 }
+    ensures items { text.new.items ≡ text.old.items ++ fault_text fault }
+    ensures len { array_vec_len text.new ≤ 191 }
+{
+    match fault {
+        ProgramFault::Short => add(text, b"short"),
+        ProgramFault::Magic => add(text, b"magic"),
+        ProgramFault::Version => add(text, b"version"),
+        ProgramFault::Reserved(at) => add_numbered(text, b"reserved", at),
+        ProgramFault::Opcode(at) => add_numbered(text, b"opcode", at),
+        ProgramFault::Trailing => add(text, b"trailing"),
+        ProgramFault::NameBytes(k) => add_numbered(text, b"namebytes", u64::from(k)),
+        ProgramFault::SignalBytes(k) => add_numbered(text, b"signalbytes", u64::from(k)),
+        ProgramFault::Width => add(text, b"width"),
+        ProgramFault::Signal(k) => add_numbered(text, b"signal", u64::from(k)),
+        ProgramFault::Operand(part, i) => add_parted(text, b"operand", part, i),
+        ProgramFault::Interval(part, i) => add_parted(text, b"interval", part, i),
+        ProgramFault::Divisor(i) => add_numbered(text, b"divisor", u64::from(i)),
+        ProgramFault::Range(i) => add_numbered(text, b"range", u64::from(i)),
+        ProgramFault::TooLate(i) => add_numbered(text, b"toolate", u64::from(i)),
+        ProgramFault::Output(k) => add_numbered(text, b"output", u64::from(k)),
+        ProgramFault::Size(part, i) => add_parted(text, b"size", part, i),
+        ProgramFault::TooManySlots => add(text, b"toomanyslots"),
+    }
+}
+
+fn add_numbered(text: &mut Text, name: &[u8], n: u64)
+    requires { array_vec_len text.old + length name.now ≤ 100 }
+    ensures items { text.new.items ≡ text.old.items ++ numbered name.now n }
+    ensures len { array_vec_len text.new ≤ 121 }
+{
+    add(text, name);
+    add(text, b" ");
+    add_number(text, n);
+}
+
+fn add_parted(text: &mut Text, name: &[u8], part: Part, n: u32)
+    requires { array_vec_len text.old + length name.now ≤ 100 }
+    ensures items { text.new.items ≡ text.old.items ++ parted name.now part n }
+    ensures len { array_vec_len text.new ≤ 124 }
+{
+    add(text, name);
+    add(text, b" ");
+    add(text, name_of_part(part).as_bytes());
+    add(text, b" ");
+    add_number(text, u64::from(n));
+}
+
+fn name_of_part(part: Part) -> &'static str
+    ensures text { result.now ≡ part_name part }
+    ensures short { length result.now ≡ 2 }
+{
+    match part {
+        Part::Bz => "bz",
+        Part::Ft => "ft",
+        Part::Pt => "pt",
+    }
+}
+
+fn add_header(text: &mut Text, why: &HeaderWhy)
+    requires { array_vec_len text.old ≤ 100 }
+    ensures items { text.new.items ≡ text.old.items ++ header_text why.now }
+    ensures len { array_vec_len text.new ≤ 191 }
+{
+    match why {
+        HeaderWhy::NoHeader => add(text, b"no header"),
+        HeaderWhy::Missing(name) => add_missing(text, name),
+        HeaderWhy::Twice(name) => add_twice(text, name),
+    }
+}
+
+fn add_missing(text: &mut Text, name: &Name)
+    requires { array_vec_len text.old ≤ 100 }
+    ensures items { text.new.items ≡ text.old.items ++ missing_text name.now }
+    ensures len { array_vec_len text.new ≤ 191 }
+{
+    add(text, b"name ");
+    add(text, name.bytes());
+    add(text, b" missing");
+}
+
+fn add_twice(text: &mut Text, name: &Name)
+    requires { array_vec_len text.old ≤ 100 }
+    ensures items { text.new.items ≡ text.old.items ++ twice_text name.now }
+    ensures len { array_vec_len text.new ≤ 191 }
+{
+    add(text, b"name ");
+    add(text, name.bytes());
+    add(text, b" twice");
+}
+
+fn add_column(text: &mut Text, what: &[u8], column: u32)
+    requires { array_vec_len text.old + length what.now ≤ 150 }
+    ensures items { text.new.items ≡ text.old.items ++ (what.now ++ decimal (column + 1)) }
+    ensures len { array_vec_len text.new ≤ 170 }
+{
+    add(text, what);
+    add_number(text, u64::from(column) + 1);
+}
+
+fn add_trace(text: &mut Text, why: &TraceWhy)
+    requires { array_vec_len text.old ≤ 100 }
+    ensures items { text.new.items ≡ text.old.items ++ trace_text why.now }
+    ensures len { array_vec_len text.new ≤ 191 }
+{
+    match why {
+        TraceWhy::Width => add(text, b"too few fields"),
+        TraceWhy::NotWhole(column) => add_column(text, b"not a whole number in column ", *column),
+        TraceWhy::OutOfRange(column) => add_column(text, b"out of range in column ", *column),
+        TraceWhy::LongLine => add(text, b"line too long"),
+        TraceWhy::Missing(name) => add_missing(text, name),
+        TraceWhy::Twice(name) => add_twice(text, name),
+        TraceWhy::Stamp => add(text, b"bad time stamp"),
+        TraceWhy::Order => add(text, b"times not rising"),
+    }
+}

@@ -1,0 +1,55 @@
+//! Reading the file that the words name: a specification, or a program.
+
+ghost use Rattle.std.specs.Prelude.{◌≡◌, ◌≤◌, IfOk, length};
+ghost use Rattle.tool_io.specs.Log.{OnLog};
+ghost use Rattle.tool_runs.specs.Causes.{PhaseCause};
+ghost use Rattle.tool_runs.specs.Files.{file_limit, file_place};
+ghost use Rattle.tool_runs.specs.Reading.{FileLog, unread};
+
+use crate::Status;
+use mltl_base::limits::{MAX_PROGRAM_BYTES, MAX_SPEC_BYTES};
+use std::alloc::Global;
+use tool_io::{Attached, Host, Place, WholeFault, read_whole};
+
+/// Where a file is read, and how many bytes it may have: a specification, or a program.
+fn place_of(source: bool) -> (Place, usize)
+    ensures place { result.0 ≡ file_place source }
+    ensures limit { result.1 ≡ file_limit source }
+{
+    if source {
+        (Place::Spec, MAX_SPEC_BYTES)
+    } else {
+        (Place::Program, MAX_PROGRAM_BYTES)
+    }
+}
+
+/// Reads a file whole: a specification, or a program.
+pub fn read_file<H: Host>(
+    alloc: Global,
+    source: bool,
+    name: &str,
+    host: &mut H,
+) -> Result<Vec<u8>, Status>
+    ensures cause { PhaseCause result (H.faults host.old) (H.faults host.new) }
+    ensures log { OnLog (H.log host.old) (H.log host.new) (FileLog result (file_place source) (file_limit source) name.now) }
+    ensures within { IfOk result (λ bytes. length bytes.items ≤ file_limit source) }
+{
+    let (place, limit) = place_of(source);
+    if let Attached::Failed = host.attach(place, name) {
+        return Err(Status::OpenFault(place));
+    }
+    match read_whole(alloc, host, place, limit) {
+        Ok(bytes) => Ok(bytes),
+        Err(fault) => Err(status_unread(place, fault)),
+    }
+}
+
+fn status_unread(place: Place, fault: WholeFault) -> Status
+    ensures { result ≡ unread place fault }
+{
+    match fault {
+        WholeFault::TooLong => Status::TextTooLong(place),
+        WholeFault::ReadFault => Status::ReadFault(place),
+        WholeFault::Memory => Status::Memory,
+    }
+}

@@ -1,0 +1,58 @@
+//! How a run of a program ends.
+
+ghost use Rattle.std.specs.Prelude.{◌≡◌};
+ghost use Rattle.tool_runs.specs.Codes.{code_of};
+
+use obs_files::ProgramFault;
+use spec_compile::{HeaderWhy, Refusal};
+use tool_io::Place;
+use trace_watch::TraceWhy;
+
+/// How a run ended. Lines count from 1; line 0 stands for the whole specification.
+#[derive(Drop)]
+pub enum Status {
+    /// The trace was read to its end and all lines are out.
+    Done,
+    /// The words asked for help, and the usage line is out.
+    Helped,
+    /// The words ask for nothing that the program does.
+    Usage,
+    /// The specification has a fault, or is past a limit.
+    Refused(u32, Refusal),
+    /// The program file has a fault.
+    BadProgram(ProgramFault),
+    /// The header of a compilation has a fault.
+    BadHeader(HeaderWhy),
+    /// A line of the trace has a fault.
+    BadTrace(u64, TraceWhy),
+    /// The trace goes on past the mission time.
+    TooLong,
+    /// A text is longer than its limit.
+    TextTooLong(Place),
+    OpenFault(Place),
+    ReadFault(Place),
+    WriteFault(Place),
+    /// Memory is wanting.
+    Memory,
+}
+
+impl Status {
+    /// The exit code of a program that ends with this status: 0 for success, 1 for its words, 2 for a specification, 3
+    /// for a program file, 4 for a header or a trace, 5 for a text or a trace past its limit, 6 for opening and
+    /// reading, 7 for writing, 8 for memory.
+    pub fn code(&self) -> u8
+        ensures { result ≡ code_of self.now }
+    {
+        match self {
+            Status::Done | Status::Helped => 0,
+            Status::Usage => 1,
+            Status::Refused(_, _) => 2,
+            Status::BadProgram(_) => 3,
+            Status::BadHeader(_) | Status::BadTrace(_, _) => 4,
+            Status::TooLong | Status::TextTooLong(_) => 5,
+            Status::OpenFault(_) | Status::ReadFault(_) => 6,
+            Status::WriteFault(_) => 7,
+            Status::Memory => 8,
+        }
+    }
+}
