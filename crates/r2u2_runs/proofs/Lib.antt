@@ -1,4 +1,3 @@
-pub mod PhaseLaws
 pub mod OpenLaws
 pub mod Refusing
 pub mod FirstLine

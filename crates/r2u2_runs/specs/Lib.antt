@@ -1,5 +1,3 @@
-pub mod Codes
-pub mod Messages
 pub mod Asking
 pub mod ProgramBy
 pub mod Outcome
