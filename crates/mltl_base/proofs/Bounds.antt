@@ -8,7 +8,7 @@ use Rattle.mltl_base.specs.Atoms.{Row}
 use Rattle.mltl_base.specs.Formula.{Formula, truth, falsity, atom, negation, conjunction, disjunction, implication, equivalence, finally, globally, until, release, once, historically, since, wpd, Core, ctrue, catom, cnot, cand, cuntil, csince, plain, bpd}
 use Rattle.mltl_base.specs.Kleene.{k_not, k_and, k_every_in}
 use Rattle.mltl_base.specs.Meaning.{sat}
-use Rattle.mltl_base.specs.Verdicts.{Known, k_until, verdicts}
+use Rattle.mltl_base.specs.Verdicts.{Known, k_until, kleene_over, kleene, verdicts}
 use Rattle.mltl_base.specs.Settled.{IsOrdered, IsPast}
 use Rattle.mltl_base.proofs.Order.{unknown_some, unknown_and, not_false_every}
 use Rattle.mltl_base.proofs.Fronts.{front_fits, front_ends}
@@ -40,9 +40,9 @@ unfolding k_and
 unknown_both x y e f = rw (e, f) refl
 
 pub frontier_at_most : (rows : List Row) (p : Core) → IsOrdered (plain p) → length (verdicts rows (plain p)) ≤ length rows - bpd p
-unfolding verdicts plain bpd
-frontier_at_most rows ctrue o = simp length-map (omega arith)
-frontier_at_most rows (catom a) o = simp length-map (omega arith)
+unfolding verdicts kleene_over plain bpd
+frontier_at_most rows ctrue o = le_trans (front_fits _ (length rows)) (omega arith)
+frontier_at_most rows (catom a) o = le_trans (front_fits _ (length rows)) (omega arith)
 frontier_at_most rows (cnot p) o =
     front_ends _ _ _ (unknown_not _ (unknown_past (verdicts rows (plain p)) _ (length rows - bpd p) (frontier_at_most rows p o) (omega arith)))
 frontier_at_most rows (cand p q) o =
@@ -58,21 +58,7 @@ frontier_at_most rows (csince i p q) o = le_trans (front_fits _ (length rows)) (
 -- no verdict is ahead of the rows
 pub verdicts_fit : (rows : List Row) (p : Formula) → length (verdicts rows p) ≤ length rows
 unfolding verdicts
-verdicts_fit rows truth = simp length-map (omega arith)
-verdicts_fit rows falsity = simp length-map (omega arith)
-verdicts_fit rows (atom a) = simp length-map (omega arith)
-verdicts_fit rows (negation p) = front_fits _ _
-verdicts_fit rows (conjunction p q) = front_fits _ _
-verdicts_fit rows (disjunction p q) = front_fits _ _
-verdicts_fit rows (implication p q) = front_fits _ _
-verdicts_fit rows (equivalence p q) = front_fits _ _
-verdicts_fit rows (finally i p) = front_fits _ _
-verdicts_fit rows (globally i p) = front_fits _ _
-verdicts_fit rows (until i p q) = front_fits _ _
-verdicts_fit rows (release i p q) = front_fits _ _
-verdicts_fit rows (once i p) = front_fits _ _
-verdicts_fit rows (historically i p) = front_fits _ _
-verdicts_fit rows (since i p q) = front_fits _ _
+verdicts_fit rows p = front_fits (kleene rows p) (length rows)
 
 pub frontier_at_least : (rows : List Row) (p : Formula) → length rows - wpd p ≤ length (verdicts rows p)
 frontier_at_least rows p = let h = verdicts_in_time rows p in omega arith

@@ -7,11 +7,12 @@ use Rattle.mltl_base.specs.Atoms.{Row, Atom, is_true, equal, less, at_most, diff
 use Rattle.mltl_base.specs.Formula.{Formula, truth, falsity, atom, negation, conjunction, disjunction, implication, equivalence, finally, globally, until, release, once, historically, since, Core, ctrue, catom, cnot, cand, cuntil, csince, plain, neg, core, core_atom}
 use Rattle.mltl_base.specs.Kleene.{k_not, k_and, k_or, k_implies, k_some_below, k_every_below}
 use Rattle.mltl_base.specs.Meaning.{within}
-use Rattle.mltl_base.specs.Verdicts.{Known, k_negation, k_conjunction, k_implication, k_equivalence, k_finally, k_until, k_once, k_since, followed, known_front, verdicts}
+use Rattle.mltl_base.specs.Verdicts.{Known, k_negation, k_conjunction, k_implication, k_equivalence, k_finally, k_until, k_once, k_since, followed, known_front, kleene_over, verdicts}
 use Rattle.mltl_base.proofs.Order.{below_and, Found, found_and, NotFalse, unknown_and}
 use Rattle.mltl_base.proofs.Fronts.{front_below}
 use Rattle.mltl_base.proofs.Bounds.{verdicts_fit}
 use Rattle.mltl_base.proofs.Unique.{front_same, front_equal, front_self}
+use Rattle.mltl_base.proofs.Leaves.{front_map, truth_verdicts}
 
 k_not_not : (x : Option Bool) → k_not (k_not x) ≡ x
 unfolding k_not
@@ -48,7 +49,7 @@ not_get (v ∷ vs) (suc n) zero l = refl
 not_get (v ∷ vs) (suc n) (suc t) l = not_get vs n t (omega arith)
 
 pub neg_verdicts : (rows : List Row) (p : Core) → verdicts rows (plain (neg p)) ≡ known_front (λ t. k_not (slice_get (verdicts rows (plain p)) t)) (length rows)
-unfolding verdicts plain neg
+unfolding verdicts kleene_over plain neg
 neg_verdicts rows ctrue = refl
 neg_verdicts rows (catom a) = refl
 neg_verdicts rows (cnot p) =
@@ -73,7 +74,7 @@ neg_front rows p k h =
 
 implied_verdicts : (rows : List Row) (p q : Core) (us vs : List Bool) → verdicts rows (plain p) ≡ us → verdicts rows (plain q) ≡ vs →
     verdicts rows (plain (neg (cand p (neg q)))) ≡ known_front (k_implication (slice_get us) (slice_get vs)) (length rows)
-unfolding verdicts plain
+unfolding verdicts kleene_over plain
 implied_verdicts rows p q us vs f g =
     neg_front rows (cand p (neg q)) (k_conjunction (slice_get (verdicts rows (plain p))) (slice_get (verdicts rows (plain (neg q))))) refl
     ∙ ap₂ (λ (k l : Known). known_front (λ t. k_not (k_and (k t) (l t))) (length rows)) (ap (λ (xs : List Bool). slice_get xs) f) (neg_get rows q vs g)
@@ -160,16 +161,18 @@ found_inside (v ∷ vs) zero h = omega arith
 found_inside (v ∷ vs) (suc t) h = let l = found_inside vs t h in omega arith
 
 -- true until, and true since
-until_known : (i : Interval) (rows : List Row) (vs : List Bool) → length vs ≤ length rows → (t : ℕ) → k_until i (slice_get (map (λ r. true) rows)) (slice_get vs) t ≡ k_finally i (slice_get vs) t
+until_known : (i : Interval) (rows : List Row) (vs : List Bool) → length vs ≤ length rows → (t : ℕ) → k_until i (slice_get (verdicts rows truth)) (slice_get vs) t ≡ k_finally i (slice_get vs) t
 until_known i rows vs l t =
-    ap (k_some_below (suc i.hi - i.lo)) (fun_ext (λ k. while_cases (slice_get vs (t + (i.lo + k))) _
+    rw (truth_verdicts rows)
+    (ap (k_some_below (suc i.hi - i.lo)) (fun_ext (λ k. while_cases (slice_get vs (t + (i.lo + k))) _
     (every_not_false (i.lo + k - i.lo) _ (λ j. truth_not_false rows (t + (i.lo + j))))
-    (λ f. every_known (i.lo + k - i.lo) _ (λ j c. truth_known rows (t + (i.lo + j)) (let g : t + (i.lo + k) < length vs = found_inside vs (t + (i.lo + k)) f in omega arith)))))
+    (λ f. every_known (i.lo + k - i.lo) _ (λ j c. truth_known rows (t + (i.lo + j)) (let g : t + (i.lo + k) < length vs = found_inside vs (t + (i.lo + k)) f in omega arith))))))
 
-since_known : (i : Interval) (rows : List Row) (vs : List Bool) (t : ℕ) → t < length rows → k_since i (slice_get (map (λ r. true) rows)) (slice_get vs) t ≡ k_once i (slice_get vs) t
+since_known : (i : Interval) (rows : List Row) (vs : List Bool) (t : ℕ) → t < length rows → k_since i (slice_get (verdicts rows truth)) (slice_get vs) t ≡ k_once i (slice_get vs) t
 since_known i rows vs t l =
-    ap (k_some_below (suc t)) (fun_ext (λ m. ap (k_and (Some (within i (t - m))))
-    (ap (k_and (slice_get vs m)) (every_known (suc t - suc m) _ (λ j c. truth_known rows (suc m + j) (omega arith))) ∙ k_and_true (slice_get vs m))))
+    rw (truth_verdicts rows)
+    (ap (k_some_below (suc t)) (fun_ext (λ m. ap (k_and (Some (within i (t - m))))
+    (ap (k_and (slice_get vs m)) (every_known (suc t - suc m) _ (λ j c. truth_known rows (suc m + j) (omega arith))) ∙ k_and_true (slice_get vs m)))))
 
 -- every is not some not
 k_every_core : (n : ℕ) (f : ℕ → Option Bool) → k_not (k_some_below n (λ k. k_not (f k))) ≡ k_every_below n f
@@ -192,21 +195,27 @@ unfolding known_front k_not
 mapped_not f g [] h = refl
 mapped_not f g (r ∷ rows) h = ap₂ ◌∷◌ (h r) (mapped_not f g rows h)
 
-atom_verdicts : (rows : List Row) (a : Atom) → verdicts rows (plain (core_atom a)) ≡ verdicts rows (atom a)
-unfolding verdicts plain holds
-atom_verdicts rows (is_true c) = refl
-atom_verdicts rows (equal a b) = refl
-atom_verdicts rows (less a b) = refl
-atom_verdicts rows (at_most a b) = refl
-atom_verdicts rows (different a b) = mapped_not (holds (equal a b)) (holds (different a b)) rows (λ r. refl)
-atom_verdicts rows (greater a b) = refl
-atom_verdicts rows (at_least a b) = refl
+-- the negation of a test on the rows
+not_test : (f g : Row → Bool) (rows : List Row) → ((r : Row) → not (f r) ≡ g r) → known_front (k_negation (slice_get (known_front (slice_get (map f rows)) (length rows)))) (length rows) ≡ known_front (slice_get (map g rows)) (length rows)
+not_test f g rows h =
+    ap (λ (us : List Bool). known_front (k_negation (slice_get us)) (length rows)) (front_map f rows)
+    ∙ (mapped_not f g rows h ∙ sym (front_map g rows))
+
+core_atom_verdicts : (rows : List Row) (a : Atom) → verdicts rows (plain (core_atom a)) ≡ verdicts rows (atom a)
+unfolding verdicts kleene_over plain holds
+core_atom_verdicts rows (is_true c) = refl
+core_atom_verdicts rows (equal a b) = refl
+core_atom_verdicts rows (less a b) = refl
+core_atom_verdicts rows (at_most a b) = refl
+core_atom_verdicts rows (different a b) = not_test (holds (equal a b)) (holds (different a b)) rows (λ r. refl)
+core_atom_verdicts rows (greater a b) = refl
+core_atom_verdicts rows (at_least a b) = refl
 
 pub core_verdicts : (rows : List Row) (p : Formula) → verdicts rows (plain (core p)) ≡ verdicts rows p
-unfolding core verdicts plain k_or
+unfolding core verdicts kleene_over plain k_or
 core_verdicts rows truth = refl
-core_verdicts rows falsity = mapped_not (λ r. true) (λ r. false) rows (λ r. refl)
-core_verdicts rows (atom a) = atom_verdicts rows a
+core_verdicts rows falsity = not_test (λ r. true) (λ r. false) rows (λ r. refl)
+core_verdicts rows (atom a) = core_atom_verdicts rows a
 core_verdicts rows (negation p) = neg_verdicts rows (core p) ∙ ap (λ (us : List Bool). known_front (k_negation (slice_get us)) (length rows)) (core_verdicts rows p)
 core_verdicts rows (conjunction p q) =
     ap₂ (λ (us vs : List Bool). known_front (k_conjunction (slice_get us) (slice_get vs)) (length rows)) (core_verdicts rows p) (core_verdicts rows q)
@@ -220,10 +229,10 @@ core_verdicts rows (equivalence p q) =
     (implied_verdicts rows (core q) (core p) _ _ (core_verdicts rows q) (core_verdicts rows p))
     ∙ iff_front (slice_get (verdicts rows p)) (slice_get (verdicts rows q)) (length rows)
 core_verdicts rows (finally i p) =
-    ap (λ (us : List Bool). known_front (k_until i (slice_get (map (λ r. true) rows)) (slice_get us)) (length rows)) (core_verdicts rows p)
+    ap (λ (us : List Bool). known_front (k_until i (slice_get (verdicts rows truth)) (slice_get us)) (length rows)) (core_verdicts rows p)
     ∙ ap (λ (k : Known). known_front k (length rows)) (fun_ext (until_known i rows (verdicts rows p) (verdicts_fit rows p)))
 core_verdicts rows (globally i p) =
-    neg_front rows (cuntil i ctrue (neg (core p))) (k_until i (slice_get (map (λ r. true) rows)) (slice_get (verdicts rows (plain (neg (core p)))))) refl
+    neg_front rows (cuntil i ctrue (neg (core p))) (k_until i (slice_get (verdicts rows truth)) (slice_get (verdicts rows (plain (neg (core p)))))) refl
     ∙ ap (λ (k : Known). known_front k (length rows)) (fun_ext (λ t.
     ap k_not (until_known i rows (verdicts rows (plain (neg (core p)))) (verdicts_fit rows (plain (neg (core p)))) t
     ∙ ap (λ (k : Known). k_finally i k t) (neg_get rows (core p) _ (core_verdicts rows p)))
@@ -234,10 +243,10 @@ core_verdicts rows (release i p q) =
     neg_front rows (cuntil i (neg (core p)) (neg (core q))) (k_until i (slice_get (verdicts rows (plain (neg (core p))))) (slice_get (verdicts rows (plain (neg (core q)))))) refl
     ∙ ap₂ (λ (k l : Known). known_front (λ t. k_not (k_until i k l t)) (length rows)) (neg_get rows (core p) _ (core_verdicts rows p)) (neg_get rows (core q) _ (core_verdicts rows q))
 core_verdicts rows (once i p) =
-    ap (λ (us : List Bool). known_front (k_since i (slice_get (map (λ r. true) rows)) (slice_get us)) (length rows)) (core_verdicts rows p)
+    ap (λ (us : List Bool). known_front (k_since i (slice_get (verdicts rows truth)) (slice_get us)) (length rows)) (core_verdicts rows p)
     ∙ front_equal _ _ (length rows) (since_known i rows (verdicts rows p))
 core_verdicts rows (historically i p) =
-    neg_front rows (csince i ctrue (neg (core p))) (k_since i (slice_get (map (λ r. true) rows)) (slice_get (verdicts rows (plain (neg (core p)))))) refl
+    neg_front rows (csince i ctrue (neg (core p))) (k_since i (slice_get (verdicts rows truth)) (slice_get (verdicts rows (plain (neg (core p)))))) refl
     ∙ front_equal _ _ (length rows) (λ t l.
     ap k_not (since_known i rows (verdicts rows (plain (neg (core p)))) t l
     ∙ (ap (λ (k : Known). k_once i k t) (neg_get rows (core p) _ (core_verdicts rows p))

@@ -7,6 +7,7 @@ pub mod Words
 pub mod Telling
 pub mod CoreMeaning
 pub mod Unique
+pub mod Leaves
 pub mod CoreVerdicts
 pub mod Deciding
 pub mod Longest

@@ -1,41 +1,27 @@
 -- Known verdicts are the longest list of times at which the strong Kleene value of the formula is known.
 
-use Rattle.std.proofs.Common.{◌≡◌, ℕ, zero, suc, ◌+◌, ◌-◌, ◌<◌, ◌≤◌, ◌⊎◌, inl, inr, Bool, Option, None, List, length, slice_get, refl, arith}
+use Rattle.std.proofs.Common.{◌≡◌, ℕ, zero, suc, ◌+◌, ◌-◌, ◌<◌, ◌≤◌, ◌⊎◌, inl, inr, Bool, true, false, Option, None, List, length, map, slice_get, refl, arith}
 use Rattle.std.proofs.lemmas.Bool.{cases_lt}
+use Rattle.std.proofs.lemmas.List.{length-map}
 use Rattle.std.proofs.lemmas.Option.{slice_get_past}
-use Rattle.mltl_base.specs.Atoms.{Row}
+use Rattle.mltl_base.specs.Atoms.{Row, holds}
 use Rattle.mltl_base.specs.Formula.{Formula, truth, falsity, atom, negation, conjunction, disjunction, implication, equivalence, finally, globally, until, release, once, historically, since}
 use Rattle.mltl_base.specs.Kleene.{k_not, k_and, k_or, k_implies, k_some_below, k_every_below}
-use Rattle.mltl_base.specs.Verdicts.{verdicts, IsLongestKnown, kleene}
+use Rattle.mltl_base.specs.Verdicts.{kleene_over, verdicts, IsLongestKnown, kleene}
 use Rattle.mltl_base.specs.Settled.{IsFuture, IsOrdered}
 use Rattle.mltl_base.proofs.Bounds.{verdicts_fit, unknown_until, unknown_both, unknown_not}
 use Rattle.mltl_base.proofs.Unique.{front_longest}
 
--- a list is the longest known of its own places
-own_longest : (vs : List Bool) (n : ℕ) → length vs ≤ n → IsLongestKnown (slice_get vs) n vs
-own_longest vs n h = record { fits = h; values = λ t l. refl; longest = λ l. slice_get_past vs (length vs) (omega arith) }
-
 pub verdicts_longest : (rows : List Row) (p : Formula) → IsLongestKnown (kleene rows p) (length rows) (verdicts rows p)
 unfolding verdicts
-verdicts_longest rows truth = own_longest (verdicts rows truth) (length rows) (verdicts_fit rows truth)
-verdicts_longest rows falsity = own_longest (verdicts rows falsity) (length rows) (verdicts_fit rows falsity)
-verdicts_longest rows (atom a) = own_longest (verdicts rows (atom a)) (length rows) (verdicts_fit rows (atom a))
-verdicts_longest rows (negation p) = front_longest _ _
-verdicts_longest rows (conjunction p q) = front_longest _ _
-verdicts_longest rows (disjunction p q) = front_longest _ _
-verdicts_longest rows (implication p q) = front_longest _ _
-verdicts_longest rows (equivalence p q) = front_longest _ _
-verdicts_longest rows (finally i p) = front_longest _ _
-verdicts_longest rows (globally i p) = front_longest _ _
-verdicts_longest rows (until i p q) = front_longest _ _
-verdicts_longest rows (release i p q) = front_longest _ _
-verdicts_longest rows (once i p) = front_longest _ _
-verdicts_longest rows (historically i p) = front_longest _ _
-verdicts_longest rows (since i p q) = front_longest _ _
+verdicts_longest rows p = front_longest (kleene rows p) (length rows)
 
 -- nothing of a future formula is known past the rows
 past_rows : (rows : List Row) (p : Formula) (t : ℕ) → length rows ≤ t → slice_get (verdicts rows p) t ≡ None
 past_rows rows p t l = slice_get_past (verdicts rows p) t (let h = verdicts_fit rows p in omega arith)
+
+past_map : (f : Row → Bool) (rows : List Row) (t : ℕ) → length rows ≤ t → slice_get (map f rows) t ≡ None
+past_map f rows t l = slice_get_past (map f rows) t (simp length-map l)
 
 unknown_or : (x y : Option Bool) → x ≡ None → y ≡ None → k_or x y ≡ None
 unfolding k_or k_and k_not
@@ -60,9 +46,10 @@ every_window : (lo hi : ℕ) (f : ℕ → Option Bool) → lo ≤ hi → ((k : �
 every_window lo hi f o h = let e : suc hi - lo ≡ suc (hi - lo) = omega arith in rw e (unknown_every_below (hi - lo) f h)
 
 unknown_later : (rows : List Row) (p : Formula) → IsFuture p → IsOrdered p → (t : ℕ) → length rows ≤ t → kleene rows p t ≡ None
-unknown_later rows truth f o t l = past_rows rows truth t l
-unknown_later rows falsity f o t l = past_rows rows falsity t l
-unknown_later rows (atom a) f o t l = past_rows rows (atom a) t l
+unfolding verdicts kleene_over
+unknown_later rows truth f o t l = past_map (λ r. true) rows t l
+unknown_later rows falsity f o t l = past_map (λ r. false) rows t l
+unknown_later rows (atom a) f o t l = past_map (holds a) rows t l
 unknown_later rows (negation p) f o t l = unknown_not _ (past_rows rows p t l)
 unknown_later rows (conjunction p q) f o t l = unknown_both _ _ (past_rows rows p t l) (past_rows rows q t l)
 unknown_later rows (disjunction p q) f o t l = unknown_or _ _ (past_rows rows p t l) (past_rows rows q t l)

@@ -1,15 +1,16 @@
 -- The known verdicts of rows begin those of more rows.
 
-use Rattle.std.proofs.Common.{ℕ, suc, ◌+◌, ◌-◌, Bool, true, false, not, Some, List, ◌++◌, length, map, refl, arith, length-append}
+use Rattle.std.proofs.Common.{◌≡◌, ℕ, suc, ◌+◌, ◌-◌, Bool, true, false, not, Some, List, ◌++◌, length, map, refl, arith, length-append}
 use Rattle.std.proofs.lemmas.List.{map-append}
 use Rattle.mltl_base.specs.declared.interval.Interval.{Interval}
 use Rattle.mltl_base.specs.Atoms.{Row, holds}
 use Rattle.mltl_base.specs.Formula.{Formula, truth, falsity, atom, negation, conjunction, disjunction, implication, equivalence, finally, globally, until, release, once, historically, since}
 use Rattle.mltl_base.specs.Meaning.{within}
-use Rattle.mltl_base.specs.Verdicts.{Known, k_until, k_since, known_front, verdicts}
+use Rattle.mltl_base.specs.Verdicts.{Known, k_until, k_since, known_front, kleene_over, verdicts}
 use Rattle.mltl_base.specs.Settled.{IsPrefix}
 use Rattle.mltl_base.proofs.Order.{Below, below_not, below_and, below_or, below_implies, below_some, below_every}
 use Rattle.mltl_base.proofs.Fronts.{front_prefix, prefix_below}
+use Rattle.mltl_base.proofs.Leaves.{truth_verdicts, falsity_verdicts, atom_verdicts}
 
 -- what is known by k, is known by l
 abbrev pub IsLess : Known → Known → Type 0
@@ -29,14 +30,14 @@ less_since i p q u v f g t =
 fronts : (rows more : List Row) (k l : Known) → IsLess k l → IsPrefix (known_front k (length rows)) (known_front l (length (rows ++ more)))
 fronts rows more k l h = front_prefix k l (length rows) (length (rows ++ more)) h (omega (arith, length-append rows more))
 
-mapped : (f : Row → Bool) (rows more : List Row) → IsPrefix (map f rows) (map f (rows ++ more))
-mapped f rows more = (map f more, map-append f rows more)
+mapped : (f : Row → Bool) (rows more : List Row) (us vs : List Bool) → us ≡ map f rows → vs ≡ map f (rows ++ more) → IsPrefix us vs
+mapped f rows more us vs e g = rw (e, g) (map f more, map-append f rows more)
 
 pub verdicts_begin : (rows more : List Row) (p : Formula) → IsPrefix (verdicts rows p) (verdicts (rows ++ more) p)
-unfolding verdicts
-verdicts_begin rows more truth = mapped (λ r. true) rows more
-verdicts_begin rows more falsity = mapped (λ r. false) rows more
-verdicts_begin rows more (atom a) = mapped (holds a) rows more
+unfolding verdicts kleene_over
+verdicts_begin rows more truth = mapped (λ r. true) rows more _ _ (truth_verdicts rows) (truth_verdicts (rows ++ more))
+verdicts_begin rows more falsity = mapped (λ r. false) rows more _ _ (falsity_verdicts rows) (falsity_verdicts (rows ++ more))
+verdicts_begin rows more (atom a) = mapped (holds a) rows more _ _ (atom_verdicts rows a) (atom_verdicts (rows ++ more) a)
 verdicts_begin rows more (negation p) =
     fronts rows more _ _ (λ t. below_not _ _ (prefix_below _ _ t (verdicts_begin rows more p)))
 verdicts_begin rows more (conjunction p q) =

@@ -7,10 +7,11 @@ use Rattle.mltl_base.specs.Atoms.{Row, holds}
 use Rattle.mltl_base.specs.Formula.{Formula, truth, falsity, atom, negation, conjunction, disjunction, implication, equivalence, finally, globally, until, release, once, historically, since, wpd}
 use Rattle.mltl_base.specs.Kleene.{every_in}
 use Rattle.mltl_base.specs.Meaning.{within, until_at, since_at, sat}
-use Rattle.mltl_base.specs.Verdicts.{Known, k_until, k_since, known_front, verdicts}
+use Rattle.mltl_base.specs.Verdicts.{Known, k_until, k_since, known_front, kleene_over, verdicts}
 use Rattle.mltl_base.specs.Settled.{Settled}
 use Rattle.mltl_base.proofs.Order.{Below, below_trans, right_not, right_and, right_or, right_implies, right_some, right_every, Found, found_not, found_and, found_or, found_implies, found_some, found_every}
 use Rattle.mltl_base.proofs.Fronts.{front_below, front_within, found_within, prefix_below}
+use Rattle.mltl_base.proofs.Leaves.{front_map}
 use Rattle.mltl_base.proofs.Prefixes.{verdicts_begin}
 
 -- what is known by k is true of f
@@ -43,10 +44,10 @@ right_map f (r ∷ rows) zero = refl
 right_map f (r ∷ rows) (suc t) = right_map f rows t
 
 pub verdicts_right : (rows : List Row) (p : Formula) → IsRight (slice_get (verdicts rows p)) (sat rows p)
-unfolding verdicts sat
-verdicts_right rows truth = right_constant true rows
-verdicts_right rows falsity = right_constant false rows
-verdicts_right rows (atom a) = right_map (holds a) rows
+unfolding verdicts kleene_over sat
+verdicts_right rows truth = right_front _ _ _ (right_constant true rows)
+verdicts_right rows falsity = right_front _ _ _ (right_constant false rows)
+verdicts_right rows (atom a) = right_front _ _ _ (right_map (holds a) rows)
 verdicts_right rows (negation p) = right_front _ _ _ (λ t. right_not _ _ (verdicts_right rows p t))
 verdicts_right rows (conjunction p q) = right_front _ _ _ (λ t. right_and _ _ _ _ (verdicts_right rows p t) (verdicts_right rows q t))
 verdicts_right rows (disjunction p q) = right_front _ _ _ (λ t. right_or _ _ _ _ (verdicts_right rows p t) (verdicts_right rows q t))
@@ -100,10 +101,10 @@ found_since i p q t n d f g l =
     (found_and (q m) _ (g m (omega arith)) (found_every (suc t - suc m) _ (λ j c. f (suc m + j) (omega arith)))))
 
 pub verdicts_in_time : (rows : List Row) (p : Formula) → ComesBy (length rows) (wpd p) (verdicts rows p)
-unfolding verdicts wpd
-verdicts_in_time rows truth = simp length-map (omega arith)
-verdicts_in_time rows falsity = simp length-map (omega arith)
-verdicts_in_time rows (atom a) = simp length-map (omega arith)
+unfolding verdicts kleene_over wpd
+verdicts_in_time rows truth = rw (front_map (λ r. true) rows, length-map) (omega arith)
+verdicts_in_time rows falsity = rw (front_map (λ r. false) rows, length-map) (omega arith)
+verdicts_in_time rows (atom a) = rw (front_map (holds a) rows, length-map) (omega arith)
 verdicts_in_time rows (negation p) =
     front_within _ _ _ (λ t l. found_not _ (found_before _ _ t _ (verdicts_in_time rows p) l))
 verdicts_in_time rows (conjunction p q) =
