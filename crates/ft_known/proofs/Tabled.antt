@@ -10,8 +10,9 @@ use Rattle.mltl_base.specs.declared.operators.FtOp.TheVariants.{True, Load, Not,
 use Rattle.mltl_base.specs.Atoms.{Row, Atom, holds, is_true}
 use Rattle.mltl_base.specs.Formula.{Core, Formula, plain}
 use Rattle.mltl_base.specs.Programs.{core_at, formula_of, formulas}
-use Rattle.mltl_base.specs.Verdicts.{Known, verdicts, kleene, IsLongestKnown}
+use Rattle.mltl_base.specs.Verdicts.{Known, verdicts, kleene_over, kleene, IsLongestKnown}
 use Rattle.mltl_base.specs.Settled.{IsPrefix}
+use Rattle.mltl_base.proofs.Leaves.{truth_verdicts, atom_verdicts}
 use Rattle.mltl_base.proofs.Longest.{verdicts_longest}
 use Rattle.mltl_base.proofs.Prefixes.{verdicts_begin}
 use Rattle.ft_slab.specs.Nodes.{op_at}
@@ -61,9 +62,9 @@ module _ (longest : (rows : List Row) (p : Formula) → IsLongestKnown (kleene r
   -- the values of an instruction over the known verdicts of its operands
   value_longest : (rows : List Row) (loaded : List Atom) (all : List Core) (op : FtOp)
       → IsLongestKnown (value_of op (truth_at rows loaded) (length rows) (λ i. verdicts rows (plain (core_at all i)))) (length rows) (verdicts rows (plain (formula_of loaded all op)))
-  unfolding plain verdicts
-  value_longest rows loaded all True = all_known _ (length rows) (map (λ r. true) rows) (length-map rows (λ r. true)) (λ t h. in_time t (length rows) (Some true) None h ∙ sym (mapped (λ r. true) rows t h))
-  value_longest rows loaded all (Load k) = all_known _ (length rows) (map (holds (get_or loaded k (is_true 0))) rows) (length-map rows (holds (get_or loaded k (is_true 0)))) (λ t h. in_time t (length rows) (Some (truth_at rows loaded t k)) None h ∙ sym (mapped (holds (get_or loaded k (is_true 0))) rows t h))
+  unfolding plain verdicts kleene_over
+  value_longest rows loaded all True = subst (IsLongestKnown _ (length rows)) (sym (truth_verdicts rows)) (all_known _ (length rows) (map (λ r. true) rows) (length-map rows (λ r. true)) (λ t h. in_time t (length rows) (Some true) None h ∙ sym (mapped (λ r. true) rows t h)))
+  value_longest rows loaded all (Load k) = subst (IsLongestKnown _ (length rows)) (sym (atom_verdicts rows (get_or loaded k (is_true 0)))) (all_known _ (length rows) (map (holds (get_or loaded k (is_true 0))) rows) (length-map rows (holds (get_or loaded k (is_true 0)))) (λ t h. in_time t (length rows) (Some (truth_at rows loaded t k)) None h ∙ sym (mapped (holds (get_or loaded k (is_true 0))) rows t h)))
   value_longest rows loaded all (Not g) = longest rows (plain (formula_of loaded all (Not g)))
   value_longest rows loaded all (And l r) = longest rows (plain (formula_of loaded all (And l r)))
   value_longest rows loaded all (Until l r window) = longest rows (plain (formula_of loaded all (Until l r window)))

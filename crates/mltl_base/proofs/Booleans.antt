@@ -3,20 +3,14 @@
 use Rattle.std.proofs.Common.{◌≡◌, Bool, true, false, if◌then◌else◌, Some, List, [], ◌∷◌, ◌++◌, map, fold, slice_index_or, refl, sym, ap, ap₂, ◌∙◌, append_assoc, append-nil}
 use Rattle.std.proofs.lemmas.Option.{get_or_from_slice_get, slice_get-map}
 use Rattle.mltl_base.specs.Atoms.{Term, column, constant, negative, plus, minus, times, quotient, remainder, Atom, is_true, equal, less, at_most, different, greater, at_least}
-use Rattle.mltl_base.specs.Formula.{Core, ctrue, catom, cnot, cand, cuntil, csince}
+use Rattle.mltl_base.specs.Formula.{Core, ctrue, catom, cnot, cand, cuntil, csince, IsCoreAtom}
 use Rattle.mltl_base.specs.Programs.{Expression, whole, truth, term_at, atom_of, expression_of, expressions_after, expressions}
 use Rattle.mltl_base.specs.Subformulas.{same_expression, listed, place_of, add_new, add_terms, add_operands, add_expressions, at, bz_instruction}
 use Rattle.mltl_base.proofs.Sameness.{same_expression_sound, same_expression_self}
 use Rattle.mltl_base.proofs.Listing.{added_has, added_keeps, place_append, place_get}
 use Rattle.mltl_base.proofs.Unfolding.{HasExpression, Deep, Each}
 
--- a comparison that instructions have
-abbrev pub IsCoreAtom : Atom → Type 0
-IsCoreAtom (different a b) = ⊥
-IsCoreAtom (greater a b) = ⊥
-IsCoreAtom (at_least a b) = ⊥
-IsCoreAtom _ = Unit {0}
-
+-- the comparison of a formula that is one is a comparison that instructions have
 abbrev pub HasCoreAtom : Core → Type 0
 HasCoreAtom (catom a) = IsCoreAtom a
 HasCoreAtom _ = Unit {0}

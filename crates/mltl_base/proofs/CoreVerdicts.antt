@@ -100,7 +100,7 @@ front_first : (x : Option Bool) (vs : List Bool) → Found x → Found (slice_ge
 front_first None vs f = absurd f
 front_first (Some v) vs f = tt
 
-front_reaches : (k : Known) (n t : ℕ) → t < n → ((s : ℕ) → s ≤ t → Found (k s)) → Found (slice_get (known_front k n) t)
+pub front_reaches : (k : Known) (n t : ℕ) → t < n → ((s : ℕ) → s ≤ t → Found (k s)) → Found (slice_get (known_front k n) t)
 unfolding known_front
 front_reaches k zero t l h = absurd (omega arith)
 front_reaches k (suc n) zero l h = front_first (k 0) (known_front (λ t. k (suc t)) n) (h 0 (omega arith))

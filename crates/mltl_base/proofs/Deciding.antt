@@ -39,7 +39,7 @@ every_more {P} n h k l = go (Rattle.std.proofs.lemmas.Bool.cases_lt k n)
     go (inl c) = h.0 k c
     go (inr c) = let e : n ≡ k = omega arith in subst P e h.1
 
-every_decides : (n : ℕ) (f : ℕ → Bool) (P : ℕ → Type 0) → ((k : ℕ) → Decides (f k) (P k)) → Decides (every_below n f) ((k : ℕ) → k < n → P k)
+pub every_decides : (n : ℕ) (f : ℕ → Bool) (P : ℕ → Type 0) → ((k : ℕ) → Decides (f k) (P k)) → Decides (every_below n f) ((k : ℕ) → k < n → P k)
 unfolding every_below
 every_decides zero f P h = (λ e k l. absurd (omega arith), λ w. refl)
 every_decides (suc n) f P h =

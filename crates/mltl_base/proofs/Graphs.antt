@@ -141,7 +141,7 @@ listed_cores all (a ∷ outs) h = ((h a.engine).0 (engine_self a.engine), listed
 found_core : (ps : List Core) (p : Core) → Has ps p → core_at ps (place_of same p ps) ≡ p
 found_core ps p h = get_or_from_slice_get ps (place_of same p ps) p ctrue (place_get same same_sound same_self p ps h)
 
-output_unfolds : (program : Program) (ps : List Core) (e : Engine) (name : List ℕ) (o : Output) → cores_of program e ≡ ps → Each (Has ps) (cores_of_output o) →
+pub output_unfolds : (program : Program) (ps : List Core) (e : Engine) (name : List ℕ) (o : Output) → cores_of program e ≡ ps → Each (Has ps) (cores_of_output o) →
     output_of program (out_by ps e name o) ≡ core_output o
 output_unfolds program ps e name (formula p) q h =
     ap (λ c. formula (plain c)) (ap (λ cs. core_at cs (place_of same (core p) ps)) q ∙ found_core ps (core p) h.0)
@@ -155,6 +155,9 @@ outs_unfold program all [] q h = refl
 outs_unfold program all (a ∷ outs) q h =
     ap₂ ◌∷◌ (output_unfolds program (subformulas a.engine all) a.engine a.name a.output (q a.engine) h.0) (outs_unfold program all outs q h.1)
 
+pub listed_each : (outs : List Asked) → Each (λ a. Each (Has (subformulas a.engine outs)) (cores_of_output a.output)) outs
+listed_each outs = listed_cores outs outs (λ e. picked (Has (subformulas e outs)) e outs (at_engine outs e))
+
 -- a program has the lists of a specification
 pub cores_listed : (program : Program) (outs : List Asked) → program.bz ≡ bz_list outs → program.ft ≡ ft_list outs → program.pt ≡ pt_list outs → All IsTensed outs → (e : Engine) → cores_of program e ≡ subformulas e outs
 cores_listed program outs b f p t Ft = rw (b, f) (ft_list_unfolds outs t)
@@ -163,7 +166,7 @@ cores_listed program outs b f p t Pt = rw (b, p) (pt_list_unfolds outs t)
 pub outputs_unfold : (program : Program) (outs : List Asked) → program.bz ≡ bz_list outs → program.ft ≡ ft_list outs → program.pt ≡ pt_list outs → program.outs ≡ out_list outs → All IsTensed outs →
     outputs program ≡ map (λ a. core_output a.output) outs
 outputs_unfold program outs b f p o t =
-    rw o (outs_unfold program outs outs (cores_listed program outs b f p t) (listed_cores outs outs (λ e. picked (Has (subformulas e outs)) e outs (at_engine outs e))))
+    rw o (outs_unfold program outs outs (cores_listed program outs b f p t) (listed_each outs))
 
 named : (ps : List Core) (e : Engine) (name : List ℕ) (o : Output) → name_of (out_by ps e name o) ≡ name
 named ps e name (formula p) = refl

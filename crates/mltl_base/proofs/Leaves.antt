@@ -1,6 +1,6 @@
 -- The known verdicts of truths and atoms: one a row.
 
-use Rattle.std.proofs.Common.{◌≡◌, ◌≤◌, Bool, true, false, List, length, map, slice_get, arith}
+use Rattle.std.proofs.Common.{◌≡◌, Bool, true, false, List, length, map, slice_get, arith}
 use Rattle.std.proofs.lemmas.List.{length-map}
 use Rattle.mltl_base.specs.Atoms.{Row, Atom, holds}
 use Rattle.mltl_base.specs.Formula.{truth, falsity, atom}

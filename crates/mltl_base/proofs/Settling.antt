@@ -8,7 +8,7 @@ use Rattle.mltl_base.specs.Formula.{Formula, truth, falsity, atom, negation, con
 use Rattle.mltl_base.specs.Kleene.{every_in}
 use Rattle.mltl_base.specs.Meaning.{within, until_at, since_at, sat}
 use Rattle.mltl_base.specs.Verdicts.{Known, k_until, k_since, known_front, kleene_over, verdicts}
-use Rattle.mltl_base.specs.Settled.{Settled}
+use Rattle.mltl_base.specs.Settled.{Settled, SettledAmong}
 use Rattle.mltl_base.proofs.Order.{Below, below_trans, right_not, right_and, right_or, right_implies, right_some, right_every, Found, found_not, found_and, found_or, found_implies, found_some, found_every}
 use Rattle.mltl_base.proofs.Fronts.{front_below, front_within, found_within, prefix_below}
 use Rattle.mltl_base.proofs.Leaves.{front_map}
@@ -82,6 +82,10 @@ pub verdict_settled : (rows : List Row) (p : Formula) (t : ℕ) (v : Bool) → s
 verdict_settled rows p t v e more l =
     let h : Below (Some v) (Some (sat (rows ++ more) p t)) = rw (verdict_stays rows more p t v e) at (verdicts_right (rows ++ more) p t) in
     cc
+
+-- what all further rows say, those of a class say
+pub settled_among : (IsIn : List Row → Type 0) (rows : List Row) (p : Formula) (t : ℕ) (v : Bool) → Settled rows p t v → SettledAmong IsIn rows p t v
+settled_among IsIn rows p t v h more among l = h more l
 
 -- the verdicts come by the worst-case delay
 abbrev pub ComesBy : ℕ → ℕ → List Bool → Type 0

@@ -100,7 +100,7 @@ tells_nothing Runs k s j t (w ∷ ws) n = go (goes_on w ws) (tells_nothing Runs 
     go true h = h
     go false h = tells_other k s j t w (of_words Runs j (suc t) ws) s [] n h
 
-same_word_true : (v w : Word) → same_word v w ≡ true → v ≡ w
+pub same_word_true : (v w : Word) → same_word v w ≡ true → v ≡ w
 same_word_true True True e = refl
 same_word_true False False e = refl
 same_word_true Inactive Inactive e = refl
@@ -180,7 +180,7 @@ row_before style k s j (o ∷ outs) rows r l =
     (tells_nothing style k s j (length (words rows o)) (drop (length (words rows o)) (words (rows ++ r ∷ []) o)) (omega arith))
     (row_before style k s (suc j) outs rows r (omega arith))
 
-new_length : {X : Type 0} (xs ys : List X) → IsPrefix xs ys → length xs + length (drop (length xs) ys) ≡ length ys
+pub new_length : {X : Type 0} (xs ys : List X) → IsPrefix xs ys → length xs + length (drop (length xs) ys) ≡ length ys
 new_length xs ys p = rw (p.1, drop_at xs p.0 (length xs) refl, length-append xs p.0) refl
 
 -- the new words of an output, and the row's reports of the outputs from it on
@@ -211,7 +211,7 @@ row_tells style k j (suc m) (x ∷ outs) rows r o e f =
     (row_tells style k (suc j) m outs rows r o (omega arith) f)
 
 -- the reports of further rows
-new_parts : {X : Type 0} (xs ys zs : List X) → IsPrefix xs ys → IsPrefix ys zs → drop (length xs) ys ++ drop (length ys) zs ≡ drop (length xs) zs
+pub new_parts : {X : Type 0} (xs ys zs : List X) → IsPrefix xs ys → IsPrefix ys zs → drop (length xs) ys ++ drop (length ys) zs ≡ drop (length xs) zs
 new_parts xs ys zs p q =
     rw (q.1, drop_at ys q.0 (length ys) refl, p.1, append_assoc xs p.0 q.0, drop_at xs p.0 (length xs) refl, drop_at xs (p.0 ++ q.0) (length xs) refl) refl
 
@@ -233,7 +233,7 @@ reports_tell style k outs rows (r ∷ more) o f =
     (reports_tell style k outs (rows ++ r ∷ []) more o f)))
 
 -- from the first row on
-words_none : (o : Output) → words [] o ≡ []
+pub words_none : (o : Output) → words [] o ≡ []
 words_none o = nil_from_length (words [] o) (let h = words_fit [] o in omega arith)
 
 pub all_tell : (style : Style) (k : ℕ) (outs : List Output) (rows : List Row) (o : Output) → slice_get outs k ≡ Some o → Tells k 0 (length (words rows o)) (words rows o) (reports style outs rows)

@@ -1,10 +1,10 @@
 -- Core formulas keep the tense and the order of intervals of their formulas, and have the comparisons of instructions.
 
 use Rattle.mltl_base.specs.Atoms.{Atom, is_true, equal, less, at_most, different, greater, at_least}
-use Rattle.mltl_base.specs.Formula.{Formula, truth, falsity, atom, negation, conjunction, disjunction, implication, equivalence, finally, globally, until, release, once, historically, since, Core, ctrue, catom, cnot, cand, cuntil, csince, plain, neg, core, core_atom}
+use Rattle.mltl_base.specs.Formula.{Formula, truth, falsity, atom, negation, conjunction, disjunction, implication, equivalence, finally, globally, until, release, once, historically, since, Core, ctrue, catom, cnot, cand, cuntil, csince, plain, neg, core, core_atom, IsCoreAtom}
 use Rattle.mltl_base.specs.Settled.{IsFuture, IsPast, IsOrdered}
 use Rattle.mltl_base.proofs.Unfolding.{Deep}
-use Rattle.mltl_base.proofs.Booleans.{IsCoreAtom, HasCoreAtom}
+use Rattle.mltl_base.proofs.Booleans.{HasCoreAtom}
 
 abbrev pub NotSince : Core → Type 0
 NotSince (csince i p q) = ⊥
@@ -102,6 +102,31 @@ core_past (finally i p) o = absurd o
 core_past (globally i p) o = absurd o
 core_past (until i p q) o = absurd o
 core_past (release i p q) o = absurd o
+
+-- a core formula without the other tense is of its tense as a formula too
+plain_future : (p : Core) → Deep NotSince p → IsFuture (plain p)
+unfolding plain
+plain_future ctrue h = tt
+plain_future (catom a) h = tt
+plain_future (cnot p) h = plain_future p h.1
+plain_future (cand p q) h = (plain_future p h.1, plain_future q h.2)
+plain_future (cuntil i p q) h = (plain_future p h.1, plain_future q h.2)
+plain_future (csince i p q) h = absurd h.0
+
+plain_past : (p : Core) → Deep NotUntil p → IsPast (plain p)
+unfolding plain
+plain_past ctrue h = tt
+plain_past (catom a) h = tt
+plain_past (cnot p) h = plain_past p h.1
+plain_past (cand p q) h = (plain_past p h.1, plain_past q h.2)
+plain_past (cuntil i p q) h = absurd h.0
+plain_past (csince i p q) h = (plain_past p h.1, plain_past q h.2)
+
+pub core_stays_future : (p : Formula) → IsFuture p → IsFuture (plain (core p))
+core_stays_future p o = plain_future (core p) (core_future p o)
+
+pub core_stays_past : (p : Formula) → IsPast p → IsPast (plain (core p))
+core_stays_past p o = plain_past (core p) (core_past p o)
 
 -- intervals stay ordered
 neg_ordered : (p : Core) → IsOrdered (plain p) → IsOrdered (plain (neg p))

@@ -1,7 +1,7 @@
 -- A list of known values is fixed by what is known: the longest known list is one, and two ways to know that agree as
 -- far as both reach have one list.
 
-use Rattle.std.proofs.Common.{◌≡◌, ℕ, zero, suc, ◌<◌, ◌≤◌, Bool, Option, Some, None, List, [], ◌∷◌, length, slice_get, refl, ap, ap₂, arith}
+use Rattle.std.proofs.Common.{◌≡◌, ℕ, zero, suc, ◌<◌, ◌≤◌, Option, Some, None, List, [], ◌∷◌, length, slice_get, refl, ap, ap₂, arith}
 use Rattle.mltl_base.specs.Verdicts.{followed, known_front, IsLongestKnown}
 use Rattle.mltl_base.proofs.Order.{Below, Found}
 use Rattle.mltl_base.proofs.Fronts.{front_fits, front_below, found_within}
@@ -44,7 +44,7 @@ front_self (v ∷ vs) zero h = absurd (omega arith)
 front_self (v ∷ vs) (suc n) h = ap (◌∷◌ v) (front_self vs n (omega arith))
 
 -- the values of the list, and that it ends only where k isn't known
-same_value : {X : Type 0} (x y : Option X) → Found x → Below x y → y ≡ x
+pub same_value : {X : Type 0} (x y : Option X) → Found x → Below x y → y ≡ x
 same_value None y f h = absurd f
 same_value (Some v) y f h = h
 
@@ -60,7 +60,7 @@ unfolding known_front
 front_unknown k zero l = absurd (omega arith)
 front_unknown k (suc n) l = ends_cases (k 0) (known_front (λ t. k (suc t)) n) k n refl (front_unknown (λ t. k (suc t)) n) l
 
-pub front_longest : (k : ℕ → Option Bool) (n : ℕ) → IsLongestKnown k n (known_front k n)
+pub front_longest : {X : Type 0} (k : ℕ → Option X) (n : ℕ) → IsLongestKnown k n (known_front k n)
 front_longest k n = record { fits = front_fits k n; values = front_value k n; longest = front_unknown k n }
 
 -- the list is the known one where it gives k's value at each of its places, and k knows no more
@@ -73,5 +73,5 @@ known_only k (suc n) (v ∷ vs) l f e =
     let g : k 0 ≡ Some v = f 0 (omega arith) in
     rw g (ap (◌∷◌ v) (known_only (λ t. k (suc t)) n vs (omega arith) (λ t c. f (suc t) (omega arith)) (λ c. e (omega arith))))
 
-pub longest_only : (k : ℕ → Option Bool) (n : ℕ) (vs : List Bool) → IsLongestKnown k n vs → vs ≡ known_front k n
+pub longest_only : {X : Type 0} (k : ℕ → Option X) (n : ℕ) (vs : List X) → IsLongestKnown k n vs → vs ≡ known_front k n
 longest_only k n vs h = known_only k n vs h.fits h.values h.longest

@@ -2,18 +2,20 @@
 
 use Rattle.std.proofs.Common.{◌≡◌, ℕ, zero, suc, ◌+◌, ◌<◌, ◌≤◌, max, Bool, true, false, Option, Some, None, List, [], ◌∷◌, ◌++◌, length, map, slice_get, refl, sym, arith, length-append}
 use Rattle.std.proofs.lemmas.List.{length-map, map-append}
+use Rattle.std.proofs.lemmas.Option.{slice_get_within}
 use Rattle.mltl_base.specs.declared.report.Word.{Word}
 use Rattle.mltl_base.specs.Atoms.{Row}
-use Rattle.mltl_base.specs.Formula.{wpd}
+use Rattle.mltl_base.specs.Formula.{Formula, wpd}
 use Rattle.mltl_base.specs.Meaning.{sat}
-use Rattle.mltl_base.specs.Verdicts.{verdicts}
+use Rattle.mltl_base.specs.Verdicts.{verdicts, IsLongestKnown}
 use Rattle.mltl_base.specs.Settled.{IsPrefix}
-use Rattle.mltl_base.specs.Reports.{Output, formula, contract, word_of, status, words, status_of, meaning, delay, IsSettled}
+use Rattle.mltl_base.specs.Reports.{Output, formula, contract, word_of, status, known_status, words, status_of, meaning, delay, IsSettled}
 use Rattle.mltl_base.proofs.Order.{Below, below_trans, Found}
 use Rattle.mltl_base.proofs.Fronts.{front_fits, front_below, front_prefix, prefix_below, front_within, found_within}
 use Rattle.mltl_base.proofs.Prefixes.{verdicts_begin}
 use Rattle.mltl_base.proofs.Settling.{verdicts_right, verdicts_in_time}
 use Rattle.mltl_base.proofs.Bounds.{verdicts_fit}
+use Rattle.mltl_base.proofs.Unique.{front_longest}
 
 below_status : (x y u v : Option Bool) → Below x u → Below y v → Below (status x y) (status u v)
 below_status None y u v p q = tt
@@ -88,3 +90,13 @@ pub word_known : (rows : List Row) (o : Output) (t : ℕ) → t + delay o < leng
 word_known rows o t l =
     let h : length rows ≤ length (words rows o) + delay o = words_in_time rows o in
     found_word (slice_get (words rows o) t) (meaning rows o t) (found_within (words rows o) t (omega arith)) (words_right rows o t)
+
+pub word_within : (rows : List Row) (o : Output) (t : ℕ) (w : Word) → slice_get (words rows o) t ≡ Some w → t < length rows
+word_within rows o t w e =
+    let l : t < length (words rows o) = slice_get_within (words rows o) t w e in
+    let h : length (words rows o) ≤ length rows = words_fit rows o in
+    omega arith
+
+pub contract_longest : (rows : List Row) (p q : Formula) → IsLongestKnown (known_status rows p q) (length rows) (words rows (contract p q))
+unfolding words
+contract_longest rows p q = front_longest (known_status rows p q) (length rows)

@@ -1,4 +1,5 @@
 -- Whole-number expressions and atoms, and what they are on one row.
+-- A reader of the contracts needs this file.
 
 use Rattle.std.specs.Prelude.{ℕ, ℤ, pos, neg_ℤ, ◌+ℤ◌, ◌-ℤ◌, ◌*ℤ◌, int_div, int_rem, int_lt, int_le, Bool, not, List, slice_index_or, slice_index}
 use Rattle.std.specs.Ordering.{int_eq}
@@ -28,6 +29,7 @@ pub data Atom : Type 0 where
   greater : Term → Term → Atom
   at_least : Term → Term → Atom
 
+-- the whole number in a column of a row; 0 where the row has no such column
 abbrev pub in_column : Row → ℕ → ℤ
 in_column row c = slice_index_or row c (pos 0)
 
@@ -52,7 +54,7 @@ holds (different a b) row = not (int_eq (value a row) (value b row))
 holds (greater a b) row = int_lt (value b row) (value a row)
 holds (at_least a b) row = int_le (value b row) (value a row)
 
--- the expression, and the atom, with each signal's number replaced by the signal's column
+-- the expression with each signal's number replaced by the signal's column
 unfoldable pub term_over : List ℕ → Term → Term
 term_over columns (column s) = column (slice_index columns s)
 term_over columns (constant n) = constant n
@@ -63,6 +65,7 @@ term_over columns (times a b) = times (term_over columns a) (term_over columns b
 term_over columns (quotient a b) = quotient (term_over columns a) (term_over columns b)
 term_over columns (remainder a b) = remainder (term_over columns a) (term_over columns b)
 
+-- the atom with each signal's number replaced by the signal's column
 unfoldable pub atom_over : List ℕ → Atom → Atom
 atom_over columns (is_true s) = is_true (slice_index columns s)
 atom_over columns (equal a b) = equal (term_over columns a) (term_over columns b)

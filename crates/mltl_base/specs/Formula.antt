@@ -1,6 +1,7 @@
 -- Formulas of Mission-time LTL, their core forms and their propagation delays.
 -- Sources: Li, Vardi and Rozier (2019) for the future operators, Kempa and others (2020) for the delays. The past
 -- operators are this product's own.
+-- A reader of the contracts needs this file.
 
 use Rattle.std.specs.Prelude.{ℕ, ◌+◌, min, max, List}
 use Rattle.mltl_base.specs.declared.interval.Interval.{Interval}
@@ -74,6 +75,27 @@ core (release i p q) = neg (cuntil i (neg (core p)) (neg (core q)))
 core (once i p) = csince i ctrue (core p)
 core (historically i p) = neg (csince i ctrue (neg (core p)))
 core (since i p q) = csince i (core p) (core q)
+
+-- a comparison that instructions have
+abbrev pub IsCoreAtom : Atom → Type 0
+IsCoreAtom (different a b) = ⊥
+IsCoreAtom (greater a b) = ⊥
+IsCoreAtom (at_least a b) = ⊥
+IsCoreAtom _ = Unit {0}
+
+-- a core formula that is no negation
+abbrev pub IsNoNegation : Core → Type 0
+IsNoNegation (cnot p) = ⊥
+IsNoNegation _ = Unit {0}
+
+-- a core formula without a negation of a negation, and without comparisons that instructions don't have
+unfoldable pub IsReduced : Core → Type 0
+IsReduced ctrue = Unit {0}
+IsReduced (catom a) = IsCoreAtom a
+IsReduced (cnot p) = IsNoNegation p × IsReduced p
+IsReduced (cand p q) = IsReduced p × IsReduced q
+IsReduced (cuntil i p q) = IsReduced p × IsReduced q
+IsReduced (csince i p q) = IsReduced p × IsReduced q
 
 -- the worst-case propagation delay, in rows: 0 of a past formula
 unfoldable pub wpd : Formula → ℕ

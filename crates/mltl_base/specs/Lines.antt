@@ -1,4 +1,5 @@
 -- The text of reports.
+-- A reader of the contracts needs this file.
 
 use Rattle.std.specs.Prelude.{ℕ, List, [], ◌++◌, map, codes, decimal, slice_index_or}
 use Rattle.std.specs.List.{concat}

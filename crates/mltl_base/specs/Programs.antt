@@ -1,4 +1,5 @@
 -- What the instructions of an observer program unfold to, and the rows that fit it.
+-- A reader of the contracts needs this file.
 
 use Rattle.std.specs.Prelude.{ℕ, ◌≡◌, ◌⊎◌, pos, Option, Some, None, List, [], ◌∷◌, ◌++◌, length, map, slice_get, slice_index_or, All, FitsSigned}
 use Rattle.std.specs.Int.{w32}
@@ -18,12 +19,15 @@ pub data Expression : Type 0 where
   whole : Term → Expression
   truth : Atom → Expression
 
--- the whole number that stands at a place, and the truth: of another kind of place nothing is asked
+-- the whole number that stands at a place. An operand of a well-formed program always names one; 0 is for the other
+-- cases, which a definition has to cover and no well-formed program meets
 abbrev pub term_of : Option Expression → Term
 term_of (Some (whole e)) = e
 term_of (Some (truth a)) = constant (pos 0)
 term_of None = constant (pos 0)
 
+-- the truth that stands at a place. A Load of a well-formed program always names one; the truth of column 0 is for the
+-- other cases, which no well-formed program meets
 abbrev pub atom_of : Option Expression → Atom
 atom_of (Some (truth a)) = a
 atom_of (Some (whole e)) = is_true 0
@@ -61,11 +65,11 @@ expressions ops = expressions_after [] ops
 abbrev pub atoms : List bz.BzOp → List Atom
 atoms ops = map (λ e. atom_of (Some e)) (expressions ops)
 
--- the core formula of instruction n, over those before
+-- the core formula of instruction n, over those before; true, which no well-formed program meets, where n is none of them
 abbrev pub core_at : List Core → ℕ → Core
 core_at before n = slice_index_or before n ctrue
 
--- the formula of an instruction, over the atoms that are loaded and the formulas of the instructions before it
+-- the formula of an ft instruction, over the atoms that are loaded and the formulas of the instructions before it
 abbrev pub formula_of : List Atom → List Core → ft.FtOp → Core
 formula_of loaded before ft.TheVariants.True = ctrue
 formula_of loaded before (ft.TheVariants.Load a) = catom (slice_index_or loaded a (is_true 0))
@@ -73,6 +77,7 @@ formula_of loaded before (ft.TheVariants.Not a) = cnot (core_at before a)
 formula_of loaded before (ft.TheVariants.And a b) = cand (core_at before a) (core_at before b)
 formula_of loaded before (ft.TheVariants.Until a b i) = cuntil i (core_at before a) (core_at before b)
 
+-- the formula of a pt instruction, in the same way
 abbrev pub past_formula_of : List Atom → List Core → pt.PtOp → Core
 past_formula_of loaded before pt.TheVariants.True = ctrue
 past_formula_of loaded before (pt.TheVariants.Load a) = catom (slice_index_or loaded a (is_true 0))
@@ -80,19 +85,21 @@ past_formula_of loaded before (pt.TheVariants.Not a) = cnot (core_at before a)
 past_formula_of loaded before (pt.TheVariants.And a b) = cand (core_at before a) (core_at before b)
 past_formula_of loaded before (pt.TheVariants.Since a b i) = csince i (core_at before a) (core_at before b)
 
--- the formulas of further instructions, after those before
+-- the formulas of further ft instructions, after those before
 unfoldable pub formulas_after : List Atom → List Core → List ft.FtOp → List Core
 formulas_after loaded before [] = before
 formulas_after loaded before (op ∷ ops) = formulas_after loaded (before ++ formula_of loaded before op ∷ []) ops
 
+-- the formulas of further pt instructions, after those before
 unfoldable pub past_formulas_after : List Atom → List Core → List pt.PtOp → List Core
 past_formulas_after loaded before [] = before
 past_formulas_after loaded before (op ∷ ops) = past_formulas_after loaded (before ++ past_formula_of loaded before op ∷ []) ops
 
--- the formulas of all instructions of an engine, in order
+-- the formulas of all ft instructions, in order
 abbrev pub formulas : List Atom → List ft.FtOp → List Core
 formulas loaded ops = formulas_after loaded [] ops
 
+-- the formulas of all pt instructions, in order
 abbrev pub past_formulas : List Atom → List pt.PtOp → List Core
 past_formulas loaded ops = past_formulas_after loaded [] ops
 
@@ -116,10 +123,11 @@ abbrev pub name_of : out.Out → List ℕ
 name_of (out.TheVariants.Formula engine i name) = name
 name_of (out.TheVariants.Contract engine i j name) = name
 
--- the outputs of a program with their formulas, and their names
+-- the outputs of a program with their formulas
 abbrev pub outputs : Program → List Output
 outputs program = map (output_of program) program.outs
 
+-- the names of the outputs of a program
 abbrev pub output_names : Program → List (List ℕ)
 output_names program = map name_of program.outs
 

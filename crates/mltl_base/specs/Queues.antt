@@ -1,8 +1,9 @@
 -- The propagation delays of ft instructions, the lengths of their queues, and the boxes of pt instructions.
 -- Source: Kempa and others (2020) for delays and shared queues. That an instruction counts among its own siblings,
 -- and the boxes of the past, are this product's own.
+-- A reader of the contracts needs this file.
 
-use Rattle.std.specs.Prelude.{ℕ, ◌+◌, ◌-◌, ◌*◌, ◌/◌, ◌≤◌, ◌<◌, ◌==◌, List, [], ◌∷◌, ◌++◌, min, max, map, sum, length, slice_index, slice_index_or, if◌then◌else◌}
+use Rattle.std.specs.Prelude.{ℕ, ◌+◌, ◌-◌, ◌/◌, ◌≤◌, ◌<◌, ◌==◌, List, [], ◌∷◌, ◌++◌, min, max, map, sum, length, slice_index, slice_index_or, if◌then◌else◌}
 use Rattle.std.specs.List.{list_any, range_with_len}
 use Rattle.mltl_base.specs.declared.interval.Engine.TheVariants.{Ft, Pt}
 use Rattle.mltl_base.specs.declared.interval.Interval.{Interval}
@@ -136,6 +137,7 @@ HasBounds limit (Not g) = Unit {0}
 HasBounds limit (And l r) = Unit {0}
 HasBounds limit (Until l r i) = (i.lo ≤ i.hi) × (i.hi ≤ limit)
 
+-- the interval of a pt instruction, if it has one, runs upward and ends within the limit
 abbrev pub HasPastBounds : ℕ → pt.PtOp → Type 0
 HasPastBounds limit pt.TheVariants.True = Unit {0}
 HasPastBounds limit (pt.TheVariants.Load a) = Unit {0}

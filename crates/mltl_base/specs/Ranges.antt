@@ -1,5 +1,6 @@
 -- The range of a whole-number expression: the least and the greatest value that it is taken to have, from the ranges
 -- of its operands.
+-- A reader of the contracts needs this file.
 
 use Rattle.std.specs.Prelude.{◌-◌, ℤ, pos, negsuc, neg_ℤ, ◌+ℤ◌, ◌-ℤ◌, ◌*ℤ◌, ◌≤ℤ◌, int_div, int_le, unsigned_abs, Bool, not, ◌&&◌, if◌then◌else◌, FitsSigned, Result, Ok, Err}
 use Rattle.std.specs.Ordering.{int_eq}
@@ -16,9 +17,11 @@ pub data NoRange : Type 0 where
   divisor : NoRange
   wide : NoRange
 
+-- a range, or why there is none
 abbrev pub Ranged : Type 0
 Ranged = Result Range NoRange
 
+-- the range from l to g
 abbrev pub range_from : ℤ → ℤ → Range
 range_from l g = record { least = l; greatest = g }
 
@@ -26,10 +29,11 @@ range_from l g = record { least = l; greatest = g }
 abbrev pub IsIn : Range → ℤ → Type 0
 IsIn r z = (r.least ≤ℤ z) × (z ≤ℤ r.greatest)
 
--- the ends of 64 bits with a sign
+-- the least whole number of 64 bits with a sign
 abbrev pub least_word : ℤ
 least_word = negsuc 9223372036854775807
 
+-- the greatest whole number of 64 bits with a sign
 abbrev pub greatest_word : ℤ
 greatest_word = pos 9223372036854775807
 
@@ -41,28 +45,30 @@ in_word r = if int_le least_word r.least && int_le r.greatest greatest_word then
 abbrev pub signal_range : Range
 signal_range = range_from (negsuc 2147483647) (pos 2147483647)
 
--- from the operands' ends
+-- the range of -x, from that of x
 abbrev pub negated : Range → Range
 negated r = range_from (neg_ℤ r.greatest) (neg_ℤ r.least)
 
+-- the range of x + y, from those of x and y
 abbrev pub summed : Range → Range → Range
 summed r s = range_from (r.least +ℤ s.least) (r.greatest +ℤ s.greatest)
 
+-- the range of x - y, from those of x and y
 abbrev pub lessened : Range → Range → Range
 lessened r s = range_from (r.least -ℤ s.greatest) (r.greatest -ℤ s.least)
 
--- the least and the greatest of the four products of ends
+-- the range of x * y: from the least to the greatest of the four products of ends
 abbrev pub multiplied : Range → Range → Range
 multiplied r s =
     range_from
     (int_min (int_min (r.least *ℤ s.least) (r.least *ℤ s.greatest)) (int_min (r.greatest *ℤ s.least) (r.greatest *ℤ s.greatest)))
     (int_max (int_max (r.least *ℤ s.least) (r.least *ℤ s.greatest)) (int_max (r.greatest *ℤ s.least) (r.greatest *ℤ s.greatest)))
 
--- the least and the greatest of the two quotients of ends
+-- the range of x / c: from the least to the greatest of the two quotients of ends
 abbrev pub divided : Range → ℤ → Range
 divided r c = range_from (int_min (int_div r.least c) (int_div r.greatest c)) (int_max (int_div r.least c) (int_div r.greatest c))
 
--- up to one less than the divisor's magnitude, with the signs that the left operand may have
+-- the range of x % c: up to one less than the divisor's magnitude, with the signs that the left operand may have
 abbrev pub left_over : Range → ℤ → Range
 left_over r c =
     if int_le (pos 0) r.least then range_from (pos 0) (pos (unsigned_abs c - 1))
@@ -73,16 +79,18 @@ left_over r c =
 abbrev pub divides : Range → Bool
 divides s = int_eq s.least s.greatest && not (int_eq s.least (pos 0))
 
--- the range by the operands' ranges, where they have them: the left one first
+-- the range by that of the operand, where it has one
 abbrev pub over : (Range → Range) → Ranged → Ranged
 over f (Ok r) = in_word (f r)
 over f (Err why) = Err why
 
+-- the range by those of both operands, where they have them; of two faults the left operand's is told
 abbrev pub over_both : (Range → Range → Range) → Ranged → Ranged → Ranged
 over_both f (Ok r) (Ok s) = in_word (f r s)
 over_both f (Ok r) (Err why) = Err why
 over_both f (Err why) s = Err why
 
+-- the same, where the right operand has to be a divisor
 abbrev pub over_divisor : (Range → ℤ → Range) → Ranged → Ranged → Ranged
 over_divisor f (Ok r) (Ok s) = if divides s then in_word (f r s.least) else Err divisor
 over_divisor f (Ok r) (Err why) = Err why

@@ -1,6 +1,8 @@
 -- The words of an output that are known, and the reports that a monitor makes of them.
+-- A reader of the contracts needs this file.
 
 use Rattle.std.specs.Prelude.{ℕ, suc, ◌+◌, ◌-◌, ◌<◌, ◌≤◌, ◌≡◌, ◌==◌, Bool, true, false, if◌then◌else◌, MatchBool, max, Option, Some, None, List, [], ◌∷◌, ◌++◌, length, map, drop, replicate, slice_get}
+use Rattle.std.specs.List.{filter, AllAdjacentBelow}
 use Rattle.mltl_base.specs.declared.report.Word.{Word}
 use Rattle.mltl_base.specs.declared.report.Word.TheVariants.{True, False, Inactive, Invalid, Verified}
 use Rattle.mltl_base.specs.declared.report.Style.{Style}
@@ -28,10 +30,14 @@ status (Some true) (Some false) = Some Invalid
 status (Some true) (Some true) = Some Verified
 status _ _ = None
 
+-- the status of a contract at time t, from the known verdicts of its two formulas
+abbrev pub known_status : List Row → Formula → Formula → ℕ → Option Word
+known_status rows p q t = status (slice_get (verdicts rows p) t) (slice_get (verdicts rows q) t)
+
 -- the words of an output that are known after the rows
 unfoldable pub words : List Row → Output → List Word
 words rows (formula p) = map word_of (verdicts rows p)
-words rows (contract p q) = known_front (λ t. status (slice_get (verdicts rows p) t) (slice_get (verdicts rows q) t)) (length rows)
+words rows (contract p q) = known_front (known_status rows p q) (length rows)
 
 -- the two words are one
 abbrev pub same_word : Word → Word → Bool
@@ -91,12 +97,22 @@ reports_after style outs rows (r ∷ more) = of_row style 0 outs rows r ++ repor
 abbrev pub reports : Style → List Output → List Row → List Report
 reports style outs rows = reports_after style outs [] rows
 
--- the words that the reports of output k tell, where those of the times below t were told before: a report tells its
--- word of each time from there up to its own
+-- what a report tells, where the words of the times below t were told before: its word for each time from t to its own
+abbrev pub told_by : ℕ → Report → List Word
+told_by t r = replicate (suc r.time - t) r.word
+
+-- what the reports of output k tell from time t on: the first its words up to its time, the next the words after that
 unfoldable pub told : ℕ → ℕ → List Report → List Word
 told k t [] = []
-told k t (r ∷ rs) =
-    if r.out == k then replicate (suc r.time - t) r.word ++ told k (suc r.time) rs else told k t rs
+told k t (r ∷ rs) = if r.out == k then told_by t r ++ told k (suc r.time) rs else told k t rs
+
+-- the reports of output k
+abbrev pub reports_of : ℕ → List Report → List Report
+reports_of k rs = filter (λ r. r.out == k) rs
+
+-- neighbours among the reports differ in their word
+abbrev pub AreDistinctBeside : List Report → Type 0
+AreDistinctBeside rs = AllAdjacentBelow (λ r s. r.word ≡ s.word → ⊥) rs (length rs)
 
 -- the reports of output k speak of later and later times, from t on
 unfoldable pub IsRising : ℕ → ℕ → List Report → Type 0

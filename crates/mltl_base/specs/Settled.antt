@@ -1,4 +1,5 @@
 -- What of the verdicts holds whatever rows follow.
+-- A reader of the contracts needs this file.
 
 use Rattle.std.specs.Prelude.{ℕ, ◌+◌, ◌<◌, ◌≤◌, ◌≡◌, Bool, List, ◌++◌, length}
 use Rattle.mltl_base.specs.Atoms.{Row}
@@ -12,6 +13,11 @@ IsPrefix {X} xs ys = (zs : List X) × (ys ≡ xs ++ zs)
 -- each list of rows that begins with these, and is long enough to decide the formula at t, gives it the value v there
 abbrev pub Settled : List Row → Formula → ℕ → Bool → Type 0
 Settled rows p t v = (more : List Row) → t + wpd p < length (rows ++ more) → sat (rows ++ more) p t ≡ v
+
+-- the same, over those lists of further rows alone that are of the class: rows that fit a program, say
+abbrev pub SettledAmong : (List Row → Type 0) → List Row → Formula → ℕ → Bool → Type 0
+SettledAmong IsIn rows p t v =
+    (more : List Row) → IsIn more → t + wpd p < length (rows ++ more) → sat (rows ++ more) p t ≡ v
 
 -- each interval runs upward
 abbrev pub IsOrdered : Formula → Type 0

@@ -1,5 +1,6 @@
 -- The distinct subformulas and expressions of the outputs of a specification, in order of first completion, and the
 -- instructions that stand for them.
+-- A reader of the contracts needs this file.
 
 use Rattle.std.specs.Prelude.{◌≡◌, ℕ, suc, ◌==◌, Bool, true, false, ◌&&◌, ◌||◌, if◌then◌else◌, List, [], ◌∷◌, ◌++◌, map, flat_map, fold, All}
 use Rattle.std.specs.Ordering.{int_eq}
@@ -16,12 +17,13 @@ use Rattle.mltl_base.specs.Atoms.{Term, column, constant, negative, plus, minus,
 use Rattle.mltl_base.specs.Formula.{Formula, Core, ctrue, catom, cnot, cand, cuntil, csince, plain, core}
 use Rattle.mltl_base.specs.Settled.{IsFuture, IsPast}
 use Rattle.mltl_base.specs.Reports.{Output, formula, contract}
-use Rattle.mltl_base.specs.Programs.{Expression, whole, truth}
+use Rattle.mltl_base.specs.Programs.{Expression, whole, truth, output_of}
 
--- the two are one
+-- two intervals are one
 abbrev pub same_interval : Interval → Interval → Bool
 same_interval i j = i.lo == j.lo && i.hi == j.hi
 
+-- two whole-number expressions are one
 unfoldable pub same_term : Term → Term → Bool
 same_term (column c) (column d) = c == d
 same_term (constant n) (constant m) = int_eq n m
@@ -33,6 +35,7 @@ same_term (quotient a b) (quotient c d) = same_term a c && same_term b d
 same_term (remainder a b) (remainder c d) = same_term a c && same_term b d
 same_term _ _ = false
 
+-- two atoms are one
 unfoldable pub same_atom : Atom → Atom → Bool
 same_atom (is_true c) (is_true d) = c == d
 same_atom (equal a b) (equal c d) = same_term a c && same_term b d
@@ -43,11 +46,13 @@ same_atom (greater a b) (greater c d) = same_term a c && same_term b d
 same_atom (at_least a b) (at_least c d) = same_term a c && same_term b d
 same_atom _ _ = false
 
+-- two expressions of the Booleanizer are one
 unfoldable pub same_expression : Expression → Expression → Bool
 same_expression (whole a) (whole b) = same_term a b
 same_expression (truth a) (truth b) = same_atom a b
 same_expression _ _ = false
 
+-- two core formulas are one
 unfoldable pub same : Core → Core → Bool
 same ctrue ctrue = true
 same (catom a) (catom b) = same_atom a b
@@ -57,11 +62,12 @@ same (cuntil i p q) (cuntil j r s) = same_interval i j && (same p r && same q s)
 same (csince i p q) (csince j r s) = same_interval i j && (same p r && same q s)
 same _ _ = false
 
--- one of the list is the same as x, and the place of the first such
+-- some member of the list is the same as x
 unfoldable pub listed : {X : Type 0} → (X → X → Bool) → X → List X → Bool
 listed alike x [] = false
 listed alike x (y ∷ ys) = alike x y || listed alike x ys
 
+-- the place of the first member that is the same as x; the length of the list where there is none
 unfoldable pub place_of : {X : Type 0} → (X → X → Bool) → X → List X → ℕ
 place_of alike x [] = 0
 place_of alike x (y ∷ ys) = if alike x y then 0 else suc (place_of alike x ys)
@@ -79,7 +85,7 @@ add_subformulas (cand p q) ps = add_new same (cand p q) (add_subformulas q (add_
 add_subformulas (cuntil i p q) ps = add_new same (cuntil i p q) (add_subformulas q (add_subformulas p ps))
 add_subformulas (csince i p q) ps = add_new same (csince i p q) (add_subformulas q (add_subformulas p ps))
 
--- the list with the whole numbers of an expression that aren't listed, and with those and the truth of an atom
+-- the list with the whole numbers of an expression that are not listed: operands first, from left to right
 unfoldable pub add_terms : Term → List Expression → List Expression
 add_terms (column c) es = add_new same_expression (whole (column c)) es
 add_terms (constant n) es = add_new same_expression (whole (constant n)) es
@@ -90,6 +96,7 @@ add_terms (times a b) es = add_new same_expression (whole (times a b)) (add_term
 add_terms (quotient a b) es = add_new same_expression (whole (quotient a b)) (add_terms b (add_terms a es))
 add_terms (remainder a b) es = add_new same_expression (whole (remainder a b)) (add_terms b (add_terms a es))
 
+-- the list with the whole numbers that an atom compares
 abbrev pub add_operands : Atom → List Expression → List Expression
 add_operands (is_true c) es = es
 add_operands (equal a b) es = add_terms b (add_terms a es)
@@ -99,10 +106,11 @@ add_operands (different a b) es = add_terms b (add_terms a es)
 add_operands (greater a b) es = add_terms b (add_terms a es)
 add_operands (at_least a b) es = add_terms b (add_terms a es)
 
+-- the list with the whole numbers of an atom, and then its truth
 abbrev pub add_atom : Atom → List Expression → List Expression
 add_atom a es = add_new same_expression (truth a) (add_operands a es)
 
--- the same over the atoms of a core formula, from left to right
+-- the list with the expressions of the atoms of a core formula, from left to right
 unfoldable pub add_expressions : Core → List Expression → List Expression
 add_expressions ctrue es = es
 add_expressions (catom a) es = add_atom a es
@@ -122,35 +130,40 @@ abbrev pub cores_of_output : Output → List Core
 cores_of_output (formula p) = core p ∷ []
 cores_of_output (contract p q) = core p ∷ core q ∷ []
 
+-- the formulas of an output: in a contract the left one first
 abbrev pub formulas_of : Output → List Formula
 formulas_of (formula p) = p ∷ []
 formulas_of (contract p q) = p ∷ q ∷ []
 
+-- two engines are one
 abbrev pub same_engine : Engine → Engine → Bool
 same_engine Ft Ft = true
 same_engine Pt Pt = true
 same_engine Ft Pt = false
 same_engine Pt Ft = false
 
--- the core formulas of all outputs, and of those that an engine evaluates, outputs in order
+-- the core formulas of all outputs, outputs in order
 abbrev pub all_cores : List Asked → List Core
 all_cores outs = flat_map (λ asked. cores_of_output asked.output) outs
 
+-- the core formulas of the outputs that an engine evaluates, outputs in order
 abbrev pub cores_for : Engine → List Asked → List Core
 cores_for engine outs = flat_map (λ asked. if same_engine asked.engine engine then cores_of_output asked.output else []) outs
 
--- the distinct core subformulas of the outputs of an engine, and the distinct expressions of all outputs
+-- the distinct core subformulas of the outputs of an engine
 abbrev pub subformulas : Engine → List Asked → List Core
 subformulas engine outs = fold (λ ps p. add_subformulas p ps) [] (cores_for engine outs)
 
+-- the distinct expressions of all outputs
 abbrev pub bz_expressions : List Asked → List Expression
 bz_expressions outs = fold (λ es p. add_expressions p es) [] (all_cores outs)
 
--- the instruction of an expression, whose operands are numbered by their places in the list; comparisons that core
--- formulas don't have aren't asked for
+-- the number of the instruction of a whole number: its place in the list
 abbrev pub at : List Expression → Term → ℕ
 at es a = place_of same_expression (whole a) es
 
+-- the instruction of an expression, its operands by their numbers; a comparison that core formulas do not have is never
+-- asked for
 abbrev pub bz_instruction : List Expression → Expression → bz.BzOp
 bz_instruction es (whole (column c)) = bz.TheVariants.Column c
 bz_instruction es (whole (constant n)) = bz.TheVariants.Const n
@@ -166,8 +179,8 @@ bz_instruction es (truth (less a b)) = bz.TheVariants.Lt (at es a) (at es b)
 bz_instruction es (truth (at_most a b)) = bz.TheVariants.Le (at es a) (at es b)
 bz_instruction es (truth a) = bz.TheVariants.IsTrue 0
 
--- the instruction of a core formula of the future, and of the past, over the expressions and the listed formulas; an
--- operator of the other tense isn't asked for
+-- the instruction of a core formula of the future, over the expressions and the listed formulas; a formula of the past is
+-- never asked for
 abbrev pub ft_instruction : List Expression → List Core → Core → ft.FtOp
 ft_instruction es ps ctrue = ft.TheVariants.True
 ft_instruction es ps (catom a) = ft.TheVariants.Load (place_of same_expression (truth a) es)
@@ -176,6 +189,7 @@ ft_instruction es ps (cand p q) = ft.TheVariants.And (place_of same p ps) (place
 ft_instruction es ps (cuntil i p q) = ft.TheVariants.Until (place_of same p ps) (place_of same q ps) i
 ft_instruction es ps (csince i p q) = ft.TheVariants.True
 
+-- the instruction of a core formula of the past; a formula of the future is never asked for
 abbrev pub pt_instruction : List Expression → List Core → Core → pt.PtOp
 pt_instruction es ps ctrue = pt.TheVariants.True
 pt_instruction es ps (catom a) = pt.TheVariants.Load (place_of same_expression (truth a) es)
@@ -184,21 +198,24 @@ pt_instruction es ps (cand p q) = pt.TheVariants.And (place_of same p ps) (place
 pt_instruction es ps (csince i p q) = pt.TheVariants.Since (place_of same p ps) (place_of same q ps) i
 pt_instruction es ps (cuntil i p q) = pt.TheVariants.True
 
--- the lists of instructions of a specification
+-- the instructions of the Booleanizer of a specification
 abbrev pub bz_list : List Asked → List bz.BzOp
 bz_list outs = map (bz_instruction (bz_expressions outs)) (bz_expressions outs)
 
+-- the ft instructions of a specification
 abbrev pub ft_list : List Asked → List ft.FtOp
 ft_list outs = map (ft_instruction (bz_expressions outs) (subformulas Ft outs)) (subformulas Ft outs)
 
+-- the pt instructions of a specification
 abbrev pub pt_list : List Asked → List pt.PtOp
 pt_list outs = map (pt_instruction (bz_expressions outs) (subformulas Pt outs)) (subformulas Pt outs)
 
--- and its outputs, by the numbers of their instructions
+-- an output of a program: its formulas by the numbers of their instructions
 abbrev pub out_by : List Core → Engine → List ℕ → Output → out.Out
 out_by ps engine name (formula p) = out.TheVariants.Formula engine (place_of same (core p) ps) name
 out_by ps engine name (contract p q) = out.TheVariants.Contract engine (place_of same (core p) ps) (place_of same (core q) ps) name
 
+-- the outputs of the program of a specification
 abbrev pub out_list : List Asked → List out.Out
 out_list outs = map (λ asked. out_by (subformulas asked.engine outs) asked.engine asked.name asked.output) outs
 
@@ -207,11 +224,23 @@ abbrev pub core_output : Output → Output
 core_output (formula p) = formula (plain (core p))
 core_output (contract p q) = contract (plain (core p)) (plain (core q))
 
+-- an output of a program as one of a specification, by the formulas that its instructions unfold to
+abbrev pub asked_by : Program → out.Out → Asked
+asked_by program (out.TheVariants.Formula engine i name) =
+    record { engine = engine; name = name; output = output_of program (out.TheVariants.Formula engine i name) }
+asked_by program (out.TheVariants.Contract engine i j name) =
+    record { engine = engine; name = name; output = output_of program (out.TheVariants.Contract engine i j name) }
+
+-- the outputs of a program as those of a specification
+abbrev pub unfolded_outputs : Program → List Asked
+unfolded_outputs program = map (asked_by program) program.outs
+
 -- no formula mixes tenses: one of the future engine has no operator of the past, and the other way round
 abbrev pub IsOfTense : Engine → Formula → Type 0
 IsOfTense Ft p = IsFuture p
 IsOfTense Pt p = IsPast p
 
+-- the formulas of an output are of the tense of its engine
 abbrev pub IsTensed : Asked → Type 0
 IsTensed asked = All (IsOfTense asked.engine) (formulas_of asked.output)
 

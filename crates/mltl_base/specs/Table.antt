@@ -1,4 +1,5 @@
 -- The table of the operators, in words: what a formula says of the rows at a time.
+-- A reader of the contracts needs this file: it is the meaning to be read, and a law says that the function is the same.
 
 use Rattle.std.specs.Prelude.{ℕ, ◌+◌, ◌-◌, ◌<◌, ◌≤◌, ◌⊎◌, IsTrue, List, [], slice_index_or}
 use Rattle.mltl_base.specs.declared.interval.Interval.{Interval}

@@ -1,5 +1,6 @@
 -- The verdicts that are known after some rows: the longest prefix of times at which the strong Kleene value of the
 -- formula's operator is known, over what is known of its operands.
+-- A reader of the contracts needs this file.
 
 use Rattle.std.specs.Prelude.{ℕ, zero, suc, ◌+◌, ◌-◌, ◌<◌, ◌≤◌, ◌≡◌, nat_lt, Bool, true, false, not, ◌&&◌, if◌then◌else◌, Option, Some, None, List, [], ◌∷◌, length, map, slice_get}
 use Rattle.std.specs.Option.{is_some}
@@ -111,7 +112,7 @@ abbrev pub known_by_time : List Row → Formula → Known
 known_by_time rows p = without_gap (length rows) (kleene_over (without_gap (length rows)) rows p)
 
 -- the list holds the values of k from time 0 on, as far as they are known, and at most n of them
-pub record IsLongestKnown (k : ℕ → Option Bool) (n : ℕ) (vs : List Bool) : Type 0 where
+pub record IsLongestKnown {X : Type 0} (k : ℕ → Option X) (n : ℕ) (vs : List X) : Type 0 where
   pub fits : length vs ≤ n
   pub values : (t : ℕ) → t < length vs → k t ≡ slice_get vs t
   pub longest : length vs < n → k (length vs) ≡ None

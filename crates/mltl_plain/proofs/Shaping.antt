@@ -10,32 +10,31 @@ use Rattle.mltl_base.specs.declared.operators.BetweenOp as between_op
 use Rattle.mltl_base.specs.Atoms.{Row, Atom, holds}
 use Rattle.mltl_base.specs.Formula.{Formula, truth, falsity, atom, negation, conjunction, disjunction, implication, equivalence, finally, globally, until, release, once, historically, since}
 use Rattle.mltl_base.specs.Meaning.{sat}
-use Rattle.mltl_base.specs.Verdicts.{known_front, verdicts, k_negation}
+use Rattle.mltl_base.specs.Verdicts.{known_front, kleene_over, verdicts, k_negation}
 use Rattle.mltl_base.proofs.Order.{Below}
 use Rattle.mltl_base.proofs.Settling.{verdicts_right}
 use Rattle.mltl_base.proofs.Unique.{known_only}
+use Rattle.mltl_base.proofs.Leaves as leaves
 use Rattle.mltl_plain.specs.declared.formula.Formula.{Formula as Tree}
 use Rattle.mltl_plain.specs.Shapes.{truth_of, formula_of, logic, window, between}
 use Rattle.mltl_plain.specs.Computing.{k_logic, k_window, k_between, ComputesAll, ComputesAtom}
 
 pub truth_verdicts : (b : Bool) (rows : List Row) → verdicts rows (truth_of b) ≡ map (λ r. b) rows
-unfolding verdicts
-truth_verdicts true rows = refl
-truth_verdicts false rows = refl
+truth_verdicts true rows = leaves.truth_verdicts rows
+truth_verdicts false rows = leaves.falsity_verdicts rows
 
 pub atom_verdicts : (a : Atom) (rows : List Row) → verdicts rows (atom a) ≡ map (holds a) rows
-unfolding verdicts
-atom_verdicts a rows = refl
+atom_verdicts a rows = leaves.atom_verdicts rows a
 
 -- the operands are reached through pointers: u and v are what these point to
 pub not_verdicts : (p u : Tree) (rows : List Row) (ps : List Bool) → ps ≡ verdicts rows (formula_of u) → u ≡ p →
     verdicts rows (negation (formula_of p)) ≡ known_front (k_negation (slice_get ps)) (length rows)
-unfolding verdicts
+unfolding verdicts kleene_over
 not_verdicts p u rows ps e g = rw (e, g) refl
 
 pub logic_verdicts : (op : logic_op.LogicOp) (p q u v : Tree) (rows : List Row) (ps qs : List Bool) → ps ≡ verdicts rows (formula_of u) → qs ≡ verdicts rows (formula_of v) → u ≡ p → v ≡ q →
     verdicts rows (logic op (formula_of p) (formula_of q)) ≡ known_front (k_logic op (slice_get ps) (slice_get qs)) (length rows)
-unfolding verdicts
+unfolding verdicts kleene_over
 logic_verdicts logic_op.TheVariants.And p q u v rows ps qs e f g h = rw (e, f, g, h) refl
 logic_verdicts logic_op.TheVariants.Or p q u v rows ps qs e f g h = rw (e, f, g, h) refl
 logic_verdicts logic_op.TheVariants.Implies p q u v rows ps qs e f g h = rw (e, f, g, h) refl
@@ -43,7 +42,7 @@ logic_verdicts logic_op.TheVariants.Iff p q u v rows ps qs e f g h = rw (e, f, g
 
 pub window_verdicts : (op : window_op.WindowOp) (i : Interval) (p u : Tree) (rows : List Row) (ps : List Bool) → ps ≡ verdicts rows (formula_of u) → u ≡ p →
     verdicts rows (window op i (formula_of p)) ≡ known_front (k_window op i (slice_get ps)) (length rows)
-unfolding verdicts
+unfolding verdicts kleene_over
 window_verdicts window_op.TheVariants.F i p u rows ps e g = rw (e, g) refl
 window_verdicts window_op.TheVariants.G i p u rows ps e g = rw (e, g) refl
 window_verdicts window_op.TheVariants.O i p u rows ps e g = rw (e, g) refl
@@ -51,7 +50,7 @@ window_verdicts window_op.TheVariants.H i p u rows ps e g = rw (e, g) refl
 
 pub between_verdicts : (op : between_op.BetweenOp) (i : Interval) (p q u v : Tree) (rows : List Row) (ps qs : List Bool) → ps ≡ verdicts rows (formula_of u) → qs ≡ verdicts rows (formula_of v) → u ≡ p → v ≡ q →
     verdicts rows (between op i (formula_of p) (formula_of q)) ≡ known_front (k_between op i (slice_get ps) (slice_get qs)) (length rows)
-unfolding verdicts
+unfolding verdicts kleene_over
 between_verdicts between_op.TheVariants.U i p q u v rows ps qs e f g h = rw (e, f, g, h) refl
 between_verdicts between_op.TheVariants.R i p q u v rows ps qs e f g h = rw (e, f, g, h) refl
 between_verdicts between_op.TheVariants.S i p q u v rows ps qs e f g h = rw (e, f, g, h) refl

@@ -2,9 +2,10 @@
 
 ghost use Rattle.mltl_base.specs.Atoms.{Row};
 ghost use Rattle.mltl_base.specs.Formula.{Core};
-ghost use Rattle.mltl_base.specs.Programs.{Expression, atoms, expressions, formulas, output_names, outputs, past_formulas};
+ghost use Rattle.mltl_base.specs.Programs.{Expression, atoms, cores_of, expressions, formulas, output_names, outputs, past_formulas};
 ghost use Rattle.mltl_base.specs.Reports.{Output, reports};
-ghost use Rattle.mltl_base.specs.Subformulas.{Asked, HasListsOf, IsTensed, bz_expressions, bz_list, core_output, ft_list, pt_list, same, same_expression, subformulas};
+ghost use Rattle.mltl_base.specs.Subformulas.{Asked, HasListsOf, IsTensed, bz_expressions, bz_list, core_output, ft_list, pt_list, same, same_expression, subformulas, unfolded_outputs};
+ghost use Rattle.mltl_base.specs.declared.interval.Engine.{Engine as Evaluator};
 ghost use Rattle.mltl_base.specs.declared.interval.Engine.TheVariants.{Ft as Future, Pt as Past};
 ghost use Rattle.mltl_base.specs.declared.program.Program.{Program as Observer};
 ghost use Rattle.mltl_base.specs.declared.report.Style.{Style as Form};
@@ -37,4 +38,19 @@ pub fn program_means_its_specification()
     ensures reports { (style : Form) (program : Observer) (outs : List Asked) (rows : List Row) →
         HasListsOf outs program → All IsTensed outs →
         reports style (outputs program) rows ≡ reports style (map (λ asked. asked.output) outs) rows }
+{}
+
+/// A program with the lists of a specification is the program of its own outputs: the distinct expressions and
+/// subformulas of the formulas that its outputs unfold to are what its instructions unfold to, in their order.
+#[tactic(auto, using(crate::proofs::Returning::lists_return, crate::proofs::Returning::subformulas_return, crate::proofs::Returning::expressions_return, crate::proofs::Returning::tensed_return))]
+pub fn program_is_that_of_its_outputs()
+    ensures tensed { (program : Observer) (outs : List Asked) → HasListsOf outs program →
+        All IsTensed outs → All IsTensed (unfolded_outputs program) }
+    ensures lists { (program : Observer) (outs : List Asked) → HasListsOf outs program →
+        All IsTensed outs → HasListsOf (unfolded_outputs program) program }
+    ensures subformulas { (program : Observer) (outs : List Asked) (e : Evaluator) →
+        HasListsOf outs program → All IsTensed outs →
+        subformulas e (unfolded_outputs program) ≡ cores_of program e }
+    ensures expressions { (program : Observer) (outs : List Asked) → HasListsOf outs program →
+        All IsTensed outs → bz_expressions (unfolded_outputs program) ≡ expressions program.bz }
 {}
