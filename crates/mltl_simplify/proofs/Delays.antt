@@ -4,7 +4,7 @@ use Rattle.std.proofs.Math.Nat.{le-max_left, le-max_right, max-le}
 use Rattle.mltl_base.specs.Atoms.{Row}
 use Rattle.mltl_base.specs.Formula.{Formula, truth, falsity, atom, negation, conjunction, disjunction, implication, equivalence, finally, globally, until, release, once, historically, since, wpd}
 use Rattle.mltl_base.specs.Meaning.{sat}
-use Rattle.mltl_base.specs.Settled.{IsOrdered, Settled}
+use Rattle.mltl_base.specs.Settled.{IsOrdered, Settled, SettledAmong}
 use Rattle.mltl_base.specs.Verdicts.{verdicts}
 use Rattle.mltl_base.proofs.Settling.{verdict_known, verdict_settled}
 use Rattle.mltl_simplify.specs.Simplify.{simp, truth_of}
@@ -57,9 +57,12 @@ simp_wpd (historically i p) = historically_cases (λ x y. wpd x ≤ wpd p → wp
 simp_wpd (since i p q) = let n : ℕ = max (wpd p) (wpd q) in
     unless_false_has {P = IsWithin n} (within n) (truth_of (simp q)) (since i (simp p) (simp q)) (max_below (wpd (simp p)) (wpd (simp q)) (wpd p) (wpd q) (simp_wpd p) (simp_wpd q))
 
--- what is settled for the simplified formula is settled for the formula
+-- what is settled for the simplified formula is settled for the formula, among each class of further rows too
 pub simp_settled : (rows : List Row) (p : Formula) (t : ℕ) (v : Bool) → IsOrdered p → Settled rows (simp p) t v → Settled rows p t v
 simp_settled rows p t v o settled = λ more long. sym (simp_sat (rows ++ more) p t o) ∙ settled more (omega (arith, long, simp_wpd p))
+
+pub simp_among : (IsIn : List Row → Type 0) (rows : List Row) (p : Formula) (t : ℕ) (v : Bool) → IsOrdered p → SettledAmong IsIn rows (simp p) t v → SettledAmong IsIn rows p t v
+simp_among IsIn rows p t v o settled = λ more among long. sym (simp_sat (rows ++ more) p t o) ∙ settled more among (omega (arith, long, simp_wpd p))
 
 -- a known verdict of the simplified formula
 pub simp_told : (rows : List Row) (p : Formula) (t : ℕ) (v : Bool) → IsOrdered p → slice_get (verdicts rows (simp p)) t ≡ Some v → Settled rows p t v

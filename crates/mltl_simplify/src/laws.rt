@@ -1,12 +1,14 @@
 //! What simplified formulas have in common with their formulas: each law is the contract of a function with an empty
 //! body.
 
-ghost use Rattle.std.specs.Prelude.{◌≡◌, ◌+◌, ◌<◌, ◌≤◌, ℕ, Bool, List, Some, length, slice_get};
+ghost use Rattle.std.specs.Prelude.{◌≡◌, ◌+◌, ◌<◌, ◌≤◌, ℕ, All, Bool, true, List, Some, length, slice_get};
 ghost use Rattle.mltl_base.specs.Atoms.{Atom, Row, is_true};
 ghost use Rattle.mltl_base.specs.Formula.{Formula, atom, conjunction, disjunction, finally, once, truth, wpd};
 ghost use Rattle.mltl_base.specs.Meaning.{sat};
-ghost use Rattle.mltl_base.specs.Settled.{IsFuture, IsOrdered, IsPast, Settled};
+ghost use Rattle.mltl_base.specs.Programs.{IsFit};
+ghost use Rattle.mltl_base.specs.Settled.{IsFuture, IsOrdered, IsPast, Settled, SettledAmong};
 ghost use Rattle.mltl_base.specs.Verdicts.{verdicts};
+ghost use Rattle.mltl_base.specs.declared.program.Program.{Program as Observer};
 ghost use Rattle.mltl_simplify.specs.Forms.{AreBounded, HasAtom};
 ghost use Rattle.mltl_simplify.specs.Simplify.{simp};
 
@@ -17,6 +19,17 @@ pub fn simplified_formulas_mean_the_same()
     ensures delay { (p : Formula) → wpd (simp p) ≤ wpd p }
     ensures settled { (rows : List Row) (p : Formula) (t : ℕ) (v : Bool) →
         IsOrdered p → Settled rows (simp p) t v → Settled rows p t v }
+{}
+
+/// The same holds among each class of further rows that a test tells, and among the rows that fit a program: what is
+/// settled there for a simplified formula is settled there for its formula.
+pub fn simplified_formulas_settle_among_each_class()
+    ensures tested { (test : List Row → Bool) (rows : List Row) (p : Formula) (t : ℕ) (v : Bool) →
+        IsOrdered p → SettledAmong (λ more. test more ≡ true) rows (simp p) t v →
+        SettledAmong (λ more. test more ≡ true) rows p t v }
+    ensures fit { (program : Observer) (rows : List Row) (p : Formula) (t : ℕ) (v : Bool) →
+        IsOrdered p → SettledAmong (All (IsFit program)) rows (simp p) t v →
+        SettledAmong (All (IsFit program)) rows p t v }
 {}
 
 /// Intervals of a simplified formula run upward and stay in bounds where those of its formula do, and it has no operators
