@@ -7,14 +7,13 @@ use Rattle.std.proofs.lemmas.List.{drop_at}
 use Rattle.std.proofs.lemmas.List.Elements.{filter-append}
 use Rattle.std.proofs.lemmas.Bool.{eq-eqb, ne_eqb, false≢true}
 use Rattle.mltl_base.specs.declared.report.Word.{Word}
-use Rattle.mltl_base.specs.declared.report.Word.TheVariants.{True, False, Inactive, Invalid, Verified}
 use Rattle.mltl_base.specs.declared.report.Style.{Style}
 use Rattle.mltl_base.specs.declared.report.Style.TheVariants.{Each, Runs}
 use Rattle.mltl_base.specs.declared.report.Report.{Report}
 use Rattle.mltl_base.specs.Atoms.{Row}
 use Rattle.mltl_base.specs.Reports.{Output, words, same_word, goes_on, of_words, of_row, reports_after, reports, reports_of, AreDistinctBeside}
 use Rattle.mltl_base.proofs.Words.{words_begin}
-use Rattle.mltl_base.proofs.Telling.{same_word_true, new_length, new_parts, words_none}
+use Rattle.mltl_base.proofs.Telling.{same_word_true, same_word_self, new_length, new_parts, words_none}
 
 -- a report of the output is kept, and one of another output goes away
 kept : (k : ℕ) (r : Report) (rs : List Report) → r.out ≡ k → reports_of k (r ∷ rs) ≡ r ∷ reports_of k rs
@@ -126,13 +125,6 @@ pub words_one_by_one : (k : ℕ) (outs : List Output) (rows : List Row) (o : Out
 words_one_by_one k outs rows o f = ap (map (λ (r : Report). r.word)) (each_reports k outs rows o f) ∙ each_words k 0 (words rows o)
 
 -- with a report for each stretch: neighbours differ
-same_word_self : (w : Word) → same_word w w ≡ true
-same_word_self True = refl
-same_word_self False = refl
-same_word_self Inactive = refl
-same_word_self Invalid = refl
-same_word_self Verified = refl
-
 -- the first report, if there is one, has another word
 abbrev pub StartsOtherwise : Word → List Report → Type 0
 StartsOtherwise w [] = Unit {0}

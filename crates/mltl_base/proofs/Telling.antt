@@ -127,6 +127,13 @@ same_word_true Verified False e = cc
 same_word_true Verified Inactive e = cc
 same_word_true Verified Invalid e = cc
 
+pub same_word_self : (w : Word) → same_word w w ≡ true
+same_word_self True = refl
+same_word_self False = refl
+same_word_self Inactive = refl
+same_word_self Invalid = refl
+same_word_self Verified = refl
+
 tells_as : (k s e f : ℕ) (us vs : List Word) (rs : List Report) → e ≡ f → us ≡ vs → Tells k s e us rs → Tells k s f vs rs
 tells_as k s e f us vs rs p q h = record { tells = h.tells ∙ q; ends = h.ends ∙ p; rising = h.rising }
 

@@ -1,4 +1,5 @@
 -- What the program may say of expressions, and Kleene values over lists of known verdicts.
+-- A reader of the contracts needs this file.
 
 use Rattle.std.specs.Prelude.{◌≡◌, Bool, true, false, List, ℤ, pos, neg_ℤ, ◌+ℤ◌, ◌-ℤ◌, ◌*ℤ◌, int_div, int_rem, int_lt, int_le, not, FitsSigned, slice_get, All}
 use Rattle.std.specs.Ordering.{int_eq}
@@ -16,7 +17,7 @@ use Rattle.mltl_base.specs.Reports.{Output, formula, contract}
 use Rattle.mltl_plain.specs.declared.verdict.Operator as operator
 use Rattle.mltl_base.specs.Verdicts.{Known, k_negation, k_conjunction, k_disjunction, k_implication, k_equivalence, k_finally, k_globally, k_until, k_release, k_once, k_historically, k_since}
 
--- an arithmetic operator between two numbers, and that its result has 64 bits and its divisor isn't 0
+-- the result of an arithmetic operator between two numbers
 abbrev pub result_of : arith_op.ArithOp → ℤ → ℤ → ℤ
 result_of arith_op.TheVariants.Add x y = x +ℤ y
 result_of arith_op.TheVariants.Sub x y = x -ℤ y
@@ -24,6 +25,7 @@ result_of arith_op.TheVariants.Mul x y = x *ℤ y
 result_of arith_op.TheVariants.Div x y = int_div x y
 result_of arith_op.TheVariants.Rem x y = int_rem x y
 
+-- the result has 64 bits with a sign, and a divisor isn't 0
 abbrev pub CanCompute : arith_op.ArithOp → ℤ → ℤ → Type 0
 CanCompute arith_op.TheVariants.Add x y = FitsSigned w64 (x +ℤ y)
 CanCompute arith_op.TheVariants.Sub x y = FitsSigned w64 (x -ℤ y)
@@ -51,6 +53,7 @@ Computes row (times a b) = Computes row a × Computes row b × CanCompute arith_
 Computes row (quotient a b) = Computes row a × Computes row b × CanCompute arith_op.TheVariants.Div (value a row) (value b row)
 Computes row (remainder a b) = Computes row a × Computes row b × CanCompute arith_op.TheVariants.Rem (value a row) (value b row)
 
+-- each part of the two sides of a comparison can be computed on the row
 abbrev pub ComputesAtom : Row → Atom → Type 0
 ComputesAtom row (is_true c) = Unit {0}
 ComputesAtom row (equal a b) = Computes row a × Computes row b
@@ -65,24 +68,27 @@ abbrev pub seen : Bool → List Bool → Known
 seen true vs t = k_not (slice_get vs t)
 seen false vs t = slice_get vs t
 
--- the Kleene value of an operator over what is known of its operands
+-- the Kleene value of an operator without time, over what is known of its operands
 abbrev pub k_logic : logic_op.LogicOp → Known → Known → Known
 k_logic logic_op.TheVariants.And p q = k_conjunction p q
 k_logic logic_op.TheVariants.Or p q = k_disjunction p q
 k_logic logic_op.TheVariants.Implies p q = k_implication p q
 k_logic logic_op.TheVariants.Iff p q = k_equivalence p q
 
+-- the Kleene value of an operator with a window and one operand
 abbrev pub k_window : window_op.WindowOp → Interval → Known → Known
 k_window window_op.TheVariants.F i p = k_finally i p
 k_window window_op.TheVariants.G i p = k_globally i p
 k_window window_op.TheVariants.O i p = k_once i p
 k_window window_op.TheVariants.H i p = k_historically i p
 
+-- the Kleene value of an operator with a window and two operands
 abbrev pub k_between : between_op.BetweenOp → Interval → Known → Known → Known
 k_between between_op.TheVariants.U i p q = k_until i p q
 k_between between_op.TheVariants.R i p q = k_release i p q
 k_between between_op.TheVariants.S i p q = k_since i p q
 
+-- the Kleene value of any operator with operands; one with a single operand leaves the right one aside
 abbrev pub k_operator : operator.Operator → Known → Known → Known
 k_operator operator.TheVariants.Not p q = k_negation p
 k_operator (operator.TheVariants.Logic op) p q = k_logic op p q

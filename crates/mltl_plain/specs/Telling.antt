@@ -1,4 +1,5 @@
 -- What one more row brings, over the rows before it and all rows.
+-- Only contracts of inner functions cite it: it is the proof's own.
 
 use Rattle.std.specs.Prelude.{ℕ, suc, Bool, true, not, List, [], ◌∷◌, ◌++◌, length, drop}
 use Rattle.mltl_base.specs.declared.report.Word.{Word}

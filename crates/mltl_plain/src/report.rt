@@ -18,7 +18,8 @@ use std::alloc::Global;
 /// The words of an output that are known after the rows.
 pub fn words(alloc: Global, rows: &[List<i64>], output: &Output) -> Result<List<Word>, Fault>
     ensures known { IfOk result (λ ws. ws ≡ words_of rows.now (output_of output.now)) }
-    ensures cause { ComputesOutput rows.now (output_of output.now) → IfErr result (λ why. why ≡ NoMemory) }
+    ensures cause { ComputesOutput rows.now (output_of output.now) →
+        IfErr result (λ why. why ≡ NoMemory) }
 {
     match output {
         Output::Formula(p) => {
@@ -42,7 +43,8 @@ pub fn reports(
 ) -> Result<List<Report>, Fault>
     requires few { length outs.now ≤ 2 ^ 32 }
     ensures told { IfOk result (λ told. told ≡ reports_of style (map output_of outs.now) rows.now) }
-    ensures cause { All (λ o. ComputesOutput rows.now (output_of o)) outs.now → IfErr result (λ why. why ≡ NoMemory) }
+    ensures cause { All (λ o. ComputesOutput rows.now (output_of o)) outs.now →
+        IfErr result (λ why. why ≡ NoMemory) }
 {
     let mut told = List::new(alloc);
     for n in 0..rows.len() {
@@ -61,7 +63,8 @@ fn report_row(
     told: &mut List<Report>,
 ) -> Result<(), Fault>
     requires few { length outs.now ≤ 2 ^ 32 }
-    ensures told { OnOk result (told.new ≡ told.old ++ of_outputs style 0 (map output_of outs.now) before.now now.now) }
+    ensures told { OnOk result
+        (told.new ≡ told.old ++ of_outputs style 0 (map output_of outs.now) before.now now.now) }
     ensures cause { All (λ o. ComputesOutput before.now (output_of o) × ComputesOutput now.now (output_of o)) outs.now →
         IfErr result (λ why. why ≡ NoMemory) }
 {
@@ -132,7 +135,8 @@ fn put_if(due: bool, report: Report, told: &mut List<Report>) -> Result<(), Faul
 /// Whether the word at a time is told: with `Runs` only the last of a stretch of one word is.
 fn ends(style: Style, ws: &[Word], t: usize) -> bool
     requires place { t < length ws.now }
-    ensures { (w : Said) → result ≡ is_told style (slice_index_or ws.now t w) (drop (suc t) ws.now) }
+    ensures { (w : Said) →
+        result ≡ is_told style (slice_index_or ws.now t w) (drop (suc t) ws.now) }
 {
     match style {
         Style::Each => true,
@@ -193,7 +197,8 @@ fn named_slice(alloc: Global, vs: &[bool]) -> Result<List<Word>, Fault>
 
 /// The status words over known verdicts of a contract's formulas, up to the first time without one.
 fn statuses(alloc: Global, ps: &List<bool>, qs: &List<bool>, n: usize) -> Result<List<Word>, Fault>
-    ensures known { IfOk result (λ ws. ws ≡ known_front (λ t. status (slice_get ps.now t) (slice_get qs.now t)) n) }
+    ensures known { IfOk result
+        (λ ws. ws ≡ known_front (λ t. status (slice_get ps.now t) (slice_get qs.now t)) n) }
     ensures cause { IfErr result (λ why. why ≡ NoMemory) }
 {
     statuses_of(alloc, ps.as_slice(), qs.as_slice(), n)
@@ -201,7 +206,8 @@ fn statuses(alloc: Global, ps: &List<bool>, qs: &List<bool>, n: usize) -> Result
 
 /// The same over slices.
 fn statuses_of(alloc: Global, ps: &[bool], qs: &[bool], n: usize) -> Result<List<Word>, Fault>
-    ensures known { IfOk result (λ ws. ws ≡ known_front (λ t. status (slice_get ps.now t) (slice_get qs.now t)) n) }
+    ensures known { IfOk result
+        (λ ws. ws ≡ known_front (λ t. status (slice_get ps.now t) (slice_get qs.now t)) n) }
     ensures cause { IfErr result (λ why. why ≡ NoMemory) }
 {
     let mut ws = List::new(alloc);

@@ -35,8 +35,8 @@ fn between(
     ))
 }
 
-fn conjunction(alloc: Global, p: Formula, q: Formula) -> Result<Formula, Fail> {
-    Ok(Formula::Logic(LogicOp::And, Box::new(alloc, p)?, Box::new(alloc, q)?))
+fn logic(alloc: Global, op: LogicOp, p: Formula, q: Formula) -> Result<Formula, Fail> {
+    Ok(Formula::Logic(op, Box::new(alloc, p)?, Box::new(alloc, q)?))
 }
 
 fn row_list(alloc: Global, rows: &[&[i64]]) -> Result<List<List<i64>>, Fail> {
@@ -150,7 +150,7 @@ fn future_formulas_follow_worked_rows(rt: HostRuntime) -> Result<(), Fail> {
     );
 
     let within = window(alloc, WindowOp::F, 0, 5, flag(1))?;
-    let waits = [Output::Formula(conjunction(alloc, flag(0), within)?)];
+    let waits = [Output::Formula(logic(alloc, LogicOp::And, flag(0), within)?)];
     let rows: [&[i64]; 6] = [&[1, 0], &[0, 0], &[1, 0], &[0, 0], &[1, 0], &[0, 1]];
     let each = [
         (6, 0, 0, Word::True),
@@ -244,12 +244,59 @@ fn past_formulas_and_contracts_follow_worked_rows(rt: HostRuntime) -> Result<(),
     );
 
     let plain = [Output::Formula(flag(0))];
-    let rows: [&[i64]; 2] = [&[1], &[0]];
-    let each = [(1, 0, 0, Word::True), (2, 0, 1, Word::False)];
+    let rows: [&[i64]; 3] = [&[1], &[1], &[0]];
+    let each = [
+        (1, 0, 0, Word::True),
+        (2, 0, 1, Word::True),
+        (3, 0, 2, Word::False),
+    ];
     assert!(rt;
         agrees(alloc, Style::Runs, &plain, &rows, &each)?,
-        "stretches of two rows"
+        "stretches of different rows, of one word and of two"
     );
+    Ok(())
+}
+
+/// Whether the known words of the formula are the letters, one for each time.
+fn are_spelled(
+    alloc: Global,
+    rows: &[List<i64>],
+    p: Formula,
+    letters: &[u8],
+) -> Result<bool, Fail> {
+    let known = words(alloc, rows, &Output::Formula(p))?;
+    let known = known.as_slice();
+    if known.len() != letters.len() {
+        return Ok(false);
+    }
+    for (word, letter) in known.iter().zip(letters) {
+        let due = if *letter == b'T' { Word::True } else { Word::False };
+        if *word != due {
+            return Ok(false);
+        }
+    }
+    Ok(true)
+}
+
+#[test]
+fn operators_of_two_signals_follow_worked_rows(rt: HostRuntime) -> Result<(), Fail> {
+    let alloc = rt.alloc();
+    let rows: [&[i64]; 7] = [&[1, 0], &[1, 1], &[1, 0], &[1, 0], &[0, 1], &[1, 0], &[1, 1]];
+    let rows = row_list(alloc, &rows)?;
+    let rows = rows.as_slice();
+    let implies = logic(alloc, LogicOp::Implies, flag(0), flag(1))?;
+    assert!(rt; are_spelled(alloc, rows, implies, b"FTFFTFT")?, "implies");
+    let equals = logic(alloc, LogicOp::Iff, flag(0), flag(1))?;
+    assert!(rt; are_spelled(alloc, rows, equals, b"FTFFFFT")?, "equals");
+    let until = between(alloc, BetweenOp::U, 1, 2, flag(0), flag(1))?;
+    assert!(rt;
+        are_spelled(alloc, rows, until, b"TFTTTT")?,
+        "until from the next row on"
+    );
+    let release = between(alloc, BetweenOp::R, 0, 1, flag(0), flag(1))?;
+    assert!(rt; are_spelled(alloc, rows, release, b"FTFFFFT")?, "release");
+    let since = between(alloc, BetweenOp::S, 1, 2, flag(0), flag(1))?;
+    assert!(rt; are_spelled(alloc, rows, since, b"FFTTFTT")?, "since");
     Ok(())
 }
 

@@ -106,7 +106,8 @@ fn constant(alloc: Global, b: bool, rows: &[List<i64>]) -> Result<List<bool>, Fa
 /// The truth of an atom on each row.
 fn truths(alloc: Global, a: &Atom, rows: &[List<i64>]) -> Result<List<bool>, Fault>
     ensures known { IfOk result (λ vs. vs ≡ map (holds_on (atom_of a.now)) rows.now) }
-    ensures cause { All (λ row. ComputesAtom row (atom_of a.now)) rows.now → IfErr result (λ why. why ≡ NoMemory) }
+    ensures cause { All (λ row. ComputesAtom row (atom_of a.now)) rows.now →
+        IfErr result (λ why. why ≡ NoMemory) }
 {
     let mut known = List::new(alloc);
     for row in rows {
@@ -129,7 +130,8 @@ fn front(
     qs: &List<bool>,
     n: usize,
 ) -> Result<List<bool>, Fault>
-    ensures known { IfOk result (λ vs. vs ≡ known_front (k_operator op (slice_get ps.now) (slice_get qs.now)) n) }
+    ensures known { IfOk result
+        (λ vs. vs ≡ known_front (k_operator op (slice_get ps.now) (slice_get qs.now)) n) }
     ensures cause { IfErr result (λ why. why ≡ NoMemory) }
 {
     front_of(alloc, op, ps.as_slice(), qs.as_slice(), n)
@@ -143,7 +145,8 @@ fn front_of(
     qs: &[bool],
     n: usize,
 ) -> Result<List<bool>, Fault>
-    ensures known { IfOk result (λ vs. vs ≡ known_front (k_operator op (slice_get ps.now) (slice_get qs.now)) n) }
+    ensures known { IfOk result
+        (λ vs. vs ≡ known_front (k_operator op (slice_get ps.now) (slice_get qs.now)) n) }
     ensures cause { IfErr result (λ why. why ≡ NoMemory) }
 {
     let mut known = List::new(alloc);

@@ -1,4 +1,5 @@
 -- Simplified formulas: the operands first, then the first rule that fits the operator over them, once.
+-- A reader of the contracts needs this file.
 
 use Rattle.std.specs.Prelude.{◌+◌, nat_le, Bool, true, false, ◌||◌, if◌then◌else◌, Option, Some, None, []}
 use Rattle.mltl_base.specs.declared.interval.Interval.{Interval}
@@ -6,17 +7,18 @@ use Rattle.mltl_base.specs.declared.limits.TheConstants.{MAX_BOUND}
 use Rattle.mltl_base.specs.Atoms.{Term, column, constant, negative, plus, minus, times, quotient, remainder, Atom, is_true, equal, less, at_most, different, greater, at_least, holds}
 use Rattle.mltl_base.specs.Formula.{Formula, truth, falsity, atom, negation, conjunction, disjunction, implication, equivalence, finally, globally, until, release, once, historically, since}
 
--- a truth as a formula, and the truth that a formula is, if it is one
+-- a truth as a formula
 abbrev pub of_truth : Bool → Formula
 of_truth true = truth
 of_truth false = falsity
 
+-- the truth that a formula is, if it is one
 unfoldable pub truth_of : Formula → Option Bool
 truth_of truth = Some true
 truth_of falsity = Some false
 truth_of _ = None
 
--- a signal stands in the expression, and in the atom
+-- a signal stands in the expression
 unfoldable pub reads_signal : Term → Bool
 reads_signal (column s) = true
 reads_signal (constant n) = false
@@ -27,6 +29,7 @@ reads_signal (times a b) = reads_signal a || reads_signal b
 reads_signal (quotient a b) = reads_signal a || reads_signal b
 reads_signal (remainder a b) = reads_signal a || reads_signal b
 
+-- a signal stands in the atom
 unfoldable pub has_signal : Atom → Bool
 has_signal (is_true s) = true
 has_signal (equal a b) = reads_signal a || reads_signal b
@@ -47,7 +50,7 @@ simple_not falsity = truth
 simple_not (negation z) = z
 simple_not x = negation x
 
--- x and y: false where one is false, the other where one is true
+-- x and y, by the truths that they are: false where one is false, the other where one is true
 abbrev pub both : Option Bool → Option Bool → Formula → Formula → Formula
 both (Some false) w x y = falsity
 both (Some true) w x y = y
@@ -55,10 +58,11 @@ both None (Some false) x y = falsity
 both None (Some true) x y = x
 both None None x y = conjunction x y
 
+-- x and y by that rule
 abbrev pub simple_and : Formula → Formula → Formula
 simple_and x y = both (truth_of x) (truth_of y) x y
 
--- x or y: true where one is true, the other where one is false
+-- x or y, by the truths that they are: true where one is true, the other where one is false
 abbrev pub either : Option Bool → Option Bool → Formula → Formula → Formula
 either (Some true) w x y = truth
 either (Some false) w x y = y
@@ -66,10 +70,12 @@ either None (Some true) x y = truth
 either None (Some false) x y = x
 either None None x y = disjunction x y
 
+-- x or y by that rule
 abbrev pub simple_or : Formula → Formula → Formula
 simple_or x y = either (truth_of x) (truth_of y) x y
 
--- x implies y: true where x is false or y is true, y where x is true, not x where y is false
+-- x implies y, by the truths that they are: true where x is false or y is true, y where x is true, not x where y is
+-- false
 abbrev pub implies : Option Bool → Option Bool → Formula → Formula → Formula
 implies (Some false) w x y = truth
 implies (Some true) w x y = y
@@ -77,10 +83,11 @@ implies None (Some true) x y = truth
 implies None (Some false) x y = simple_not x
 implies None None x y = implication x y
 
+-- x implies y by that rule
 abbrev pub simple_implies : Formula → Formula → Formula
 simple_implies x y = implies (truth_of x) (truth_of y) x y
 
--- x equals y: the other where one is true, not the other where one is false
+-- x equals y, by the truths that they are: the other where one is true, not the other where one is false
 abbrev pub equals : Option Bool → Option Bool → Formula → Formula → Formula
 equals (Some true) w x y = y
 equals (Some false) w x y = simple_not y
@@ -88,6 +95,7 @@ equals None (Some true) x y = x
 equals None (Some false) x y = simple_not x
 equals None None x y = equivalence x y
 
+-- x equals y by that rule
 abbrev pub simple_equals : Formula → Formula → Formula
 simple_equals x y = equals (truth_of x) (truth_of y) x y
 
@@ -99,35 +107,38 @@ joined i j = record { lo = i.lo + j.lo; hi = i.hi + j.hi }
 abbrev pub if_joined : Interval → Interval → Formula → Formula → Formula
 if_joined i j one two = if nat_le (i.hi + j.hi) MAX_BOUND then one else two
 
--- finally and globally of a truth are that truth
+-- finally of a truth is that truth; two of them in a row are one
 unfoldable pub simple_finally : Interval → Formula → Formula
 simple_finally i truth = truth
 simple_finally i falsity = falsity
 simple_finally i (finally j z) = if_joined i j (finally (joined i j) z) (finally i (finally j z))
 simple_finally i x = finally i x
 
+-- globally of a truth is that truth; two of them in a row are one
 unfoldable pub simple_globally : Interval → Formula → Formula
 simple_globally i truth = truth
 simple_globally i falsity = falsity
 simple_globally i (globally j z) = if_joined i j (globally (joined i j) z) (globally i (globally j z))
 simple_globally i x = globally i x
 
--- once of false is false, and historically of true is true; once of true isn't true at the first times
+-- once of false is false; two of them in a row are one. Once of true isn't true at the first times
 unfoldable pub simple_once : Interval → Formula → Formula
 simple_once i falsity = falsity
 simple_once i (once j z) = if_joined i j (once (joined i j) z) (once i (once j z))
 simple_once i x = once i x
 
+-- historically of true is true; two of them in a row are one. Historically of false isn't false at the first times
 unfoldable pub simple_historically : Interval → Formula → Formula
 simple_historically i truth = truth
 simple_historically i (historically j z) = if_joined i j (historically (joined i j) z) (historically i (historically j z))
 simple_historically i x = historically i x
 
--- until and release with a truth on the right are that truth, since with false on the right is false
+-- until and release with a truth on the right are that truth
 abbrev pub unless_truth : Option Bool → Formula → Formula
 unless_truth (Some v) whole = of_truth v
 unless_truth None whole = whole
 
+-- since with false on the right is false
 abbrev pub unless_false : Option Bool → Formula → Formula
 unless_false (Some false) whole = falsity
 unless_false (Some true) whole = whole

@@ -2,20 +2,21 @@
 //! body.
 
 ghost use Rattle.std.specs.Prelude.{◌≡◌, ◌+◌, ◌<◌, ◌≤◌, ℕ, All, Bool, true, List, Some, length, slice_get};
-ghost use Rattle.mltl_base.specs.Atoms.{Atom, Row, is_true};
-ghost use Rattle.mltl_base.specs.Formula.{Formula, atom, conjunction, disjunction, finally, once, truth, wpd};
+ghost use Rattle.mltl_base.specs.Atoms.{Atom, Row};
+ghost use Rattle.mltl_base.specs.Formula.{Formula, conjunction, disjunction, finally, once, truth, wpd};
 ghost use Rattle.mltl_base.specs.Meaning.{sat};
 ghost use Rattle.mltl_base.specs.Programs.{IsFit};
 ghost use Rattle.mltl_base.specs.Settled.{IsFuture, IsOrdered, IsPast, Settled, SettledAmong};
 ghost use Rattle.mltl_base.specs.Verdicts.{verdicts};
 ghost use Rattle.mltl_base.specs.declared.program.Program.{Program as Observer};
-ghost use Rattle.mltl_simplify.specs.Forms.{AreBounded, HasAtom};
+ghost use Rattle.mltl_simplify.specs.Forms.{AreBounded, HasAtom, from_to, signal};
 ghost use Rattle.mltl_simplify.specs.Simplify.{simp};
 
 /// A simplified formula has the meaning of its formula at each time, on any rows. It is decided no later, and what is
 /// settled for it is settled for its formula.
 pub fn simplified_formulas_mean_the_same()
-    ensures meaning { (rows : List Row) (p : Formula) (t : ℕ) → IsOrdered p → sat rows (simp p) t ≡ sat rows p t }
+    ensures meaning { (rows : List Row) (p : Formula) (t : ℕ) →
+        IsOrdered p → sat rows (simp p) t ≡ sat rows p t }
     ensures delay { (p : Formula) → wpd (simp p) ≤ wpd p }
     ensures settled { (rows : List Row) (p : Formula) (t : ℕ) (v : Bool) →
         IsOrdered p → Settled rows (simp p) t v → Settled rows p t v }
@@ -48,17 +49,18 @@ pub fn simplified_verdicts_are_settled()
     ensures settled { (rows : List Row) (p : Formula) (t : ℕ) (v : Bool) →
         IsOrdered p → slice_get (verdicts rows (simp p)) t ≡ Some v → Settled rows p t v }
     ensures known { (rows : List Row) (p : Formula) (t : ℕ) →
-        IsOrdered p → t + wpd p < length rows → slice_get (verdicts rows (simp p)) t ≡ Some (sat rows p t) }
+        IsOrdered p → t + wpd p < length rows →
+        slice_get (verdicts rows (simp p)) t ≡ Some (sat rows p t) }
 {}
 
 /// Windows in a row are joined where the limit allows it, and what was joined isn't looked at again. Truths go away, but
 /// once of true stays, since it is false at the first times.
 pub fn simplified_examples()
-    ensures joined { simp (finally (record { lo = 0; hi = 2 }) (finally (record { lo = 1; hi = 3 }) (atom (is_true 0))))
-        ≡ finally (record { lo = 1; hi = 5 }) (atom (is_true 0)) }
-    ensures limit { (p : Formula) → p ≡ finally (record { lo = 0; hi = 1 }) (atom (is_true 0)) →
-        simp (finally (record { lo = 0; hi = 1048576 }) (finally (record { lo = 0; hi = 1 }) p))
-        ≡ finally (record { lo = 0; hi = 1048576 }) (finally (record { lo = 0; hi = 2 }) (atom (is_true 0))) }
-    ensures truths { simp (conjunction (atom (is_true 1)) (disjunction truth (atom (is_true 0)))) ≡ atom (is_true 1) }
-    ensures stays { simp (once (record { lo = 1; hi = 1 }) truth) ≡ once (record { lo = 1; hi = 1 }) truth }
+    ensures joined { simp (finally (from_to 0 2) (finally (from_to 1 3) (signal 0)))
+        ≡ finally (from_to 1 5) (signal 0) }
+    ensures limit { (p : Formula) → p ≡ finally (from_to 0 1) (signal 0) →
+        simp (finally (from_to 0 1048576) (finally (from_to 0 1) p))
+        ≡ finally (from_to 0 1048576) (finally (from_to 0 2) (signal 0)) }
+    ensures truths { simp (conjunction (signal 1) (disjunction truth (signal 0))) ≡ signal 1 }
+    ensures stays { simp (once (from_to 1 1) truth) ≡ once (from_to 1 1) truth }
 {}

@@ -31,7 +31,8 @@ pub fn instructions_unfold()
 /// A program with the lists of a specification has its outputs, over their core forms, and its reports.
 #[tactic(auto, using(crate::proofs::Graphs::program_unfolds, crate::proofs::Graphs::program_names, crate::proofs::Graphs::program_tells))]
 pub fn program_means_its_specification()
-    ensures outputs { (program : Observer) (outs : List Asked) → HasListsOf outs program → All IsTensed outs →
+    ensures outputs { (program : Observer) (outs : List Asked) → HasListsOf outs program →
+        All IsTensed outs →
         outputs program ≡ map (λ asked. core_output asked.output) outs }
     ensures names { (program : Observer) (outs : List Asked) → HasListsOf outs program →
         output_names program ≡ map (λ asked. asked.name) outs }

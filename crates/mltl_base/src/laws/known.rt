@@ -53,7 +53,8 @@ pub fn verdicts_come_in_time()
 /// is that of the core form.
 #[tactic(auto, using(crate::proofs::Bounds::frontier_at_least, crate::proofs::Bounds::frontier_at_most, crate::proofs::CoreForms::formula_at_most))]
 pub fn frontier_lies_between()
-    ensures worst { (rows : List Row) (p : Formula) → length rows - wpd p ≤ length (verdicts rows p) }
+    ensures worst { (rows : List Row) (p : Formula) →
+        length rows - wpd p ≤ length (verdicts rows p) }
     ensures best { (rows : List Row) (p : Core) →
         IsOrdered (plain p) → length (verdicts rows (plain p)) ≤ length rows - bpd p }
     ensures best_of_formula { (rows : List Row) (p : Formula) →
@@ -65,6 +66,7 @@ pub fn frontier_lies_between()
 pub fn past_is_known_at_once()
     ensures known { (rows : List Row) (p : Formula) → IsPast p →
         (t : ℕ) → t < length rows → slice_get (verdicts rows p) t ≡ Some (sat rows p t) }
-    ensures all { (rows : List Row) (p : Formula) → IsPast p → length (verdicts rows p) ≡ length rows }
+    ensures all { (rows : List Row) (p : Formula) → IsPast p →
+        length (verdicts rows p) ≡ length rows }
     ensures delay { (p : Formula) → IsPast p → wpd p ≡ 0 }
 {}

@@ -57,12 +57,13 @@ pub fn runs_are_longest()
 /// The reports that a row brings tell the words that are newly known with it, each time once and in order.
 #[tactic(auto, using(crate::proofs::Telling::told_new_words, crate::proofs::Telling::row_rises))]
 pub fn row_tells_new_words()
-    ensures told { (style : Form) (k : ℕ) (outs : List Output) (rows : List Row) (r : Row) (o : Output) →
-        slice_get outs k ≡ Some o →
+    ensures told { (style : Form) (k : ℕ) (outs : List Output) (rows : List Row) (r : Row)
+        (o : Output) → slice_get outs k ≡ Some o →
         told k (length (words rows o)) (of_row style 0 outs rows r)
         ≡ drop (length (words rows o)) (words (rows ++ r ∷ []) o) }
-    ensures rising { (style : Form) (k : ℕ) (outs : List Output) (rows : List Row) (r : Row) (o : Output) →
-        slice_get outs k ≡ Some o → IsRising k (length (words rows o)) (of_row style 0 outs rows r) }
+    ensures rising { (style : Form) (k : ℕ) (outs : List Output) (rows : List Row) (r : Row)
+        (o : Output) → slice_get outs k ≡ Some o →
+        IsRising k (length (words rows o)) (of_row style 0 outs rows r) }
 {}
 
 /// The reports of more rows are those of the rows, followed by those that the further rows bring.
