@@ -3,6 +3,7 @@ use Rattle.std.proofs.Common.{◌≡◌, ◌≢◌, ℕ, zero, suc, ◌+◌, ◌
 use Rattle.std.specs.Prelude.{ℤ, pos, slice_get, FitsSigned, neg_ℤ, ◌+ℤ◌, ◌-ℤ◌, ◌*ℤ◌, int_div}
 use Rattle.std.specs.Int.{w64}
 use Rattle.std.proofs.lemmas.List.{take_more, take_more_set, map-append, length-append, length-take}
+use Rattle.std.proofs.lemmas.Option.{same_Some}
 use Rattle.mltl_base.specs.declared.operators.BzOp.{BzOp}
 use Rattle.mltl_base.specs.declared.operators.BzOp.TheVariants.{Column, IsTrue, Const, Neg, Add, Sub, Mul, Div, Rem, Eq, Lt, Le}
 use Rattle.mltl_base.specs.Atoms.{Row, value, holds}
@@ -39,16 +40,13 @@ pub record Agree (row : Row) (before : List Expression) (numbers : List ℤ) : T
   pub same : take (length before) numbers ≡ map (number_on row) before
   pub room : length before ≤ length numbers
 
-some_is : {A : Type 0} (x y : A) → Some x ≡ Some y → x ≡ y
-some_is x y e = cc
-
 read : (row : Row) (before : List Expression) (numbers : List ℤ) (a : ℕ) (e : Expression) → take (length before) numbers ≡ map (number_on row) before → length before ≤ length numbers → slice_get before a ≡ Some e
     → (number_at numbers a ≡ number_on row e) × (a < length numbers)
 read row [] numbers a e same room found = absurd cc
 read row (x ∷ xs) [] a e same room found = absurd (omega arith)
 read row (x ∷ xs) (n ∷ ns) zero e same room found =
     let head : n ≡ number_on row x = cc in
-    (head ∙ ap (number_on row) (some_is x e found), omega arith)
+    (head ∙ ap (number_on row) (same_Some x e found), omega arith)
 read row (x ∷ xs) (n ∷ ns) (suc a) e same room found =
     let rest : take (length xs) ns ≡ map (number_on row) xs = cc in
     let r = read row xs ns a e rest (omega arith) found in

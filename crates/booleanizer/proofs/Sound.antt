@@ -1,12 +1,13 @@
 -- Sound instructions can be computed on every row that fits them.
 use Rattle.std.proofs.Common.{◌≡◌, ◌≢◌, ℕ, zero, suc, Bool, true, false, cond, not, List, [], ◌∷◌, ◌++◌, length, Option, Some, None, Ok, Err, refl, sym, subst, arith}
-use Rattle.std.specs.Prelude.{ℤ, pos, ◌≤ℤ◌, ◌&&◌, IsOk, FitsSigned, slice_get}
+use Rattle.std.specs.Prelude.{ℤ, pos, ◌≤ℤ◌, IsOk, FitsSigned, slice_get}
 use Rattle.std.specs.Ordering.{int_eq}
 use Rattle.std.specs.Int.{w64}
 use Rattle.std.specs.List.{AllByRecursion}
 use Rattle.std.proofs.lemmas.List.Elements.{recursion_from_All}
 use Rattle.std.proofs.lemmas.Int.{ints}
 use Rattle.std.proofs.lemmas.Bool.Decides.{Decides-int_eq}
+use Rattle.std.proofs.lemmas.Bool.{and_parts}
 use Rattle.mltl_base.specs.declared.operators.BzOp.{BzOp}
 use Rattle.mltl_base.specs.declared.operators.BzOp.TheVariants.{Column, IsTrue, Const, Neg, Add, Sub, Mul, Div, Rem, Eq, Lt, Le}
 use Rattle.mltl_base.specs.Atoms.{Row, Term, negative, plus, minus, times, quotient, value}
@@ -43,17 +44,13 @@ divides-of f (Err why) s h = absurd cc
 divides-of f (Ok r) (Err why) h = absurd cc
 divides-of f (Ok r) (Ok s) h = record { the = s; is = refl; one = taken (divides s) (in_word (f r s.least)) h }
 
-and-true : (a b : Bool) → (a && b) ≡ true → (a ≡ true) × (b ≡ true)
-and-true true b e = (refl, e)
-and-true false b e = absurd cc
-
 not-true : (b : Bool) → b ≡ true → not b ≡ true → ⊥
 not-true true e f = cc
 not-true false e f = cc
 
 not-zero : (s : Range) (z : ℤ) → divides s ≡ true → IsIn s z → z ≢ pos 0
 not-zero s z one lies e =
-    let parts = and-true (int_eq s.least s.greatest) (not (int_eq s.least (pos 0))) one in
+    let parts = and_parts (int_eq s.least s.greatest) (not (int_eq s.least (pos 0))) one in
     let same : s.least ≡ s.greatest = (Decides-int_eq s.least s.greatest).0 parts.0 in
     let low : s.least ≤ℤ pos 0 = subst (λ x. s.least ≤ℤ x) e lies.0 in
     let high : pos 0 ≤ℤ s.least = subst (λ x. pos 0 ≤ℤ x) (sym same) (subst (λ x. x ≤ℤ s.greatest) e lies.1) in

@@ -1,7 +1,5 @@
 //! The kinds of values.
 
-use mltl_base::Name;
-
 /// What stands within the sets of a kind.
 #[derive(Clone, Copy, PartialEq, Eq, Debug)]
 pub enum Base {
@@ -25,11 +23,4 @@ pub enum Meaning {
     Struct(u32),
     /// A signal, a defined value or a variable.
     Value(Kind),
-}
-
-/// A signal: a truth or a whole number.
-#[derive(Drop)]
-pub struct Signal {
-    pub name: Name,
-    pub truth: bool,
 }

@@ -22,6 +22,7 @@ pub use items::{
     check_contract, check_define, check_formula, declare_input, declare_label, declare_struct,
     declare_value,
 };
-pub use kind::{Base, Kind, Meaning, Signal};
+pub use kind::{Base, Kind, Meaning};
+pub use mltl_base::Signal;
 pub use name_table::NameTable;
 pub use scope::Scope;

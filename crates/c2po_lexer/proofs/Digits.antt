@@ -8,7 +8,8 @@ use Rattle.std.specs.Str.Parse.{digits_value, ParsesSigned}
 use Rattle.std.proofs.lemmas.Str.{IsUtf8-from_ascii}
 use Rattle.std.proofs.lemmas.Str.Ascii.{IsAscii-nil, IsAscii-cons}
 use Rattle.std.proofs.lemmas.Str.Parse.{IsNumeralModel, numerals_by_value, tells_all_ascii_digits, parse_signed_digits}
-use Rattle.std.proofs.lemmas.Bool.Decides.{nat_tests}
+use Rattle.std.proofs.lemmas.Bool.{and_parts}
+use Rattle.mltl_base.proofs.Digits.{below_128}
 use mir.Syntax.{w64}
 
 prefix_step : (x : ℕ) (xs : List ℕ) → all_ascii_digits (take (prefix_len is_ascii_digit xs) xs) ≡ true → (b : Bool) → is_ascii_digit x ≡ b → all_ascii_digits (take (cond b (1 + prefix_len is_ascii_digit xs) 0) (x ∷ xs)) ≡ true
@@ -23,18 +24,9 @@ pub all_ascii_digits_prefix : (xs : List ℕ) → all_ascii_digits (take (prefix
 all_ascii_digits_prefix [] = refl
 all_ascii_digits_prefix (x ∷ xs) = prefix_step x xs (all_ascii_digits_prefix xs) (is_ascii_digit x) refl
 
-both : (a b : Bool) → (a && b) ≡ true → (a ≡ true) × (b ≡ true)
-both true true h = (refl, refl)
-both true false h = cc
-both false true h = cc
-both false false h = cc
-
-below_128 : (x : ℕ) → is_ascii_digit x ≡ true → x < 128
-below_128 x h = grind (arith, nat_tests)
-
 digit_step : (x : ℕ) (xs : List ℕ) → (all_ascii_digits xs ≡ true → IsAscii xs) → all_ascii_digits (x ∷ xs) ≡ true → IsAscii (x ∷ xs)
 digit_step x xs rest h =
-    let parts : (is_ascii_digit x ≡ true) × (all_ascii_digits xs ≡ true) = both (is_ascii_digit x) (all_ascii_digits xs) h in
+    let parts : (is_ascii_digit x ≡ true) × (all_ascii_digits xs ≡ true) = and_parts (is_ascii_digit x) (all_ascii_digits xs) h in
     IsAscii-cons x xs (below_128 x parts.0) (rest parts.1)
 
 digits_ascii : (xs : List ℕ) → all_ascii_digits xs ≡ true → IsAscii xs

@@ -11,3 +11,4 @@ pub mod ClimbComplete
 pub mod SplitComplete
 pub mod Agree
 pub mod PlainNames
+pub mod Copying

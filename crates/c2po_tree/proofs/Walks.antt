@@ -2,6 +2,7 @@ use Rattle.std.proofs.Common.{◌≡◌, ℕ, zero, suc, pred, ◌<◌, ◌≤�
 use Rattle.std.specs.Prelude.{option_and_then}
 use Rattle.std.proofs.lemmas.Option.{same_Some}
 use Rattle.std.proofs.lemmas.Bool.Decides.{nat_tests}
+use Rattle.std.proofs.lemmas.Bool.{and_parts}
 use Rattle.c2po_lexer.specs.declared.token.Sign.TheVariants as sign
 use Rattle.c2po_lexer.specs.declared.token.What.{What}
 use Rattle.c2po_lexer.specs.declared.token.What.TheVariants as what
@@ -110,10 +111,6 @@ here-not test k a (suc d) t s q = grind (arith, nat_tests)
 here : (test : Test) (a : Bool) (d : ℕ) (t : Token) → d ≡ 0 → test a t ≡ true → (nat_eq d 0 && test a t) ≡ true
 here test a d t z h = rw (z, h) refl
 
-both-true : (a b : Bool) → (a && b) ≡ true → b ≡ true
-both-true true b h = h
-both-true false b h = absurd (cc)
-
 -- the first cut goes on behind a list whose plain tokens don't pass the test
 with_fronts : List Token → Option Cut → Option Cut
 with_fronts [] c = c
@@ -187,7 +184,7 @@ rejoins-here : (test : Test) (a : Bool) (d : ℕ) (t : Token) (ts : List Token) 
 rejoins-here test a d t ts c passes h =
     let same : ◌≡◌ {A = Cut} ([], t ∷ ts) c = same_Some ([], t ∷ ts) c h in
     subst (Rejoins test (t ∷ ts)) same
-    (record { after = a; at = t; rest = ts; joined = refl; begins = refl; passes = both-true (nat_eq d 0) (test a t) passes })
+    (record { after = a; at = t; rest = ts; joined = refl; begins = refl; passes = (and_parts (nat_eq d 0) (test a t) passes).1 })
 
 pub cut_first-rejoins : (test : Test) (a : Bool) (d : ℕ) (ts : List Token) (c : Cut) → cut_first test a d ts ≡ Some c → Rejoins test ts c
 unfolding cut_first

@@ -7,6 +7,9 @@ use Rattle.c2po_kinds.specs.declared.fault.TypeFault.{TypeFault}
 use Rattle.c2po_kinds.specs.Checking.{Checked, ◌>>=◌, Fails}
 use Rattle.c2po_kinds.proofs.Turns.{fails-bind}
 
+pub ok-inj : {X : Type 0} (x y : X) → ◌≡◌ {A = Checked X} (Ok x) (Ok y) → x ≡ y
+ok-inj x y h = cc
+
 pub bind-ok : {X Y : Type 0} (m : Checked X) (f : X → Checked Y) (y : Y) → (m >>= f) ≡ Ok y → (x : X) × (m ≡ Ok x) × (f x ≡ Ok y)
 bind-ok (Ok x) f y h = (x, refl, h)
 bind-ok (Err fault) f y h = absurd (cc)

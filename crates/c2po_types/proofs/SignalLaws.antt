@@ -12,7 +12,6 @@ use Rattle.c2po_kinds.specs.declared.kind.Base.TheVariants as base
 use Rattle.c2po_kinds.specs.declared.kind.Kind.{Kind}
 use Rattle.c2po_kinds.specs.declared.kind.Meaning.{Meaning}
 use Rattle.c2po_kinds.specs.declared.kind.Meaning.TheVariants.{Struct, Value}
-use Rattle.c2po_kinds.specs.declared.kind.Signal.{Signal}
 use Rattle.c2po_kinds.specs.declared.declarations.Declarations.{Declarations}
 use Rattle.c2po_kinds.specs.declared.fault.TypeFault.TheVariants.{Twice, Signals, Kind as Kinds}
 use Rattle.c2po_kinds.specs.Checking.{Checked, ◌>>=◌, in_turn}
@@ -21,12 +20,9 @@ use Rattle.c2po_kinds.specs.Items.{Labels, new, with_field, signal_kind, struct_
 use Rattle.unfold.specs.Environment.{value_of}
 use Rattle.unfold.specs.Values as values
 use Rattle.unfold.specs.Faults.{value_fault}
-use Rattle.c2po_types.specs.FirstFault.{State, start, checked, ranged, defined, with_out, body_step, item_step}
+use Rattle.c2po_types.specs.FirstFault.{State, start, checked, defined, with_out, body_step, item_step}
 use Rattle.c2po_types.specs.Signals.{is_bool, body_signals, signals_of}
-use Rattle.c2po_types.proofs.Parts.{bind-ok, unless-ok, when-ok, ranged-ok}
-
-ok-inj : {X : Type 0} (x y : X) → ◌≡◌ {A = Checked X} (Ok x) (Ok y) → x ≡ y
-ok-inj x y h = cc
+use Rattle.c2po_types.proofs.Parts.{ok-inj, bind-ok, unless-ok, when-ok, ranged-ok}
 
 -- a name that isn't there
 new-ok : {X V : Type 0} (line : ℕ) (x : List ℕ) (names : Table V) (m : Checked X) (e : X) → new line x names m ≡ Ok e → m ≡ Ok e

@@ -1,7 +1,7 @@
 use Rattle.std.specs.Prelude.{◌≡◌, List, None}
 use Rattle.c2po_tree.specs.ItemShape.{ItemShape}
 use Rattle.c2po_tree.specs.Names.{ArePlainItems}
-use Rattle.c2po_kinds.specs.declared.kind.Signal.{Signal}
+use Rattle.mltl_base.specs.declared.signal.Signal.{Signal}
 use Rattle.c2po_types.specs.FirstFault.{first_fault}
 use Rattle.c2po_types.specs.Signals.{signals_of}
 

@@ -9,14 +9,14 @@ use Rattle.mltl_base.specs.Formula.{Formula}
 use Rattle.mltl_base.specs.Ranges.{NoRange, divisor, wide}
 use Rattle.c2po_tree.specs.Shape.{Shape}
 use Rattle.c2po_tree.specs.ItemShape.{TypeShape, FieldShape, BodyShape, ItemShape, structure, input, define, formula, contract}
-use Rattle.c2po_kinds.specs.declared.kind.Signal.{Signal}
+use Rattle.mltl_base.specs.declared.signal.Signal.{Signal}
 use Rattle.c2po_kinds.specs.declared.declarations.Declarations.{Declarations}
 use Rattle.c2po_kinds.specs.declared.fault.TypeFault.{TypeFault}
 use Rattle.c2po_kinds.specs.declared.fault.TypeFault.TheVariants as fault
 use Rattle.c2po_kinds.specs.Checking.{Checked, ◌>>=◌, in_turn}
 use Rattle.c2po_kinds.specs.Items.{Labels, nothing, with_struct, with_input, define_kind, with_value, with_label, formula_kind, contract_kind}
-use Rattle.node_facts.specs.Faults.{formula_fault, or_later}
-use Rattle.node_facts.specs.Tenses.{has_past, has_future}
+use Rattle.plain_nodes.specs.Faults.{formula_fault, or_later}
+use Rattle.plain_nodes.specs.Tenses.{has_past, has_future}
 use Rattle.unfold.specs.Environment.{Env, no_names, declare, fields, value, signal_value, value_of}
 use Rattle.unfold.specs.Values.{Value, weight, formula_of}
 use Rattle.unfold.specs.Faults.{value_fault}

@@ -7,9 +7,9 @@ use Rattle.unfold.specs.declared.fault.UnfoldFault.TheVariants.{Heavy}
 use Rattle.c2po_kinds.specs.declared.fault.TypeFault.{TypeFault}
 use Rattle.c2po_kinds.specs.declared.fault.TypeFault.TheVariants.{Wide, Memory}
 use Rattle.c2po_kinds.specs.Checking.{Checked, Fails}
-use Rattle.node_facts.specs.Facts.{told_fault}
-use Rattle.node_facts.specs.Faults.{formula_fault}
-use Rattle.node_facts.specs.Tenses.{has_past, has_future}
+use Rattle.plain_nodes.specs.Facts.{told_fault}
+use Rattle.plain_nodes.specs.Faults.{formula_fault}
+use Rattle.plain_nodes.specs.Tenses.{has_past, has_future}
 use Rattle.unfold.specs.declared.unfolding.Unfolded.{Unfolded}
 use Rattle.unfold.specs.Values.{Value, formula_of, weight as weight_of}
 use Rattle.unfold.specs.Environment.{Env}

@@ -4,7 +4,7 @@ use Rattle.std.specs.Prelude.{Bool, false, List, [], codes, map}
 use Rattle.std.specs.List.{flat_map}
 use Rattle.std.specs.Str.{bytes_eq}
 use Rattle.c2po_tree.specs.ItemShape.{TypeShape, BodyShape, ItemShape, type_named, set_of, input}
-use Rattle.c2po_kinds.specs.declared.kind.Signal.{Signal}
+use Rattle.mltl_base.specs.declared.signal.Signal.{Signal}
 
 -- whether a type is that of truths
 abbrev pub is_bool : TypeShape → Bool

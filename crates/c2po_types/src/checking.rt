@@ -10,9 +10,8 @@ use crate::TypedSpec;
 use crate::progress::Progress;
 use crate::steps::step;
 use c2po_kinds::{Declarations, NameTable, TypeFault};
-use c2po_tree::{Item, SpecTree};
+use c2po_tree::{Item, SpecTree, copy_tree};
 use std::alloc::Global;
-use tree_copy::copy_tree;
 use unfold::Unfolding;
 
 /// What is known behind all items.

@@ -8,7 +8,7 @@ ghost use Rattle.c2po_tree.specs.Shape.{shape};
 ghost use Rattle.c2po_tree.specs.ItemShape.{type_shape, field_shape, item_shape};
 ghost use Rattle.c2po_kinds.specs.Checking.{Gives};
 ghost use Rattle.c2po_kinds.specs.Items.{with_label};
-ghost use Rattle.node_facts.specs.Facts.{told_fault};
+ghost use Rattle.plain_nodes.specs.Facts.{told_fault};
 ghost use Rattle.unfold.specs.Environment.{Env, value_of};
 ghost use Rattle.unfold.specs.Stands.{StandsFor};
 ghost use Rattle.unfold.specs.Values.{Value};
@@ -24,7 +24,7 @@ use c2po_tree::{Body, Expr, FieldDecl, Item, TypeTree};
 use mltl_base::limits::MAX_WEIGHT;
 use mltl_base::{Engine, List, Name};
 use mltl_ranges::NoRange;
-use node_facts::{Tenses, first_fault};
+use plain_nodes::{Tenses, first_fault};
 use std::alloc::{AllocError, Global};
 use unfold::{UnfoldFault, Unfolded, Unfolding};
 

@@ -20,7 +20,7 @@ use Rattle.core_graph.specs.Listings.{is_in, is_item_in, count_in, AreOnce}
 use Rattle.core_graph.proofs.Forests.{tree_here}
 use Rattle.core_graph.proofs.Orders.{AreDistinct, completed_distinct, count_push, distinct_place}
 use Rattle.core_graph.proofs.Walking.{trees_push}
-use Rattle.core_graph.proofs.Outputs.{all_from_each}
+use Rattle.mltl_base.proofs.Members.{all_from_each}
 
 -- an item is of the part of its tree
 label_root : (ts : List Tree) (l : Label) (o : Operands) → root (joined ts l o) ≡ l

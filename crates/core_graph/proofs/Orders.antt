@@ -1,7 +1,7 @@
 -- Lists that a walk completes: what is listed stays, operands are listed, and what is listed already adds nothing.
 
 use Rattle.std.proofs.Common.{◌≡◌, ℕ, zero, suc, ◌+◌, ◌≤◌, Bool, true, false, ◌||◌, if◌then◌else◌, Some, List, [], ◌∷◌, ◌++◌, fold, filter, length, map, take, slice_get, refl, sym, subst, ap, ◌∙◌, arith}
-use Rattle.std.proofs.lemmas.Bool.{true≢false, false≢true}
+use Rattle.std.proofs.lemmas.Bool.{true≢false, false≢true, or_parts, or_right}
 use Rattle.std.proofs.lemmas.List.{length-append}
 use Rattle.std.proofs.lemmas.List.Elements.{filter-append}
 use Rattle.std.proofs.lemmas.Option.{same_Some}
@@ -197,10 +197,6 @@ or_same : (b c d : Bool) → (c ≡ false → d ≡ false) → (b || c) ≡ fals
 or_same true c d f h = h
 or_same false c d f h = f h
 
-or_none : (b c : Bool) → (b || c) ≡ false → (b ≡ false) × (c ≡ false)
-or_none true c h = absurd (true≢false h)
-or_none false c h = (refl, h)
-
 listed_later : (u t : Tree) (ts : List Tree) → listed same_tree u ts ≡ false → same_tree u t ≡ false → listed same_tree u (ts ++ t ∷ []) ≡ false
 unfolding listed
 listed_later u t [] h n = ap (λ b. b || false) n
@@ -217,7 +213,7 @@ distinct_push : (t : Tree) (ts : List Tree) → AreDistinct ts → listed same_t
 unfolding listed
 distinct_push t [] d h = (refl, tt)
 distinct_push t (v ∷ ts) d h =
-    let p : (same_tree t v ≡ false) × (listed same_tree t ts ≡ false) = or_none (same_tree t v) (listed same_tree t ts) h in
+    let p : (same_tree t v ≡ false) × (listed same_tree t ts ≡ false) = or_parts (same_tree t v) (listed same_tree t ts) h in
     (listed_later v t ts d.0 (other_way t v p.0), distinct_push t ts d.1 p.1)
 
 distinct_new : (t : Tree) (ts : List Tree) → AreDistinct ts → AreDistinct (add_new same_tree t ts)
@@ -247,7 +243,7 @@ absent_filter : (part : Tree → Bool) (u : Tree) (ts : List Tree) → listed sa
 unfolding listed
 absent_filter part u [] h = h
 absent_filter part u (t ∷ ts) h =
-    let p : (same_tree u t ≡ false) × (listed same_tree u ts ≡ false) = or_none (same_tree u t) (listed same_tree u ts) h in
+    let p : (same_tree u t ≡ false) × (listed same_tree u ts ≡ false) = or_parts (same_tree u t) (listed same_tree u ts) h in
     filtered_absent part u t ts (part t) p.0 (absent_filter part u ts p.1)
 
 filtered_distinct : (part : Tree → Bool) (t : Tree) (ts : List Tree) (k : Bool) → listed same_tree t (filter part ts) ≡ false → AreDistinct (filter part ts) →
@@ -262,17 +258,13 @@ distinct_filter part (t ∷ ts) d = filtered_distinct part t ts (part t) (absent
 pub completed_distinct : (part : Tree → Bool) (roots : List Tree) → AreDistinct (filter part (completed roots))
 completed_distinct part roots = distinct_filter part (completed roots) (fold_distinct roots [] tt)
 
-or_more : (b c : Bool) → c ≡ true → (b || c) ≡ true
-or_more true c h = refl
-or_more false c h = h
-
 pub get_listed : (ts : List Tree) (i : ℕ) (t : Tree) → slice_get ts i ≡ Some t → listed same_tree t ts ≡ true
 unfolding listed
 get_listed [] i t e = cc
 get_listed (u ∷ ts) zero t e =
     let same : u ≡ t = cc in
     ap (λ b. b || listed same_tree t ts) (ap (same_tree t) same ∙ same_tree_self t)
-get_listed (u ∷ ts) (suc i) t e = or_more (same_tree t u) (listed same_tree t ts) (get_listed ts i t e)
+get_listed (u ∷ ts) (suc i) t e = or_right (same_tree t u) (listed same_tree t ts) (get_listed ts i t e)
 
 pub distinct_place : (ts : List Tree) (i j : ℕ) (t : Tree) → AreDistinct ts → slice_get ts i ≡ Some t → slice_get ts j ≡ Some t → i ≡ j
 distinct_place [] i j t d e g = cc

@@ -15,6 +15,8 @@ use Rattle.mltl_base.specs.Subformulas.{same_expression, same, listed, place_of,
 use Rattle.mltl_base.proofs.Sameness.{same_sound}
 use Rattle.mltl_base.proofs.Unfolding.{Each, each_from_all, Deep, fold_all, fold_has}
 use Rattle.mltl_base.proofs.Booleans.{HasAtom, fold_have}
+use Rattle.mltl_base.proofs.Members.{all_from_each, each_append}
+use Rattle.mltl_base.proofs.Picking.{cores_of_engine, all_listed}
 use Rattle.plain_nodes.specs.declared.nodes.Plain.{Plain}
 use Rattle.plain_nodes.specs.declared.nodes.PlainOut.{PlainOut}
 use Rattle.plain_nodes.specs.declared.nodes.PlainOut.TheVariants.{Formula, Contract}
@@ -27,24 +29,6 @@ use Rattle.core_graph.specs.Images.{of_term, of_core}
 use Rattle.core_graph.specs.Reading.{Stands, AreRead}
 use Rattle.core_graph.specs.Walks.{trees_of}
 use Rattle.core_graph.specs.Listings.{asks, NamesNodes, roots_by, roots_of, places_for, out_of}
-
--- members that all have P
-pub all_from_each : {X : Type 0} (P : X → Type 0) (xs : List X) → Each P xs → All P xs
-all_from_each P [] h k d l = absurd (omega arith)
-all_from_each P (x ∷ xs) h zero d l = h.0
-all_from_each P (x ∷ xs) h (suc k) d l = all_from_each P xs h.1 k d (omega arith)
-
-each_append : {X : Type 0} (P : X → Type 0) (xs ys : List X) → Each P xs → Each P ys → Each P (xs ++ ys)
-each_append P [] ys h g = g
-each_append P (x ∷ xs) ys h g = (h.0, each_append P xs ys h.1 g)
-
-each_left : {X : Type 0} (P : X → Type 0) (xs ys : List X) → Each P (xs ++ ys) → Each P xs
-each_left P [] ys h = tt
-each_left P (x ∷ xs) ys h = (h.0, each_left P xs ys h.1)
-
-each_right : {X : Type 0} (P : X → Type 0) (xs ys : List X) → Each P (xs ++ ys) → Each P ys
-each_right P [] ys h = h
-each_right P (x ∷ xs) ys h = each_right P xs ys h.1
 
 -- the item of a formula, and of a whole number
 module _ (columns : List ℕ) (items : List Item) (nodes : List Plain) (ids : List ℕ) (r : AreRead columns items nodes ids) where
@@ -151,18 +135,6 @@ module _ (columns : List ℕ) (items : List Item) (nodes : List Plain) (ids : Li
     outs_are [] h l = refl
     outs_are (o ∷ outs) h l = ap₂ ◌∷◌ (out_is o h.0 l.0) (outs_are outs h.1 l.1)
 
--- the core formulas of an engine are among all
-cores_of_engine : (P : Core → Type 0) (e : Engine) (outs : List Asked) → Each P (all_cores outs) → Each P (cores_for e outs)
-cores_of_engine P e [] h = tt
-cores_of_engine P e (a ∷ outs) h =
-    each_append P (if same_engine a.engine e then cores_of_output a.output else []) (cores_for e outs)
-    (go (same_engine a.engine e) (each_left P (cores_of_output a.output) (all_cores outs) h))
-    (cores_of_engine P e outs (each_right P (cores_of_output a.output) (all_cores outs) h))
-  where
-    go : (b : Bool) → Each P (cores_of_output a.output) → Each P (if b then cores_of_output a.output else [])
-    go true h = h
-    go false h = tt
-
 each_listed : (P : Core → Type 0) (ps : List Core) (p : Core) → Each P ps → listed same p ps ≡ true → P p
 unfolding listed
 each_listed P [] p h l = absurd (false≢true l)
@@ -179,29 +151,8 @@ loaded e outs a h =
     = cores_of_engine (Deep (HasAtom (bz_expressions outs))) e outs (fold_have (all_cores outs) []) in
     each_listed (HasAtom (bz_expressions outs)) (subformulas e outs) (catom a) (fold_all (HasAtom (bz_expressions outs)) (cores_for e outs) [] have tt) h
 
--- each formula of an output is listed for its engine
-picked : (P : Core → Type 0) (e : Engine) (outs : List Asked) → Each P (cores_for e outs) → Each (λ a. same_engine a.engine e ≡ true → Each P (cores_of_output a.output)) outs
-picked P e [] h = tt
-picked P e (a ∷ outs) h = (
-  λ q. here (same_engine a.engine e) q (each_left P (if same_engine a.engine e then cores_of_output a.output else []) (cores_for e outs) h),
-  picked P e outs (each_right P (if same_engine a.engine e then cores_of_output a.output else []) (cores_for e outs) h),
-)
-  where
-    here : (b : Bool) → b ≡ true → Each P (if b then cores_of_output a.output else []) → Each P (cores_of_output a.output)
-    here true q h = h
-    here false q h = absurd (false≢true q)
-
-engine_self : (e : Engine) → same_engine e e ≡ true
-engine_self Ft = refl
-engine_self Pt = refl
-
-both_engines : (all outs : List Asked) → ((e : Engine) → Each (λ a. same_engine a.engine e ≡ true → Each (λ p. listed same p (subformulas e all) ≡ true) (cores_of_output a.output)) outs) →
-    Each (λ a. Each (λ p. listed same p (subformulas a.engine all) ≡ true) (cores_of_output a.output)) outs
-both_engines all [] h = tt
-both_engines all (a ∷ outs) h = ((h a.engine).0 (engine_self a.engine), both_engines all outs (λ e. (h e).1))
-
 pub outputs_listed : (outs : List Asked) → Each (λ a. Each (λ p. listed same p (subformulas a.engine outs) ≡ true) (cores_of_output a.output)) outs
-outputs_listed outs = both_engines outs outs (λ e. picked (λ p. listed same p (subformulas e outs) ≡ true) e outs (fold_has (cores_for e outs) []))
+outputs_listed outs = all_listed outs
 
 -- roots are items that stand for nodes
 root_inside : (size : ℕ) (ids : List ℕ) → All (λ k. k < size) ids → (n : ℕ) → n < length ids → slice_index ids n < size

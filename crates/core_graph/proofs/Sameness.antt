@@ -1,7 +1,7 @@
 -- The tests of sameness tell what is one, and images of expressions and core formulas are one where these are.
 
 use Rattle.std.proofs.Common.{◌≡◌, ◌==◌, ℕ, Bool, true, false, ◌&&◌, if◌then◌else◌, nat_lt, refl, sym, ap, ap₂, ◌∙◌}
-use Rattle.std.proofs.lemmas.Bool.{and_parts, eqb-true, eq-eqb, true≢false}
+use Rattle.std.proofs.lemmas.Bool.{and_parts, eqb-true, eq-eqb, true≢false, and_from}
 use Rattle.std.proofs.lemmas.Bool.Decides.{Decides-int_eq}
 use Rattle.mltl_base.specs.declared.interval.Interval.{Interval}
 use Rattle.mltl_base.specs.Atoms.{Term, column, constant, negative, plus, minus, times, quotient, remainder, Atom, is_true, equal, less, at_most, different, greater, at_least}
@@ -52,11 +52,8 @@ same_label_sound (until_in i) (until_in j) e = ap until_in (same_interval_sound 
 same_label_sound (since_in i) (since_in j) e = ap since_in (same_interval_sound i j e)
 same_label_sound _ _ e = cc
 
-both : (x y : Bool) → x ≡ true → y ≡ true → (x && y) ≡ true
-both x y e f = rw (e, f) refl
-
 same_interval_self : (i : Interval) → same_interval i i ≡ true
-same_interval_self i = both _ _ (eq-eqb i.lo i.lo refl) (eq-eqb i.hi i.hi refl)
+same_interval_self i = and_from _ _ (eq-eqb i.lo i.lo refl) (eq-eqb i.hi i.hi refl)
 
 same_label_self : (l : Label) → same_label l l ≡ true
 same_label_self (sign s) = eq-eqb (sign_number s) (sign_number s) refl
@@ -84,8 +81,8 @@ same_tree_sound _ _ e = cc
 pub same_tree_self : (t : Tree) → same_tree t t ≡ true
 unfolding same_tree
 same_tree_self (leaf l) = same_label_self l
-same_tree_self (one l t) = both _ _ (same_label_self l) (same_tree_self t)
-same_tree_self (two l t u) = both _ _ (same_label_self l) (both _ _ (same_tree_self t) (same_tree_self u))
+same_tree_self (one l t) = and_from _ _ (same_label_self l) (same_tree_self t)
+same_tree_self (two l t u) = and_from _ _ (same_label_self l) (and_from _ _ (same_tree_self t) (same_tree_self u))
 
 pub same_term_image : (a b : Term) → same_tree (of_term a) (of_term b) ≡ same_term a b
 unfolding same_tree same_term

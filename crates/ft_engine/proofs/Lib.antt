@@ -1,1 +1,4 @@
+pub mod Planning
+pub mod Tabled
+pub mod Unfolded
 pub mod Standings

@@ -1,14 +1,13 @@
 -- What queues that have taken rows, and have their table, say of the engine.
-use Rattle.std.proofs.Common.{◌≡◌, ℕ, zero, suc, ◌+◌, ◌-◌, ◌<◌, ◌≤◌, List, [], ◌∷◌, length, map, get_or, slice_index, arith, refl, subst, sym, ap, ap₂, ◌∙◌, Some}
-use Rattle.std.specs.List.{slice_get}
+use Rattle.std.proofs.Common.{◌≡◌, ℕ, zero, suc, ◌+◌, ◌-◌, ◌<◌, ◌≤◌, List, [], length, map, slice_index, arith, refl, subst, sym, ap, ap₂, ◌∙◌}
 use Rattle.std.proofs.lemmas.List.{get_or-map, length-map}
 use Rattle.mltl_base.specs.declared.interval.Engine.TheVariants.{Ft as future}
 use Rattle.mltl_base.specs.declared.operators.FtOp.{FtOp}
 use Rattle.mltl_base.specs.declared.operators.FtOp.TheVariants.{True, Load, Not, And, Until}
 use Rattle.mltl_base.specs.declared.program.Program.{Program}
-use Rattle.mltl_base.specs.Atoms.{Row, Atom, is_true}
+use Rattle.mltl_base.specs.Atoms.{Row, Atom}
 use Rattle.mltl_base.specs.Formula.{ctrue, bpd, core_wpd}
-use Rattle.mltl_base.specs.Programs.{Expression, whole, truth, atom_of, atoms, formula_at, formulas}
+use Rattle.mltl_base.specs.Programs.{atoms, formula_at, formulas}
 use Rattle.mltl_base.specs.Queues.{IsAfterOperands, AreInOrder, best_of, worst_of, best_delays, worst_delays}
 use Rattle.delay_sizes.proofs.DelayLaws.{length-numbered_after}
 use Rattle.delay_sizes.proofs.FormulaLaws.{best_of_formulas, worst_of_formulas}
@@ -18,11 +17,11 @@ use Rattle.ft_slab.specs.Nodes.{op_at, work_of, work_before, ReadsAhead}
 use Rattle.ft_slab.specs.Plans.{IsSeated}
 use Rattle.ft_slab.specs.State.{HasTable, IsPacedAfter, IsPlannedFor, front_at, place_at, ShowsRun}
 use Rattle.ft_slab.proofs.StateLaws.{paced_ahead, paced_count, paced_front_at_least, paced_front_at_most, paced_low, paced_size, table_front, table_verdict}
-use Rattle.ft_known.specs.DelayPlan.{plan_of}
-use Rattle.ft_known.specs.KnownTable.{known_table}
-use Rattle.ft_known.proofs.Planning.{planned_for}
+use Rattle.ft_engine.specs.DelayPlan.{plan_of}
+use Rattle.ft_engine.specs.KnownTable.{known_table}
+use Rattle.ft_engine.proofs.Planning.{planned_for}
 use Rattle.ft_engine.specs.declared.engine.Ft.{Ft}
-use Rattle.obs_verify.specs.Running.{IsTruthExpression, RunsFuture}
+use Rattle.obs_verify.specs.Running.{RunsFuture}
 use Rattle.ft_engine.specs.Standing.{Stands, instruction_count, frontier_at, lowest_at, kept_verdict, slots_at, width_of, ReadsFrom, place_of, ShowsFrom}
 
 -- the plan of a program fits its sizes
@@ -96,19 +95,6 @@ work_by_sizes ops size size' zero order h same = refl
 work_by_sizes ops size size' (suc n) order h same =
     ap₂ (λ (a b : ℕ). a + b) (work_by_sizes ops size size' n order (omega arith) (λ i i_in. same i (omega arith)))
     (sizes_in_order (op_at ops n) size size' n (size n) (size' n) (order n True (omega arith)) (λ i i_in. same i (omega arith)) (same n (omega arith)))
-
--- a truth that is loaded stands in the list
-pub truth_within : (es : List Expression) (k : ℕ) → IsTruthExpression (slice_get es k) → k < length es
-truth_within [] k t = absurd t
-truth_within (e ∷ es) zero t = omega arith
-truth_within (e ∷ es) (suc k) t = omega (arith, truth_within es k t)
-
--- and it is that of its atom
-pub truth_there : (es : List Expression) (k : ℕ) → IsTruthExpression (slice_get es k) → slice_get es k ≡ Some (truth (get_or (map (λ e. atom_of (Some e)) es) k (is_true 0)))
-truth_there [] k t = absurd t
-truth_there (truth a ∷ es) zero t = refl
-truth_there (whole e ∷ es) zero t = absurd t
-truth_there (e ∷ es) (suc k) t = truth_there es k t
 
 -- what the queues show, the engine shows
 pub shows_from : (ft : Ft) (i from : ℕ) (seen : Seen) → ShowsRun ft.queues i from seen → ShowsFrom ft i from seen

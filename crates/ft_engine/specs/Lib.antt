@@ -1,3 +1,5 @@
+pub mod DelayPlan
+pub mod KnownTable
 pub mod Running
 pub mod Sound
 pub mod Standing

@@ -13,8 +13,8 @@ use Rattle.scq_ring.specs.declared.Seen.{Seen}
 use Rattle.scq_ring.specs.declared.Seen.TheVariants.{Run, Nothing}
 use Rattle.ft_slab.specs.Nodes.{op_at, ReadsAhead}
 use Rattle.ft_slab.specs.State.{HasTable, IsPacedAfter, front_at, low_at, place_at, queue_count, size_at, verdict_in}
-use Rattle.ft_known.specs.DelayPlan.{plan_of}
-use Rattle.ft_known.specs.KnownTable.{known_table}
+use Rattle.ft_engine.specs.DelayPlan.{plan_of}
+use Rattle.ft_engine.specs.KnownTable.{known_table}
 use Rattle.ft_engine.specs.declared.engine.Ft.{Ft}
 
 -- how many instructions there are

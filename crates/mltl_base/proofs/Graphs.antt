@@ -16,30 +16,11 @@ use Rattle.mltl_base.specs.Subformulas.{same, place_of, Asked, cores_of_output, 
 use Rattle.mltl_base.proofs.CoreVerdicts.{core_verdicts}
 use Rattle.mltl_base.proofs.Sameness.{same_sound, same_self}
 use Rattle.mltl_base.proofs.Listing.{place_get}
-use Rattle.mltl_base.proofs.Unfolding.{Has, Each, each_from_all, Deep, IsFtHead, IsPtHead, ft_formulas, pt_formulas, fold_closed, fold_all, fold_has}
-use Rattle.mltl_base.proofs.Booleans.{HasCoreAtom, HasAtom, bz_unfolds, atom_at_place, fold_whole, fold_have}
-use Rattle.mltl_base.proofs.Tenses.{NotSince, NotUntil, core_atoms, core_future, core_past}
-
-each_append : {X : Type 0} (P : X → Type 0) (xs ys : List X) → Each P xs → Each P ys → Each P (xs ++ ys)
-each_append P [] ys h g = g
-each_append P (x ∷ xs) ys h g = (h.0, each_append P xs ys h.1 g)
-
-each_left : {X : Type 0} (P : X → Type 0) (xs ys : List X) → Each P (xs ++ ys) → Each P xs
-each_left P [] ys h = tt
-each_left P (x ∷ xs) ys h = (h.0, each_left P xs ys h.1)
-
-each_right : {X : Type 0} (P : X → Type 0) (xs ys : List X) → Each P (xs ++ ys) → Each P ys
-each_right P [] ys h = h
-each_right P (x ∷ xs) ys h = each_right P xs ys h.1
-
--- all atoms of the outputs have comparisons of instructions
-output_atoms : (o : Output) → Each (Deep HasCoreAtom) (cores_of_output o)
-output_atoms (formula p) = (core_atoms p, tt)
-output_atoms (contract p q) = (core_atoms p, (core_atoms q, tt))
-
-cores_atoms : (outs : List Asked) → Each (Deep HasCoreAtom) (all_cores outs)
-cores_atoms [] = tt
-cores_atoms (a ∷ outs) = each_append (Deep HasCoreAtom) (cores_of_output a.output) (all_cores outs) (output_atoms a.output) (cores_atoms outs)
+use Rattle.mltl_base.proofs.Unfolding.{Has, Each, each_from_all, Deep, IsFtHead, IsPtHead, ft_formulas, pt_formulas, fold_closed, fold_all}
+use Rattle.mltl_base.proofs.Booleans.{HasAtom, bz_unfolds, atom_at_place, fold_whole, fold_have}
+use Rattle.mltl_base.proofs.Tenses.{NotSince, NotUntil, core_future, core_past}
+use Rattle.mltl_base.proofs.Members.{each_append, each_left, each_right}
+use Rattle.mltl_base.proofs.Picking.{cores_atoms, all_listed}
 
 pub bz_list_unfolds : (outs : List Asked) → expressions (bz_list outs) ≡ bz_expressions outs
 bz_list_unfolds outs = bz_unfolds (bz_expressions outs) (fold_whole (all_cores outs) [] (cores_atoms outs) tt)
@@ -115,29 +96,6 @@ pt_list_unfolds outs t =
     ∙ pt_formulas (map (λ e. atom_of (Some e)) es) es (subformulas Pt outs) (fold_closed (cores_for Pt outs) [] tt)
     (fold_all (IsPtHead (map (λ e. atom_of (Some e)) es) es) (cores_for Pt outs) [] (pt_cores es outs (tensed_each outs t) (fold_have (all_cores outs) [])) tt)
 
--- each formula of an output is listed for its engine
-picked : (P : Core → Type 0) (e : Engine) (outs : List Asked) → Each P (cores_for e outs) → Each (λ a. same_engine a.engine e ≡ true → Each P (cores_of_output a.output)) outs
-picked P e [] h = tt
-picked P e (a ∷ outs) h = (
-  λ q. here (same_engine a.engine e) q (each_left P (if same_engine a.engine e then cores_of_output a.output else []) (cores_for e outs) h),
-  picked P e outs (each_right P (if same_engine a.engine e then cores_of_output a.output else []) (cores_for e outs) h),
-)
-  where
-    here : (b : Bool) → b ≡ true → Each P (if b then cores_of_output a.output else []) → Each P (cores_of_output a.output)
-    here true q h = h
-    here false q h = absurd (Rattle.std.proofs.lemmas.Bool.false≢true q)
-
-engine_self : (e : Engine) → same_engine e e ≡ true
-engine_self Ft = refl
-engine_self Pt = refl
-
-at_engine : (outs : List Asked) (e : Engine) → Each (Has (subformulas e outs)) (cores_for e outs)
-at_engine outs e = fold_has (cores_for e outs) []
-
-listed_cores : (all outs : List Asked) → ((e : Engine) → Each (λ a. same_engine a.engine e ≡ true → Each (Has (subformulas e all)) (cores_of_output a.output)) outs) → Each (λ a. Each (Has (subformulas a.engine all)) (cores_of_output a.output)) outs
-listed_cores all [] h = tt
-listed_cores all (a ∷ outs) h = ((h a.engine).0 (engine_self a.engine), listed_cores all outs (λ e. (h e).1))
-
 found_core : (ps : List Core) (p : Core) → Has ps p → core_at ps (place_of same p ps) ≡ p
 found_core ps p h = get_or_from_slice_get ps (place_of same p ps) p ctrue (place_get same same_sound same_self p ps h)
 
@@ -155,9 +113,6 @@ outs_unfold program all [] q h = refl
 outs_unfold program all (a ∷ outs) q h =
     ap₂ ◌∷◌ (output_unfolds program (subformulas a.engine all) a.engine a.name a.output (q a.engine) h.0) (outs_unfold program all outs q h.1)
 
-pub listed_each : (outs : List Asked) → Each (λ a. Each (Has (subformulas a.engine outs)) (cores_of_output a.output)) outs
-listed_each outs = listed_cores outs outs (λ e. picked (Has (subformulas e outs)) e outs (at_engine outs e))
-
 -- a program has the lists of a specification
 pub cores_listed : (program : Program) (outs : List Asked) → program.bz ≡ bz_list outs → program.ft ≡ ft_list outs → program.pt ≡ pt_list outs → All IsTensed outs → (e : Engine) → cores_of program e ≡ subformulas e outs
 cores_listed program outs b f p t Ft = rw (b, f) (ft_list_unfolds outs t)
@@ -166,7 +121,7 @@ cores_listed program outs b f p t Pt = rw (b, p) (pt_list_unfolds outs t)
 pub outputs_unfold : (program : Program) (outs : List Asked) → program.bz ≡ bz_list outs → program.ft ≡ ft_list outs → program.pt ≡ pt_list outs → program.outs ≡ out_list outs → All IsTensed outs →
     outputs program ≡ map (λ a. core_output a.output) outs
 outputs_unfold program outs b f p o t =
-    rw o (outs_unfold program outs outs (cores_listed program outs b f p t) (listed_each outs))
+    rw o (outs_unfold program outs outs (cores_listed program outs b f p t) (all_listed outs))
 
 named : (ps : List Core) (e : Engine) (name : List ℕ) (o : Output) → name_of (out_by ps e name o) ≡ name
 named ps e name (formula p) = refl

@@ -19,6 +19,9 @@ pub mod Unfolding
 pub mod Booleans
 pub mod Tenses
 pub mod CoreForms
+pub mod Members
+pub mod Digits
+pub mod Picking
 pub mod Graphs
 pub mod Returning
 pub mod Ranging

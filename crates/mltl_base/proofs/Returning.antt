@@ -13,7 +13,8 @@ use Rattle.mltl_base.specs.Subformulas.{same, place_of, add_subformulas, add_exp
 use Rattle.mltl_base.proofs.CoreForms.{core_again}
 use Rattle.mltl_base.proofs.Tenses.{core_stays_future, core_stays_past}
 use Rattle.mltl_base.proofs.Unfolding.{Has, Each}
-use Rattle.mltl_base.proofs.Graphs.{cores_listed, output_unfolds, listed_each, bz_list_unfolds}
+use Rattle.mltl_base.proofs.Graphs.{cores_listed, output_unfolds, bz_list_unfolds}
+use Rattle.mltl_base.proofs.Picking.{all_listed}
 
 -- an output of a specification, over the core forms of its formulas
 abbrev pub core_asked : Asked → Asked
@@ -36,7 +37,7 @@ by_outputs program all (a ∷ outs) q h =
 
 pub outputs_return : (program : Program) (outs : List Asked) → HasListsOf outs program → All IsTensed outs → unfolded_outputs program ≡ map core_asked outs
 outputs_return program outs h t =
-    rw h.reports (by_outputs program outs outs (cores_listed program outs h.bz h.ft h.pt t) (listed_each outs))
+    rw h.reports (by_outputs program outs outs (cores_listed program outs h.bz h.ft h.pt t) (all_listed outs))
 
 -- the lists of outputs over core forms are those of the outputs
 again_output : (o : Output) → cores_of_output (core_output o) ≡ cores_of_output o

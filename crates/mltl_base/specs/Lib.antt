@@ -11,3 +11,5 @@ pub mod Programs
 pub mod Subformulas
 pub mod Ranges
 pub mod Queues
+pub mod Kinds
+pub mod Blanks

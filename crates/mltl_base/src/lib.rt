@@ -13,6 +13,7 @@ pub mod name;
 pub mod operators;
 pub mod program;
 pub mod report;
+pub mod signal;
 
 pub use interval::{Engine, Interval, Part};
 pub use list::List;
@@ -20,3 +21,4 @@ pub use name::Name;
 pub use operators::{ArithOp, BetweenOp, BzOp, CompareOp, CountOp, FtOp, LogicOp, PtOp, WindowOp};
 pub use program::{Columns, Graph, Out, Program, Sizes, StoredSignal};
 pub use report::{Report, Style, Word};
+pub use signal::Signal;

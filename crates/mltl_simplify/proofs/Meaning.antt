@@ -1,7 +1,7 @@
 -- A simplified formula has the meaning of its formula.
 use Rattle.std.proofs.Common.{◌≡◌, ℕ, suc, ◌+◌, ◌-◌, ◌<◌, ◌≤◌, ◌⊎◌, inl, inr, Bool, true, false, not, ◌&&◌, ◌||◌, Decides, Option, Some, None, List, [], slice_index_or, refl, sym, ap, ap₂, ◌∙◌, subst, arith}
 use Rattle.std.specs.Prelude.{if◌then◌else◌}
-use Rattle.std.proofs.lemmas.Bool.{cases_lt}
+use Rattle.std.proofs.lemmas.Bool.{cases_lt, or_parts}
 use mathlib.Core.Path.{fun_ext}
 use Rattle.mltl_base.specs.declared.interval.Interval.{Interval}
 use Rattle.mltl_base.specs.Atoms.{Row, Term, column, constant, negative, plus, minus, times, quotient, remainder, Atom, is_true, equal, less, at_most, different, greater, at_least, holds, value}
@@ -36,30 +36,26 @@ sat_truth rows x v t h = ap (λ p. sat rows p t) (truth_is x v h) ∙ sat_of_tru
 
 -- ---- atoms
 
-or_none : (a b : Bool) → (a || b) ≡ false → (a ≡ false) × (b ≡ false)
-or_none true b h = absurd (cc)
-or_none false b h = (refl, h)
-
 value_same : (e : Term) (row : Row) → reads_signal e ≡ false → value e row ≡ value e []
 unfolding value reads_signal
 value_same (column s) row h = absurd (cc)
 value_same (constant n) row h = refl
 value_same (negative a) row h = rw (value_same a row h) refl
-value_same (plus a b) row h = let none = or_none _ _ h in rw (value_same a row none.0, value_same b row none.1) refl
-value_same (minus a b) row h = let none = or_none _ _ h in rw (value_same a row none.0, value_same b row none.1) refl
-value_same (times a b) row h = let none = or_none _ _ h in rw (value_same a row none.0, value_same b row none.1) refl
-value_same (quotient a b) row h = let none = or_none _ _ h in rw (value_same a row none.0, value_same b row none.1) refl
-value_same (remainder a b) row h = let none = or_none _ _ h in rw (value_same a row none.0, value_same b row none.1) refl
+value_same (plus a b) row h = let none = or_parts _ _ h in rw (value_same a row none.0, value_same b row none.1) refl
+value_same (minus a b) row h = let none = or_parts _ _ h in rw (value_same a row none.0, value_same b row none.1) refl
+value_same (times a b) row h = let none = or_parts _ _ h in rw (value_same a row none.0, value_same b row none.1) refl
+value_same (quotient a b) row h = let none = or_parts _ _ h in rw (value_same a row none.0, value_same b row none.1) refl
+value_same (remainder a b) row h = let none = or_parts _ _ h in rw (value_same a row none.0, value_same b row none.1) refl
 
 holds_same : (a : Atom) (row : Row) → has_signal a ≡ false → holds a row ≡ holds a []
 unfolding holds has_signal
 holds_same (is_true s) row h = absurd (cc)
-holds_same (equal a b) row h = let none = or_none _ _ h in rw (value_same a row none.0, value_same b row none.1) refl
-holds_same (less a b) row h = let none = or_none _ _ h in rw (value_same a row none.0, value_same b row none.1) refl
-holds_same (at_most a b) row h = let none = or_none _ _ h in rw (value_same a row none.0, value_same b row none.1) refl
-holds_same (different a b) row h = let none = or_none _ _ h in rw (value_same a row none.0, value_same b row none.1) refl
-holds_same (greater a b) row h = let none = or_none _ _ h in rw (value_same a row none.0, value_same b row none.1) refl
-holds_same (at_least a b) row h = let none = or_none _ _ h in rw (value_same a row none.0, value_same b row none.1) refl
+holds_same (equal a b) row h = let none = or_parts _ _ h in rw (value_same a row none.0, value_same b row none.1) refl
+holds_same (less a b) row h = let none = or_parts _ _ h in rw (value_same a row none.0, value_same b row none.1) refl
+holds_same (at_most a b) row h = let none = or_parts _ _ h in rw (value_same a row none.0, value_same b row none.1) refl
+holds_same (different a b) row h = let none = or_parts _ _ h in rw (value_same a row none.0, value_same b row none.1) refl
+holds_same (greater a b) row h = let none = or_parts _ _ h in rw (value_same a row none.0, value_same b row none.1) refl
+holds_same (at_least a b) row h = let none = or_parts _ _ h in rw (value_same a row none.0, value_same b row none.1) refl
 
 atom_means : (rows : List Row) (a : Atom) (t : ℕ) → sat rows (simple_atom a) t ≡ sat rows (atom a) t
 unfolding sat

@@ -1,6 +1,7 @@
 -- Entries of each part: what is read from the entry of a value is that value, and its numbers fit their fields.
 use Rattle.std.proofs.Common.{◌≡◌, ℕ, ◌^◌, ◌<◌, Bool, true, false, List, length, Option, Some, None, refl, ap}
 use Rattle.std.proofs.lemmas.Nat.{from_le_bytes-to_le_bytes_4}
+use Rattle.std.proofs.lemmas.Option.{same_Some}
 use Rattle.mltl_base.specs.declared.interval.Engine.{Engine}
 use Rattle.mltl_base.specs.declared.interval.Engine.TheVariants.{Ft, Pt}
 use Rattle.mltl_base.specs.declared.operators.BzOp.{BzOp}
@@ -25,14 +26,11 @@ again : (n : ℕ) → n < 2 ^ 32 → number_at (u32_bytes n) 0 ≡ n
 unfolding u32_bytes
 again n lt = from_le_bytes-to_le_bytes_4 n lt
 
-some_is : {A : Type 0} (x y : A) → Some x ≡ Some y → x ≡ y
-some_is x y e = cc
-
 first_is : {A B : Type 0} (x y : A × B) → Some x ≡ Some y → x.0 ≡ y.0
-first_is x y e = ap (λ p. p.0) (some_is x y e)
+first_is x y e = ap (λ p. p.0) (same_Some x y e)
 
 second_is : {A B : Type 0} (x y : A × B) → Some x ≡ Some y → x.1 ≡ y.1
-second_is x y e = ap (λ p. p.1) (some_is x y e)
+second_is x y e = ap (λ p. p.1) (same_Some x y e)
 
 -- ---- the Booleanizer
 
@@ -188,14 +186,14 @@ out_of_parts engine left right name_len = record { engine = engine; left = left;
 out_holds_parts : (engine : Engine) (left : ℕ) (right : Option ℕ) (name_len : ℕ) → IsBytes (out_entry (out_of_parts engine left right name_len)) → out_content (out_entry (out_of_parts engine left right name_len)) ≡ Some (out_of_parts engine left right name_len) → HoldsOut (out_of_parts engine left right name_len)
 unfolding out_of_parts out_entry out_content u32_bytes
 out_holds_parts engine left None name_len fits e = record {
-  left = field-below (out_entry (out_of_parts engine left None name_len)) 4 left fits (ap (λ (o : OutHead). o.left) (some_is _ _ e));
+  left = field-below (out_entry (out_of_parts engine left None name_len)) 4 left fits (ap (λ (o : OutHead). o.left) (same_Some _ _ e));
   right = tt;
-  name_len = field-below (out_entry (out_of_parts engine left None name_len)) 12 name_len fits (ap (λ (o : OutHead). o.name_len) (some_is _ _ e));
+  name_len = field-below (out_entry (out_of_parts engine left None name_len)) 12 name_len fits (ap (λ (o : OutHead). o.name_len) (same_Some _ _ e));
 }
 out_holds_parts engine left (Some right) name_len fits e = record {
-  left = field-below (out_entry (out_of_parts engine left (Some right) name_len)) 4 left fits (ap (λ (o : OutHead). o.left) (some_is _ _ e));
-  right = field-below (out_entry (out_of_parts engine left (Some right) name_len)) 8 right fits (some_is _ _ (ap (λ (o : OutHead). o.right) (some_is _ _ e)));
-  name_len = field-below (out_entry (out_of_parts engine left (Some right) name_len)) 12 name_len fits (ap (λ (o : OutHead). o.name_len) (some_is _ _ e));
+  left = field-below (out_entry (out_of_parts engine left (Some right) name_len)) 4 left fits (ap (λ (o : OutHead). o.left) (same_Some _ _ e));
+  right = field-below (out_entry (out_of_parts engine left (Some right) name_len)) 8 right fits (same_Some _ _ (ap (λ (o : OutHead). o.right) (same_Some _ _ e)));
+  name_len = field-below (out_entry (out_of_parts engine left (Some right) name_len)) 12 name_len fits (ap (λ (o : OutHead). o.name_len) (same_Some _ _ e));
 }
 
 out_holds : (o : OutHead) → IsBytes (out_entry o) → out_content (out_entry o) ≡ Some o → HoldsOut o
@@ -230,7 +228,7 @@ signal_of_parts column truth name_len = record { column = column; truth = truth;
 
 signal_holds : (s : SignalHead) → IsBytes (signal_entry s) → signal_content (signal_entry s) ≡ Some s → HoldsSignal s
 unfolding signal_entry signal_content u32_bytes
-signal_holds s fits e = record { column = field-below (signal_entry s) 0 s.column fits (ap (λ (h : SignalHead). h.column) (some_is _ _ e)) }
+signal_holds s fits e = record { column = field-below (signal_entry s) 0 s.column fits (ap (λ (h : SignalHead). h.column) (same_Some _ _ e)) }
 
 signal_again_parts : (column : ℕ) (truth : Bool) (name_len : ℕ) → column < 2 ^ 32 → signal_content (signal_entry (signal_of_parts column truth name_len)) ≡ Some (signal_of_parts column truth name_len)
 unfolding signal_of_parts signal_entry signal_content u32_bytes

@@ -4,7 +4,7 @@ use Rattle.std.proofs.Math.Seq.{drop-cons}
 use Rattle.std.specs.Prelude.{◌||◌, codes, nat_eq, ◌==◌}
 use Rattle.std.specs.Int.{w16, w32, from_le_bytes, to_le_bytes}
 use Rattle.std.specs.List.{flat_map, starts_with}
-use Rattle.std.proofs.lemmas.Bool.{eqb-true, ltb-false, le-ltb}
+use Rattle.std.proofs.lemmas.Bool.{eqb-true, ltb-false, le-ltb, or_cases}
 use Rattle.std.proofs.lemmas.List.{take-append-drop, length-take, length-drop}
 use Rattle.std.proofs.lemmas.Nat.{le_bytes_2, le_bytes_4, from_le_bytes-to_le_bytes_4}
 use Rattle.std.proofs.lemmas.Grind.{common_steps}
@@ -55,10 +55,6 @@ guard false fault r y e = (refl, e)
 not-false : (b : Bool) → not b ≡ false → b ≡ true
 not-false true e = refl
 not-false false e = absurd cc
-
-or-true : (a b : Bool) → (a || b) ≡ true → (a ≡ true) ⊎ (b ≡ true)
-or-true true b e = inl refl
-or-true false b e = inr e
 
 -- what the header at the front of the bytes was found to be
 record Found (bytes : List ℕ) (h : Header) : Type 0 where
@@ -201,7 +197,7 @@ in-two bytes h fits f two =
 pub header-takes : (bytes : List ℕ) (h : Header) → IsBytes bytes → header_at bytes ≡ Ok h → TakesHeader bytes h × (said_len h ≡ length bytes)
 header-takes bytes h fits e =
     let f = found bytes h e in
-    let takes : TakesHeader bytes h = elim (or-true (short_at bytes 4 == 1) (short_at bytes 4 == 2) f.version) [
+    let takes : TakesHeader bytes h = elim (or_cases (short_at bytes 4 == 1) (short_at bytes 4 == 2) f.version) [
       | inl one ↦ let v = eqb-true (short_at bytes 4) 1 one in
           subst (λ x. TakesHeader bytes x) (ap (λ n. header_fields n bytes) (sym v) ∙ f.fields) (in-one bytes h fits f v)
       | inr two ↦ let v = eqb-true (short_at bytes 4) 2 two in

@@ -3,7 +3,7 @@ use Rattle.std.proofs.Common.{◌≡◌, ℕ, zero, suc, ◌*◌, ◌-◌, ◌�
 use Rattle.std.specs.Prelude.{◌&&◌, nat_le}
 use Rattle.std.specs.Int.{is_in_range}
 use Rattle.std.specs.List.{flat_map, AllByRecursion, list_all}
-use Rattle.std.proofs.lemmas.Bool.{eqb-true}
+use Rattle.std.proofs.lemmas.Bool.{eqb-true, and_parts}
 use Rattle.std.proofs.lemmas.List.{nil_from_length, take-append-drop, take_at, drop_at, length-append, length-take}
 use Rattle.std.proofs.lemmas.List.Folds.{list_all-append}
 use Rattle.obs_binary.specs.declared.fault.ReadFault.{ReadFault}
@@ -119,10 +119,6 @@ pub record AreNamed {H X : Type 0} (len_of : H → ℕ) (with_name : H → List 
   pub len_is : (x : X) → len_of (head_of x) ≡ length (name_of x)
   pub named : (x : X) → Fits x → FitsName (name_of x)
 
-and-true : (a b : Bool) → (a && b) ≡ true → (a ≡ true) × (b ≡ true)
-and-true true b e = (refl, e)
-and-true false b e = absurd cc
-
 le-true : (a b : ℕ) → nat_le a b ≡ true → a ≤ b
 le-true a b e = grind arith
 
@@ -131,9 +127,9 @@ true-le a b h = grind arith
 
 pub in_front : (len : ℕ) (bytes : List ℕ) → is_name_in_front len bytes ≡ true → (1 ≤ len) × (len ≤ 64) × (len ≤ length bytes) × (list_all is_letter (take len bytes) ≡ true)
 in_front len bytes e =
-    let a = and-true (is_in_range 1 64 len && nat_le len (length bytes)) (list_all is_letter (take len bytes)) e in
-    let b = and-true (is_in_range 1 64 len) (nat_le len (length bytes)) a.0 in
-    let c = and-true (nat_le 1 len) (nat_le len 64) b.0 in
+    let a = and_parts (is_in_range 1 64 len && nat_le len (length bytes)) (list_all is_letter (take len bytes)) e in
+    let b = and_parts (is_in_range 1 64 len) (nat_le len (length bytes)) a.0 in
+    let c = and_parts (nat_le 1 len) (nat_le len 64) b.0 in
     (le-true 1 len c.0, le-true len 64 c.1, le-true len (length bytes) b.1, a.1)
 
 pub in_front-again : (name rest : List ℕ) → FitsName name → list_all is_letter name ≡ true → is_name_in_front (length name) (name ++ rest) ≡ true
@@ -178,7 +174,7 @@ module _ {H X : Type 0} (len_of : H → ℕ) (with_name : H → List ℕ → X) 
   named-again k (x ∷ xs) fits letters =
       let name = name_of x in
       let rest = flat_map name_of xs in
-      let both = and-true (list_all is_letter name) (list_all is_letter rest) (sym (list_all-append is_letter name rest) ∙ letters) in
+      let both = and_parts (list_all is_letter name) (list_all is_letter rest) (sym (list_all-append is_letter name rest) ∙ letters) in
       let front = in_front-again name rest (laws.named x fits.0) both.0 in
       let taken : take (length name) (name ++ rest) ≡ name = take_at name rest (length name) refl in
       let behind : drop (length name) (name ++ rest) ≡ rest = drop_at name rest (length name) refl in

@@ -26,7 +26,8 @@ use Rattle.mltl_base.proofs.Graphs.{bz_list_unfolds}
 use Rattle.plain_nodes.specs.declared.nodes.Expanded.{Expanded}
 use Rattle.plain_nodes.specs.Nodes.{trees}
 use Rattle.plain_nodes.specs.Outputs.{asked, asked_by, asked_in, asked_over}
-use Rattle.c2po_kinds.specs.declared.kind.Signal.{Signal}
+use Rattle.mltl_base.specs.declared.signal.Signal.{Signal}
+use Rattle.mltl_base.proofs.Picking.{all_listed, cores_atoms, cores_of_engine}
 use Rattle.core_graph.specs.Limits.{AreFew}
 use Rattle.obs_verify.specs.declared.fault.VerifyFault.TheVariants.{Width, TooManySlots}
 use Rattle.obs_verify.specs.Layout.{HasLayout}
@@ -36,14 +37,15 @@ use Rattle.obs_verify.proofs.SoundLaws.{bounded, bounded_past, each, in_order, n
 use Rattle.obs_verify.proofs.WellBound.{both_none}
 use Rattle.obs_build.specs.declared.fault.BuildFault.{BuildFault}
 use Rattle.obs_build.specs.declared.fault.BuildFault.TheVariants.{TooManyNodes, TooLate, TooManySlots as TooManySlots', Memory}
-use Rattle.obs_build.specs.Conditions.{IsBuildable, kinds_of}
+use Rattle.mltl_base.specs.Kinds.{kinds_of}
+use Rattle.obs_build.specs.Conditions.{IsBuildable}
 use Rattle.obs_build.specs.Image.{IsImageOf, stored_signals}
 use Rattle.obs_build.specs.Limits.{IsReason, IsWithinLimits, slots_of}
 use Rattle.obs_build.proofs.Parts.{AtCore, fold_expressions_all}
 use Rattle.obs_build.proofs.Cores.{deep_then, each_then}
 use Rattle.obs_build.proofs.Reading.{IsReadable}
 use Rattle.obs_build.proofs.Windows.{IsWindowed, trees_windowed}
-use Rattle.obs_build.proofs.Outputs.{IsFit, all_listed, asked_windowed, cores_atoms, cores_fit, cores_picked}
+use Rattle.obs_build.proofs.Outputs.{IsFit, asked_windowed, cores_fit}
 use Rattle.obs_build.proofs.Columns.{few_columns, length-stored_signals, of_kinds, passes, signals_none}
 use Rattle.obs_build.proofs.Rules.{bz_none, ft_none, outs_none, pt_none, sizes_none}
 
@@ -109,10 +111,10 @@ module _ (spec : Expanded) (signals : List Signal) (columns : Columns) (program 
       (each_then (Deep (IsFit program)) (Deep (AtCore (IsReadable program))) (deep_then (IsFit program) (AtCore (IsReadable program)) (at_core program)) (all_cores outs) cores) tt
 
   fit : (e : Engine) → Each (IsFit program) (subformulas e outs)
-  fit e = fold_all (IsFit program) (cores_for e outs) [] (cores_picked (Deep (IsFit program)) e outs cores) tt
+  fit e = fold_all (IsFit program) (cores_for e outs) [] (cores_of_engine (Deep (IsFit program)) e outs cores) tt
 
   atoms : (e : Engine) → Each (HasAtom (bz_expressions outs)) (subformulas e outs)
-  atoms e = fold_all (HasAtom (bz_expressions outs)) (cores_for e outs) [] (cores_picked (Deep (HasAtom (bz_expressions outs))) e outs (fold_have (all_cores outs) [])) tt
+  atoms e = fold_all (HasAtom (bz_expressions outs)) (cores_for e outs) [] (cores_of_engine (Deep (HasAtom (bz_expressions outs))) e outs (fold_have (all_cores outs) [])) tt
 
   closed : (e : Engine) → IsClosedAfter [] (subformulas e outs)
   closed e = fold_closed (cores_for e outs) [] tt

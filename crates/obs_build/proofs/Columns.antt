@@ -5,7 +5,7 @@ use Rattle.std.specs.Prelude.{◌&&◌}
 use Rattle.std.specs.List.{list_any, AllByRecursion, IsDistinct}
 use Rattle.std.specs.Option.{option_map}
 use Rattle.std.specs.Str.{bytes_eq}
-use Rattle.std.proofs.lemmas.Bool.{eqb-true, lt-ltb}
+use Rattle.std.proofs.lemmas.Bool.{eqb-true, lt-ltb, and_from, or_right}
 use Rattle.std.proofs.lemmas.Bool.Decides.{eqb_tells}
 use Rattle.std.proofs.lemmas.List.{get_or-take, length-map, length-take-le}
 use Rattle.std.proofs.lemmas.List.Folds.{Any-from_list_any, list_any_at, list_any_none}
@@ -14,13 +14,13 @@ use Rattle.std.proofs.lemmas.Option.{same_Some, slice_get-get_or, slice_get-map,
 use Rattle.std.proofs.lemmas.Slice.Eq.{bytes_eq-Decides}
 use Rattle.mltl_base.specs.declared.program.Program.{Program}
 use Rattle.mltl_base.specs.declared.program.StoredSignal.{StoredSignal}
-use Rattle.c2po_kinds.specs.declared.kind.Signal.{Signal}
+use Rattle.mltl_base.specs.declared.signal.Signal.{Signal}
 use Rattle.obs_verify.specs.declared.fault.VerifyFault.{VerifyFault}
 use Rattle.obs_verify.specs.declared.fault.VerifyFault.TheVariants.{Signal as BadSignal}
 use Rattle.obs_verify.specs.Bound.{AreDifferent}
 use Rattle.obs_verify.specs.WellFormed.{first_in, has_kind, is_new_signal, signal_fault, unless}
-use Rattle.obs_verify.proofs.WellBound.{and_both, from_each, or_second}
-use Rattle.obs_build.specs.Conditions.{HaveOwnNames, kinds_of}
+use Rattle.obs_verify.proofs.WellBound.{from_each}
+use Rattle.mltl_base.specs.Kinds.{HaveOwnNames, kinds_of}
 use Rattle.obs_build.specs.Image.{stored, stored_signals}
 use Rattle.obs_build.proofs.Reading.{AreOfKinds}
 
@@ -89,11 +89,11 @@ module _ (program : Program) (signals : List Signal) (columns : List ℕ) (kept 
         let test : StoredSignal → Bool = λ (x : StoredSignal). (x.column == slice_index columns s) && (if b then x.truth else not x.truth) in
         let passed : test (slice_index_or (stored_signals signals columns) s nothing_stored) ≡ true =
         ap test (stored_at signals columns s nothing_stored same found.0)
-        ∙ and_both (slice_index columns s == slice_index columns s) (if b then (slice_index_or signals s no_signal).truth else not (slice_index_or signals s no_signal).truth) (eq-eqb (slice_index columns s) (slice_index columns s) refl) (same_kind b (slice_index_or signals s no_signal).truth found.1) in
+        ∙ and_from (slice_index columns s == slice_index columns s) (if b then (slice_index_or signals s no_signal).truth else not (slice_index_or signals s no_signal).truth) (eq-eqb (slice_index columns s) (slice_index columns s) refl) (same_kind b (slice_index_or signals s no_signal).truth found.1) in
         let has : has_kind program.signals (slice_index columns s) b ≡ true =
         ap (λ (ss : List StoredSignal). has_kind ss (slice_index columns s) b) kept
         ∙ list_any_at test (stored_signals signals columns) s nothing_stored (omega (arith, length-stored_signals signals columns same, found.0)) passed in
-        and_both _ _ (lt-ltb _ _ (below s 0 (omega (arith, found.0)))) (or_second (program.version == 1) (has_kind program.signals (slice_index columns s) b) has);
+        and_from _ _ (lt-ltb _ _ (below s 0 (omega (arith, found.0)))) (or_right (program.version == 1) (has_kind program.signals (slice_index columns s) b) has);
   }
 
   -- ---- no column and no name twice
@@ -114,8 +114,8 @@ module _ (program : Program) (signals : List Signal) (columns : List ℕ) (kept 
 
     new_at : (i : ℕ) → i < length signals → is_new_signal program.width (take i (stored_signals signals columns)) (stored (slice_index_or signals i no_signal, slice_index columns i)) ≡ true
     new_at i inside =
-        and_both _ _
-        (and_both _ _ (lt-ltb _ _ (below i 0 (omega arith))) (ap not (column_new i inside)))
+        and_from _ _
+        (and_from _ _ (lt-ltb _ _ (below i 0 (omega arith))) (ap not (column_new i inside)))
         (ap not (name_new i inside))
 
     pub signals_none : first_in (signal_fault program) 0 program.signals ≡ None

@@ -1,17 +1,18 @@
 -- Formulas without faults over signals of their kinds, once they stand over columns.
 
-use Rattle.std.proofs.Common.{◌≡◌, ℕ, Bool, true, false, Option, Some, None, Ok, Err, List, slice_get, slice_index, refl, ap, ap₂, ◌∙◌}
+use Rattle.std.proofs.Common.{◌≡◌, ℕ, Bool, true, false, Some, None, Ok, Err, List, slice_get, slice_index, refl, ap, ap₂, ◌∙◌}
 use Rattle.std.specs.Prelude.{ℤ}
 use Rattle.mltl_base.specs.declared.interval.Interval.{Interval}
 use Rattle.mltl_base.specs.declared.program.Program.{Program}
 use Rattle.mltl_base.specs.Atoms.{Term, column, constant, negative, plus, minus, times, quotient, remainder, Atom, is_true, equal, less, at_most, different, greater, at_least, term_over, atom_over}
 use Rattle.mltl_base.specs.Formula.{Formula, truth as always, falsity, atom, negation, conjunction, disjunction, implication, equivalence, finally, globally, until, release, once, historically, since, core_atom, formula_over}
 use Rattle.mltl_base.specs.Programs.{Expression, whole, truth}
-use Rattle.mltl_base.specs.Ranges.{Range, NoRange, Ranged, range, negated, summed, lessened, multiplied, divided, left_over, over, over_both, over_divisor}
+use Rattle.mltl_base.specs.Ranges.{Range, Ranged, range, negated, summed, lessened, multiplied, divided, left_over, over, over_both, over_divisor}
 use Rattle.mltl_base.proofs.Unfolding.{Deep}
-use Rattle.node_facts.specs.Faults.{why_none, or_later, term_fault, atom_fault, formula_fault}
+use Rattle.plain_nodes.specs.Faults.{why_none, or_later, term_fault, atom_fault, formula_fault}
 use Rattle.obs_verify.specs.WellFormed.{is_column_of}
-use Rattle.obs_build.specs.Kinds.{ReadsWholes, AtomReadsKinds, ReadsKinds}
+use Rattle.mltl_base.specs.Kinds.{ReadsWholes, AtomReadsKinds, ReadsKinds}
+use Rattle.plain_nodes.proofs.NoFaults.{neither}
 use Rattle.obs_build.proofs.Parts.{InTerm, InAtom}
 use Rattle.obs_build.proofs.Cores.{Throughout, AtHead}
 
@@ -61,11 +62,6 @@ divisor_ranged : (f : Range → ℤ → Range) (r s : Ranged) → why_none (over
 divisor_ranged f (Ok r) (Ok s) h = (refl, refl)
 divisor_ranged f (Ok r) (Err why) h = (refl, h)
 divisor_ranged f (Err why) s h = absurd (cc)
-
--- neither of two faults
-neither : (a b : Option NoRange) → or_later a b ≡ None → (a ≡ None) × (b ≡ None)
-neither None b h = (refl, h)
-neither (Some why) b h = absurd (cc)
 
 module _ (program : Program) (kinds : List Bool) (columns : List ℕ) (fits : AreOfKinds program kinds columns) where
   term_reads : (a : Term) → ReadsWholes kinds a → term_fault a ≡ None → InTerm (IsReadable program) (term_over columns a)

@@ -3,7 +3,7 @@
 use Rattle.std.proofs.Common.{◌≡◌, ℕ, suc, ◌<◌, true, Some, None, Ok, Err, List, [], ◌∷◌, ◌++◌, length, map, take, slice_get, slice_index, slice_index_or, refl, sym, ap, ap₂, subst, ◌∙◌, append_assoc, arith}
 use Rattle.std.specs.Prelude.{◌&&◌, nat_lt}
 use Rattle.std.specs.Option.{option_map}
-use Rattle.std.proofs.lemmas.Bool.{le-leb, lt-ltb}
+use Rattle.std.proofs.lemmas.Bool.{le-leb, lt-ltb, and_from}
 use Rattle.std.proofs.lemmas.List.{get_or_default, length_push}
 use Rattle.std.proofs.lemmas.Option.{slice_get-map, slice_get_within}
 use Rattle.mltl_base.specs.declared.interval.Engine.{Engine}
@@ -23,12 +23,12 @@ use Rattle.mltl_base.proofs.Sameness.{same_sound, same_self, same_expression_sou
 use Rattle.mltl_base.proofs.Listing.{place_append, place_get}
 use Rattle.mltl_base.proofs.Unfolding.{Each, Has, HasExpression, IsClosedAfter}
 use Rattle.mltl_base.proofs.Booleans.{HasAtom, HasParts, IsWholeAfter}
-use Rattle.node_facts.specs.Faults.{why_none}
+use Rattle.plain_nodes.specs.Faults.{why_none}
 use Rattle.plain_nodes.specs.Nodes.{IsBounded}
 use Rattle.obs_verify.specs.declared.fault.VerifyFault.TheVariants.{Operand, Interval as BadInterval, Output as BadOutput}
 use Rattle.obs_verify.specs.WellFormed.{bz_fault, first_in, ft_fault, has_operands, is_truth, is_whole, is_whole_before, is_window, output_fault, pt_fault, range_fault, reports_within, size_fault}
 use Rattle.obs_verify.proofs.RuleLaws.{unless_eq}
-use Rattle.obs_verify.proofs.WellBound.{and_both, both_none, from_each}
+use Rattle.obs_verify.proofs.WellBound.{both_none, from_each}
 use Rattle.obs_build.proofs.Outputs.{IsFit}
 use Rattle.obs_build.proofs.Reading.{IsReadable}
 use Rattle.obs_build.proofs.Columns.{passes}
@@ -95,7 +95,7 @@ module _ (program : Program) (all : List Expression) (kept : program.bz ≡ map 
         ap is_whole here ∙ gives_whole all a
 
     both_before : (a b : Term) → HasExpression before (whole a) × HasExpression before (whole b) → (is_whole_before program (length before) (at all a) && is_whole_before program (length before) (at all b)) ≡ true
-    both_before a b h = and_both (is_whole_before program (length before) (at all a)) (is_whole_before program (length before) (at all b)) (whole_before a h.0) (whole_before b h.1)
+    both_before a b h = and_from (is_whole_before program (length before) (at all a)) (is_whole_before program (length before) (at all b)) (whole_before a h.0) (whole_before b h.1)
 
     operands_hold : (e : Expression) → HasParts before e → IsReadable program e → has_operands program (length before) (bz_instruction all e) ≡ true
     operands_hold (whole (column c)) h r = r.1
@@ -149,7 +149,7 @@ place_before p before rest h =
     lt-ltb _ _ (omega arith)
 
 window_holds : (i : Interval) → IsBounded i → is_window i ≡ true
-window_holds i h = and_both _ _ (le-leb i.lo i.hi h.0) (le-leb i.hi 1048576 h.1)
+window_holds i h = and_from _ _ (le-leb i.lo i.hi h.0) (le-leb i.hi 1048576 h.1)
 
 module _ (program : Program) (es : List Expression) (kept : program.bz ≡ map (bz_instruction es) es) where
   ft_here : (before rest : List Core) (p : Core) → Rattle.mltl_base.proofs.Unfolding.HasOperands before p → HasAtom es p → IsFit program p →
@@ -158,9 +158,9 @@ module _ (program : Program) (es : List Expression) (kept : program.bz ≡ map (
   ft_here before rest (catom x) h a f = both_none _ _ (passes _ (Operand Ft (length before)) (truth_loaded program es kept x a)) refl
   ft_here before rest (cnot p) h a f = both_none _ _ (passes _ (Operand Ft (length before)) (place_before p before rest h)) refl
   ft_here before rest (cand p q) h a f =
-      both_none _ _ (passes _ (Operand Ft (length before)) (and_both _ _ (place_before p before rest h.0) (place_before q before rest h.1))) refl
+      both_none _ _ (passes _ (Operand Ft (length before)) (and_from _ _ (place_before p before rest h.0) (place_before q before rest h.1))) refl
   ft_here before rest (cuntil i p q) h a f =
-      both_none _ _ (passes _ (Operand Ft (length before)) (and_both _ _ (place_before p before rest h.0) (place_before q before rest h.1)))
+      both_none _ _ (passes _ (Operand Ft (length before)) (and_from _ _ (place_before p before rest h.0) (place_before q before rest h.1)))
       (passes _ (BadInterval Ft (length before)) (window_holds i f))
   ft_here before rest (csince i p q) h a f = refl
 
@@ -170,9 +170,9 @@ module _ (program : Program) (es : List Expression) (kept : program.bz ≡ map (
   pt_here before rest (catom x) h a f = both_none _ _ (passes _ (Operand Pt (length before)) (truth_loaded program es kept x a)) refl
   pt_here before rest (cnot p) h a f = both_none _ _ (passes _ (Operand Pt (length before)) (place_before p before rest h)) refl
   pt_here before rest (cand p q) h a f =
-      both_none _ _ (passes _ (Operand Pt (length before)) (and_both _ _ (place_before p before rest h.0) (place_before q before rest h.1))) refl
+      both_none _ _ (passes _ (Operand Pt (length before)) (and_from _ _ (place_before p before rest h.0) (place_before q before rest h.1))) refl
   pt_here before rest (csince i p q) h a f =
-      both_none _ _ (passes _ (Operand Pt (length before)) (and_both _ _ (place_before p before rest h.0) (place_before q before rest h.1)))
+      both_none _ _ (passes _ (Operand Pt (length before)) (and_from _ _ (place_before p before rest h.0) (place_before q before rest h.1)))
       (passes _ (BadInterval Pt (length before)) (window_holds i f))
   pt_here before rest (cuntil i p q) h a f = refl
 
@@ -203,11 +203,11 @@ listed_within p ps count size h =
 
 ft_reports : (fts pts : ℕ) (ps : List Core) (name : List ℕ) (o : Output) → fts ≡ length ps → Each (Has ps) (cores_of_output o) → reports_within fts pts (out_by ps engine.Ft name o) ≡ true
 ft_reports fts pts ps name (formula p) size h = listed_within (core p) ps fts size h.0
-ft_reports fts pts ps name (contract p q) size h = and_both _ _ (listed_within (core p) ps fts size h.0) (listed_within (core q) ps fts size h.1.0)
+ft_reports fts pts ps name (contract p q) size h = and_from _ _ (listed_within (core p) ps fts size h.0) (listed_within (core q) ps fts size h.1.0)
 
 pt_reports : (fts pts : ℕ) (ps : List Core) (name : List ℕ) (o : Output) → pts ≡ length ps → Each (Has ps) (cores_of_output o) → reports_within fts pts (out_by ps engine.Pt name o) ≡ true
 pt_reports fts pts ps name (formula p) size h = listed_within (core p) ps pts size h.0
-pt_reports fts pts ps name (contract p q) size h = and_both _ _ (listed_within (core p) ps pts size h.0) (listed_within (core q) ps pts size h.1.0)
+pt_reports fts pts ps name (contract p q) size h = and_from _ _ (listed_within (core p) ps pts size h.0) (listed_within (core q) ps pts size h.1.0)
 
 module _ (program : Program) (all : List Asked) (fts : length program.ft ≡ length (subformulas engine.Ft all)) (pts : length program.pt ≡ length (subformulas engine.Pt all)) where
   out_reports : (e : Engine) (name : List ℕ) (o : Output) → Each (Has (subformulas e all)) (cores_of_output o) →

@@ -15,7 +15,7 @@ use Rattle.mltl_base.specs.Ranges.{NoRange}
 use Rattle.mltl_base.specs.Settled.{IsFuture}
 use Rattle.mltl_base.specs.Subformulas.{IsTensed}
 use Rattle.mltl_base.proofs.Unfolding.{Each, each_from_all}
-use Rattle.node_facts.specs.Faults.{or_later, formula_fault}
+use Rattle.plain_nodes.specs.Faults.{or_later, formula_fault}
 use Rattle.plain_nodes.specs.declared.nodes.Expanded.{Expanded}
 use Rattle.plain_nodes.specs.declared.nodes.Plain.{Plain}
 use Rattle.plain_nodes.specs.declared.nodes.Plain.TheVariants.{Truth, Flag, Number, Signal as Read, Minus, Arith, Compare, Not, Logic, Window, Between}
@@ -24,10 +24,10 @@ use Rattle.plain_nodes.specs.declared.nodes.PlainOut.TheVariants.{Formula as One
 use Rattle.plain_nodes.specs.Nodes.{Tree, number, formula, formula_at, tree_of, trees, IsFormula, IsFormed, AreSound}
 use Rattle.plain_nodes.specs.Outputs.{NamesFormulas, asked, asked_by}
 use Rattle.plain_nodes.proofs.Pushing.{length-trees, trees_more}
-use Rattle.core_graph.proofs.Outputs.{all_from_each}
-use Rattle.c2po_kinds.specs.declared.kind.Signal.{Signal}
-use Rattle.obs_build.specs.Conditions.{HaveOwnNames, IsBuildable, IsFaultless, ReadsSignals, kinds_of}
-use Rattle.obs_build.specs.Kinds.{ReadsKinds}
+use Rattle.mltl_base.proofs.Members.{all_from_each}
+use Rattle.mltl_base.specs.declared.signal.Signal.{Signal}
+use Rattle.mltl_base.specs.Kinds.{HaveOwnNames, ReadsKinds, ReadsSignals, kinds_of}
+use Rattle.obs_build.specs.Conditions.{IsBuildable, IsFaultless}
 use Rattle.obs_build.specs.Samples.{IsSample, IsSampleOut, AreSamples, AreLettered, AreInPlace}
 use Rattle.obs_build.proofs.Parts.{each_push}
 

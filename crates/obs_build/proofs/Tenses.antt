@@ -15,8 +15,8 @@ use Rattle.mltl_base.specs.Subformulas.{Asked, IsOfTense, IsTensed, core_output,
 use Rattle.mltl_base.proofs.Unfolding.{Each, each_from_all}
 use Rattle.mltl_base.proofs.Graphs.{program_unfolds, program_names, program_tells}
 use Rattle.plain_nodes.specs.Outputs.{asked_over, output_over}
-use Rattle.core_graph.proofs.Outputs.{all_from_each}
-use Rattle.c2po_kinds.specs.declared.kind.Signal.{Signal}
+use Rattle.mltl_base.proofs.Members.{all_from_each}
+use Rattle.mltl_base.specs.declared.signal.Signal.{Signal}
 use Rattle.obs_build.specs.Image.{IsImageOf}
 
 future_over : (columns : List ℕ) (p : Formula) → IsFuture p → IsFuture (formula_over columns p)

@@ -7,7 +7,7 @@ use Rattle.mltl_base.specs.declared.program.StoredSignal.{StoredSignal}
 use Rattle.mltl_base.specs.Queues.{queue_lengths, box_counts}
 use Rattle.mltl_base.specs.Subformulas.{Asked, HasListsOf}
 use Rattle.plain_nodes.specs.Outputs.{asked_over}
-use Rattle.c2po_kinds.specs.declared.kind.Signal.{Signal}
+use Rattle.mltl_base.specs.declared.signal.Signal.{Signal}
 
 -- a signal with its column
 abbrev pub stored : Signal × ℕ → StoredSignal

@@ -10,7 +10,7 @@ use Rattle.plain_nodes.specs.declared.nodes.Plain.TheVariants.{Flag, Logic, Wind
 use Rattle.plain_nodes.specs.declared.nodes.PlainOut.{PlainOut}
 use Rattle.plain_nodes.specs.declared.nodes.PlainOut.TheVariants.{Formula}
 use Rattle.plain_nodes.specs.Nodes.{IsBounded}
-use Rattle.c2po_kinds.specs.declared.kind.Signal.{Signal}
+use Rattle.mltl_base.specs.declared.signal.Signal.{Signal}
 
 -- node number i is a truth, a conjunction, a finally or an until, over earlier nodes and so many signals
 abbrev pub IsSample : ℕ → ℕ → Plain → Type 0

@@ -10,7 +10,7 @@ ghost use Rattle.mltl_base.specs.Reports.{reports};
 ghost use Rattle.mltl_base.specs.Subformulas.{Asked, IsTensed, core_output};
 ghost use Rattle.plain_nodes.specs.declared.nodes.Expanded.{Expanded as Spec};
 ghost use Rattle.plain_nodes.specs.Outputs.{asked, asked_in, asked_over};
-ghost use Rattle.c2po_kinds.specs.declared.kind.Signal.{Signal as Input};
+ghost use Rattle.mltl_base.specs.declared.signal.Signal.{Signal as Input};
 ghost use Rattle.obs_verify.specs.Layout.{HasLayout};
 ghost use Rattle.obs_verify.specs.WellFormed.{IsWellFormed};
 ghost use Rattle.obs_build.specs.Conditions.{IsBuildable};

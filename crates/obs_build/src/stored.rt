@@ -3,8 +3,7 @@
 ghost use Rattle.std.specs.Prelude.{◌≡◌, length, IfOk};
 ghost use Rattle.obs_build.specs.Image.{stored_signals};
 
-use c2po_kinds::Signal;
-use mltl_base::{List, StoredSignal};
+use mltl_base::{List, Signal, StoredSignal};
 use std::alloc::{AllocFailed, Global};
 
 /// Each signal with its column, in order of declaration.

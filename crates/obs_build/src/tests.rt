@@ -6,9 +6,10 @@ ghost use Rattle.obs_build.specs.Conditions.{IsBuildable};
 ghost use Rattle.obs_build.specs.Samples.{AreInPlace, AreLettered, AreSamples, IsLettered, IsSample, IsSampleOut};
 
 use crate::{BuildFault, build};
-use c2po_kinds::Signal;
 use mltl_base::limits::{MAX_BOUND, MAX_SIGNALS};
-use mltl_base::{BetweenOp, Columns, Engine, Interval, List, LogicOp, Name, WindowOp};
+use mltl_base::{
+    BetweenOp, Columns, Engine, Interval, List, LogicOp, Name, Signal, WindowOp,
+};
 use obs_verify::Checked;
 use plain_nodes::{Expanded, Plain, PlainOut};
 use std::alloc::Global;

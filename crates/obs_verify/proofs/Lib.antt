@@ -6,6 +6,7 @@ pub mod BoundLaws
 pub mod MovedLaws
 pub mod WellBound
 pub mod RunLaws
+pub mod Truths
 pub mod SoundOps
 pub mod UpgradeLaws
 pub mod WellRaised

@@ -3,7 +3,7 @@ use Rattle.std.proofs.Common.{◌≡◌, ℕ, ◌<◌, ◌≤◌, ◌==◌, zero
 use Rattle.std.specs.Prelude.{◌&&◌, ◌||◌, not, nat_lt, if◌then◌else◌}
 use Rattle.std.specs.List.{list_any}
 use Rattle.std.specs.Str.{bytes_eq}
-use Rattle.std.proofs.lemmas.Bool.{eqb-true, lt-ltb, le-leb}
+use Rattle.std.proofs.lemmas.Bool.{eqb-true, lt-ltb, le-leb, and_from, or_parts, or_right}
 use Rattle.std.proofs.lemmas.Bool.Decides.{eqb_tells}
 use Rattle.std.proofs.lemmas.List.{get_or-map, get_or-take, get_or_default, length-take, length-map}
 use Rattle.std.proofs.lemmas.List.Folds.{Any-from_list_any, list_any-from_Any, list_any_none}
@@ -29,21 +29,9 @@ use Rattle.obs_verify.proofs.SoundLaws.{each}
 pub both_none : (a b : Option VerifyFault) → a ≡ None → b ≡ None → or_else a b ≡ None
 both_none a b h k = ap (λ o. or_else o b) h ∙ k
 
-pub and_both : (a b : Bool) → a ≡ true → b ≡ true → (a && b) ≡ true
-and_both true b h k = k
-and_both false b h k = h
-
-pub or_false : (a b : Bool) → (a || b) ≡ false → (a ≡ false) × (b ≡ false)
-or_false true b h = absurd (cc)
-or_false false b h = (refl, h)
-
-or_right : (a b : Bool) → a ≡ false → (a || b) ≡ true → b ≡ true
-or_right true b h k = absurd (cc)
-or_right false b h k = k
-
-pub or_second : (a b : Bool) → b ≡ true → (a || b) ≡ true
-or_second true b h = refl
-or_second false b h = h
+or_rest : (a b : Bool) → a ≡ false → (a || b) ≡ true → b ≡ true
+or_rest true b h k = absurd (cc)
+or_rest false b h k = k
 
 not_true : (a : Bool) → not a ≡ true → a ≡ false
 not_true true h = absurd (cc)
@@ -101,7 +89,7 @@ signal_kept program width columns same below different none = from_each (signal_
     let names : not (list_any (λ before. bytes_eq s.name before.name) (bound_signals (take i program.signals) (take i columns))) ≡ true = ap not (any_name s.name (take i program.signals) (take i columns)) ∙ and_right _ _ was in
     ap (signal_fault (bound program width columns) i) (bound_at program.signals columns i d same here)
     ∙ ap (λ earlier. unless (is_new_signal width earlier (record s { column = n })) (Signal i)) (take_bound program.signals columns i)
-    ∙ unless_both _ _ _ (and_both _ _ (lt-ltb n width (below i 0 wide)) (ap not column)) names)
+    ∙ unless_both _ _ _ (and_from _ _ (lt-ltb n width (below i 0 wide)) (ap not column)) names)
 
 -- the column of a signal after it was moved
 moved_at : (signals : List StoredSignal) (columns : List ℕ) (c j : ℕ) (d : StoredSignal) → length columns ≡ length signals → j < length signals
@@ -111,14 +99,14 @@ moved_at [] columns c j d same inside none at = absurd (omega arith)
 moved_at (s ∷ signals) [] c j d same inside none at = absurd (omega arith)
 moved_at (s ∷ signals) (n ∷ columns) c zero d same inside none at = rw (eq-eqb s.column c at) refl
 moved_at (s ∷ signals) (n ∷ columns) c (suc j) d same inside none at =
-    let p = or_false (s.column == c) (list_any (λ before. before.column == c) (take j signals)) none in
+    let p = or_parts (s.column == c) (list_any (λ before. before.column == c) (take j signals)) none in
     rw p.0 (moved_at signals columns c j d (omega arith) (omega arith) p.1 at)
 
 column_kept : (program : Program) (width : ℕ) (columns : List ℕ) → program.version ≡ 2 → length columns ≡ length program.signals → All (λ c. c < width) columns
     → first_in (signal_fault program) 0 program.signals ≡ None → (c : ℕ) (t : Bool) → is_column_of program c t ≡ true → is_column_of (bound program width columns) (moved program.signals columns c) t ≡ true
 column_kept program width columns two same below none c t h =
     let second : (program.version == 1) ≡ false = ap (λ v. v == 1) two in
-    let stored : has_kind program.signals c t ≡ true = or_right (program.version == 1) (has_kind program.signals c t) second (and_right (nat_lt c program.width) ((program.version == 1) || has_kind program.signals c t) h) in
+    let stored : has_kind program.signals c t ≡ true = or_rest (program.version == 1) (has_kind program.signals c t) second (and_right (nat_lt c program.width) ((program.version == 1) || has_kind program.signals c t) h) in
     let found = Any-from_list_any (λ (signal : StoredSignal). (signal.column == c) && (if t then signal.truth else not signal.truth)) program.signals stored in
     let j : ℕ = found.0 in
     let s : StoredSignal = slice_index_or program.signals j found.1 in
@@ -133,8 +121,8 @@ column_kept program width columns two same below none c t h =
     let here : StoredSignal = record s { column = n } in
     let stands : slice_index_or (bound_signals program.signals columns) j here ≡ here = bound_at program.signals columns j here same inside ∙ ap (λ (x : StoredSignal). record x { column = n }) (get_or_default program.signals j here found.1 inside) in
     let has : has_kind (bound_signals program.signals columns) n t ≡ true = list_any-from_Any (λ (signal : StoredSignal). (signal.column == n) && (if t then signal.truth else not signal.truth)) (bound_signals program.signals columns)
-    (j, here, omega (arith, length-bound_signals program.signals columns), stands, and_both _ _ (eq-eqb n n refl) kind) in
-    subst (λ (m : ℕ). is_column_of (bound program width columns) m t ≡ true) (sym new) (and_both _ _ (lt-ltb n width (below j 0 (omega arith))) (or_second _ _ has))
+    (j, here, omega (arith, length-bound_signals program.signals columns), stands, and_from _ _ (eq-eqb n n refl) kind) in
+    subst (λ (m : ℕ). is_column_of (bound program width columns) m t ≡ true) (sym new) (and_from _ _ (lt-ltb n width (below j 0 (omega arith))) (or_right _ _ has))
 
 operands_kept : (program : Program) (width : ℕ) (columns : List ℕ) → program.version ≡ 2 → length columns ≡ length program.signals → All (λ c. c < width) columns
     → first_in (signal_fault program) 0 program.signals ≡ None → (i : ℕ) (op : BzOp) → has_operands program i op ≡ true → has_operands (bound program width columns) i (bound_op program.signals columns op) ≡ true
@@ -142,14 +130,14 @@ operands_kept program width columns two same below none i (Column c) h = column_
 operands_kept program width columns two same below none i (IsTrue c) h = column_kept program width columns two same below none c true h
 operands_kept program width columns two same below none i (Const n) h = refl
 operands_kept program width columns two same below none i (Neg a) h = whole_before_kept program.signals columns program.bz i a ∙ h
-operands_kept program width columns two same below none i (Add a b) h = and_both _ _ (whole_before_kept program.signals columns program.bz i a ∙ and_left _ _ h) (whole_before_kept program.signals columns program.bz i b ∙ and_right _ _ h)
-operands_kept program width columns two same below none i (Sub a b) h = and_both _ _ (whole_before_kept program.signals columns program.bz i a ∙ and_left _ _ h) (whole_before_kept program.signals columns program.bz i b ∙ and_right _ _ h)
-operands_kept program width columns two same below none i (Mul a b) h = and_both _ _ (whole_before_kept program.signals columns program.bz i a ∙ and_left _ _ h) (whole_before_kept program.signals columns program.bz i b ∙ and_right _ _ h)
-operands_kept program width columns two same below none i (Div a b) h = and_both _ _ (whole_before_kept program.signals columns program.bz i a ∙ and_left _ _ h) (whole_before_kept program.signals columns program.bz i b ∙ and_right _ _ h)
-operands_kept program width columns two same below none i (Rem a b) h = and_both _ _ (whole_before_kept program.signals columns program.bz i a ∙ and_left _ _ h) (whole_before_kept program.signals columns program.bz i b ∙ and_right _ _ h)
-operands_kept program width columns two same below none i (Eq a b) h = and_both _ _ (whole_before_kept program.signals columns program.bz i a ∙ and_left _ _ h) (whole_before_kept program.signals columns program.bz i b ∙ and_right _ _ h)
-operands_kept program width columns two same below none i (Lt a b) h = and_both _ _ (whole_before_kept program.signals columns program.bz i a ∙ and_left _ _ h) (whole_before_kept program.signals columns program.bz i b ∙ and_right _ _ h)
-operands_kept program width columns two same below none i (Le a b) h = and_both _ _ (whole_before_kept program.signals columns program.bz i a ∙ and_left _ _ h) (whole_before_kept program.signals columns program.bz i b ∙ and_right _ _ h)
+operands_kept program width columns two same below none i (Add a b) h = and_from _ _ (whole_before_kept program.signals columns program.bz i a ∙ and_left _ _ h) (whole_before_kept program.signals columns program.bz i b ∙ and_right _ _ h)
+operands_kept program width columns two same below none i (Sub a b) h = and_from _ _ (whole_before_kept program.signals columns program.bz i a ∙ and_left _ _ h) (whole_before_kept program.signals columns program.bz i b ∙ and_right _ _ h)
+operands_kept program width columns two same below none i (Mul a b) h = and_from _ _ (whole_before_kept program.signals columns program.bz i a ∙ and_left _ _ h) (whole_before_kept program.signals columns program.bz i b ∙ and_right _ _ h)
+operands_kept program width columns two same below none i (Div a b) h = and_from _ _ (whole_before_kept program.signals columns program.bz i a ∙ and_left _ _ h) (whole_before_kept program.signals columns program.bz i b ∙ and_right _ _ h)
+operands_kept program width columns two same below none i (Rem a b) h = and_from _ _ (whole_before_kept program.signals columns program.bz i a ∙ and_left _ _ h) (whole_before_kept program.signals columns program.bz i b ∙ and_right _ _ h)
+operands_kept program width columns two same below none i (Eq a b) h = and_from _ _ (whole_before_kept program.signals columns program.bz i a ∙ and_left _ _ h) (whole_before_kept program.signals columns program.bz i b ∙ and_right _ _ h)
+operands_kept program width columns two same below none i (Lt a b) h = and_from _ _ (whole_before_kept program.signals columns program.bz i a ∙ and_left _ _ h) (whole_before_kept program.signals columns program.bz i b ∙ and_right _ _ h)
+operands_kept program width columns two same below none i (Le a b) h = and_from _ _ (whole_before_kept program.signals columns program.bz i a ∙ and_left _ _ h) (whole_before_kept program.signals columns program.bz i b ∙ and_right _ _ h)
 
 bz_kept : (program : Program) (width : ℕ) (columns : List ℕ) → program.version ≡ 2 → length columns ≡ length program.signals → All (λ c. c < width) columns
     → first_in (signal_fault program) 0 program.signals ≡ None → first_in (bz_fault program) 0 program.bz ≡ None

@@ -3,7 +3,7 @@ use Rattle.std.proofs.Common.{◌≡◌, ℕ, ◌+◌, ◌<◌, ◌≤◌, ◌==
 use Rattle.std.specs.Prelude.{◌&&◌, ◌||◌, not, decimal, if◌then◌else◌}
 use Rattle.std.specs.List.{cons_option, filter_map, list_any, range_with_len}
 use Rattle.std.specs.Str.{bytes_eq}
-use Rattle.std.proofs.lemmas.Bool.{leb-true, lt-ltb, ltb-true}
+use Rattle.std.proofs.lemmas.Bool.{leb-true, lt-ltb, ltb-true, and_from, or_right}
 use Rattle.std.proofs.lemmas.Bool.Decides.{eqb_tells}
 use Rattle.std.proofs.lemmas.Fmt.{decimal_injective}
 use Rattle.std.proofs.lemmas.List.{append-nil, get_or-take, get_or_default, length-take}
@@ -24,7 +24,7 @@ use Rattle.obs_verify.proofs.RuleLaws.{and_left, or_none, unless_true}
 use Rattle.obs_verify.proofs.SignalLaws.{any-push, unless_both}
 use Rattle.obs_verify.proofs.SoundLaws.{each}
 use Rattle.obs_verify.proofs.UpgradeLaws.{at_column, reads_column, reads_none, reads_truth, signals_at}
-use Rattle.obs_verify.proofs.WellBound.{and_both, both_none, from_each, or_second}
+use Rattle.obs_verify.proofs.WellBound.{both_none, from_each}
 
 -- ---- columns that are read in one way
 
@@ -177,7 +177,7 @@ signals_new program narrow = from_each (signal_fault (raised program)) (signals_
     let there = listed_at 0 program.width ss k d l (omega arith) in
     ap (λ (before : StoredSignal). bytes_eq s.name before.name) (get_or-take i ss k e earlier ∙ get_or_default ss k e d (omega arith))
     ∙ named_apart _ _ _ _ (rising 0 program.width ss k i d l earlier inside) (omega (arith, here.below)) here.named there.named) in
-    unless_both _ _ _ (and_both _ _ (lt-ltb _ _ here.below) (ap not column)) (ap not name))
+    unless_both _ _ _ (and_from _ _ (lt-ltb _ _ here.below) (ap not column)) (ap not name))
 
 -- ---- columns that are read have their signal
 
@@ -185,7 +185,7 @@ any_front : {X : Type 0} (p : X → Bool) (xs ys : List X) → list_any p xs ≡
 any_front p xs ys h = list_any-append p xs ys ∙ ap (λ b. b || list_any p ys) h
 
 any_rest : {X : Type 0} (p : X → Bool) (xs ys : List X) → list_any p ys ≡ true → list_any p (xs ++ ys) ≡ true
-any_rest p xs ys h = list_any-append p xs ys ∙ or_second _ _ h
+any_rest p xs ys h = list_any-append p xs ys ∙ or_right _ _ h
 
 one_false : (signals : List StoredSignal) (c : ℕ) (b : Bool) → IsOneWay signals → has_kind signals c false ≡ true → has_kind signals c true ≡ b → has_kind signals c true ≡ false
 unfolding IsOneWay
@@ -217,7 +217,7 @@ own_kind c false ss = rw (eq-eqb c c refl) refl
 
 cons_rest : (o : Option StoredSignal) (ss : List StoredSignal) (c : ℕ) (t : Bool) → has_kind ss c t ≡ true → has_kind (cons_option o ss) c t ≡ true
 cons_rest None ss c t h = h
-cons_rest (Some s) ss c t h = or_second _ _ h
+cons_rest (Some s) ss c t h = or_right _ _ h
 
 read_there : (ops : List BzOp) (i c : ℕ) (t : Bool) (d op : BzOp) → i < length ops → slice_index_or ops i d ≡ op → read_of op ≡ Some (signal_in c t) → has_kind (reads ops) c t ≡ true
 read_there [] i c t d op inside is reads_it = absurd (omega arith)
@@ -228,7 +228,7 @@ read_there (o ∷ ops) (suc i) c t d op inside is reads_it = cons_rest (read_of 
 column_raised : (program : Program) (c : ℕ) (t : Bool) → IsOneWay (reads program.bz) → has_kind (reads program.bz) c t ≡ true → is_column_of program c t ≡ true → is_column_of (raised program) c t ≡ true
 column_raised program c t one there h =
     let inside : c < program.width = ltb-true c program.width (and_left _ _ h) in
-    and_both _ _ (and_left _ _ h) (kind_below (reads program.bz) c t 0 program.width (omega arith) (omega arith) one there)
+    and_from _ _ (and_left _ _ h) (kind_below (reads program.bz) c t 0 program.width (omega arith) (omega arith) one there)
 
 operands_raised : (program : Program) (i : ℕ) (d op : BzOp) → IsOneWay (reads program.bz) → i < length program.bz → slice_index_or program.bz i d ≡ op → has_operands program i op ≡ true → has_operands (raised program) i op ≡ true
 operands_raised program i d (Column c) one inside is h = column_raised program c false one (read_there program.bz i c false d (Column c) inside is refl) h

@@ -1,2 +1,4 @@
 pub mod Places
 pub mod Pushing
+pub mod Knowing
+pub mod NoFaults

@@ -1,2 +1,5 @@
 pub mod Nodes
 pub mod Outputs
+pub mod Faults
+pub mod Tenses
+pub mod Facts

@@ -3,9 +3,16 @@
 //! A specification that is unfolded is one list of nodes in which operands stand before the nodes that use them, so
 //! that a named value is kept once however often it is used. `trees` in `specs/Nodes.antt` is what the nodes unfold to,
 //! and `asked` in `specs/Outputs.antt` is what the outputs ask for.
+//!
+//! `Nodes` knows of each node the range of a whole number, or the first fault and the tenses of a formula. They are found
+//! once, from those of its operands, however often the node is used.
 #![tactic(auto)]
 
+pub mod fact;
+pub mod known_nodes;
 pub mod laws;
 pub mod nodes;
 
+pub use fact::{Fact, Tenses, first_fault};
+pub use known_nodes::Nodes;
 pub use nodes::{Expanded, Plain, PlainOut};

@@ -4,6 +4,7 @@ use Rattle.std.specs.List.{slice_get}
 use Rattle.std.proofs.lemmas.Bool.{cases_lt, cases_Bool}
 use Rattle.std.proofs.lemmas.Bool.Decides.{nat_tests}
 use Rattle.std.proofs.lemmas.List.Folds.{list_any-append}
+use Rattle.std.proofs.Math.Bool.{and-false, and-true, or-false}
 use Rattle.mltl_base.specs.declared.interval.Interval.{Interval}
 use Rattle.mltl_base.specs.Meaning.{within}
 use Rattle.pt_boxes.specs.declared.boxes.Span.{Span}
@@ -21,10 +22,6 @@ covers_before s u h = grind (arith, nat_tests)
 
 covers_begun : (s : Span) (u : ℕ) → u ≤ s.last → covers s u ≡ nat_le s.first u
 covers_begun s u h = grind (arith, nat_tests)
-
-or_false : (x : Bool) → (x || false) ≡ x
-or_false true = refl
-or_false false = refl
 
 -- the box that ended is not missed
 pub in_some-without_ended : (n u : ℕ) (boxes : List Span) → n ≤ u → in_some (without_ended n boxes) u ≡ in_some boxes u
@@ -48,7 +45,7 @@ in_some_first i n [] s a e = cc
 in_some_first i n (t ∷ ts) s a e =
     let same : t ≡ s = cc in
     let rest : in_some ts n ≡ false = none_before i (n + 1) (t.last + 2) n ts a.4 (omega (arith, a.2)) in
-    sym (ap₂ (λ (x y : Bool). x || y) (covers_begun t n (omega (arith, a.2))) rest ∙ or_false (nat_le t.first n) ∙ ap (λ (r : Span). nat_le r.first n) same)
+    sym (ap₂ (λ (x y : Bool). x || y) (covers_begun t n (omega (arith, a.2))) rest ∙ or-false (nat_le t.first n) ∙ ap (λ (r : Span). nat_le r.first n) same)
 
 -- two stretches that meet or touch are one
 covers_joined : (s new : Span) (u : ℕ) → s.first ≤ new.first → s.last ≤ new.last → new.first ≤ s.last + 1 → covers (record { first = s.first; last = new.last }) u ≡ (covers s u || covers new u)
@@ -65,7 +62,7 @@ in_some-prolonged i n low new u [] a last first ordered met = cc
 in_some-prolonged i n low new u (s ∷ []) a last first ordered met =
     let touch : new.first ≤ s.last + 1 = grind (arith, nat_tests) in
     let joined = covers_joined s new u (omega (arith, a.1, a.3)) (omega (arith, a.3)) touch in
-    or_false _ ∙ joined ∙ ap (λ (b : Bool). b || covers new u) (sym (or_false (covers s u)))
+    or-false _ ∙ joined ∙ ap (λ (b : Bool). b || covers new u) (sym (or-false (covers s u)))
 in_some-prolonged i n low new u (s ∷ s' ∷ ss) a last first ordered met =
     ap (λ (b : Bool). covers s u || b) (in_some-prolonged i n (s.last + 2) new u (s' ∷ ss) a.4 last first ordered met) ∙ or_or (covers s u) (in_some (s' ∷ ss) u) (covers new u)
 
@@ -78,7 +75,7 @@ in_some-with_stretch i n u boxes ordered a h =
     let P : Bool → Type 0 = λ b. in_some (if b then prolonged new.last boxes else boxes ++ new ∷ []) u ≡ (in_some boxes u || within i (u - n)) in
     elim (cases_Bool (meets new.first boxes)) [
       | inl met ↦ subst P (sym met) (in_some-prolonged i (n + 1) 0 new u boxes a (omega arith) (omega arith) ordered met ∙ ap (λ (b : Bool). in_some boxes u || b) here)
-      | inr apart ↦ subst P (sym apart) (list_any-append (λ s. covers s u) boxes (new ∷ []) ∙ ap (λ (b : Bool). in_some boxes u || b) (or_false (covers new u) ∙ here))
+      | inr apart ↦ subst P (sym apart) (list_any-append (λ s. covers s u) boxes (new ∷ []) ∙ ap (λ (b : Bool). in_some boxes u || b) (or-false (covers new u) ∙ here))
     ]
 
 -- what the rows told, one row on, by the old boxes
@@ -90,24 +87,16 @@ after_right i p q n u aged new left right p_is q_is aged_is new_is =
     ∙ ap₂ (λ (x y : Bool). (since_after i p q n u && x) || (within i (u - n) && y)) (sym p_is) (sym q_is)
     ∙ sym (since_after_more i p q n u)
 
-and_true : (x : Bool) → (x && true) ≡ x
-and_true true = refl
-and_true false = refl
-
-and_false : (x : Bool) → (x && false) ≡ false
-and_false true = refl
-and_false false = refl
-
 -- what is left of the boxes where the left operand is false, and where it is true
 in_some-aged : (i : Interval) (p q : ℕ → Bool) (n u : ℕ) (boxes : List Span) (left : Bool) → Tells i p q n boxes → n ≤ u
     → in_some (if left then without_ended n boxes else []) u ≡ (since_after i p q n u && left)
-in_some-aged i p q n u boxes true t h = in_some-without_ended n u boxes h ∙ t.each u (omega arith) ∙ sym (and_true (since_after i p q n u))
-in_some-aged i p q n u boxes false t h = sym (and_false (since_after i p q n u))
+in_some-aged i p q n u boxes true t h = in_some-without_ended n u boxes h ∙ t.each u (omega arith) ∙ sym (and-true (since_after i p q n u))
+in_some-aged i p q n u boxes false t h = sym (and-false (since_after i p q n u))
 
 in_some-opened : (i : Interval) (n u : ℕ) (boxes : List Span) (right : Bool) → i.lo ≤ i.hi → AreApart i (n + 1) 0 boxes → n ≤ u
     → in_some (if right then with_stretch (stretch_at i n) boxes else boxes) u ≡ (in_some boxes u || (within i (u - n) && right))
-in_some-opened i n u boxes true ordered a h = in_some-with_stretch i n u boxes ordered a h ∙ ap (λ (b : Bool). in_some boxes u || b) (sym (and_true (within i (u - n))))
-in_some-opened i n u boxes false ordered a h = sym (ap (λ (b : Bool). in_some boxes u || b) (and_false (within i (u - n))) ∙ or_false (in_some boxes u))
+in_some-opened i n u boxes true ordered a h = in_some-with_stretch i n u boxes ordered a h ∙ ap (λ (b : Bool). in_some boxes u || b) (sym (and-true (within i (u - n))))
+in_some-opened i n u boxes false ordered a h = sym (ap (λ (b : Bool). in_some boxes u || b) (and-false (within i (u - n))) ∙ or-false (in_some boxes u))
 
 -- the boxes after a row tell what one row more tells
 pub tells_more : (i : Interval) (n : ℕ) (old aged new : List Span) (left right : Bool) → i.lo ≤ i.hi → AreApart i (n + 1) 0 aged

@@ -1,5 +1,6 @@
 -- What the first rows tell of a Since.
 use Rattle.std.proofs.Common.{◌≡◌, ℕ, zero, suc, ◌+◌, ◌-◌, ◌<◌, ◌≤◌, Bool, true, false, ◌&&◌, ◌||◌, arith, refl, ap, ap₂, ◌∙◌}
+use Rattle.std.proofs.Math.Bool.{and-true}
 use Rattle.mltl_base.specs.declared.interval.Interval.{Interval}
 use Rattle.mltl_base.specs.Kleene.{some_below, every_below, every_in}
 use Rattle.mltl_base.specs.Meaning.{within}
@@ -47,10 +48,6 @@ and_and true true y b = refl
 and_and true false y b = refl
 and_and false x y b = refl
 
-and_true : (x : Bool) → (x && true) ≡ x
-and_true true = refl
-and_true false = refl
-
 some_and : (n : ℕ) (f : ℕ → Bool) (b : Bool) → some_below n (λ k. f k && b) ≡ (some_below n f && b)
 unfolding some_below
 some_and zero f b = refl
@@ -64,5 +61,5 @@ since_after_more i p q n u =
     some_same n _ _ (λ m m_in. ap (λ (x : Bool). within i (u - m) && (q m && x)) (every_more (suc m) n p (omega arith)) ∙ and_and (within i (u - m)) (q m) (every_in (suc m) n p) (p n))
     ∙ some_and n (λ m. within i (u - m) && (q m && every_in (suc m) n p)) (p n) in
     let last : (within i (u - n) && (q n && every_in (suc n) (suc n) p)) ≡ (within i (u - n) && q n) =
-    ap (λ (x : Bool). within i (u - n) && (q n && x)) (every_none (suc n) p) ∙ ap (λ (x : Bool). within i (u - n) && x) (and_true (q n)) in
+    ap (λ (x : Bool). within i (u - n) && (q n && x)) (every_none (suc n) p) ∙ ap (λ (x : Bool). within i (u - n) && x) (and-true (q n)) in
     ap₂ (λ (x y : Bool). x || y) earlier last

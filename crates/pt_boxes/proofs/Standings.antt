@@ -1,16 +1,13 @@
 -- What nodes that have taken rows, and have their table, say of the engine.
-use Rattle.std.proofs.Common.{◌≡◌, ℕ, zero, suc, ◌<◌, List, [], ◌∷◌, length, map, get_or, drop, arith, refl, subst, sym, ◌∙◌, Some, length-drop, length-take-le}
-use Rattle.std.specs.List.{slice_get}
+use Rattle.std.proofs.Common.{◌≡◌, ℕ, List, length, drop, arith, refl, subst, sym, ◌∙◌, length-drop, length-take-le}
 use Rattle.mltl_base.specs.declared.interval.Interval.{Interval}
 use Rattle.mltl_base.specs.declared.operators.PtOp.{PtOp}
 use Rattle.mltl_base.specs.declared.operators.PtOp.TheVariants.{True, Load, Not, And, Since}
 use Rattle.mltl_base.specs.declared.program.Program.{Program}
-use Rattle.mltl_base.specs.Atoms.{Row, is_true}
-use Rattle.mltl_base.specs.Programs.{Expression, whole, truth, atom_of}
+use Rattle.mltl_base.specs.Atoms.{Row}
 use Rattle.pt_boxes.specs.declared.boxes.Span.{Span}
 use Rattle.pt_boxes.specs.declared.engine.Pt.{Pt}
 use Rattle.pt_boxes.specs.Nodes.{AreKept, HasBoxes, boxes_in, node_at, op_at, part}
-use Rattle.obs_verify.specs.Running.{IsTruthExpression}
 use Rattle.pt_boxes.specs.Spans.{Tells}
 use Rattle.pt_boxes.specs.Standing.{Stands, boxes_at, instruction_count, meaning_of, now_at, room_at, row_count}
 use Rattle.pt_boxes.specs.Tables.{HasTable, IsTold, Table}
@@ -60,16 +57,3 @@ table_of program rows pt s = record {
 pub rows_of : (program : Program) (rows : List Row) (pt : Pt) → Stands program rows pt → pt.rows ≡ length rows
 unfolding row_count
 rows_of program rows pt s = s.taken
-
--- a truth that is loaded stands in the list
-pub truth_within : (es : List Expression) (k : ℕ) → IsTruthExpression (slice_get es k) → k < length es
-truth_within [] k t = absurd t
-truth_within (e ∷ es) zero t = omega arith
-truth_within (e ∷ es) (suc k) t = omega (arith, truth_within es k t)
-
--- and it is that of its atom
-pub truth_there : (es : List Expression) (k : ℕ) → IsTruthExpression (slice_get es k) → slice_get es k ≡ Some (truth (get_or (map (λ e. atom_of (Some e)) es) k (is_true 0)))
-truth_there [] k t = absurd t
-truth_there (truth a ∷ es) zero t = refl
-truth_there (whole e ∷ es) zero t = absurd t
-truth_there (e ∷ es) (suc k) t = truth_there es k t

@@ -15,7 +15,8 @@ use Rattle.obs_verify.specs.Running.{RunsPast}
 use Rattle.pt_boxes.specs.Standing.{Stands, meaning_of}
 use Rattle.pt_boxes.specs.Tables.{AgreeOnLoads, HasTable, IsTable, Table}
 use Rattle.pt_boxes.proofs.Meanings.{has_same, loaded_last, loaded_of, meaning_stays, meaning_table}
-use Rattle.pt_boxes.proofs.Standings.{stands_with, table_of, truth_there}
+use Rattle.pt_boxes.proofs.Standings.{stands_with, table_of}
+use Rattle.obs_verify.proofs.Truths.{truth_there}
 
 -- nodes have taken a row after n others
 pub record TakesRow (ops : List PtOp) (numbers : List ℤ) (n : ℕ) (nodes : List Node) (slab : List Span) (nodes' : List Node) (slab' : List Span) : Type 0 where

@@ -11,7 +11,7 @@ use Rattle.mltl_base.specs.Reports.{Output, reports}
 use Rattle.mltl_base.specs.Subformulas.{Asked}
 use Rattle.mltl_base.proofs.Telling.{told_words, reports_rise}
 use Rattle.mltl_base.proofs.Words.{word_settled, word_known}
-use Rattle.c2po_kinds.specs.declared.kind.Signal.{Signal}
+use Rattle.mltl_base.specs.declared.signal.Signal.{Signal}
 use Rattle.trace_feed.specs.declared.header_fault.HeaderFault.{HeaderFault}
 use Rattle.tool_words.specs.R2u2Words.{RunAsked}
 use Rattle.spec_compile.specs.declared.fault.CompileFault.{CompileFault}

@@ -8,6 +8,7 @@ use Rattle.mltl_base.specs.declared.interval.Engine.{Engine}
 use Rattle.mltl_base.specs.Formula.{Formula}
 use Rattle.mltl_base.specs.Reports as output
 use Rattle.mltl_base.specs.Subformulas.{Asked}
+use Rattle.plain_nodes.proofs.Pushing.{is_formula}
 use Rattle.plain_nodes.specs.declared.nodes.Plain.{Plain}
 use Rattle.plain_nodes.specs.declared.nodes.PlainOut.{PlainOut}
 use Rattle.plain_nodes.specs.declared.nodes.PlainOut.TheVariants as out
@@ -69,20 +70,17 @@ asks-push nodes outs told o a h names e = record {
       ∙ (ap (λ (more : List Asked). more ++ asked_by (trees nodes) o ∷ []) h.asked ∙ ap (λ (b : Asked). told ++ b ∷ []) e);
 }
 
-is-formula : (nodes : List Plain) (n : ℕ) (p : Formula) → Has nodes n (formula p) → IsFormula (slice_get (trees nodes) n)
-is-formula nodes n p h = subst IsFormula (sym h.found) tt
-
 -- a formula, and a contract
 pub asks-formula : (nodes : List Plain) (outs : List PlainOut) (told : List Asked) (engine : Engine) (n : ℕ) (name : List ℕ) (p : Formula)
     → AskFor nodes outs told → Has nodes n (formula p)
     → AskFor nodes (outs ++ out.Formula engine n name ∷ []) (told ++ record { engine = engine; name = name; output = output.formula p } ∷ [])
-asks-formula nodes outs told engine n name p h k = asks-push nodes outs told (out.Formula engine n name) _ h (is-formula nodes n p k)
+asks-formula nodes outs told engine n name p h k = asks-push nodes outs told (out.Formula engine n name) _ h (is_formula nodes n p k)
     (ap (λ (found : Option Tree). record { engine = engine; name = name; output = output.formula (formula_in found) }) k.found)
 
 pub asks-contract : (nodes : List Plain) (outs : List PlainOut) (told : List Asked) (engine : Engine) (n m : ℕ) (name : List ℕ) (p q : Formula)
     → AskFor nodes outs told → Has nodes n (formula p) → Has nodes m (formula q)
     → AskFor nodes (outs ++ out.Contract engine n m name ∷ []) (told ++ record { engine = engine; name = name; output = output.contract p q } ∷ [])
 asks-contract nodes outs told engine n m name p q h k l =
-    asks-push nodes outs told (out.Contract engine n m name) _ h (is-formula nodes n p k, is-formula nodes m q l)
+    asks-push nodes outs told (out.Contract engine n m name) _ h (is_formula nodes n p k, is_formula nodes m q l)
     (ap (λ (found : Option Tree). record { engine = engine; name = name; output = output.contract (formula_in found) (formula_in (slice_get (trees nodes) m)) }) k.found
     ∙ ap (λ (found : Option Tree). record { engine = engine; name = name; output = output.contract p (formula_in found) }) l.found)

@@ -16,7 +16,7 @@ use Rattle.plain_nodes.specs.Nodes.{trees, AreSound}
 use Rattle.plain_nodes.specs.Outputs.{NamesFormulas, asked_by, asked, IsSound}
 use Rattle.unfold.specs.Stands.{nodes_of}
 use Rattle.set_expand.specs.declared.progress.Progress.{Progress}
-use Rattle.set_expand.specs.Kinds.{ReadsSignals, kinds_of}
+use Rattle.mltl_base.specs.Kinds.{ReadsSignals, kinds_of}
 use Rattle.set_expand.specs.Outputs.{HasPlainName, HasRanges, asked_from, outputs_of}
 use Rattle.set_expand.specs.Standing.{Leaves}
 use Rattle.set_expand.proofs.Faultless.{faultless-ranged, faultless-tensed}

@@ -3,7 +3,7 @@
 use Rattle.std.proofs.Common.{◌≡◌, ℕ, ◌+◌, ◌≤◌, Bool, true, false, Option, Some, None, Ok, Err, List, [], ◌∷◌, ◌++◌, map, length, drop, refl, sym, ap, subst, ◌∙◌, arith, if◌then◌else◌}
 use Rattle.std.specs.Prelude.{nat_le, All}
 use Rattle.std.proofs.Math.Seq.{drop-append_seam}
-use Rattle.std.proofs.lemmas.Bool.{leb-true}
+use Rattle.std.proofs.lemmas.Bool.{leb-true, or_parts}
 use Rattle.std.proofs.lemmas.Grind.{flat_map-append}
 use Rattle.std.proofs.lemmas.List.{append-nil, length-append}
 use Rattle.std.proofs.lemmas.List.Elements.{All-nil, All-cons, All-append}
@@ -11,25 +11,23 @@ use Rattle.mltl_base.specs.declared.limits.TheConstants.{MAX_WEIGHT}
 use Rattle.mltl_base.specs.Ranges.{NoRange}
 use Rattle.mltl_base.specs.Reports as output
 use Rattle.mltl_base.specs.Subformulas.{IsOfTense, IsTensed}
+use Rattle.plain_nodes.proofs.NoFaults.{neither}
 use Rattle.c2po_tree.specs.ItemShape.{BodyShape, ItemShape, structure, input, define, formula, contract}
 use Rattle.c2po_kinds.specs.declared.fault.TypeFault.{TypeFault}
 use Rattle.c2po_kinds.specs.declared.fault.TypeFault.TheVariants.{Wide, Tense}
 use Rattle.c2po_kinds.specs.Checking.{Checked, ◌>>=◌, in_turn}
 use Rattle.c2po_kinds.specs.Items.{Labels, with_struct, with_input, define_kind, with_value, with_label, formula_kind, contract_kind}
-use Rattle.node_facts.specs.Faults.{or_later, formula_fault}
+use Rattle.plain_nodes.specs.Faults.{formula_fault}
 use Rattle.unfold.specs.Faults.{value_fault}
 use Rattle.unfold.specs.Values.{weight, formula_of}
 use Rattle.unfold.specs.Environment.{declare, fields, value, value_of}
 use Rattle.c2po_types.specs.FirstFault.{State, start, ranged, one_tense, with_signals, with_out, body_step, item_step, checked, first_fault, fault_of}
 use Rattle.c2po_types.specs.Signals.{body_signals, signals_of}
-use Rattle.c2po_types.proofs.Parts.{bind-ok, unless-ok, when-ok, ranged-ok}
+use Rattle.c2po_types.proofs.Parts.{bind-ok, unless-ok, when-ok, ranged-ok, ok-inj}
 use Rattle.c2po_types.proofs.SignalLaws.{checked-signals}
 use Rattle.set_expand.specs.Outputs.{Place, before, name_of, values_behind, asked_at, behind, asked_from, outputs_of, HasRanges}
 use Rattle.set_expand.specs.Weights.{IsLight, AreLight}
-use Rattle.set_expand.proofs.Tensing.{neither, of_tense}
-
-ok-inj : {X : Type 0} (x y : X) → ◌≡◌ {A = Checked X} (Ok x) (Ok y) → x ≡ y
-ok-inj x y h = cc
+use Rattle.set_expand.proofs.Tensing.{of_tense}
 
 -- a value within the limit
 light-ok : {X : Type 0} (w : ℕ) (m n : Checked X) (x : X) → (if nat_le w MAX_WEIGHT then m else n) ≡ Ok x → ((fault : X) → n ≡ Ok fault → ⊥) → w ≤ MAX_WEIGHT
@@ -49,10 +47,6 @@ ranged-none line (Some why) m t h = absurd (cc)
 unmixed : {X : Type 0} (b : Bool) (fault : TypeFault) (m : Checked X) (x : X) → (if b then Err fault else m) ≡ Ok x → b ≡ false
 unmixed true fault m x h = absurd (cc)
 unmixed false fault m x h = refl
-
-no-faults : (a b : Option NoRange) → or_later a b ≡ None → (a ≡ None) × (b ≡ None)
-no-faults None b h = (refl, h)
-no-faults (Some why) b h = absurd (cc)
 
 both-light : (v w : ℕ) → v + w ≤ MAX_WEIGHT → (v ≤ MAX_WEIGHT) × (w ≤ MAX_WEIGHT)
 both-light v w h = (omega arith, omega arith)
@@ -126,8 +120,8 @@ body-right line (contract engine label left right) s t p h e =
     let q = bind-ok (with_label line label s.labels) _ t h in
     let r = bind-ok (contract_kind line left right s.declared) _ t q.2 in
     let passes = out-passes line _ _ _ _ s t r.2 in
-    let none = no-faults _ _ passes.ranged in
-    let unmixed = neither _ _ passes.unmixed in
+    let none = neither _ _ passes.ranged in
+    let unmixed = or_parts _ _ passes.unmixed in
     let light = both-light (weight (value_of left s.values)) (weight (value_of right s.values)) passes.light in
     record {
       light = subst (λ env. (weight (value_of left env) ≤ MAX_WEIGHT) × (weight (value_of right env) ≤ MAX_WEIGHT)) e light;

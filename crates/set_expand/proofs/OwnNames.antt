@@ -12,7 +12,7 @@ use Rattle.plain_nodes.proofs.Places.{at_push}
 use Rattle.c2po_tree.specs.ItemShape.{FieldShape, TypeShape, BodyShape, ItemShape, structure, input, define, formula, contract}
 use Rattle.c2po_kinds.specs.declared.kind.Meaning.{Meaning}
 use Rattle.c2po_kinds.specs.declared.kind.Meaning.TheVariants.{Struct, Value}
-use Rattle.c2po_kinds.specs.declared.kind.Signal.{Signal}
+use Rattle.mltl_base.specs.declared.signal.Signal.{Signal}
 use Rattle.c2po_kinds.specs.declared.declarations.Declarations.{Declarations}
 use Rattle.c2po_kinds.specs.declared.fault.TypeFault.{TypeFault}
 use Rattle.c2po_kinds.specs.declared.fault.TypeFault.TheVariants.{Twice, Signals}
@@ -24,12 +24,9 @@ use Rattle.unfold.specs.Values as values
 use Rattle.unfold.specs.Faults.{value_fault}
 use Rattle.c2po_types.specs.FirstFault.{State, start, with_out, body_step, item_step, checked, first_fault, fault_of}
 use Rattle.c2po_types.specs.Signals.{signals_of}
-use Rattle.c2po_types.proofs.Parts.{bind-ok, unless-ok, when-ok, ranged-ok}
+use Rattle.c2po_types.proofs.Parts.{bind-ok, unless-ok, when-ok, ranged-ok, ok-inj}
 use Rattle.c2po_types.proofs.SignalLaws.{checked-signals}
-use Rattle.set_expand.specs.Kinds.{HaveOwnNames}
-
-ok-inj : {X : Type 0} (x y : X) → ◌≡◌ {A = Checked X} (Ok x) (Ok y) → x ≡ y
-ok-inj x y h = cc
+use Rattle.mltl_base.specs.Kinds.{HaveOwnNames}
 
 -- a test that isn't passed
 not-passed : {X : Type 0} (b : Bool) (fault : TypeFault) (m : Checked X) (x : X) → (if b then Err fault else m) ≡ Ok x → b ≡ false

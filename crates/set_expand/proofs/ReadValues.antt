@@ -23,7 +23,7 @@ use Rattle.c2po_tree.specs.Shape.{Shape, Shapes}
 use Rattle.plain_nodes.specs.Nodes.{Tree, number, formula, constant_formula, arithmetic, comparison, connected, windowed, ranged}
 use Rattle.unfold.specs.Values.{Value, Values, leaf, structure, set, none, more, weight, list_of, term_of, formula_of, members, part_or, picked, joined, joined_all, body_at, counted_formula, counted, interval}
 use Rattle.unfold.specs.Environment.{Env, Known, nothing, fields, value, bind, declare, or_else, fields_in, value_in, value_of, values_of}
-use Rattle.set_expand.specs.Kinds.{ReadsWholes, AtomReadsKinds, ReadsKinds}
+use Rattle.mltl_base.specs.Kinds.{ReadsWholes, AtomReadsKinds, ReadsKinds}
 
 module _ (kinds : List Bool) where
   -- the tree, the value, its parts, and what a name stands for, read signals by their kinds

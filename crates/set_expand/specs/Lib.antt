@@ -1,4 +1,3 @@
 pub mod Outputs
-pub mod Kinds
 pub mod Weights
 pub mod Standing

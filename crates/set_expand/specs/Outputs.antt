@@ -6,7 +6,7 @@ use Rattle.mltl_base.specs.Subformulas.{Asked, formulas_of}
 use Rattle.c2po_tree.specs.ItemShape as item
 use Rattle.c2po_tree.specs.ItemShape.{BodyShape, ItemShape}
 use Rattle.c2po_tree.specs.Names.{IsPlainName}
-use Rattle.node_facts.specs.Faults.{formula_fault}
+use Rattle.plain_nodes.specs.Faults.{formula_fault}
 use Rattle.unfold.specs.Values.{formula_of}
 use Rattle.unfold.specs.Environment.{Env, no_names, declare, fields, value, value_of}
 use Rattle.c2po_types.specs.FirstFault.{with_signals}

@@ -7,7 +7,7 @@ use Rattle.plain_nodes.specs.declared.nodes.PlainOut.{PlainOut}
 use Rattle.plain_nodes.specs.Nodes.{trees, AreSound}
 use Rattle.plain_nodes.specs.Outputs.{asked_by, NamesFormulas}
 use Rattle.c2po_tree.specs.ItemShape.{BodyShape, ItemShape}
-use Rattle.c2po_kinds.specs.declared.kind.Signal.{Signal}
+use Rattle.mltl_base.specs.declared.signal.Signal.{Signal}
 use Rattle.c2po_types.specs.Signals.{signals_of}
 use Rattle.unfold.specs.declared.fault.UnfoldFault.{UnfoldFault}
 use Rattle.unfold.specs.declared.fault.UnfoldFault.TheVariants.{Memory}

@@ -6,7 +6,7 @@ ghost use Rattle.mltl_base.specs.declared.limits.TheConstants.{MAX_SIGNALS};
 ghost use Rattle.c2po_tree.specs.ItemShape.{ItemShape};
 ghost use Rattle.c2po_types.specs.FirstFault.{first_fault};
 ghost use Rattle.c2po_types.specs.Signals.{signals_of};
-ghost use Rattle.set_expand.specs.Kinds.{HaveOwnNames};
+ghost use Rattle.mltl_base.specs.Kinds.{HaveOwnNames};
 
 /// The signals of a specification without a fault have names of their own, and are no more than a specification may
 /// have.

@@ -1,19 +1,12 @@
 -- The time that a line of a stamped trace begins with.
 
-use Rattle.std.specs.Prelude.{ℕ, ◌-◌, ◌+◌, ◌==◌, min, Bool, true, ◌&&◌, ◌||◌, if◌then◌else◌, nat_lt, nat_le, Option, Some, None, List, [], ◌∷◌, length, take, drop, slice_index}
+use Rattle.std.specs.Prelude.{ℕ, ◌-◌, ◌+◌, ◌==◌, min, Bool, true, ◌&&◌, if◌then◌else◌, nat_lt, nat_le, Option, Some, None, List, [], ◌∷◌, length, take, drop, slice_index}
 use Rattle.std.specs.Char.{is_ascii_digit}
-use Rattle.std.specs.List.{list_all, prefix_len}
+use Rattle.std.specs.List.{prefix_len}
 use Rattle.std.specs.Str.Parse.{digits_value}
+use Rattle.mltl_base.specs.Blanks.{is_blank_line}
 use Rattle.sparse_feed.specs.declared.stamp.Stamp.{Stamp}
 use Rattle.sparse_feed.specs.declared.stamp.Stamp.TheVariants.{At, Blank, Bad, Order, Late}
-
--- blanks are spaces and tabs
-abbrev pub is_blank : ℕ → Bool
-is_blank byte = (byte == 32) || (byte == 9)
-
--- a line of nothing else
-abbrev pub is_blank_line : List ℕ → Bool
-is_blank_line line = list_all is_blank line
 
 -- the digits at the front of a text, as many as can be, and what is behind them
 abbrev pub digits_at_front : List ℕ → List ℕ

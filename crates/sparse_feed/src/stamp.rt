@@ -4,7 +4,8 @@ ghost use Rattle.std.specs.Prelude.{◌≡◌, ◌≤◌, ◌<◌, ℕ, IsTrue, 
 ghost use Rattle.std.specs.Char.{is_ascii_digit};
 ghost use Rattle.std.specs.List.{list_all, prefix_len};
 ghost use Rattle.std.specs.Str.Parse.{digits_value};
-ghost use Rattle.sparse_feed.specs.Stamps.{IfAt, has_stamp, in_64_bits, is_blank, is_blank_line as is_all_blank, may_follow as may_come_after, stamp_digits as digits_of, stamp_meaning, timed as timed_as, times_between};
+ghost use Rattle.mltl_base.specs.Blanks.{is_blank, is_blank_line as is_all_blank};
+ghost use Rattle.sparse_feed.specs.Stamps.{IfAt, has_stamp, in_64_bits, may_follow as may_come_after, stamp_digits as digits_of, stamp_meaning, timed as timed_as, times_between};
 
 use std::str;
 

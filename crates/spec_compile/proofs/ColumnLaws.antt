@@ -6,9 +6,9 @@ use Rattle.std.proofs.lemmas.List.FromFn.{length-range_with_len, get_or-range_wi
 use Rattle.std.proofs.lemmas.Option.{slice_get-get_or}
 use Rattle.std.specs.List.{range_with_len}
 use Rattle.mltl_base.specs.declared.limits.TheConstants.{MAX_SIGNALS}
-use Rattle.c2po_kinds.specs.declared.kind.Signal.{Signal}
+use Rattle.mltl_base.specs.declared.signal.Signal.{Signal}
 use Rattle.obs_verify.specs.Bound.{AreDifferent}
-use Rattle.set_expand.specs.Kinds.{HaveOwnNames}
+use Rattle.mltl_base.specs.Kinds.{HaveOwnNames}
 use Rattle.trace_feed.specs.Header.{AreDifferentNames, columns_in_order}
 use Rattle.spec_compile.specs.Image.{AreColumnsFor}
 

@@ -4,7 +4,7 @@ use Rattle.std.proofs.Common.{◌≡◌, List, refl}
 use Rattle.mltl_base.specs.declared.program.Columns.{Columns}
 use Rattle.mltl_base.specs.declared.program.Program.{Program}
 use Rattle.mltl_base.specs.Subformulas.{Asked}
-use Rattle.c2po_kinds.specs.declared.kind.Signal.{Signal}
+use Rattle.mltl_base.specs.declared.signal.Signal.{Signal}
 use Rattle.obs_build.specs.Image.{IsImageOf}
 use Rattle.obs_build.proofs.Building.{image_once}
 use Rattle.spec_compile.specs.Image.{image}

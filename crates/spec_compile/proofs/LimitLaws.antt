@@ -1,8 +1,8 @@
 -- Which limit is exceeded first.
 
-use Rattle.std.proofs.Common.{◌≡◌, inl, inr, Bool, true, false, ◌||◌, None, List, refl}
+use Rattle.std.proofs.Common.{◌≡◌, inl, inr, true, false, None, List, refl}
 use Rattle.std.specs.Prelude.{nat_lt}
-use Rattle.std.proofs.lemmas.Bool.{lt-ltb, le-ltb}
+use Rattle.std.proofs.lemmas.Bool.{lt-ltb, le-ltb, or_left, or_right, or_from}
 use Rattle.std.proofs.lemmas.List.Folds.{list_any-from_Any, list_any_none}
 use Rattle.mltl_base.specs.declared.limits.TheConstants.{MAX_DELAY}
 use Rattle.mltl_base.specs.Queues.{worst_delays}
@@ -14,19 +14,9 @@ use Rattle.obs_build.specs.Limits.{IsWithinLimits, IsReason, AreInTime, IsLate}
 use Rattle.spec_compile.specs.Refusals.{IsFirstRefusal, build_refusal}
 use Rattle.spec_compile.specs.Limits.{has_many_nodes, is_late, limit_refusal}
 
-or_left : (a b : Bool) → a ≡ true → (a || b) ≡ true
-or_left a b h = rw h refl
-
-or_right : (a b : Bool) → b ≡ true → (a || b) ≡ true
-or_right true b h = refl
-or_right false b h = h
-
-or_none : (a b : Bool) → a ≡ false → b ≡ false → (a || b) ≡ false
-or_none a b h k = rw (h, k) refl
-
 -- nodes
 few_nodes : (outs : List Asked) → AreFew outs → has_many_nodes outs ≡ false
-few_nodes outs h = or_none _ _ (le-ltb _ _ h.bz) (or_none _ _ (le-ltb _ _ h.ft) (le-ltb _ _ h.pt))
+few_nodes outs h = or_from _ _ (le-ltb _ _ h.bz) (or_from _ _ (le-ltb _ _ h.ft) (le-ltb _ _ h.pt))
 
 many_nodes : (outs : List Asked) → AreMany outs → has_many_nodes outs ≡ true
 many_nodes outs (inl h) = or_left _ _ (lt-ltb _ _ h)

@@ -10,7 +10,7 @@ use Rattle.mltl_base.specs.Programs.{name_of}
 use Rattle.mltl_base.proofs.Unfolding.{Each, each_from_all}
 use Rattle.c2po_tree.specs.ItemShape.{TypeShape, BodyShape, ItemShape, structure, input, define, formula, contract}
 use Rattle.c2po_tree.specs.Names.{IsPlainName, ArePlain, IsPlainBody, ArePlainItems}
-use Rattle.c2po_kinds.specs.declared.kind.Signal.{Signal}
+use Rattle.mltl_base.specs.declared.signal.Signal.{Signal}
 use Rattle.c2po_types.specs.Signals.{is_bool, body_signals, signals_of}
 use Rattle.obs_binary.specs.Layout.{is_letter, signal_name}
 use Rattle.obs_build.specs.Image.{stored_signals}

@@ -4,12 +4,11 @@ ghost use Rattle.std.specs.Prelude.{◌≡◌, ◌≤◌, length};
 ghost use Rattle.c2po_tree.specs.ItemShape.{spec_shape};
 ghost use Rattle.c2po_tree.specs.Names.{ArePlainItems};
 ghost use Rattle.c2po_types.specs.Signals.{signals_of as declared};
-ghost use Rattle.set_expand.specs.Kinds.{HaveOwnNames};
+ghost use Rattle.mltl_base.specs.Kinds.{HaveOwnNames};
 
-use c2po_kinds::Signal;
 use c2po_types::TypedSpec;
-use mltl_base::List;
 use mltl_base::limits::MAX_SIGNALS;
+use mltl_base::{List, Signal};
 use set_expand::laws::signals_are_told_apart;
 
 /// The signals in order of declaration, which have names of their own. All names are made of letters, digits and `_`.

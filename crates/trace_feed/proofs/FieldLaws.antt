@@ -7,36 +7,14 @@ use Rattle.std.specs.Str.{IsAscii, IsUtf8}
 use Rattle.std.specs.Str.Parse.{ParsesSigned, signed_digits_value, without_leading_sign, IsNumeral}
 use Rattle.std.proofs.lemmas.Str.{IsUtf8-from_ascii}
 use Rattle.std.proofs.lemmas.Str.Ascii.{IsAscii-nil, IsAscii-cons}
-use Rattle.std.proofs.lemmas.Str.Parse.{IsDigitsTest, IsNumeralModel, numerals_by_value}
-use Rattle.std.proofs.lemmas.Bool.{false_from_ne_true, ltb-true}
+use Rattle.std.proofs.lemmas.Bool.{false_from_ne_true, ltb-true, and_parts}
 use Rattle.std.proofs.lemmas.Bool.Decides.{nat_tests}
 use Rattle.std.proofs.lemmas.Int.{ints}
 use Rattle.std.specs.Prelude.{FitsSigned}
 use Rattle.std.specs.Int.{w32}
-use Rattle.std.specs.Str.Parse.{digits_value}
+use Rattle.mltl_base.proofs.Digits.{digits_ascii, numerals}
 use Rattle.trace_feed.specs.Rows.{has_32_bits, is_bit, is_numeral, number_in}
 use Rattle.trace_feed.specs.declared.fields.FieldFault.TheVariants.{OutOfRange}
-
-both : (a b : Bool) → (a && b) ≡ true → (a ≡ true) × (b ≡ true)
-both true true h = (refl, refl)
-both true false h = cc
-both false true h = cc
-both false false h = cc
-
-below_128 : (x : ℕ) → is_ascii_digit x ≡ true → x < 128
-below_128 x h = grind (arith, nat_tests)
-
-digits_ascii : (xs : List ℕ) → list_all is_ascii_digit xs ≡ true → IsAscii xs
-digits_ascii [] h = IsAscii-nil
-digits_ascii (x ∷ xs) h =
-    let parts : (is_ascii_digit x ≡ true) × (list_all is_ascii_digit xs ≡ true) = both (is_ascii_digit x) (list_all is_ascii_digit xs) h in
-    IsAscii-cons x xs (below_128 x parts.0) (digits_ascii xs parts.1)
-
-tells_digits : IsDigitsTest (λ ds. list_all is_ascii_digit ds ≡ true)
-tells_digits = search rules
-
-numerals : IsNumeralModel (λ ds. list_all is_ascii_digit ds ≡ true) (digits_value 10)
-numerals = numerals_by_value _ tells_digits
 
 signed_ascii : (x : ℕ) (xs : List ℕ) (minus plus : Bool) → (x == 45) ≡ minus → (x == 43) ≡ plus → list_all is_ascii_digit (cond minus xs (drop (cond plus 1 0) (x ∷ xs))) ≡ true → IsAscii (x ∷ xs)
 signed_ascii x xs true plus e f h = IsAscii-cons x xs (grind (arith, nat_tests)) (digits_ascii xs h)
@@ -46,7 +24,7 @@ signed_ascii x xs false false e f h = digits_ascii (x ∷ xs) h
 -- a numeral is text
 pub numeral_utf8 : (field : List ℕ) → is_numeral field ≡ true → IsUtf8 field
 numeral_utf8 [] h = IsUtf8-from_ascii [] IsAscii-nil
-numeral_utf8 (x ∷ xs) h = IsUtf8-from_ascii (x ∷ xs) (signed_ascii x xs (x == 45) (x == 43) refl refl (both (nat_lt 0 (length (without_leading_sign (x ∷ xs)))) (list_all is_ascii_digit (without_leading_sign (x ∷ xs))) h).1)
+numeral_utf8 (x ∷ xs) h = IsUtf8-from_ascii (x ∷ xs) (signed_ascii x xs (x == 45) (x == 43) refl refl (and_parts (nat_lt 0 (length (without_leading_sign (x ∷ xs)))) (list_all is_ascii_digit (without_leading_sign (x ∷ xs))) h).1)
 
 has_from_fits : (n : ℤ) → FitsSigned w32 n → has_32_bits n ≡ true
 has_from_fits n h = grind (arith, ints)
@@ -57,7 +35,7 @@ fits_from_has n h = grind (arith, ints)
 is_numeral_parts : (field : List ℕ) → is_numeral field ≡ true → IsNumeral 10 (without_leading_sign field)
 is_numeral_parts field h =
     let digits : List ℕ = without_leading_sign field in
-    let parts : (nat_lt 0 (length digits) ≡ true) × (list_all is_ascii_digit digits ≡ true) = both (nat_lt 0 (length digits)) (list_all is_ascii_digit digits) h in
+    let parts : (nat_lt 0 (length digits) ≡ true) × (list_all is_ascii_digit digits ≡ true) = and_parts (nat_lt 0 (length digits)) (list_all is_ascii_digit digits) h in
     (ltb-true 0 (length digits) parts.0, numerals.to digits parts.1)
 
 -- what isn't parsed is out of range

@@ -13,7 +13,8 @@ use Rattle.mltl_base.specs.Programs.{FitsRow, IsFit}
 use Rattle.mltl_base.specs.declared.operators.BzOp.{BzOp}
 use Rattle.mltl_base.specs.declared.operators.BzOp.TheVariants.{Column, IsTrue, Const, Neg, Add, Sub, Mul, Div, Rem, Eq, Lt, Le}
 use Rattle.mltl_base.specs.declared.program.Program.{Program}
-use Rattle.trace_feed.specs.Blanks.{is_blank_line, trimmed}
+use Rattle.mltl_base.specs.Blanks.{is_blank_line}
+use Rattle.trace_feed.specs.Blanks.{trimmed}
 use Rattle.trace_feed.specs.Rows.{Tells, LineMeaning, row, blank, too_few, not_whole, out_of_range, fields_of, has_32_bits, is_bit, is_numeral, joined, line_meaning, number_in, reading_of, reads_truth, reads_whole, row_from, value_of}
 use Rattle.trace_feed.specs.declared.fields.FieldFault.{FieldFault}
 use Rattle.trace_feed.specs.declared.fields.FieldFault.TheVariants.{NotWhole, OutOfRange}

@@ -5,6 +5,7 @@ use Rattle.std.specs.Str.{bytes_eq}
 use Rattle.std.proofs.lemmas.Bool.{cases_Bool, cases_lt, lt-ltb, le-ltb, ltb-true, false_from_ne_true, ne_eqb}
 use Rattle.std.proofs.lemmas.List.Sums.{sum_by_push, sum_by-cons}
 use Rattle.std.proofs.lemmas.Slice.Eq.{bytes_eq-Decides}
+use Rattle.std.proofs.Math.Bool.{or-true, or-false}
 use Rattle.name_table.specs.Tables.{Table, entry_of, is_named}
 use Rattle.trace_feed.specs.Header.{first_place, times}
 use Rattle.trace_feed.specs.Places.{ArePlaces, place_of}
@@ -116,17 +117,9 @@ again_new names n x none = elim (cases_Bool (bytes_eq x n)) [
 again_first : (names : List (List ℕ)) (n x : List ℕ) → 1 ≤ times names n → (nat_lt 1 (times names x) || bytes_eq x n) ≡ nat_lt 1 (times (names ++ n ∷ []) x)
 again_first names n x one = elim (cases_Bool (bytes_eq x n)) [
   | inl same ↦ let now = one_more names n x same in
-      ap (λ b. nat_lt 1 (times names x) || b) same ∙ (or_true (nat_lt 1 (times names x)) ∙ sym (lt-ltb 1 (times (names ++ n ∷ []) x) (omega arith)))
-  | inr other ↦ ap (λ b. nat_lt 1 (times names x) || b) other ∙ (or_false (nat_lt 1 (times names x)) ∙ again_other names n x other)
+      ap (λ b. nat_lt 1 (times names x) || b) same ∙ (or-true (nat_lt 1 (times names x)) ∙ sym (lt-ltb 1 (times (names ++ n ∷ []) x) (omega arith)))
+  | inr other ↦ ap (λ b. nat_lt 1 (times names x) || b) other ∙ (or-false (nat_lt 1 (times names x)) ∙ again_other names n x other)
 ]
-  where
-    or_true : (b : Bool) → (b || true) ≡ true
-    or_true true = refl
-    or_true false = refl
-
-    or_false : (b : Bool) → (b || false) ≡ b
-    or_false true = refl
-    or_false false = refl
 
 again_kept : (names : List (List ℕ)) (n x : List ℕ) → 2 ≤ times names n → nat_lt 1 (times names x) ≡ nat_lt 1 (times (names ++ n ∷ []) x)
 again_kept names n x two = elim (cases_Bool (bytes_eq x n)) [

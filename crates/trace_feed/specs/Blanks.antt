@@ -1,15 +1,8 @@
--- Blanks are spaces and tabs.
+-- Bytes without the blanks around them.
 
-use Rattle.std.specs.Prelude.{ℕ, Bool, ◌==◌, ◌||◌, ◌-◌, List, length, take, drop}
-use Rattle.std.specs.List.{list_all, prefix_len, suffix_len}
-
--- a space or a tab
-abbrev pub is_blank : ℕ → Bool
-is_blank byte = (byte == 32) || (byte == 9)
-
--- a line of nothing else
-abbrev pub is_blank_line : List ℕ → Bool
-is_blank_line line = list_all is_blank line
+use Rattle.std.specs.Prelude.{ℕ, ◌-◌, List, length, take, drop}
+use Rattle.std.specs.List.{prefix_len, suffix_len}
+use Rattle.mltl_base.specs.Blanks.{is_blank}
 
 -- without the blanks at the front
 abbrev pub without_front : List ℕ → List ℕ

@@ -2,7 +2,8 @@
 
 ghost use Rattle.std.specs.Prelude.{◌≡◌, ◌≤◌, length};
 ghost use Rattle.std.specs.List.{prefix_len, suffix_len};
-ghost use Rattle.trace_feed.specs.Blanks.{is_blank, is_blank_line as is_all_blank, trimmed as without_blanks};
+ghost use Rattle.mltl_base.specs.Blanks.{is_blank, is_blank_line as is_all_blank};
+ghost use Rattle.trace_feed.specs.Blanks.{trimmed as without_blanks};
 
 fn is_blank(byte: u8) -> bool
     ensures { result ≡ is_blank byte }

@@ -11,10 +11,9 @@ ghost use Rattle.trace_feed.specs.Places.{ArePlaces};
 
 use crate::header_fault::HeaderFault;
 use crate::names::Places;
-use c2po_kinds::Signal;
 use csv::{ByteRecord, ReaderBuilder};
 use mltl_base::limits::MAX_SIGNALS;
-use mltl_base::{Columns, List, StoredSignal};
+use mltl_base::{Columns, List, Signal, StoredSignal};
 use obs_verify::Checked;
 use std::alloc::{AllocError, Global};
 

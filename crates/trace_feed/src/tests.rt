@@ -3,8 +3,7 @@
 ghost use Rattle.std.specs.Prelude.{◌≤◌, length};
 
 use crate::{HeaderFault, RowAnswer, header, header_of, in_order, row_fields};
-use c2po_kinds::Signal;
-use mltl_base::{BzOp, Columns, List, Name, Program, Sizes, StoredSignal};
+use mltl_base::{BzOp, Columns, List, Name, Program, Signal, Sizes, StoredSignal};
 use obs_verify::{Checked, has_layout, verify};
 use std::alloc::{AllocError, Global};
 use std::str;

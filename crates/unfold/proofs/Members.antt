@@ -12,8 +12,8 @@ use Rattle.mltl_base.specs.declared.operators.CountOp.{CountOp}
 use Rattle.plain_nodes.specs.Nodes.{Tree}
 use Rattle.unfold.specs.declared.values.Stored.{Stored}
 use Rattle.unfold.specs.declared.unfolding.Unfolding.{Unfolding}
-use Rattle.node_facts.specs.Faults.{or_later}
-use Rattle.node_facts.specs.Facts.{told_fault}
+use Rattle.plain_nodes.specs.Faults.{or_later}
+use Rattle.plain_nodes.specs.Facts.{told_fault}
 use Rattle.unfold.specs.Faults.{value_fault, values_fault}
 use Rattle.unfold.specs.Parts.{stored_fault}
 use Rattle.unfold.specs.Values.{Value, Values, leaf, structure, set, none, more, list_of, weight, joined, joined_all, counted, members}

@@ -20,8 +20,8 @@ use Rattle.unfold.specs.Leaves.{sort_of, node_sort, signal_node}
 use Rattle.unfold.specs.declared.unfolding.Unfolding.{Unfolding}
 use Rattle.unfold.specs.declared.values.Place.TheVariants.{Node}
 use Rattle.unfold.specs.declared.values.Stored.{Stored}
-use Rattle.node_facts.specs.Faults.{tree_fault}
-use Rattle.node_facts.specs.Facts.{told_fault}
+use Rattle.plain_nodes.specs.Faults.{tree_fault}
+use Rattle.plain_nodes.specs.Facts.{told_fault}
 use Rattle.unfold.specs.Values.{leaf}
 use Rattle.unfold.specs.Environment.{Env, signal_value}
 use Rattle.unfold.specs.Stands.{Holds, IsLater, StandsFor}

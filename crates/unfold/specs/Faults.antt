@@ -2,7 +2,7 @@
 
 use Rattle.std.specs.Prelude.{Option, None}
 use Rattle.mltl_base.specs.Ranges.{NoRange}
-use Rattle.node_facts.specs.Faults.{or_later, tree_fault}
+use Rattle.plain_nodes.specs.Faults.{or_later, tree_fault}
 use Rattle.unfold.specs.Values.{Value, Values, leaf, structure, set, none, more}
 
 abbrev mutual

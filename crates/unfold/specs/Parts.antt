@@ -2,8 +2,8 @@
 
 use Rattle.std.specs.Prelude.{Option, None, List, [], ◌∷◌}
 use Rattle.mltl_base.specs.Ranges.{NoRange}
-use Rattle.node_facts.specs.Faults.{or_later}
-use Rattle.node_facts.specs.Facts.{told_fault}
+use Rattle.plain_nodes.specs.Faults.{or_later}
+use Rattle.plain_nodes.specs.Facts.{told_fault}
 use Rattle.unfold.specs.declared.values.Stored.{Stored}
 
 -- the first fault among stored values

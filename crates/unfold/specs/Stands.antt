@@ -14,8 +14,8 @@ use Rattle.unfold.specs.declared.values.Entry.TheVariants as entry
 use Rattle.unfold.specs.declared.unfolding.Unfolding.{Unfolding}
 use Rattle.unfold.specs.declared.scope.Scope.{Scope, Top, Open', Held'}
 use Rattle.unfold.specs.Values.{Value, Values, leaf, structure, set, none, more}
-use Rattle.node_facts.specs.Faults.{tree_fault}
-use Rattle.node_facts.specs.Facts.{told_fault}
+use Rattle.plain_nodes.specs.Faults.{tree_fault}
+use Rattle.plain_nodes.specs.Facts.{told_fault}
 use Rattle.unfold.specs.Faults.{values_fault}
 use Rattle.unfold.specs.Environment.{Env, Known, nothing, fields, value, value_of, bind}
 

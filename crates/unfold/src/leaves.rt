@@ -12,8 +12,7 @@ use crate::Unfolding;
 use crate::values::{Place, Stored};
 use mltl_base::limits::MAX_BOUND;
 use mltl_base::{ArithOp, BetweenOp, CompareOp, Interval, LogicOp, WindowOp};
-use node_facts::Nodes;
-use plain_nodes::Plain;
+use plain_nodes::{Nodes, Plain};
 use std::alloc::AllocError;
 
 /// What a node unfolds to.

@@ -8,9 +8,9 @@ ghost use Rattle.unfold.specs.declared.fault.UnfoldFault.TheVariants.{Heavy};
 ghost use Rattle.unfold.specs.declared.values.Place.TheVariants.{Parts as PartsAt};
 ghost use Rattle.unfold.specs.declared.values.Whole.TheVariants.{Struct, Set};
 ghost use Rattle.unfold.specs.Environment.{Env, Known, declare, fields, no_names, signal_value, value, value_of};
-ghost use Rattle.node_facts.specs.Faults.{formula_fault};
-ghost use Rattle.node_facts.specs.Facts.{told_fault};
-ghost use Rattle.node_facts.specs.Tenses.{has_future, has_past};
+ghost use Rattle.plain_nodes.specs.Faults.{formula_fault};
+ghost use Rattle.plain_nodes.specs.Facts.{told_fault};
+ghost use Rattle.plain_nodes.specs.Tenses.{has_future, has_past};
 ghost use Rattle.unfold.specs.Faults.{value_fault};
 ghost use Rattle.unfold.specs.Leaves.{signal_node};
 ghost use Rattle.unfold.specs.Parts.{stored_fault};
@@ -24,8 +24,7 @@ use c2po_tree::Expr;
 use mltl_base::{List, Name};
 use mltl_ranges::NoRange;
 use name_table::NameTable;
-use node_facts::{Nodes, Tenses, first_fault};
-use plain_nodes::Plain;
+use plain_nodes::{Nodes, Plain, Tenses, first_fault};
 use std::alloc::{AllocError, Global};
 
 /// The levels that an expression may be nested: more than any stack has.

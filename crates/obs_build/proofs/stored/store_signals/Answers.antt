@@ -1,7 +1,7 @@
 -- Each turn stores the next signal.
 use Rattle.std.proofs.Common.{◌≡◌, ◌+◌, ◌<◌, ◌≤◌, ℕ, suc, List, ◌++◌, ◌∷◌, [], take, slice_index, slice_index_or, length, ap, sym, ◌∙◌, add-one, arith, subst}
 use Rattle.std.proofs.lemmas.List.{get_or_default, take_all}
-use Rattle.c2po_kinds.specs.declared.kind.Signal.{Signal}
+use Rattle.mltl_base.specs.declared.signal.Signal.{Signal}
 use Rattle.mltl_base.specs.declared.program.StoredSignal.{StoredSignal}
 use Rattle.obs_build.specs.Image.{stored, stored_signals}
 use Rattle.obs_build.proofs.Columns.{no_signal, stored_more}

@@ -2,7 +2,7 @@
 use Rattle.std.proofs.Common.{All, List, ℕ, length, subst, arith}
 use Rattle.plain_nodes.specs.declared.nodes.Plain.{Plain}
 use Rattle.plain_nodes.specs.declared.nodes.PlainOut.{PlainOut}
-use Rattle.c2po_kinds.specs.declared.kind.Signal.{Signal}
+use Rattle.mltl_base.specs.declared.signal.Signal.{Signal}
 use Rattle.obs_build.specs.Samples.{AreInPlace, AreLettered, AreSamples, IsSampleOut}
 use Rattle.obs_build.proofs.Samples.{sample_buildable}
 use Rattle.obs_build.proofs.tests.is_buildable.Goals as goal

@@ -1,6 +1,6 @@
 use Rattle.std.proofs.Common.{◌∙◌, ◌+◌, ap, sym, drop, map, List, ℕ}
 use Rattle.std.proofs.lemmas.Result.{err_from_is_err_and}
-use Rattle.c2po_kinds.specs.declared.kind.Signal.{Signal}
+use Rattle.mltl_base.specs.declared.signal.Signal.{Signal}
 use Rattle.trace_feed.specs.Header.{column_of, columns_of, of_width}
 use Rattle.trace_feed.proofs.ColumnLaws.{columns_end, columns_go_on, columns_stop, onto, onto_nil}
 use Rattle.trace_feed.proofs.columns.columns_of_signals.Goals as goal

@@ -1,7 +1,7 @@
 use Rattle.std.proofs.Common.{◌∙◌, ap, sym, subst, length, map, List, ℕ}
 use Rattle.std.proofs.lemmas.List.{length-map}
 use Rattle.std.proofs.lemmas.Result.{IfOk-weaker}
-use Rattle.c2po_kinds.specs.declared.kind.Signal.{Signal}
+use Rattle.mltl_base.specs.declared.signal.Signal.{Signal}
 use Rattle.trace_feed.specs.Header.{AreDifferentNames, names_of}
 use Rattle.trace_feed.proofs.ColumnLaws.{width_below, width_different, width_found}
 use Rattle.trace_feed.proofs.columns.header.Goals as goal

@@ -6,9 +6,9 @@ use Rattle.mltl_base.specs.Programs.{atoms}
 use Rattle.obs_verify.proofs.RunLaws.{runs_future}
 use Rattle.ft_slab.specs.State.{HasTable, IsPacedAfter}
 use Rattle.ft_slab.proofs.StateLaws.{paced_sound}
-use Rattle.ft_known.specs.DelayPlan.{plan_of}
-use Rattle.ft_known.specs.KnownTable.{known_table}
-use Rattle.ft_known.proofs.Tabled.{nothing}
+use Rattle.ft_engine.specs.DelayPlan.{plan_of}
+use Rattle.ft_engine.specs.KnownTable.{known_table}
+use Rattle.ft_engine.proofs.Tabled.{nothing}
 use Rattle.ft_engine.proofs.Standings.{planned_with, stands_with}
 use Rattle.ft_engine.proofs.engine.Ft.make.Goals as goal
 

@@ -12,14 +12,15 @@ use Rattle.ft_slab.specs.Nodes.{op_at, work_before}
 use Rattle.ft_slab.specs.State.{HasTable, IsPacedAfter, size_at}
 use Rattle.ft_slab.specs.Tables.{AgreeOnLoads, IsTable, Table}
 use Rattle.ft_slab.proofs.StateLaws.{paced_sound}
-use Rattle.ft_known.specs.DelayPlan.{plan_of}
-use Rattle.ft_known.specs.KnownTable.{known_table, truth_at}
-use Rattle.ft_known.proofs.Tabled.{extends, is_table, truth_of_last}
+use Rattle.ft_engine.specs.DelayPlan.{plan_of}
+use Rattle.ft_engine.specs.KnownTable.{known_table, truth_at}
+use Rattle.ft_engine.proofs.Tabled.{extends, is_table, truth_of_last}
 use Rattle.obs_verify.specs.Running.{IsTruthExpression}
 use Rattle.obs_verify.proofs.RunLaws.{runs_future}
 use Rattle.ft_engine.specs.Running.{row_work}
 use Rattle.ft_engine.specs.Standing.{slots_at}
-use Rattle.ft_engine.proofs.Standings.{program_planned, stands_with, truth_there, truth_within, work_by_sizes}
+use Rattle.ft_engine.proofs.Standings.{program_planned, stands_with, work_by_sizes}
+use Rattle.obs_verify.proofs.Truths.{truth_there, truth_within}
 use Rattle.ft_engine.proofs.engine.Ft.row.Goals as goal
 
 pub row-requires-clause-loaded : goal.row-requires-clause-loaded

@@ -11,7 +11,8 @@ use Rattle.booleanizer.specs.Evaluation.{number_on}
 use Rattle.pt_boxes.specs.Nodes.{op_at}
 use Rattle.obs_verify.specs.Running.{IsTruthExpression}
 use Rattle.pt_boxes.specs.Running.{row_work}
-use Rattle.pt_boxes.proofs.Standings.{rows_of, truth_within}
+use Rattle.pt_boxes.proofs.Standings.{rows_of}
+use Rattle.obs_verify.proofs.Truths.{truth_within}
 use Rattle.pt_boxes.proofs.Taking.{kept_as, row_stands, takes_as, work_by_boxes}
 use Rattle.pt_boxes.proofs.engine.Pt.row.Goals as goal
 

@@ -1,5 +1,0 @@
-use Rattle.ft_known.proofs.Tabled.{is_table}
-use Rattle.ft_known.proofs.known_verdicts_are_a_table.Goals as goal
-
-pub returns-clause-table : goal.returns-clause-table
-returns-clause-table c = λ plan rows loaded ops planned. is_table plan rows loaded ops planned

@@ -1,2 +1,0 @@
-pub mod DelayPlan
-pub mod KnownTable

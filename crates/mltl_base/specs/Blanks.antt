@@ -1,0 +1,12 @@
+-- Blanks are spaces and tabs.
+
+use Rattle.std.specs.Prelude.{ℕ, Bool, ◌==◌, ◌||◌, List}
+use Rattle.std.specs.List.{list_all}
+
+-- a space or a tab
+abbrev pub is_blank : ℕ → Bool
+is_blank byte = (byte == 32) || (byte == 9)
+
+-- a line of nothing else
+abbrev pub is_blank_line : List ℕ → Bool
+is_blank_line line = list_all is_blank line

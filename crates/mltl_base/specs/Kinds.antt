@@ -1,0 +1,58 @@
+-- Which formulas read each signal by its kind, and which signals are told apart by their names.
+
+use Rattle.std.specs.Prelude.{◌≡◌, ◌≢◌, ◌<◌, ℕ, Bool, true, false, Some, List, map, slice_get, All}
+use Rattle.mltl_base.specs.Atoms.{Term, column, constant, negative, plus, minus, times, quotient, remainder, Atom, is_true, equal, different, less, at_most, greater, at_least}
+use Rattle.mltl_base.specs.Formula.{Formula, truth, falsity, atom, negation, conjunction, disjunction, implication, equivalence, finally, globally, until, release, once, historically, since}
+use Rattle.mltl_base.specs.Subformulas.{Asked, formulas_of}
+use Rattle.mltl_base.specs.declared.signal.Signal.{Signal}
+
+-- for each signal by its number, whether it is a truth
+abbrev pub kinds_of : List Signal → List Bool
+kinds_of signals = map (λ signal. signal.truth) signals
+
+-- each signal that the expression reads is a whole number
+abbrev pub ReadsWholes : List Bool → Term → Type 0
+ReadsWholes kinds (column s) = slice_get kinds s ≡ Some false
+ReadsWholes kinds (constant n) = Unit {0}
+ReadsWholes kinds (negative a) = ReadsWholes kinds a
+ReadsWholes kinds (plus a b) = ReadsWholes kinds a × ReadsWholes kinds b
+ReadsWholes kinds (minus a b) = ReadsWholes kinds a × ReadsWholes kinds b
+ReadsWholes kinds (times a b) = ReadsWholes kinds a × ReadsWholes kinds b
+ReadsWholes kinds (quotient a b) = ReadsWholes kinds a × ReadsWholes kinds b
+ReadsWholes kinds (remainder a b) = ReadsWholes kinds a × ReadsWholes kinds b
+
+-- the atom asks for the truth of a signal that is one, or compares expressions over whole numbers
+abbrev pub AtomReadsKinds : List Bool → Atom → Type 0
+AtomReadsKinds kinds (is_true s) = slice_get kinds s ≡ Some true
+AtomReadsKinds kinds (equal a b) = ReadsWholes kinds a × ReadsWholes kinds b
+AtomReadsKinds kinds (different a b) = ReadsWholes kinds a × ReadsWholes kinds b
+AtomReadsKinds kinds (less a b) = ReadsWholes kinds a × ReadsWholes kinds b
+AtomReadsKinds kinds (at_most a b) = ReadsWholes kinds a × ReadsWholes kinds b
+AtomReadsKinds kinds (greater a b) = ReadsWholes kinds a × ReadsWholes kinds b
+AtomReadsKinds kinds (at_least a b) = ReadsWholes kinds a × ReadsWholes kinds b
+
+-- the formula reads signals that exist, each by its kind
+abbrev pub ReadsKinds : List Bool → Formula → Type 0
+ReadsKinds kinds truth = Unit {0}
+ReadsKinds kinds falsity = Unit {0}
+ReadsKinds kinds (atom a) = AtomReadsKinds kinds a
+ReadsKinds kinds (negation p) = ReadsKinds kinds p
+ReadsKinds kinds (conjunction p q) = ReadsKinds kinds p × ReadsKinds kinds q
+ReadsKinds kinds (disjunction p q) = ReadsKinds kinds p × ReadsKinds kinds q
+ReadsKinds kinds (implication p q) = ReadsKinds kinds p × ReadsKinds kinds q
+ReadsKinds kinds (equivalence p q) = ReadsKinds kinds p × ReadsKinds kinds q
+ReadsKinds kinds (finally i p) = ReadsKinds kinds p
+ReadsKinds kinds (globally i p) = ReadsKinds kinds p
+ReadsKinds kinds (until i p q) = ReadsKinds kinds p × ReadsKinds kinds q
+ReadsKinds kinds (release i p q) = ReadsKinds kinds p × ReadsKinds kinds q
+ReadsKinds kinds (once i p) = ReadsKinds kinds p
+ReadsKinds kinds (historically i p) = ReadsKinds kinds p
+ReadsKinds kinds (since i p q) = ReadsKinds kinds p × ReadsKinds kinds q
+
+-- the same of an output
+abbrev pub ReadsSignals : List Bool → Asked → Type 0
+ReadsSignals kinds asked = All (ReadsKinds kinds) (formulas_of asked.output)
+
+-- no two signals have one name
+abbrev pub HaveOwnNames : List Signal → Type 0
+HaveOwnNames signals = (i j : ℕ) (s t : Signal) → i < j → slice_get signals i ≡ Some s → slice_get signals j ≡ Some t → s.name ≢ t.name
