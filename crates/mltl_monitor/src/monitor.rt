@@ -83,15 +83,16 @@ impl Monitor {
     }
 
     /// Takes the row of a line, if the line is one. `Good`: its row was taken; otherwise nothing changed.
-    pub fn take_line(&mut self, line: &[u8]) -> RowAnswer
+    pub fn take_line<L: Ledger>(&mut self, line: &[u8], steps: &mut Steps<L>) -> RowAnswer
         requires drained { IsDrained self.old }
         requires early { taken_by self.old < 2 ^ 40 }
         ensures line { TakesLine result line.now self.old self.new }
         ensures program { program_of self.new ≡ program_of self.old }
+        ensures counted { steps.new ≤ steps.old + row_work (program_of self.old) }
     {
         let answer = self.read_line(line);
         if let RowAnswer::Good = answer {
-            self.take_read();
+            self.take_read(steps);
         }
         answer
     }
@@ -106,25 +107,27 @@ impl Monitor {
     }
 
     /// Takes the last row once more. A row that was read stays.
-    pub fn repeat_last(&mut self)
+    pub fn repeat_last<L: Ledger>(&mut self, steps: &mut Steps<L>)
         requires begun { 0 < taken_by self.old }
         requires drained { IsDrained self.old }
         requires early { taken_by self.old < 2 ^ 40 }
         ensures takes { TakesRow (last_of self.old) self.old self.new }
         ensures read { read_of self.new ≡ read_of self.old }
+        ensures counted { steps.new ≤ steps.old + row_work (program_of self.old) }
     {
-        self.state.running.take_uncounted(&self.state.last);
+        self.state.running.take(&self.state.last, steps);
     }
 
     /// Takes the row that was read.
-    pub fn take_read(&mut self)
+    pub fn take_read<L: Ledger>(&mut self, steps: &mut Steps<L>)
         requires fit { IsFit (program_of self.old) (read_of self.old) }
         requires drained { IsDrained self.old }
         requires early { taken_by self.old < 2 ^ 40 }
         ensures takes { TakesRow (read_of self.old) self.old self.new }
+        ensures counted { steps.new ≤ steps.old + row_work (program_of self.old) }
     {
         mem::swap(&mut self.state.last, &mut self.state.read);
-        self.state.running.take_uncounted(&self.state.last);
+        self.state.running.take(&self.state.last, steps);
     }
 
     /// The next report of the last row, one for each newly known time. `None`, and no change, where none is left.

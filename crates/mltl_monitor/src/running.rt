@@ -8,8 +8,7 @@ use obs_verify::Checked;
 use pt_boxes::Pt;
 use scq_ring::steps::Steps;
 use std::alloc::{AllocError, Global};
-use std::marker::Brand;
-use std::sync::ledger::{Blank, Ledger};
+use std::sync::ledger::Ledger;
 
 /// A checked program, its Booleanizer, its engines, its outputs, and the number of rows that they have taken.
 #[derive(Drop)]
@@ -52,7 +51,7 @@ impl Running {
         })
     }
 
-    /// Takes a row. It takes no memory.
+    /// Takes a row. Its steps are the reads and writes of queues and boxes. It takes no memory.
     pub fn take<L: Ledger>(&mut self, fields: &[i64], steps: &mut Steps<L>)
         requires some { (rows : List Row) × HasTaken self.old rows }
         requires drained { IsDrained self.old }
@@ -67,35 +66,6 @@ impl Running {
         self.ft.row(&self.checked, &self.bz, steps);
         self.pt.row(&self.checked, &self.bz, steps);
         self.taken += 1;
-    }
-
-    /// Takes a row, and counts nothing. It takes no memory.
-    pub fn take_uncounted(&mut self, fields: &[i64])
-        requires some { (rows : List Row) × HasTaken self.old rows }
-        requires drained { IsDrained self.old }
-        requires early { self.old.taken < 2 ^ 40 }
-        requires numbers { length self.old.bz ≡ length self.old.checked.bz }
-        requires fit { IsFit self.old.checked fields.now }
-        ensures takes { TakesRow fields.now self.old self.new }
-        ensures numbers { length self.new.bz ≡ length self.old.checked.bz }
-    {
-        self.take_over::<Brand>(fields, Blank::new(1));
-    }
-
-    /// Takes a row over a counter of its own.
-    fn take_over<L: Ledger>(&mut self, fields: &[i64], blank: Blank)
-        requires name { blank.name ≡ L.name }
-        requires parts { blank.parts ≡ L.parts }
-        requires some_parts { 0 < blank.parts }
-        requires some { (rows : List Row) × HasTaken self.old rows }
-        requires drained { IsDrained self.old }
-        requires early { self.old.taken < 2 ^ 40 }
-        requires numbers { length self.old.bz ≡ length self.old.checked.bz }
-        requires fit { IsFit self.old.checked fields.now }
-        ensures takes { TakesRow fields.now self.old self.new }
-        ensures numbers { length self.new.bz ≡ length self.old.checked.bz }
-    {
-        self.take(fields, &mut Steps::<L>::start(blank));
     }
 
     /// The first report that is open, one for each time. `None`, and no change, where none is.
