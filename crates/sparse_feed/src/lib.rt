@@ -4,6 +4,3 @@
 mod stamp;
 
 pub use stamp::{Stamp, gap, stamp_of};
-
-#[cfg(test)]
-mod tests;

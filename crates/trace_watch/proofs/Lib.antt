@@ -3,3 +3,4 @@ pub mod LineLaws
 pub mod WatchLaws
 pub mod WatchEnds
 pub mod RowTurns
+pub mod StampedTurns

@@ -14,7 +14,7 @@ use Rattle.trace_feed.specs.Rows.{line_meaning}
 use Rattle.trace_watch.specs.declared.status.TraceWhy.TheVariants.{LongLine}
 use Rattle.trace_watch.specs.declared.status.Watched as watched
 use Rattle.trace_watch.specs.Trace.{TraceRows, Meaning, IsRow, IsBlank, IsPast, IsFaulty, Past, Bad, meaning_of_text, meaning, is_marked, is_header, behind_header, put_in_front, rows_of, trace_rows}
-use Rattle.trace_watch.specs.Telling.{Turns, Steps, TakesIt, WritesNone, Counts, text_of}
+use Rattle.trace_watch.specs.Telling.{Turns, RowSteps, TakesIt, WritesNone, Counts, text_of}
 use Rattle.trace_watch.specs.Watch.{HasTold, IsWatch, first_of}
 use Rattle.trace_watch.proofs.LineLaws.{behind_header-header, behind_header-line, is_header-long, marked_first, meaning-text, meaning-long, meaning-past}
 use Rattle.trace_watch.proofs.WatchLaws.{IsLedBy-same, HasWatched, HasWatched-none, HasWatched-line, HasWatched-quiet, line_short, line_is, line_marked, line_next}
@@ -89,7 +89,7 @@ module _ (program : Program) (style : Style) (mission : ℕ) (start cut new : Cu
     pub has_rows : HasRows program style mission start new after now all
     pub fewer : (mission - now) + (2 - next_number new) < (mission - before) + (2 - next_number cut)
 
-  step_goes : (now : ℕ) (reads wrote : List Event) → before ≤ mission → mission ≤ 2 ^ 40 → CutsLine Trace cut new line_answer.TheVariants.Row reads → Steps (Ok now) program style mission before has.rows new after wrote → GoesOn now ((events ++ reads) ++ wrote)
+  step_goes : (now : ℕ) (reads wrote : List Event) → before ≤ mission → mission ≤ 2 ^ 40 → CutsLine Trace cut new line_answer.TheVariants.Row reads → RowSteps (Ok now) program style mission before has.rows new after wrote → GoesOn now ((events ++ reads) ++ wrote)
   step_goes now reads wrote within far cuts (inl header) =
       let next = line_next program style rows_in start cut new monitor rest before Keeps events reads has cuts (omega (arith, within, far)) in
       let is_first : next_number cut ≡ 1 = sym cuts.answer.1.number ∙ marked_first new.number (text_of new) header.1 in
@@ -106,7 +106,7 @@ module _ (program : Program) (style : Style) (mission : ℕ) (start cut new : Cu
         fewer = omega (arith, taken.0, taken.1.within, next);
       }
 
-  pub turn_goes : (now : ℕ) (second : List Event) → before ≤ mission → mission ≤ 2 ^ 40 → Turns (Ok now) program mission before has.rows cut new after (Steps (Ok now) program style mission before has.rows new after) second → GoesOn now (events ++ second)
+  pub turn_goes : (now : ℕ) (second : List Event) → before ≤ mission → mission ≤ 2 ^ 40 → Turns (Ok now) program mission before has.rows cut new after (RowSteps (Ok now) program style mission before has.rows new after) second → GoesOn now (events ++ second)
   turn_goes now second within far (inl long) = absurd long.0
   turn_goes now second within far (inr line) =
       subst (GoesOn now) (append_assoc events line.first line.second ∙ ap (λ rest. events ++ rest) (sym line.split)) (step_goes now line.first line.second within far line.cuts line.next)
@@ -131,7 +131,7 @@ module _ (program : Program) (style : Style) (mission : ℕ) (start cut new : Cu
   long_turn watched.TheVariants.WriteFault second (inr line) = absurd line.next
 
   -- how a turn that ends the loop ends the run
-  pub turn_ends : (answer : watched.Watched) (second : List Event) → Turns {T = ℕ} (Err answer) program mission before has.rows cut new after (Steps (Err answer) program style mission before has.rows new after) second → IsWatch program style rows_in start new after answer (events ++ second)
+  pub turn_ends : (answer : watched.Watched) (second : List Event) → Turns {T = ℕ} (Err answer) program mission before has.rows cut new after (RowSteps (Err answer) program style mission before has.rows new after) second → IsWatch program style rows_in start new after answer (events ++ second)
   turn_ends watched.TheVariants.Done second none = long_turn watched.TheVariants.Done second none
   turn_ends watched.TheVariants.ReadFault second none = long_turn watched.TheVariants.ReadFault second none
   turn_ends answer second (inl long) = long_turn answer second (inl long)

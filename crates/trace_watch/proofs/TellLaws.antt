@@ -1,7 +1,12 @@
 -- The lines of reports, told one after another.
 
-use Rattle.std.proofs.Common.{◌≡◌, ℕ, List, [], ◌∷◌, ◌++◌, Option, Result, Ok, Err, refl, sym, ◌∙◌, ap, subst, append_assoc, inr}
-use Rattle.std.proofs.lemmas.List.{append-nil}
+use Rattle.std.proofs.Common.{◌≡◌, ℕ, ◌+◌, ◌-◌, ◌≤◌, arith, replicate, List, [], ◌∷◌, ◌++◌, Bool, true, false, map, Option, Some, Result, Ok, Err, refl, sym, ◌∙◌, ap, subst, append_assoc, inr}
+use Rattle.std.specs.List.{concat}
+use Rattle.std.proofs.lemmas.List.{append-nil, map-append, replicate_more, replicate-append-replicate}
+use Rattle.std.proofs.lemmas.List.Folds.{concat-append}
+use Rattle.mltl_base.specs.Programs.{outputs, output_names}
+use Rattle.mltl_base.specs.Reports.{Output, of_row, reports_after}
+use Rattle.mltl_base.proofs.Telling.{after_append}
 use Rattle.mltl_base.specs.declared.report.Report.{Report}
 use Rattle.mltl_base.specs.Lines.{line, lines_of_reports}
 use Rattle.mltl_base.specs.declared.report.Style.{Style}
@@ -14,7 +19,14 @@ use Rattle.tool_io.specs.Log.{Event, OnLog, Writes, WritesFront}
 use Rattle.tool_io.proofs.LogLaws.{Appends-then, Writes-none, Writes-then, WritesFront-then}
 use Rattle.mltl_monitor.specs.declared.state.State.{State}
 use Rattle.trace_watch.specs.declared.status.Watched as watched
-use Rattle.trace_watch.specs.Telling.{Steps, Turns}
+use Rattle.mltl_monitor.specs.Monitoring.{program_of, open_of, Stands, TakesRow}
+use Rattle.trace_watch.specs.Watch.{HasTold, HasFront}
+use Rattle.trace_watch.specs.Telling.{SendsText, IsDrainedIf, TellsAll, TellsFront, RowSteps, Turns}
+use Rattle.trace_watch.specs.declared.timed_loop.Clock.{Clock}
+use Rattle.trace_feed.specs.Rows.{LineMeaning}
+use Rattle.trace_feed.specs.Rows as feed
+use Rattle.trace_watch.specs.Stamped.{StampedLine, HoldsFrom, Empty, Faulty, OverTime, fields_at, held}
+use Rattle.trace_watch.specs.StampedTelling.{Brings, StampedSteps, TellsRows, line_of, time_behind}
 
 -- of the lines that were due, these bytes went out and those are left
 pub record HasSent (due left : List ℕ) (events : List Event) : Type 0 where
@@ -73,10 +85,125 @@ Turns-step result before between now program mission lines rows start cut monito
 }
 
 -- the line of a plain row is a step
-pub IsStep-row : (result : Result ℕ watched.Watched) (program : Program) (style : Style) (mission lines : ℕ) (rows : List Row) (cut : Cutting) (monitor : State) (events : List Event) → Steps result program style mission lines rows cut monitor events → IsStep result
+pub IsStep-row : (result : Result ℕ watched.Watched) (program : Program) (style : Style) (mission lines : ℕ) (rows : List Row) (cut : Cutting) (monitor : State) (events : List Event) → RowSteps result program style mission lines rows cut monitor events → IsStep result
 IsStep-row (Ok now) program style mission lines rows cut monitor events steps = tt
 IsStep-row (Err watched.TheVariants.Done) program style mission lines rows cut monitor events steps = steps.1
 IsStep-row (Err watched.TheVariants.ReadFault) program style mission lines rows cut monitor events steps = steps.1
 IsStep-row (Err watched.TheVariants.TooLong) program style mission lines rows cut monitor events steps = tt
 IsStep-row (Err (watched.TheVariants.BadTrace number why)) program style mission lines rows cut monitor events steps = tt
 IsStep-row (Err watched.TheVariants.WriteFault) program style mission lines rows cut monitor events steps = tt
+
+-- what is due for one more row
+pub due_row : (style : Style) (rows : List Row) (row : Row) (before between : State) → TakesRow row before between → Stands before rows → lines_of_reports (output_names (program_of between)) (open_of style between (rows ++ row ∷ [])) ≡ lines_of_reports (output_names (program_of before)) (reports_after style (outputs (program_of before)) rows (row ∷ []))
+unfolding reports_after
+due_row style rows row before between took stands =
+    let names = output_names (program_of before) in
+    ap (λ (p : Program). lines_of_reports (output_names p) (open_of style between (rows ++ row ∷ []))) took.program ∙ ap (lines_of_reports names) (took.opens style rows stands ∙ sym (append-nil (of_row style 0 (outputs (program_of before)) rows row)))
+
+-- the lines of rows and of further rows
+told_after : (style : Style) (names : List (List ℕ)) (outs : List Output) (rows more further : List Row) → lines_of_reports names (reports_after style outs rows (more ++ further)) ≡ lines_of_reports names (reports_after style outs rows more) ++ lines_of_reports names (reports_after style outs (rows ++ more) further)
+told_after style names outs rows more further =
+    ap (lines_of_reports names) (after_append style outs rows more further)
+    ∙ ap concat (map-append (line names) (reports_after style outs rows more) (reports_after style outs (rows ++ more) further))
+    ∙ concat-append (map (line names) (reports_after style outs rows more)) (map (line names) (reports_after style outs (rows ++ more) further))
+
+-- no rows
+pub TellsAll-none : (program : Program) (style : Style) (rows : List Row) (monitor : State) → HasTold program monitor rows → TellsAll program style rows [] monitor []
+unfolding reports_after
+TellsAll-none program style rows monitor told = record { sends = Writes-none Out; told = subst (HasTold program monitor) (sym (append-nil rows)) told }
+
+-- further rows, of which all were told, or a front
+pub TellsRows-then : (whole : Bool) (program : Program) (style : Style) (rows more further : List Row) (between after : State) (first second : List Event) → TellsAll program style rows more between first → TellsRows whole program style (rows ++ more) further after second → TellsRows whole program style rows (more ++ further) after (first ++ second)
+TellsRows-then true program style rows more further between after first second a b = record {
+  sends = subst (λ bytes. Writes Out bytes (first ++ second)) (sym (told_after style (output_names program) (outputs program) rows more further)) (Writes-then Out _ _ first second a.sends b.sends);
+  told = subst (HasTold program after) (append_assoc rows more further) b.told;
+}
+TellsRows-then false program style rows more further between after first second a b = record {
+  sends = subst (λ bytes. WritesFront Out bytes (first ++ second)) (sym (told_after style (output_names program) (outputs program) rows more further)) (WritesFront-then Out _ _ first second a.sends b.sends);
+  kept = subst (HasFront program after) (append_assoc rows more further) b.kept;
+}
+
+-- a front of rows is a front of them and of further ones
+pub TellsFront-more : (program : Program) (style : Style) (rows more further : List Row) (monitor : State) (events : List Event) → TellsFront program style rows more monitor events → TellsFront program style rows (more ++ further) monitor events
+TellsFront-more program style rows more further monitor events a =
+    let behind = lines_of_reports (output_names program) (reports_after style (outputs program) (rows ++ more) further) in
+    record {
+      sends = record {
+        sent = a.sends.sent;
+        unsent = a.sends.unsent ++ behind;
+        split = told_after style (output_names program) (outputs program) rows more further ∙ ap (λ bytes. bytes ++ behind) a.sends.split ∙ append_assoc a.sends.sent a.sends.unsent behind;
+        writes = a.sends.writes;
+      };
+      kept = record {
+        program_kept = a.kept.program_kept;
+        front = a.kept.front;
+        is_front = record { rest = a.kept.is_front.rest ++ further; split = sym (append_assoc rows more further) ∙ ap (λ all. all ++ further) a.kept.is_front.split ∙ append_assoc a.kept.front a.kept.is_front.rest further };
+        stands = a.kept.stands;
+      };
+    }
+
+-- one row was taken, and then told
+pub TellsRows-tell : (whole : Bool) (style : Style) (rows : List Row) (row : Row) (before between after : State) (events : List Event) → TakesRow row before between → Stands before rows → SendsText whole (lines_of_reports (output_names (program_of between)) (open_of style between (rows ++ row ∷ []))) events
+    → program_of after ≡ program_of between → (Stands between (rows ++ row ∷ []) → Stands after (rows ++ row ∷ [])) → IsDrainedIf whole after → TellsRows whole (program_of before) style rows (row ∷ []) after events
+TellsRows-tell true style rows row before between after events took stands sends kept told drained = record {
+  sends = subst (λ bytes. Writes Out bytes events) (due_row style rows row before between took stands) sends;
+  told = record { program_kept = kept ∙ took.program; stands = told (took.stands rows stands); drained = drained };
+}
+TellsRows-tell false style rows row before between after events took stands sends kept told drained = record {
+  sends = subst (λ bytes. WritesFront Out bytes events) (due_row style rows row before between took stands) sends;
+  kept = record { program_kept = kept ∙ took.program; front = rows ++ row ∷ []; is_front = record { rest = []; split = sym (append-nil (rows ++ row ∷ [])) }; stands = told (took.stands rows stands) };
+}
+
+-- the line of a stamped row is a step
+pub IsStep-stamped : (result : Result Clock watched.Watched) (program : Program) (style : Style) (mission : ℕ) (clock : Clock) (rows : List Row) (last : Option (ℕ × Row)) (cut : Cutting) (monitor : State) (events : List Event) → StampedSteps result program style mission clock rows last cut monitor events → IsStep result
+IsStep-stamped (Ok now) program style mission clock rows last cut monitor events steps = tt
+IsStep-stamped (Err watched.TheVariants.Done) program style mission clock rows last cut monitor events steps = no_answer (line_of program mission clock.last cut) steps.1
+  where
+    no_answer : (what : StampedLine) → Brings (Err watched.TheVariants.Done) what program style rows (held last) cut.number monitor events → ⊥
+    no_answer what brings = absurd brings
+IsStep-stamped (Err watched.TheVariants.ReadFault) program style mission clock rows last cut monitor events steps = no_answer (line_of program mission clock.last cut) steps.1
+  where
+    no_answer : (what : StampedLine) → Brings (Err watched.TheVariants.ReadFault) what program style rows (held last) cut.number monitor events → ⊥
+    no_answer what brings = absurd brings
+IsStep-stamped (Err watched.TheVariants.TooLong) program style mission clock rows last cut monitor events steps = tt
+IsStep-stamped (Err (watched.TheVariants.BadTrace number why)) program style mission clock rows last cut monitor events steps = tt
+IsStep-stamped (Err watched.TheVariants.WriteFault) program style mission clock rows last cut monitor events steps = tt
+
+-- one more row was taken, and then told
+pub TellsRows-one : (whole : Bool) (program : Program) (style : Style) (rows more : List Row) (row : Row) (before between after : State) (first second : List Event) → TellsAll program style rows more before first → TakesRow row before between
+    → SendsText whole (lines_of_reports (output_names (program_of between)) (open_of style between ((rows ++ more) ++ row ∷ []))) second → program_of after ≡ program_of between
+    → (Stands between ((rows ++ more) ++ row ∷ []) → Stands after ((rows ++ more) ++ row ∷ [])) → IsDrainedIf whole after → TellsRows whole program style rows (more ++ row ∷ []) after (first ++ second)
+TellsRows-one whole program style rows more row before between after first second was took sends kept told drained =
+    let now : TellsRows whole (program_of before) style (rows ++ more) (row ∷ []) after second = TellsRows-tell whole style (rows ++ more) row before between after second took was.told.stands sends kept told drained in
+    TellsRows-then whole program style rows more (row ∷ []) before after first second was (subst (λ p. TellsRows whole p style (rows ++ more) (row ∷ []) after second) was.told.program_kept now)
+
+-- a front of some copies is a front of more
+pub TellsFront-held : (program : Program) (style : Style) (rows : List Row) (row : Row) (done times : ℕ) (monitor : State) (events : List Event) → done ≤ times → TellsFront program style rows (replicate done row) monitor events → TellsFront program style rows (replicate times row) monitor events
+TellsFront-held program style rows row done times monitor events within a =
+    let sum : done + (times - done) ≡ times = omega (arith, within) in
+    subst (λ all. TellsFront program style rows all monitor events) (replicate-append-replicate done (times - done) row ∙ ap (λ n. replicate n row) sum) (TellsFront-more program style rows (replicate done row) (replicate (times - done) row) monitor events a)
+
+-- copies that are the same bring the same
+pub Brings-copies : (result : Result (Unit {0}) watched.Watched) (what : StampedLine) (program : Program) (style : Style) (rows : List Row) (copies others : ℕ → List Row) (number : ℕ) (monitor : State) (events : List Event) → ((time : ℕ) (values : Row) → what ≡ HoldsFrom time values → copies time ≡ others time) → Brings result what program style rows copies number monitor events → Brings result what program style rows others number monitor events
+Brings-copies (Ok u) (HoldsFrom time values) program style rows copies others number monitor events same brings = subst (λ held. TellsAll program style rows (held ++ values ∷ []) monitor events) (same time values refl) brings
+Brings-copies (Ok u) Empty program style rows copies others number monitor events same brings = brings
+Brings-copies (Err watched.TheVariants.WriteFault) (HoldsFrom time values) program style rows copies others number monitor events same brings = subst (λ held. TellsFront program style rows (held ++ values ∷ []) monitor events) (same time values refl) brings
+Brings-copies (Err (watched.TheVariants.BadTrace line why)) (Faulty cause) program style rows copies others number monitor events same brings = brings
+Brings-copies (Err watched.TheVariants.TooLong) OverTime program style rows copies others number monitor events same brings = brings
+Brings-copies result what program style rows copies others number monitor events same brings = absurd brings
+
+-- fields behind a stamp hold from its time, or from none
+pub fields_at-time : (time then_ : ℕ) (meaning : LineMeaning) (values : Row) → fields_at time meaning ≡ HoldsFrom then_ values → then_ ≡ time
+fields_at-time time then_ (feed.row row) values is = cc
+fields_at-time time then_ feed.blank values is = cc
+fields_at-time time then_ feed.too_few values is = cc
+fields_at-time time then_ (feed.not_whole column) values is = cc
+fields_at-time time then_ (feed.out_of_range column) values is = cc
+
+-- fields that were taken hold from their time
+pub time_behind-fields : (last : Option ℕ) (time : ℕ) (meaning : LineMeaning) (program : Program) (style : Style) (rows : List Row) (copies : ℕ → List Row) (number : ℕ) (monitor : State) (events : List Event) → Brings (Ok tt) (fields_at time meaning) program style rows copies number monitor events → Some time ≡ time_behind last (fields_at time meaning)
+time_behind-fields last time (feed.row row) program style rows copies number monitor events brings = refl
+time_behind-fields last time feed.blank program style rows copies number monitor events brings = absurd brings
+time_behind-fields last time feed.too_few program style rows copies number monitor events brings = absurd brings
+time_behind-fields last time (feed.not_whole column) program style rows copies number monitor events brings = absurd brings
+time_behind-fields last time (feed.out_of_range column) program style rows copies number monitor events brings = absurd brings

@@ -90,7 +90,8 @@ module _ (program : Program) (style : Style) (rows_in : List (List ℕ) → Trac
       let unmet : new.ended ≡ false = cuts.answer.2 in
       let is : lines_of new.ended (cut.pending ++ concat cuts.pieces) ≡ [] = ap (λ v. lines_of v (cut.pending ++ concat cuts.pieces)) unmet ∙ lines_of-none (cut.pending ++ concat cuts.pieces) cuts.answer.0.no_newline cuts.answer.1 in
       let all = all_told line_answer.TheVariants.ReadFault cuts [] Clean is has.clean none.told in
-      watch_is line_answer.TheVariants.ReadFault cuts watched.TheVariants.ReadFault (unmet, subst (λ v. IsTold program style rows_in v all_bytes (given Out (events ++ reads)) after) unmet all.told)
+      watch_is line_answer.TheVariants.ReadFault cuts watched.TheVariants.ReadFault
+      (unmet, subst (λ v. (rows_in (lines_of v all_bytes)).stop ≡ Clean) unmet all.stop_is, subst (λ v. IsTold program style rows_in v all_bytes (given Out (events ++ reads)) after) unmet all.told)
 
   -- a line of 65,536 bytes without a newline is the first that follows, and so is a row
   pub long_starts : (cuts : CutsLine Trace cut new line_answer.TheVariants.LongLine reads) → StartsLong (lines_of new.ended (cut.pending ++ concat cuts.pieces))

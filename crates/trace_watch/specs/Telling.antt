@@ -90,13 +90,13 @@ pub record Counts (mission before : ℕ) (cut : Cutting) : Type 0 where
 
 -- What a line that was cut is, where so many lines behind the header stand before it. The answer is how many stand
 -- behind it, the header not counted; else how the loop ends.
-abbrev pub Steps : Result ℕ watched.Watched → Program → Style → ℕ → ℕ → List Row → Cutting → State → List Event → Type 0
-Steps (Ok now) program style mission before rows cut monitor events =
+abbrev pub RowSteps : Result ℕ watched.Watched → Program → Style → ℕ → ℕ → List Row → Cutting → State → List Event → Type 0
+RowSteps (Ok now) program style mission before rows cut monitor events =
     (now ≡ before) × (is_marked cut.number (text_of cut) ≡ true) × WritesNone program rows monitor events
     ⊎ (now ≡ before + 1) × Counts mission before cut × TakesIt (Ok tt) program style rows cut monitor events
-Steps (Err watched.TheVariants.TooLong) program style mission before rows cut monitor events =
+RowSteps (Err watched.TheVariants.TooLong) program style mission before rows cut monitor events =
     (before ≡ mission) × (is_marked cut.number (text_of cut) ≡ false) × WritesNone program rows monitor events
-Steps (Err answer) program style mission before rows cut monitor events = Counts mission before cut × TakesIt (Err answer) program style rows cut monitor events
+RowSteps (Err answer) program style mission before rows cut monitor events = Counts mission before cut × TakesIt (Err answer) program style rows cut monitor events
 
 -- a line was cut, and then this
 pub record CutsThen (start cut : Cutting) (P : List Event → Type 0) (events : List Event) : Type 0 where

@@ -48,7 +48,7 @@ Outcome watched.TheVariants.TooLong program style rows_in ended bytes out monito
 Outcome (watched.TheVariants.BadTrace number why) program style rows_in ended bytes out monitor =
     ((rows_in (lines_of ended bytes)).stop ≡ Bad number why) × IsTold program style rows_in ended bytes out monitor
 Outcome watched.TheVariants.ReadFault program style rows_in ended bytes out monitor =
-    (ended ≡ false) × IsTold program style rows_in false bytes out monitor
+    (ended ≡ false) × ((rows_in (lines_of false bytes)).stop ≡ Clean) × IsTold program style rows_in false bytes out monitor
 Outcome watched.TheVariants.WriteFault program style rows_in ended bytes out monitor =
     IsFront out (due program style rows_in ended bytes) × HasFront program monitor (rows_in (lines_of ended bytes)).rows
 

@@ -3,10 +3,9 @@
 
 pub mod laws;
 mod status;
+mod timed_loop;
 mod trace_loop;
 
 pub use status::{TraceWhy, Watched};
+pub use timed_loop::watch_timed;
 pub use trace_loop::watch;
-
-#[cfg(test)]
-mod tests;

@@ -5,15 +5,18 @@ ghost use Rattle.mltl_base.specs.Atoms.{Row};
 ghost use Rattle.mltl_base.specs.Lines.{lines_of_reports};
 ghost use Rattle.mltl_base.specs.Programs.{output_names};
 ghost use Rattle.tool_io.specs.Log.{OnLog};
-ghost use Rattle.mltl_monitor.specs.Monitoring.{program_of, taken_by, IsDrained, Stands, left_to_tell, GivesFirst, open_of};
+ghost use Rattle.mltl_monitor.specs.Monitoring.{program_of, taken_by, last_of, read_of, IsDrained, Stands, left_to_tell, GivesFirst, open_of};
 ghost use Rattle.trace_watch.specs.Trace.{is_marked, trace_rows};
 ghost use Rattle.trace_watch.specs.Watch.{IsWatch, WatchCause, first_of};
-ghost use Rattle.trace_watch.specs.Telling.{TellCause, StepCause, SendsText, IsDrainedIf, TakesIt, Steps, Turns, text_of};
+ghost use Rattle.trace_watch.specs.Telling.{TellCause, StepCause, SendsText, IsDrainedIf, TakesIt, RowSteps, Turns, text_of};
 
 use crate::{TraceWhy, Watched};
 use contract_status::line_of;
 use mltl_base::{Report, Style};
 use mltl_monitor::Monitor;
+use scq_ring::steps::Steps;
+use std::marker::Brand;
+use std::sync::ledger::{Blank, Ledger};
 use tool_io::{Host, Line, LineCut, Place, Put, put_all};
 use trace_feed::RowAnswer;
 
@@ -27,6 +30,9 @@ fn next(monitor: &mut Monitor, style: Style) -> Option<Report>
     ensures program { program_of monitor.new ≡ program_of monitor.old }
     ensures exists { IfSome result (λ report. report.out < length (program_of monitor.new).outs) }
     ensures early { IfSome result (λ report. report.time < 2 ^ 40) }
+    ensures as_many { taken_by monitor.new ≡ taken_by monitor.old }
+    ensures last { last_of monitor.new ≡ last_of monitor.old }
+    ensures read { read_of monitor.new ≡ read_of monitor.old }
 {
     match style {
         Style::Each => monitor.next_report(),
@@ -35,11 +41,14 @@ fn next(monitor: &mut Monitor, style: Style) -> Option<Report>
 }
 
 /// Writes the lines of all reports that are still to be given. Answers whether all went out.
-fn tell<H: Host>(monitor: &mut Monitor, host: &mut H, style: Style) -> bool
+pub(crate) fn tell<H: Host>(monitor: &mut Monitor, host: &mut H, style: Style) -> bool
     ensures cause { TellCause result (H.faults host.old) (H.faults host.new) }
     ensures log { (rows : List Row) → Stands monitor.old rows → OnLog (H.log host.old) (H.log host.new) (SendsText result (lines_of_reports (output_names (program_of monitor.old)) (open_of style monitor.old rows))) }
     ensures stands { (rows : List Row) → Stands monitor.old rows → Stands monitor.new rows }
     ensures program { program_of monitor.new ≡ program_of monitor.old }
+    ensures as_many { taken_by monitor.new ≡ taken_by monitor.old }
+    ensures last { last_of monitor.new ≡ last_of monitor.old }
+    ensures read { read_of monitor.new ≡ read_of monitor.old }
     ensures drained { IsDrainedIf result monitor.new }
 {
     while let Some(report) = next(monitor, style) {
@@ -52,11 +61,12 @@ fn tell<H: Host>(monitor: &mut Monitor, host: &mut H, style: Style) -> bool
 }
 
 /// Takes the line of the last Row, and tells what it brings: nothing where it is blank.
-fn take<H: Host>(
+fn take<H: Host, L: Ledger>(
     monitor: &mut Monitor,
     cut: &LineCut,
     host: &mut H,
     style: Style,
+    steps: &mut Steps<L>,
 ) -> Result<(), Watched>
     requires row { IsSome cut.now.row }
     requires drained { IsDrained monitor.old }
@@ -66,7 +76,7 @@ fn take<H: Host>(
     ensures program { program_of monitor.new ≡ program_of monitor.old }
 {
     let number = cut.number();
-    match monitor.take_line(cut.line()) {
+    match monitor.take_line(cut.line(), steps) {
         RowAnswer::Good => {
             if tell(monitor, host, style) {
                 Ok(())
@@ -86,7 +96,7 @@ fn take<H: Host>(
 }
 
 /// Whether the line of the last Row is the first of the trace and begins with `#`.
-fn is_header(cut: &LineCut) -> bool
+pub(crate) fn is_header(cut: &LineCut) -> bool
     requires row { IsSome cut.now.row }
     ensures { result ≡ is_marked cut.now.number (text_of cut.now) }
 {
@@ -95,13 +105,14 @@ fn is_header(cut: &LineCut) -> bool
 
 /// Takes the line of the last Row, where `before` lines behind the header stand before it. Answers how many stand
 /// behind it, or how the loop ends.
-fn step<H: Host>(
+fn step<H: Host, L: Ledger>(
     monitor: &mut Monitor,
     cut: &LineCut,
     host: &mut H,
     mission: u64,
     before: u64,
     style: Style,
+    steps: &mut Steps<L>,
 ) -> Result<u64, Watched>
     requires row { IsSome cut.now.row }
     requires drained { IsDrained monitor.old }
@@ -109,7 +120,7 @@ fn step<H: Host>(
     requires within { before ≤ mission }
     requires mission { mission ≤ 2 ^ 40 }
     ensures cause { StepCause result (H.faults host.old) (H.faults host.new) }
-    ensures log { (rows : List Row) → Stands monitor.old rows → OnLog (H.log host.old) (H.log host.new) (Steps result (program_of monitor.old) style mission before rows cut.now monitor.new) }
+    ensures log { (rows : List Row) → Stands monitor.old rows → OnLog (H.log host.old) (H.log host.new) (RowSteps result (program_of monitor.old) style mission before rows cut.now monitor.new) }
     ensures program { program_of monitor.new ≡ program_of monitor.old }
 {
     if is_header(cut) {
@@ -118,36 +129,67 @@ fn step<H: Host>(
     if before == mission {
         return Err(Watched::TooLong);
     }
-    take(monitor, cut, host, style)?;
+    take(monitor, cut, host, style, steps)?;
     Ok(before + 1)
 }
 
 /// Cuts one more line, where `before` lines behind the header stand before it, and takes it. Answers how many stand
 /// behind it, or how the loop ends.
-fn turn<H: Host>(
+fn turn<H: Host, L: Ledger>(
     monitor: &mut Monitor,
     cut: &mut LineCut,
     host: &mut H,
     mission: u64,
     before: u64,
     style: Style,
+    steps: &mut Steps<L>,
 ) -> Result<u64, Watched>
     requires drained { IsDrained monitor.old }
     requires counted { taken_by monitor.old ≤ before }
     requires within { before ≤ mission }
     requires mission { mission ≤ 2 ^ 40 }
     ensures cause { StepCause result (H.faults host.old) (H.faults host.new) }
-    ensures log { (rows : List Row) → Stands monitor.old rows → OnLog (H.log host.old) (H.log host.new) (Turns result (program_of monitor.old) mission before rows cut.old cut.new monitor.new (Steps result (program_of monitor.old) style mission before rows cut.new monitor.new)) }
+    ensures log { (rows : List Row) → Stands monitor.old rows → OnLog (H.log host.old) (H.log host.new) (Turns result (program_of monitor.old) mission before rows cut.old cut.new monitor.new (RowSteps result (program_of monitor.old) style mission before rows cut.new monitor.new)) }
     ensures program { program_of monitor.new ≡ program_of monitor.old }
 {
     match cut.next_line(host, Place::Trace) {
-        Line::Row => step(monitor, cut, host, mission, before, style),
+        Line::Row => step(monitor, cut, host, mission, before, style, steps),
         Line::End => Err(Watched::Done),
         Line::ReadFault => Err(Watched::ReadFault),
         Line::LongLine if before == mission => Err(Watched::TooLong),
         Line::LongLine => {
             let number = cut.number().saturating_add(1);
             Err(Watched::BadTrace(number, TraceWhy::LongLine))
+        }
+    }
+}
+
+/// The loop, over a counter of its own.
+fn turns<H: Host, L: Ledger>(
+    monitor: &mut Monitor,
+    cut: &mut LineCut,
+    host: &mut H,
+    mission: u64,
+    style: Style,
+    blank: Blank,
+) -> Watched
+    requires name { blank.name ≡ L.name }
+    requires parts { blank.parts ≡ L.parts }
+    requires some_parts { 0 < blank.parts }
+    requires no_rows { Stands monitor.old [] }
+    requires drained { IsDrained monitor.old }
+    requires mission { mission ≤ 2 ^ 40 }
+    requires numbered { cut.old.number ≤ 1 }
+    ensures cause { WatchCause result (H.faults host.old) (H.faults host.new) }
+    ensures log { OnLog (H.log host.old) (H.log host.new) (IsWatch (program_of monitor.old) style (trace_rows (program_of monitor.old) mission (first_of cut.old)) cut.old cut.new monitor.new result) }
+    ensures program { program_of monitor.new ≡ program_of monitor.old }
+{
+    let mut steps = Steps::<L>::start(blank);
+    let mut before = 0;
+    loop {
+        match turn(monitor, cut, host, mission, before, style, &mut steps) {
+            Ok(now) => before = now,
+            Err(watched) => return watched,
         }
     }
 }
@@ -174,11 +216,5 @@ pub fn watch<H: Host>(
     ensures log { OnLog (H.log host.old) (H.log host.new) (IsWatch (program_of monitor.old) style (trace_rows (program_of monitor.old) mission (first_of cut.old)) cut.old cut.new monitor.new result) }
     ensures program { program_of monitor.new ≡ program_of monitor.old }
 {
-    let mut before = 0;
-    loop {
-        match turn(monitor, cut, host, mission, before, style) {
-            Ok(now) => before = now,
-            Err(watched) => return watched,
-        }
-    }
+    turns::<H, Brand>(monitor, cut, host, mission, style, Blank::new(1))
 }

@@ -15,14 +15,8 @@ use Rattle.trace_feed.specs.Rows.{line_meaning, LineMeaning}
 use Rattle.trace_feed.specs.Rows as feed
 use Rattle.trace_watch.specs.Trace.{meaning_of_text}
 use Rattle.trace_watch.specs.Telling.{SendsText, BringsNone, text_of}
+use Rattle.trace_watch.proofs.TellLaws.{due_row}
 use Rattle.trace_watch.proofs.trace_loop.take.Goals as goal
-
--- what is due for one more row
-due_row : (style : Style) (rows : List Row) (row : Row) (before between : State) → TakesRow row before between → Stands before rows → lines_of_reports (output_names (program_of between)) (open_of style between (rows ++ row ∷ [])) ≡ lines_of_reports (output_names (program_of before)) (reports_after style (outputs (program_of before)) rows (row ∷ []))
-unfolding reports_after
-due_row style rows row before between took stands =
-    let names = output_names (program_of before) in
-    ap (λ (p : Program). lines_of_reports (output_names p) (open_of style between (rows ++ row ∷ []))) took.program ∙ ap (lines_of_reports names) (took.opens style rows stands ∙ sym (append-nil (of_row style 0 (outputs (program_of before)) rows row)))
 
 -- the line is no row
 brings_none : (rows : List Row) (line : List ℕ) (before after : State) (cut : Cutting) (what : LineMeaning) → line ≡ text_of cut → line_meaning (program_of before) line ≡ what → IsSame before after → Stands before rows → IsDrained before → program_of after ≡ program_of before → BringsNone (program_of before) rows cut (meaning_of_text what) after []

@@ -12,6 +12,9 @@ pub loop-report-init : goal.loop-report-init
 loop-report-init g c = record {
   no_fault = λ place. refl;
   program = refl;
+  as_many = refl;
+  last = refl;
+  read = refl;
   stands = λ rows stands. stands;
   log = λ rows stands. OnLog-none _ _ (HasSent-none _);
 }
@@ -35,6 +38,9 @@ loop-report-preserved g c =
     record {
       no_fault = NoFault-then _ _ _ was.no_fault c.in_default-put_all.ensures.cause;
       program = c.next.ensures.program ∙ was.program;
+      as_many = c.next.ensures.as_many ∙ was.as_many;
+      last = c.next.ensures.last ∙ was.last;
+      read = c.next.ensures.read ∙ was.read;
       stands = λ rows stands. c.next.ensures.stands rows (was.stands rows stands);
       log = λ rows stands.
           let lines = next_line names (output_names c.checked.result.now) (open_of c.args.style c.loop-report.monitor rows) (open_of c.args.style c.next.new.monitor rows) c.in-Some.report c.line_of-line.result.items c.deref.result.now (c.in-Some.ensures.first rows (was.stands rows stands)) same c.line_of-line.ensures.line c.deref.ensures.0 in
@@ -46,3 +52,21 @@ returns-clause-log g c rows stands =
     let was = c.loop-report.invariant in
     let names = output_names (program_of c.args.monitor.now) in
     OnLog-map _ _ _ (was.log rows stands) (λ events has. HasSent-all _ _ events has (ap (lines_of_reports names) (c.in_default.ensures.first rows (was.stands rows stands))))
+
+pub returns-in-Failed-clause-as_many : goal.returns-in-Failed-clause-as_many
+returns-in-Failed-clause-as_many g c = c.next.ensures.as_many ∙ c.loop-report.invariant.as_many
+
+pub returns-clause-as_many : goal.returns-clause-as_many
+returns-clause-as_many g c = c.next.ensures.as_many ∙ c.loop-report.invariant.as_many
+
+pub returns-in-Failed-clause-last : goal.returns-in-Failed-clause-last
+returns-in-Failed-clause-last g c = c.next.ensures.last ∙ c.loop-report.invariant.last
+
+pub returns-clause-last : goal.returns-clause-last
+returns-clause-last g c = c.next.ensures.last ∙ c.loop-report.invariant.last
+
+pub returns-in-Failed-clause-read : goal.returns-in-Failed-clause-read
+returns-in-Failed-clause-read g c = c.next.ensures.read ∙ c.loop-report.invariant.read
+
+pub returns-clause-read : goal.returns-clause-read
+returns-clause-read g c = c.next.ensures.read ∙ c.loop-report.invariant.read

@@ -1,9 +1,9 @@
 use Rattle.std.proofs.Common.{◌++◌, ◌∙◌, ℕ, subst, Ok, Err, refl, arith}
 use Rattle.tool_io.proofs.HostLaws.{NoFault-then}
 use Rattle.tool_io.proofs.LogLaws.{OnLog-none, Appends-then}
-use Rattle.trace_watch.specs.Telling.{Steps, Turns}
+use Rattle.trace_watch.specs.Telling.{RowSteps, Turns}
 use Rattle.trace_watch.proofs.RowTurns.{HasRows-none, turn_goes, turn_ends}
-use Rattle.trace_watch.proofs.trace_loop.watch.Goals as goal
+use Rattle.trace_watch.proofs.trace_loop.turns.Goals as goal
 
 pub loop-now-init : goal.loop-now-init
 loop-now-init g c = record {
@@ -18,7 +18,7 @@ loop-now-preserved g c =
     let was = c.loop-now.invariant in
     let has = was.log.holds in
     let turn = c.in-Ok.ensures.log has.rows has.kept.stands in
-    let goes = turn_goes _ _ _ _ _ _ _ _ _ was.log.events has c.in-Ok.now turn.events was.within c.requires.mission (subst (λ program. Turns (Ok c.in-Ok.now) program c.args.mission c.loop-now.before has.rows c.loop-now.cut c.turn.new.cut c.turn.new.monitor (Steps (Ok c.in-Ok.now) program c.args.style c.args.mission c.loop-now.before has.rows c.turn.new.cut c.turn.new.monitor) turn.events) has.kept.program_kept turn.holds) in
+    let goes = turn_goes _ _ _ _ _ _ _ _ _ was.log.events has c.in-Ok.now turn.events was.within c.requires.mission (subst (λ program. Turns (Ok c.in-Ok.now) program c.args.mission c.loop-now.before has.rows c.loop-now.cut c.turn.new.cut c.turn.new.monitor (RowSteps (Ok c.in-Ok.now) program c.args.style c.args.mission c.loop-now.before has.rows c.turn.new.cut c.turn.new.monitor) turn.events) has.kept.program_kept turn.holds) in
     record {
       within = goes.within;
       program = c.turn.ensures.program ∙ was.program;
@@ -35,7 +35,7 @@ loop-now-smaller g c =
     let was = c.loop-now.invariant in
     let has = was.log.holds in
     let turn = c.in-Ok.ensures.log has.rows has.kept.stands in
-    (turn_goes _ _ _ _ _ _ _ _ _ was.log.events has c.in-Ok.now turn.events was.within c.requires.mission (subst (λ program. Turns (Ok c.in-Ok.now) program c.args.mission c.loop-now.before has.rows c.loop-now.cut c.turn.new.cut c.turn.new.monitor (Steps (Ok c.in-Ok.now) program c.args.style c.args.mission c.loop-now.before has.rows c.turn.new.cut c.turn.new.monitor) turn.events) has.kept.program_kept turn.holds)).fewer
+    (turn_goes _ _ _ _ _ _ _ _ _ was.log.events has c.in-Ok.now turn.events was.within c.requires.mission (subst (λ program. Turns (Ok c.in-Ok.now) program c.args.mission c.loop-now.before has.rows c.loop-now.cut c.turn.new.cut c.turn.new.monitor (RowSteps (Ok c.in-Ok.now) program c.args.style c.args.mission c.loop-now.before has.rows c.turn.new.cut c.turn.new.monitor) turn.events) has.kept.program_kept turn.holds)).fewer
 
 pub returns-in-Err-clause-log : goal.returns-in-Err-clause-log
 returns-in-Err-clause-log g c =
@@ -45,5 +45,5 @@ returns-in-Err-clause-log g c =
     record {
       events = was.log.events ++ turn.events;
       appended = Appends-then _ _ _ was.log.events turn.events was.log.appended turn.appended;
-      holds = turn_ends _ _ _ _ _ _ _ _ _ was.log.events has c.in-Err.watched turn.events (subst (λ program. Turns {T = ℕ} (Err c.in-Err.watched) program c.args.mission c.loop-now.before has.rows c.loop-now.cut c.turn.new.cut c.turn.new.monitor (Steps (Err c.in-Err.watched) program c.args.style c.args.mission c.loop-now.before has.rows c.turn.new.cut c.turn.new.monitor) turn.events) has.kept.program_kept turn.holds);
+      holds = turn_ends _ _ _ _ _ _ _ _ _ was.log.events has c.in-Err.watched turn.events (subst (λ program. Turns {T = ℕ} (Err c.in-Err.watched) program c.args.mission c.loop-now.before has.rows c.loop-now.cut c.turn.new.cut c.turn.new.monitor (RowSteps (Err c.in-Err.watched) program c.args.style c.args.mission c.loop-now.before has.rows c.turn.new.cut c.turn.new.monitor) turn.events) has.kept.program_kept turn.holds);
     }

@@ -4,7 +4,7 @@ use Rattle.tool_io.specs.Host.{NoFault}
 use Rattle.tool_io.specs.Cutting.{next_number}
 use Rattle.mltl_monitor.specs.Monitoring.{program_of}
 use Rattle.trace_watch.proofs.RowTurns.{HasRows}
-use Rattle.trace_watch.proofs.trace_loop.watch.Given as goal
+use Rattle.trace_watch.proofs.trace_loop.turns.Given as goal
 
 abbrev pub invariant-loop-now : goal.invariant-loop-now
 invariant-loop-now g l = record {

@@ -1,0 +1,69 @@
+-- What one turn of the loop over a trace of stamped rows tells in its log.
+
+use Rattle.std.specs.Prelude.{◌≡◌, ℕ, ◌+◌, ◌<◌, ◌⊎◌, Bool, true, false, Option, Some, None, Result, Ok, Err, List, [], ◌∷◌, ◌++◌, length}
+use Rattle.mltl_base.specs.declared.report.Style.{Style}
+use Rattle.mltl_base.specs.declared.program.Program.{Program}
+use Rattle.mltl_base.specs.Atoms.{Row}
+use Rattle.tool_io.specs.Log.{Event}
+use Rattle.tool_io.specs.Cutting.{Cutting}
+use Rattle.mltl_monitor.specs.declared.state.State.{State}
+use Rattle.trace_watch.specs.declared.status.Watched as watched
+use Rattle.trace_watch.specs.declared.timed_loop.Clock.{Clock}
+use Rattle.trace_watch.specs.Trace.{is_marked}
+use Rattle.trace_watch.specs.Telling.{Counts, TellsAll, TellsFront, WritesNone, text_of}
+use Rattle.trace_watch.specs.Stamped.{StampedLine, HoldsFrom, Empty, Faulty, OverTime, held, stamped_text}
+
+-- all of these further rows were taken and told, or a front of them
+abbrev pub TellsRows : Bool → Program → Style → List Row → List Row → State → List Event → Type 0
+TellsRows true program style rows more monitor events = TellsAll program style rows more monitor events
+TellsRows false program style rows more monitor events = TellsFront program style rows more monitor events
+
+-- what a line of this number brought, with so many copies of the last row before a time; else how the loop ends
+abbrev pub Brings : Result (Unit {0}) watched.Watched → StampedLine → Program → Style → List Row → (ℕ → List Row) → ℕ → State → List Event → Type 0
+Brings (Ok u) (HoldsFrom time values) program style rows copies number monitor events = TellsAll program style rows (copies time ++ values ∷ []) monitor events
+Brings (Ok u) Empty program style rows copies number monitor events = WritesNone program rows monitor events
+Brings (Err watched.TheVariants.WriteFault) (HoldsFrom time values) program style rows copies number monitor events =
+    TellsFront program style rows (copies time ++ values ∷ []) monitor events
+Brings (Err (watched.TheVariants.BadTrace line why)) (Faulty cause) program style rows copies number monitor events =
+    (line ≡ number) × (why ≡ cause) × WritesNone program rows monitor events
+Brings (Err watched.TheVariants.TooLong) OverTime program style rows copies number monitor events = WritesNone program rows monitor events
+Brings answer what program style rows copies number monitor events = ⊥
+
+-- the time of the last row behind a line
+abbrev pub time_behind : Option ℕ → StampedLine → Option ℕ
+time_behind last (HoldsFrom time values) = Some time
+time_behind last (Faulty why) = last
+time_behind last Empty = last
+time_behind last OverTime = last
+
+-- what a line that was cut brought, with the time of the last row behind it; else how the loop ends
+abbrev pub TakesStamped : Result (Option ℕ) watched.Watched → Option ℕ → StampedLine → Program → Style → List Row → (ℕ → List Row) → ℕ → State → List Event → Type 0
+TakesStamped (Ok now) last what program style rows copies number monitor events = (now ≡ time_behind last what) × Brings (Ok tt) what program style rows copies number monitor events
+TakesStamped (Err answer) last what program style rows copies number monitor events = Brings (Err answer) what program style rows copies number monitor events
+
+-- the last of the rows and its time, by which there are as many rows as times up to it
+abbrev pub IsLast : Option (ℕ × Row) → List Row → Type 0
+IsLast None rows = rows ≡ []
+IsLast (Some last) rows = (front : List Row) × (rows ≡ front ++ last.1 ∷ []) × (length rows ≡ last.0 + 1)
+
+-- how many times stand up to a last one
+abbrev pub times_until : Option ℕ → ℕ
+times_until None = 0
+times_until (Some last) = last + 1
+
+-- the line that a cut gave, behind the last row
+abbrev pub line_of : Program → ℕ → Option ℕ → Cutting → StampedLine
+line_of program mission last cut = stamped_text program mission last (text_of cut)
+
+-- what a line that was cut is, where so many lines behind the header stand before it; the answer is how many stand
+-- behind it, with the time of the last row, else how the loop ends
+abbrev pub StampedSteps : Result Clock watched.Watched → Program → Style → ℕ → Clock → List Row → Option (ℕ × Row) → Cutting → State → List Event → Type 0
+StampedSteps (Ok now) program style mission clock rows last cut monitor events =
+    (now ≡ clock) × (is_marked cut.number (text_of cut) ≡ true) × WritesNone program rows monitor events
+    ⊎ (now ≡ record { lines = clock.lines + 1; last = time_behind clock.last (line_of program mission clock.last cut) })
+      × Counts mission clock.lines cut × Brings (Ok tt) (line_of program mission clock.last cut) program style rows (held last) cut.number monitor events
+StampedSteps (Err watched.TheVariants.TooLong) program style mission clock rows last cut monitor events =
+    (clock.lines ≡ mission) × (is_marked cut.number (text_of cut) ≡ false) × WritesNone program rows monitor events
+    ⊎ Counts mission clock.lines cut × Brings (Err watched.TheVariants.TooLong) (line_of program mission clock.last cut) program style rows (held last) cut.number monitor events
+StampedSteps (Err answer) program style mission clock rows last cut monitor events =
+    Counts mission clock.lines cut × Brings (Err answer) (line_of program mission clock.last cut) program style rows (held last) cut.number monitor events
