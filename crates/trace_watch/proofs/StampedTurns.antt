@@ -28,7 +28,7 @@ use Rattle.trace_watch.specs.Stamped.{StampedLine, fields_at, line_at, HoldsFrom
 use Rattle.trace_watch.specs.StampedTelling.{Brings, IsLast, StampedSteps, line_of, time_behind, times_until}
 use Rattle.trace_watch.proofs.LineLaws.{behind_header-header, behind_header-line, is_header-long, marked_first}
 use Rattle.trace_watch.proofs.TellLaws.{Brings-copies, fields_at-time, time_behind-fields}
-use Rattle.trace_watch.proofs.WatchLaws.{IsLedBy, IsLedBy-same, HasWatched, HasWatched-none, HasWatched-line, HasWatched-quiet, line_short, line_is, line_marked, line_next}
+use Rattle.trace_watch.proofs.WatchLaws.{IsLedBy-same, HasWatched, HasWatched-none, HasWatched-line, HasWatched-quiet, line_short, line_is, line_marked, line_next}
 use Rattle.trace_watch.proofs.WatchEnds.{done_is, read_fault_is, long_starts, long_ends, line_ends, write_ends}
 
 -- after some lines, with this last row

@@ -1,6 +1,6 @@
 -- What one turn of the loop over a trace of stamped rows tells in its log.
 
-use Rattle.std.specs.Prelude.{◌≡◌, ℕ, ◌+◌, ◌<◌, ◌⊎◌, Bool, true, false, Option, Some, None, Result, Ok, Err, List, [], ◌∷◌, ◌++◌, length}
+use Rattle.std.specs.Prelude.{◌≡◌, ℕ, ◌+◌, ◌⊎◌, Bool, true, false, Option, Some, None, Result, Ok, Err, List, [], ◌∷◌, ◌++◌, length}
 use Rattle.mltl_base.specs.declared.report.Style.{Style}
 use Rattle.mltl_base.specs.declared.program.Program.{Program}
 use Rattle.mltl_base.specs.Atoms.{Row}
@@ -61,7 +61,7 @@ abbrev pub StampedSteps : Result Clock watched.Watched → Program → Style →
 StampedSteps (Ok now) program style mission clock rows last cut monitor events =
     (now ≡ clock) × (is_marked cut.number (text_of cut) ≡ true) × WritesNone program rows monitor events
     ⊎ (now ≡ record { lines = clock.lines + 1; last = time_behind clock.last (line_of program mission clock.last cut) })
-      × Counts mission clock.lines cut × Brings (Ok tt) (line_of program mission clock.last cut) program style rows (held last) cut.number monitor events
+    × Counts mission clock.lines cut × Brings (Ok tt) (line_of program mission clock.last cut) program style rows (held last) cut.number monitor events
 StampedSteps (Err watched.TheVariants.TooLong) program style mission clock rows last cut monitor events =
     (clock.lines ≡ mission) × (is_marked cut.number (text_of cut) ≡ false) × WritesNone program rows monitor events
     ⊎ Counts mission clock.lines cut × Brings (Err watched.TheVariants.TooLong) (line_of program mission clock.last cut) program style rows (held last) cut.number monitor events

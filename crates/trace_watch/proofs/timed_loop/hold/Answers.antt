@@ -1,8 +1,7 @@
 use Rattle.std.proofs.Common.{◌≡◌, ◌∙◌, ◌+◌, ◌++◌, ◌∷◌, [], refl, false, true, arith, ap, subst, replicate}
 use Rattle.std.proofs.lemmas.List.{replicate_more}
-use Rattle.tool_io.proofs.HostLaws.{RoseAt-after, NoFault-then}
+use Rattle.tool_io.proofs.HostLaws.{NoFault-then}
 use Rattle.tool_io.proofs.LogLaws.{OnLog-none, OnLog-map, Appends-then}
-use Rattle.tool_io.specs.declared.host.Place.TheVariants.{Out}
 use Rattle.mltl_monitor.specs.Monitoring.{program_of, last_of}
 use Rattle.trace_watch.specs.Telling.{TellsAll}
 use Rattle.trace_watch.specs.StampedTelling.{TellsRows}

@@ -1,4 +1,4 @@
-use Rattle.std.proofs.Common.{◌≡◌, ◌∙◌, ℕ, List, [], ◌∷◌, Err, replicate, refl, sym, ap, subst}
+use Rattle.std.proofs.Common.{◌≡◌, ◌∙◌, ℕ, List, [], Err, replicate, refl, sym, ap, subst}
 use Rattle.mltl_base.specs.declared.report.Style.{Style}
 use Rattle.mltl_base.specs.Atoms.{Row}
 use Rattle.tool_io.proofs.LogLaws.{OnLog-none}

@@ -1,4 +1,4 @@
-use Rattle.std.proofs.Common.{◌≡◌, ◌∙◌, ℕ, Option, Some, ◌-◌, Ok, Err, Result, List, [], ap, drop, length, refl, replicate, subst, sym, take}
+use Rattle.std.proofs.Common.{◌≡◌, ℕ, Option, Some, ◌-◌, Ok, Err, Result, List, [], drop, length, refl, replicate, subst, sym, take}
 use Rattle.std.proofs.lemmas.List.{take_rest}
 use Rattle.mltl_base.specs.declared.report.Style.{Style}
 use Rattle.mltl_base.specs.declared.program.Program.{Program}
@@ -71,8 +71,7 @@ returns-in-Ok-clause-log g c rows before stands is same =
     OnLog-map _ _ _ (c.in-Ok.ensures.log rows c.in-At.time stands)
     (λ events told. let brings = rest_brings (Ok tt) program c.args.style rows copies c.number-number.result c.in-At.time c.in-At.place c.line-line.result.now c.take_fields.new.monitor events told in
     subst (λ (text : List ℕ). TakesStamped (Ok (Some c.in-At.time)) c.args.last (stamped_text program c.args.mission c.args.last text) program c.args.style rows (held before) c.args.cut.now.number c.take_fields.new.monitor events) c.line-line.ensures
-    (subst (λ (number : ℕ). TakesStamped (Ok (Some c.in-At.time)) c.args.last (stamped_text program c.args.mission c.args.last c.line-line.result.now) program c.args.style rows (held before) number c.take_fields.new.monitor events) c.number-number.ensures
-    (
+    (subst (λ (number : ℕ). TakesStamped (Ok (Some c.in-At.time)) c.args.last (stamped_text program c.args.mission c.args.last c.line-line.result.now) program c.args.style rows (held before) number c.take_fields.new.monitor events) c.number-number.ensures (
       stamped_time program c.args.style rows copies c.args.last c.args.mission c.in-At.time c.in-At.place c.line-line.result.now c.number-number.result c.take_fields.new.monitor events c.in-At.ensures.told brings,
       Brings-stamped (Ok tt) program c.args.style rows before c.args.monitor.now c.take_fields.new.monitor c.args.last c.args.mission c.gap-times.result c.in-At.time c.in-At.place c.line-line.result.now c.number-number.result events c.in-At.ensures.told c.gap-times.ensures is stands same brings,
     )))

@@ -1,4 +1,4 @@
-use Rattle.std.proofs.Common.{◌++◌, ◌∙◌, ◌≡◌, ℕ, Option, None, subst, Ok, Err, refl, arith, ap, sym}
+use Rattle.std.proofs.Common.{◌++◌, ◌∙◌, None, subst, Ok, Err, refl, arith, ap, sym}
 use Rattle.tool_io.proofs.HostLaws.{NoFault-then}
 use Rattle.tool_io.proofs.LogLaws.{OnLog-none, Appends-then}
 use Rattle.trace_watch.specs.declared.timed_loop.Clock.{Clock}

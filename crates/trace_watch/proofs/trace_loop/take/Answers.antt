@@ -1,15 +1,10 @@
 use Rattle.std.proofs.Common.{◌≡◌, ◌∙◌, ap, sym, subst, true, false, ◌++◌, ◌∷◌, [], List, ℕ, refl, inl, inr}
-use Rattle.mltl_base.specs.declared.report.Style.{Style}
-use Rattle.mltl_base.specs.declared.program.Program.{Program}
 use Rattle.mltl_base.specs.Atoms.{Row}
-use Rattle.mltl_base.specs.Programs.{outputs, output_names}
-use Rattle.mltl_base.specs.Reports.{of_row, reports_after}
-use Rattle.mltl_base.specs.Lines.{lines_of_reports}
 use Rattle.tool_io.specs.Cutting.{Cutting}
 use Rattle.std.proofs.lemmas.List.{append-nil}
 use Rattle.tool_io.proofs.LogLaws.{OnLog-none, OnLog-map}
 use Rattle.mltl_monitor.specs.declared.state.State.{State}
-use Rattle.mltl_monitor.specs.Monitoring.{program_of, open_of, Stands, IsDrained, IsSame, TakesRow}
+use Rattle.mltl_monitor.specs.Monitoring.{program_of, Stands, IsDrained, IsSame}
 use Rattle.mltl_monitor.proofs.Keeping.{same_stands, same_drained}
 use Rattle.trace_feed.specs.Rows.{line_meaning, LineMeaning}
 use Rattle.trace_feed.specs.Rows as feed
