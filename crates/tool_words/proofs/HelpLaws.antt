@@ -7,6 +7,7 @@ use Rattle.std.proofs.lemmas.Bool.{both_ways}
 use Rattle.clap.specs.Words.{Row, Text, first_of}
 use Rattle.tool_words.specs.R2u2Words as r2u2
 use Rattle.tool_words.specs.C2poWords as c2po
+use Rattle.tool_words.specs.Texts.{are_texts}
 use Rattle.tool_words.specs.Reading.{found_in, is_help}
 
 -- a test that each value passes, and the value for none
@@ -29,8 +30,8 @@ demo_no_help true (Some seed) (Some rows) = refl
 demo_no_help true (Some seed) None = refl
 demo_no_help true None rows = refl
 
-pub r2u2_help : (words : List Text) → r2u2.ask words ≡ r2u2.help → is_help words ≡ true
-r2u2_help words h = chosen is_r2u2_help (is_help words) r2u2.help _ refl (passes_or is_r2u2_help r2u2.asked_in (found_in r2u2.command words) r2u2.nothing
+texts_r2u2_help : (words : List Text) → r2u2.ask_of_texts words ≡ r2u2.help → is_help words ≡ true
+texts_r2u2_help words h = chosen is_r2u2_help (is_help words) r2u2.help _ refl (passes_or is_r2u2_help r2u2.asked_in (found_in r2u2.command words) r2u2.nothing
     (λ found. passes_or is_r2u2_help _ (first_of _ found) _ (λ word. demo_no_help (r2u2.is_demo_alone found) _ _)
     (passes_or is_r2u2_help r2u2.run (r2u2.run_in found) r2u2.nothing (λ run. refl) refl)) refl) h
 
@@ -46,6 +47,20 @@ by_no_help true false false found file is = rw is refl
 by_no_help false true true found file is = rw is refl
 by_no_help false true false found file is = rw is refl
 
-pub c2po_help : (words : List Text) → c2po.ask words ≡ c2po.help → is_help words ≡ true
-c2po_help words h = chosen is_c2po_help (is_help words) c2po.help _ refl (passes_or is_c2po_help c2po.asked_in (found_in c2po.command words) c2po.nothing
+texts_c2po_help : (words : List Text) → c2po.ask_of_texts words ≡ c2po.help → is_help words ≡ true
+texts_c2po_help words h = chosen is_c2po_help (is_help words) c2po.help _ refl (passes_or is_c2po_help c2po.asked_in (found_in c2po.command words) c2po.nothing
     (λ found. passes_or is_c2po_help _ (first_of _ found) _ (λ file. by_no_help _ _ _ found file refl) refl) refl) h
+
+r2u2_help_if : (b : Bool) (words : List Text) → (if b then r2u2.ask_of_texts words else r2u2.nothing) ≡ r2u2.help → is_help words ≡ true
+r2u2_help_if true words h = texts_r2u2_help words h
+r2u2_help_if false words h = absurd (cc)
+
+pub r2u2_help : (words : List Text) → r2u2.ask words ≡ r2u2.help → is_help words ≡ true
+r2u2_help words h = r2u2_help_if (are_texts words) words h
+
+c2po_help_if : (b : Bool) (words : List Text) → (if b then c2po.ask_of_texts words else c2po.nothing) ≡ c2po.help → is_help words ≡ true
+c2po_help_if true words h = texts_c2po_help words h
+c2po_help_if false words h = absurd (cc)
+
+pub c2po_help : (words : List Text) → c2po.ask words ≡ c2po.help → is_help words ≡ true
+c2po_help words h = c2po_help_if (are_texts words) words h

@@ -2,3 +2,4 @@ pub mod CommandLaws
 pub mod NumberLaws
 pub mod Examples
 pub mod HelpLaws
+pub mod TextLaws

@@ -5,6 +5,7 @@ use Rattle.std.specs.Option.{option_map_or}
 use Rattle.clap.specs.Words.{App, Row, Rule, Text, first_of}
 use Rattle.tool_words.specs.declared.c2po_words.C2poAsk as c2po_ask
 use Rattle.tool_words.specs.declared.c2po_words.Compile as told
+use Rattle.tool_words.specs.Texts.{are_texts}
 use Rattle.tool_words.specs.Reading.{command_of, flag, option, positional, is_help, is_set, found_in}
 
 -- `-o FILE` or `--output FILE`; 111 is `o`
@@ -67,8 +68,12 @@ abbrev pub asked_in : List Row → Asked
 asked_in found = option_map_or (asked_by (is_set (codes "upgrade") found) (is_set (codes "show") found) found) (first_of (codes "file") found) nothing
 
 -- Help where the words are `--help` or `-h` alone. Else what the command finds in them; nothing where it doesn't take them.
+abbrev pub ask_of_texts : List Text → Asked
+ask_of_texts words = if is_help words then help else option_map_or asked_in (found_in command words) nothing
+
+-- words ask for nothing where one of them isn't UTF-8
 abbrev pub ask : List Text → Asked
-ask words = if is_help words then help else option_map_or asked_in (found_in command words) nothing
+ask words = if are_texts words then ask_of_texts words else nothing
 
 -- what an answer tells
 abbrev pub compile_of : told.Compile → CompileAsked

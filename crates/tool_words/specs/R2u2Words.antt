@@ -8,6 +8,7 @@ use Rattle.mltl_base.specs.declared.report.Style.{Style}
 use Rattle.mltl_base.specs.declared.report.Style.TheVariants.{Each, Runs}
 use Rattle.tool_words.specs.declared.r2u2_words.R2u2Ask as r2u2_ask
 use Rattle.tool_words.specs.declared.r2u2_words.Run as told
+use Rattle.tool_words.specs.Texts.{are_texts}
 use Rattle.tool_words.specs.Reading.{command_of, flag, option, positional, is_help, is_set, found_in, number_in}
 
 -- `r2u2 [--source] [--runs] [--timed] [--mission-time N] FILE [TRACE]` or `r2u2 --demo SEED,ROWS`
@@ -75,8 +76,12 @@ asked_in found = option_map_or (λ word. if is_demo_alone found then demo_in wor
     (option_map_or run (run_in found) nothing)
 
 -- Help where the words are `--help` or `-h` alone. Else what the command finds in them; nothing where it doesn't take them.
+abbrev pub ask_of_texts : List Text → Asked
+ask_of_texts words = if is_help words then help else option_map_or asked_in (found_in command words) nothing
+
+-- words ask for nothing where one of them isn't UTF-8
 abbrev pub ask : List Text → Asked
-ask words = if is_help words then help else option_map_or asked_in (found_in command words) nothing
+ask words = if are_texts words then ask_of_texts words else nothing
 
 -- what an answer tells
 abbrev pub run_of : told.Run → RunAsked

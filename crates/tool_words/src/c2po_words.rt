@@ -51,6 +51,9 @@ const DEFAULT_OUT: &str = "spec.bin";
 pub fn c2po_ask<'a>(alloc: Global, words: &'a Words) -> Result<C2poAsk<'a>, AllocError>
     ensures { IfOk result (λ asked. c2po.asked_of asked ≡ c2po.ask words.now) }
 {
+    if !words.are_texts() {
+        return Ok(C2poAsk::Nothing);
+    }
     if asks_for_help(words) {
         return Ok(C2poAsk::Help);
     }

@@ -67,6 +67,9 @@ pub fn r2u2_ask<'a>(alloc: Global, words: &'a Words) -> Result<R2u2Ask<'a>, Allo
     ensures asked { IfOk result (λ asked. r2u2.asked_of asked ≡ r2u2.ask words.now) }
     ensures bounds { IfOk result r2u2.IsInBounds }
 {
+    if !words.are_texts() {
+        return Ok(R2u2Ask::Nothing);
+    }
     if asks_for_help(words) {
         return Ok(R2u2Ask::Help);
     }

@@ -1,17 +1,18 @@
 //! What both command lines have in common: help, arguments of a command, and what `clap` finds in the words.
 
-ghost use Rattle.std.specs.Prelude.{◌≡◌, true, false, IfOk, [], option_map};
+ghost use Rattle.std.specs.Prelude.{◌≡◌, true, false, IfOk, [], map, option_map};
 ghost use Rattle.clap.specs.Words.{app_of, first_of, is_simple_and_free, rule_of};
 ghost use Rattle.tool_words.specs.Reading as reading;
+ghost use Rattle.tool_words.specs.Texts.{text_of};
 
 use crate::Words;
 use clap::error::ErrorKind;
 use clap::{Arg, ArgAction, ArgMatches, Command};
 use std::alloc::{AllocError, Global};
 
-/// Whether the words are the one word `--help`, or the one word `-h`.
+/// Whether the words, as texts, are the one word `--help`, or the one word `-h`.
 pub(crate) fn asks_for_help(words: &Words) -> bool
-    ensures { result ≡ reading.is_help words.now }
+    ensures { result ≡ reading.is_help (map text_of words.now) }
 {
     if words.len() != 1 {
         return false;
@@ -53,13 +54,13 @@ pub(crate) fn positional<'a>(alloc: Global, name: &'a str) -> Arg<'a>
     Arg::new(alloc, name)
 }
 
-/// What `clap` finds in the words, or `None` where the command doesn't take them.
+/// What `clap` finds in the words, as texts, or `None` where the command doesn't take them.
 pub(crate) fn matches_in<'a>(
     command: Command<'a>,
     words: &'a Words,
 ) -> Result<Option<ArgMatches<'a>>, AllocError>
     requires { is_simple_and_free (app_of command) ≡ true }
-    ensures { IfOk result (λ found. option_map reading.rows found ≡ reading.found_in (app_of command.entry) words.now) }
+    ensures { IfOk result (λ found. option_map reading.rows found ≡ reading.found_in (app_of command.entry) (map text_of words.now)) }
 {
     match command.try_get_matches_from(words.as_slice()) {
         Ok(matches) => Ok(Some(matches)),

@@ -1,23 +1,27 @@
 //! The words of a command line.
 
-ghost use Rattle.std.specs.Prelude.{◌≡◌, ◌==◌, ◌<◌, [], ◌∷◌, ◌++◌, length, slice_get, map, string_bytes, Some, OnOk, OnErr};
+ghost use Rattle.std.specs.Prelude.{◌≡◌, ◌==◌, ◌<◌, [], ◌∷◌, ◌++◌, length, slice_get, map, Some, OnOk, OnErr};
+ghost use Rattle.std.specs.List.{list_all};
+ghost use Rattle.std.specs.Str.{is_utf8};
+ghost use Rattle.tool_words.specs.Texts.{are_texts, text_of};
 
 use std::alloc::{AllocError, Global};
+use std::convert::AsStr;
 use std::marker::Model;
 
-/// The words behind a program's own name, which contracts see as the list of their bytes.
+/// The words behind a program's own name, which contracts see as the list of their bytes. A word needn't be UTF-8.
 #[derive(Drop)]
 pub struct Words {
     alloc: Global,
-    words: Vec<String>,
+    words: Vec<Word>,
 }
 
 impl Model for Words {
-    ghost use Rattle.std.specs.Prelude.{List, ℕ, map, string_bytes};
+    ghost use Rattle.std.specs.Prelude.{List, ℕ, map};
 
     ghost Value = { List (List ℕ) };
 
-    ghost view = { λ w. map string_bytes w.words.items };
+    ghost view = { λ w. map (λ word. word.bytes.items) w.words.items };
 }
 
 impl Words {
@@ -36,8 +40,16 @@ impl Words {
         ensures pushed { OnOk result (self.new ≡ self.old ++ word.now ∷ []) }
         ensures kept { OnErr result (self.new ≡ self.old) }
     {
-        let text = String::from_str(self.alloc, word)?;
-        self.words.push(text)?;
+        self.push_bytes(word.as_bytes())
+    }
+
+    /// Puts a word behind the last one by its bytes; where memory is wanting nothing changed.
+    pub fn push_bytes(&mut self, word: &[u8]) -> Result<(), AllocError>
+        ensures pushed { OnOk result (self.new ≡ self.old ++ word.now ∷ []) }
+        ensures kept { OnErr result (self.new ≡ self.old) }
+    {
+        let bytes = word.to_vec(self.alloc)?;
+        self.words.push(Word { bytes })?;
         Ok(())
     }
 
@@ -55,18 +67,59 @@ impl Words {
         self.words.is_empty()
     }
 
-    /// Word `i`, counted from 0.
+    /// Word `i`, counted from 0, as a text; a word that isn't UTF-8 as the empty one.
     pub fn get(&self, i: usize) -> &str
         requires { i < length self.now }
-        ensures { slice_get self.now i ≡ Some result.now }
+        ensures { slice_get (map text_of self.now) i ≡ Some result.now }
     {
         self.words[i].as_str()
     }
 
-    /// The words as texts.
-    pub(crate) fn as_slice(&self) -> &[String]
-        ensures { map string_bytes result.now ≡ self.now }
+    /// Whether all words are UTF-8.
+    pub fn are_texts(&self) -> bool
+        ensures { result ≡ are_texts self.now }
+    {
+        are_utf8(&self.words)
+    }
+
+    /// The words as texts, as `get` tells them.
+    pub(crate) fn as_slice(&self) -> &[Word]
+        ensures { map (λ word. text_of word.bytes.items) result.now ≡ map text_of self.now }
     {
         self.words.as_slice()
+    }
+}
+
+/// The bytes of a word.
+#[derive(Drop)]
+pub(crate) struct Word {
+    bytes: Vec<u8>,
+}
+
+impl Word {
+    /// Whether the bytes are UTF-8.
+    fn is_text(&self) -> bool
+        ensures { result ≡ is_utf8 self.now.bytes.items }
+    {
+        str::from_utf8(&self.bytes).is_ok()
+    }
+}
+
+fn are_utf8(words: &[Word]) -> bool
+    ensures { result ≡ list_all (λ word. is_utf8 word.bytes.items) words.now }
+{
+    words.iter().all(|word| word.is_text())
+}
+
+impl AsStr for Word {
+    ghost use Rattle.tool_words.specs.Texts.{text_of};
+
+    ghost text = { λ word. text_of word.bytes.items };
+
+    fn as_str(&self) -> &str {
+        match str::from_utf8(&self.bytes) {
+            Ok(text) => text,
+            Err(_) => "",
+        }
     }
 }
