@@ -1,0 +1,38 @@
+//! Worked cases of both programs: a script on the standard input says what runs over files in memory are to give.
+//!
+//! The script explains its form at its head. Each difference is printed with the name and the line of its case, and at
+//! the end how many cases and runs agreed.
+#![tactic(auto)]
+
+mod files;
+mod outcome;
+mod piece;
+mod print;
+mod run;
+mod scene;
+mod script;
+mod step;
+mod tally;
+
+use anyhow::Result;
+use std::io;
+use std::process::ExitCode;
+use tally::Tally;
+
+fn play_input(rt: &(impl Print + Input + AllocGlobal)) -> Result<Tally> {
+    let script = io::read_to_string(rt.alloc(), rt.reader())?;
+    let tally = script::play(rt, rt.alloc(), script.as_str())?;
+    println!(rt; "{tally}")?;
+    Ok(tally)
+}
+
+fn main(rt: HostRuntime) -> ExitCode {
+    match play_input(&rt) {
+        Ok(tally) if tally.is_whole() => ExitCode::SUCCESS,
+        Ok(_) => ExitCode::FAILURE,
+        Err(error) => {
+            let _ = eprintln!(rt; "worked_cases: {error:#}");
+            ExitCode::FAILURE
+        }
+    }
+}

@@ -1,0 +1,67 @@
+//! What a run gives, and where two of them differ.
+
+ghost use Rattle.std.specs.Prelude.{◌≡◌, ◌↔◌, IsTrue};
+
+use std::alloc::Global;
+
+/// What a run gives: its exit status, and the bytes on its output and on its error output.
+#[derive(Debug, Drop)]
+pub struct Outcome {
+    pub status: u8,
+    pub output: Vec<u8>,
+    pub errors: Vec<u8>,
+}
+
+impl Outcome {
+    /// A run that ends well and writes nothing.
+    pub fn new(alloc: Global) -> Outcome {
+        Outcome {
+            status: 0,
+            output: Vec::new(alloc),
+            errors: Vec::new(alloc),
+        }
+    }
+}
+
+/// Which parts of two outcomes differ.
+#[derive(Clone, Copy, PartialEq, Eq, Debug)]
+pub struct Parts {
+    pub status: bool,
+    pub output: bool,
+    pub errors: bool,
+}
+
+impl Parts {
+    pub fn none() -> Parts {
+        Parts {
+            status: false,
+            output: false,
+            errors: false,
+        }
+    }
+
+    /// The parts in which an outcome differs from the one that was wanted.
+    pub fn of(found: &Outcome, wanted: &Outcome) -> Parts
+        ensures status { IsTrue result.status ↔ (found.now.status ≢ wanted.now.status) }
+        ensures output { IsTrue result.output ↔ (found.now.output.items ≢ wanted.now.output.items) }
+        ensures errors { IsTrue result.errors ↔ (found.now.errors.items ≢ wanted.now.errors.items) }
+    {
+        Parts {
+            status: found.status != wanted.status,
+            output: found.output.as_slice() != wanted.output.as_slice(),
+            errors: found.errors.as_slice() != wanted.errors.as_slice(),
+        }
+    }
+
+    /// The part of this name alone.
+    pub fn named(name: &str) -> Option<Parts> {
+        let status = name == "status";
+        let output = name == "output";
+        let errors = name == "errors";
+        (status || output || errors).then_some(Parts {
+            status,
+            output,
+            errors,
+        })
+    }
+}

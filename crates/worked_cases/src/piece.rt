@@ -1,0 +1,65 @@
+//! Bytes that a line of a script says.
+
+use anyhow::Result;
+use std::alloc::{AllocError, Global};
+
+/// Bytes of a file, or of what a run writes.
+#[derive(Clone, Copy, Debug)]
+pub enum Piece<'a> {
+    /// A text and a newline.
+    Line(&'a str),
+    /// A text alone.
+    Text(&'a str),
+    /// Pairs of hexadecimal digits, with blanks where they help the reader.
+    Hex(&'a str),
+    /// The bytes of the file of this name.
+    Copy(&'a str),
+}
+
+impl<'a> Piece<'a> {
+    /// The bytes of a line of a file with this first word; none where it is another word.
+    pub fn of(head: &str, rest: &'a str) -> Option<Piece<'a>> {
+        match head {
+            "|" => Some(Piece::Line(rest)),
+            "" => None,
+            _ => Piece::of_kind(head, rest),
+        }
+    }
+
+    /// The bytes of a line of what a run was to write; its mark and the kind of bytes are one word.
+    pub fn of_kind(kind: &str, rest: &'a str) -> Option<Piece<'a>> {
+        match kind {
+            "" => Some(Piece::Line(rest)),
+            "+" => Some(Piece::Text(rest)),
+            "hex" => Some(Piece::Hex(rest)),
+            "copy" => Some(Piece::Copy(rest)),
+            _ => None,
+        }
+    }
+}
+
+/// The bytes of pairs of hexadecimal digits, which blanks may part.
+pub fn hex_bytes(alloc: Global, digits: &str) -> Result<Vec<u8>> {
+    let mut bytes = Vec::new(alloc);
+    for word in digits.split_whitespace() {
+        let part = hex::decode(alloc, word)?;
+        bytes.extend_from_slice(&part)?;
+    }
+    Ok(bytes)
+}
+
+/// A text in which `$n` stands for a number and `$m` for the next one.
+pub fn numbered(alloc: Global, text: &str, number: u32) -> Result<String, AllocError> {
+    let mut numbered = String::new(alloc);
+    for (place, part) in text.split('$').enumerate() {
+        if let Some(rest) = part.strip_prefix('n') && place > 0 {
+            write!(numbered, "{number}{rest}")?;
+        } else if let Some(rest) = part.strip_prefix('m') && place > 0 {
+            let next = number.saturating_add(1);
+            write!(numbered, "{next}{rest}")?;
+        } else {
+            numbered.push_str(part)?;
+        }
+    }
+    Ok(numbered)
+}

@@ -1,0 +1,78 @@
+//! One run of a program over a host in memory.
+
+ghost use Rattle.std.specs.Prelude.{◌≡◌, ◌≤◌};
+
+use crate::files::NamedBytes;
+use crate::outcome::{Outcome, Parts};
+use crate::scene::Scenes;
+use anyhow::{Context, Result, bail};
+use mltl_tools::{Words, r2u2_main};
+use std::alloc::{AllocError, Global};
+use tool_io::{MemHost, Place};
+
+/// The events and bytes for which a host has room: more than the longest case needs.
+const EVENTS: usize = 2_000_000;
+const BYTES: usize = 4_000_000;
+
+/// A run that a script asks for, and what it is to give.
+#[derive(Debug, Drop)]
+pub struct Asked {
+    pub line: usize,
+    pub words: String,
+    pub lengths: Option<(usize, usize)>,
+    pub failing: Option<(Place, u64)>,
+    pub wanted: Outcome,
+    pub meant: Parts,
+}
+
+fn put_files(host: &mut MemHost, files: &[NamedBytes]) -> Result<(), AllocError> {
+    for file in files {
+        host.put_file(file.name.as_str(), &file.bytes)?;
+    }
+    Ok(())
+}
+
+/// The host of a run, with the files of its case in place of those of all cases.
+fn host_of(alloc: Global, scenes: &Scenes, asked: &Asked, block: usize) -> Result<MemHost, AllocError> {
+    let mut host = MemHost::make(alloc, EVENTS, BYTES)?;
+    put_files(&mut host, scenes.common.files.as_slice())?;
+    put_files(&mut host, scenes.own.files.as_slice())?;
+    if let Some((place, call)) = asked.failing {
+        host.fail(place, call)?;
+    }
+    if block > 0 {
+        host.set_block(block);
+    }
+    Ok(host)
+}
+
+/// The words behind the program's name; `""` stands for a word without letters.
+fn words_of(alloc: Global, text: &str) -> Result<Words, AllocError> {
+    let mut words = Words::new(alloc);
+    for word in text.split_whitespace() {
+        words.push(if word == "\"\"" { "" } else { word })?;
+    }
+    Ok(words)
+}
+
+/// The exit status of a program with these words.
+fn status_of(alloc: Global, tool: &str, words: &Words, host: &mut MemHost) -> Result<u8> {
+    match tool {
+        "r2u2" => Ok(r2u2_main(alloc, words, host, &mut None).code()),
+        _ => bail!("no such program: {tool}"),
+    }
+}
+
+/// What a run gives where a read gives at most so many bytes.
+pub fn outcome_of(alloc: Global, scenes: &Scenes, asked: &Asked, block: usize) -> Result<Outcome> {
+    let text = asked.words.as_str();
+    let (tool, rest) = text.split_once(' ').unwrap_or((text, ""));
+    let words = words_of(alloc, rest)?;
+    let mut host = host_of(alloc, scenes, asked, block)?;
+    let status = status_of(alloc, tool, &words, &mut host)?;
+    Ok(Outcome {
+        status,
+        output: Vec::from_slice(alloc, host.out())?,
+        errors: Vec::from_slice(alloc, host.err())?,
+    })
+}

@@ -1,0 +1,127 @@
+//! What the runs of a case see.
+
+use crate::files::Files;
+use crate::piece::{Piece, hex_bytes, numbered};
+use anyhow::{Context, Result, bail};
+use std::alloc::{AllocError, Global};
+
+/// Files, and how many bytes a read gives at most in each of the runs.
+#[derive(Debug, Drop)]
+pub struct Scene {
+    pub files: Files,
+    pub blocks: Vec<usize>,
+}
+
+impl Scene {
+    pub fn new(alloc: Global) -> Scene {
+        Scene {
+            files: Files::new(alloc),
+            blocks: Vec::new(alloc),
+        }
+    }
+
+    pub fn clear(&mut self) {
+        self.files.clear();
+        self.blocks.clear();
+    }
+
+    /// Takes the numbers of a line as the most bytes of a read.
+    pub fn set_blocks(&mut self, numbers: &str) -> Result<()> {
+        self.blocks.clear();
+        for word in numbers.split(' ') {
+            let block = word.parse::<usize>().context("the most bytes of a read")?;
+            if block == 0 {
+                bail!("a read gives at least one byte");
+            }
+            self.blocks.push(block)?;
+        }
+        Ok(())
+    }
+}
+
+/// The scene of all cases, and that of the case which is being read.
+#[derive(Debug, Drop)]
+pub struct Scenes {
+    pub alloc: Global,
+    pub common: Scene,
+    pub own: Scene,
+    pub in_case: bool,
+}
+
+impl Scenes {
+    pub fn new(alloc: Global) -> Scenes {
+        Scenes {
+            alloc,
+            common: Scene::new(alloc),
+            own: Scene::new(alloc),
+            in_case: false,
+        }
+    }
+
+    /// The scene to which a line adds: the case's own within a case, and else the one of all cases.
+    pub fn current(&mut self) -> &mut Scene {
+        if self.in_case {
+            &mut self.own
+        } else {
+            &mut self.common
+        }
+    }
+
+    /// The most bytes of a read, for each time that a run is made.
+    pub fn blocks(&self) -> Result<Vec<usize>, AllocError> {
+        if self.own.blocks.is_empty() {
+            self.common.blocks.clone()
+        } else {
+            self.own.blocks.clone()
+        }
+    }
+
+    fn find(&self, name: &str) -> Result<&[u8]> {
+        match self.own.files.find(name) {
+            Some(bytes) => Ok(bytes),
+            None => self.common.files.find(name).context("no such file"),
+        }
+    }
+
+    /// The bytes of a piece.
+    pub fn bytes_of(&self, piece: Piece<'_>) -> Result<Vec<u8>> {
+        match piece {
+            Piece::Line(text) => {
+                let mut bytes = Vec::from_slice(self.alloc, text.as_bytes())?;
+                bytes.push(b'\n')?;
+                Ok(bytes)
+            }
+            Piece::Text(text) => Ok(Vec::from_slice(self.alloc, text.as_bytes())?),
+            Piece::Hex(digits) => hex_bytes(self.alloc, digits),
+            Piece::Copy(name) => Ok(Vec::from_slice(self.alloc, self.find(name)?)?),
+        }
+    }
+
+    /// Goes on with a piece.
+    pub fn add(&mut self, piece: Piece<'_>) -> Result<()> {
+        let bytes = self.bytes_of(piece)?;
+        self.current().files.add(&bytes)
+    }
+
+    /// Goes on with a piece so many times, each time with the next number.
+    pub fn repeat(&mut self, times: u32, piece: Piece<'_>) -> Result<()> {
+        for number in 0..times {
+            self.add_numbered(number, piece)?;
+        }
+        Ok(())
+    }
+
+    fn add_numbered(&mut self, number: u32, piece: Piece<'_>) -> Result<()> {
+        match piece {
+            Piece::Line(text) => {
+                let text = numbered(self.alloc, text, number)?;
+                self.add(Piece::Line(text.as_str()))
+            }
+            Piece::Text(text) => {
+                let text = numbered(self.alloc, text, number)?;
+                self.add(Piece::Text(text.as_str()))
+            }
+            Piece::Hex(_) | Piece::Copy(_) => self.add(piece),
+        }
+    }
+}

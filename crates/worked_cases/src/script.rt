@@ -1,0 +1,190 @@
+//! A script, line by line.
+
+use crate::outcome::{Outcome, Parts};
+use crate::print::print_difference;
+use crate::run::{Asked, outcome_of};
+use crate::scene::Scenes;
+use crate::step::{Step, step_of};
+use crate::tally::Tally;
+use anyhow::{Context, Result, bail};
+use std::alloc::Global;
+use tool_io::Place;
+
+/// What is known behind some lines of a script.
+#[derive(Debug, Drop)]
+struct Stage {
+    alloc: Global,
+    scenes: Scenes,
+    case: String,
+    /// The count of runs and of those that agreed, before the case.
+    before: Tally,
+    lengths: Option<(usize, usize)>,
+    failing: Option<(Place, u64)>,
+    asked: Option<Asked>,
+    written: Vec<u8>,
+    tally: Tally,
+}
+
+impl Stage {
+    fn new(alloc: Global) -> Stage {
+        Stage {
+            alloc,
+            scenes: Scenes::new(alloc),
+            case: String::new(alloc),
+            before: Tally::new(),
+            lengths: None,
+            failing: None,
+            asked: None,
+            written: Vec::new(alloc),
+            tally: Tally::new(),
+        }
+    }
+
+    /// Begins a case.
+    fn begin(&mut self, name: &str) -> Result<()> {
+        if self.scenes.in_case {
+            bail!("an empty line is to end the case before");
+        }
+        self.case = String::from_str(self.alloc, name)?;
+        self.scenes.in_case = true;
+        self.before = self.tally;
+        Ok(())
+    }
+
+    /// Ends the case, if there is one.
+    fn end(&mut self) -> Result<()> {
+        if !self.scenes.in_case {
+            return Ok(());
+        }
+        let runs = self.tally.runs.saturating_sub(self.before.runs);
+        let agreeing = self.tally.agreeing_runs.saturating_sub(self.before.agreeing_runs);
+        if runs == 0 {
+            bail!("a case without a run");
+        }
+        self.tally.count_case(runs == agreeing);
+        self.scenes.own.clear();
+        self.scenes.in_case = false;
+        Ok(())
+    }
+
+    /// Takes the words of a run; what it is to give follows.
+    fn ask(&mut self, line: usize, words: &str) -> Result<()> {
+        if !self.scenes.in_case {
+            bail!("a run outside a case");
+        }
+        self.asked = Some(Asked {
+            line,
+            words: String::from_str(self.alloc, words)?,
+            lengths: self.lengths.take(),
+            failing: self.failing.take(),
+            wanted: Outcome::new(self.alloc),
+            meant: Parts::none(),
+        });
+        Ok(())
+    }
+
+    /// Takes what the run before the line is to give.
+    fn want(&mut self, step: Step<'_>) -> Result<()> {
+        let asked = self.asked.as_mut().context("no run before this line")?;
+        match step {
+            Step::Status(status) => asked.wanted.status = status,
+            Step::Output(piece) => {
+                let bytes = self.scenes.bytes_of(piece)?;
+                asked.wanted.output.extend_from_slice(&bytes)?;
+            }
+            Step::Errors(piece) => {
+                let bytes = self.scenes.bytes_of(piece)?;
+                asked.wanted.errors.extend_from_slice(&bytes)?;
+            }
+            Step::Differs(name) => asked.meant = Parts::named(name).context("no such part")?,
+            _ => {}
+        }
+        Ok(())
+    }
+
+    /// Makes the run that was asked for, if there is one, for each length of its file.
+    fn settle(&mut self, rt: &impl Print) -> Result<()> {
+        let Some(asked) = self.asked.take() else {
+            return Ok(());
+        };
+        let Some((from, to)) = asked.lengths else {
+            return self.run(rt, &asked);
+        };
+        for length in (from..=to).rev() {
+            self.scenes.own.files.cut(length)?;
+            self.run(rt, &asked)?;
+        }
+        Ok(())
+    }
+
+    /// Makes a run with each limit of its reads.
+    fn run(&mut self, rt: &impl Print, asked: &Asked) -> Result<()> {
+        let blocks = self.scenes.blocks()?;
+        for block in &blocks {
+            let found = outcome_of(self.alloc, &self.scenes, asked, *block)?;
+            let parts = Parts::of(&found, &asked.wanted);
+            self.tally.count_run(parts == asked.meant);
+            if parts != asked.meant {
+                print_difference(rt, self.alloc, self.case.as_str(), asked, &found, parts)?;
+            }
+            self.written = found.output;
+        }
+        Ok(())
+    }
+
+    /// Lets what the last run wrote be a file.
+    fn keep(&mut self, name: &str) -> Result<()> {
+        let files = &mut self.scenes.current().files;
+        files.begin(name)?;
+        files.add(&self.written)
+    }
+
+    /// Does what a line asks for that isn't a part of what a run is to give.
+    fn take(&mut self, line: usize, step: Step<'_>) -> Result<()> {
+        match step {
+            Step::Blank => self.end(),
+            Step::Case(name) => self.begin(name),
+            Step::File(name) => self.scenes.current().files.begin(name),
+            Step::Add(piece) => self.scenes.add(piece),
+            Step::Repeat(times, piece) => self.scenes.repeat(times, piece),
+            Step::Set(place, byte) => self.scenes.current().files.set(place, byte),
+            Step::Cut(length) => self.scenes.current().files.cut(length),
+            Step::Block(numbers) => self.scenes.current().set_blocks(numbers),
+            Step::Run(words) => self.ask(line, words),
+            Step::Keep(name) => self.keep(name),
+            Step::Each(from, to) => {
+                self.lengths = Some((from, to));
+                Ok(())
+            }
+            Step::Fail(place, call) => {
+                self.failing = Some((place, call));
+                Ok(())
+            }
+            _ => Ok(()),
+        }
+    }
+
+    fn play(&mut self, rt: &impl Print, line: usize, text: &str) -> Result<()> {
+        let step = step_of(text)?;
+        if step.is_wanted() {
+            return self.want(step);
+        }
+        self.settle(rt)?;
+        self.take(line, step)
+    }
+}
+
+/// Plays a script, prints where a run differs from what it says, and counts those that agree.
+pub fn play(rt: &impl Print, alloc: Global, script: &str) -> Result<Tally> {
+    let mut stage = Stage::new(alloc);
+    stage.scenes.common.set_blocks("65536")?;
+    for (place, text) in script.lines().enumerate() {
+        let line = place.saturating_add(1);
+        stage
+            .play(rt, line, text)
+            .context(format_args!("line {line}"))?;
+    }
+    stage.settle(rt)?;
+    stage.end()?;
+    Ok(stage.tally)
+}

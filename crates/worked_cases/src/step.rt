@@ -1,0 +1,143 @@
+//! One line of a script, as the step that it asks for.
+
+use crate::piece::Piece;
+use anyhow::{Context, Result, bail};
+use tool_io::Place;
+
+/// What one line of a script asks for.
+#[derive(Clone, Copy, Debug)]
+pub enum Step<'a> {
+    /// A remark.
+    Remark,
+    /// An empty line: a case ends here.
+    Blank,
+    /// A case of this name begins.
+    Case(&'a str),
+    /// A file of this name begins, without bytes.
+    File(&'a str),
+    /// The file goes on with these bytes.
+    Add(Piece<'a>),
+    /// The file goes on with these bytes so many times.
+    Repeat(u32, Piece<'a>),
+    /// The byte at this place of the file has another value.
+    Set(usize, u8),
+    /// The file ends after so many bytes.
+    Cut(usize),
+    /// The next run is made for each length of the file from the second down to the first.
+    Each(usize, usize),
+    /// Each later run is made once for each of these numbers: the most bytes that one read gives.
+    Block(&'a str),
+    /// In the next run this call at this place fails, counted from 0.
+    Fail(Place, u64),
+    /// A run of these words.
+    Run(&'a str),
+    /// The run before was to end with this status.
+    Status(u8),
+    /// The run before was to write these bytes to its output.
+    Output(Piece<'a>),
+    /// The run before was to write these bytes to its error output.
+    Errors(Piece<'a>),
+    /// The run before was to differ from what is said of it, in the part of this name.
+    Differs(&'a str),
+    /// What the run before wrote is the file of this name.
+    Keep(&'a str),
+}
+
+impl Step<'_> {
+    /// Whether the step says what the run before it was to give.
+    pub fn is_wanted(&self) -> bool {
+        matches!(
+            self,
+            Step::Status(_) | Step::Output(_) | Step::Errors(_) | Step::Differs(_)
+        )
+    }
+}
+
+/// The step that a line asks for.
+pub fn step_of(line: &str) -> Result<Step<'_>> {
+    if line.is_empty() {
+        return Ok(Step::Blank);
+    }
+    let (head, rest) = line.split_once(' ').unwrap_or((line, ""));
+    if let Some(piece) = Piece::of(head, rest) {
+        return Ok(Step::Add(piece));
+    }
+    match head {
+        "#" => Ok(Step::Remark),
+        "case" => Ok(Step::Case(rest)),
+        "file" => Ok(Step::File(rest)),
+        "block" => Ok(Step::Block(rest)),
+        "$" => Ok(Step::Run(rest)),
+        "=" => Ok(Step::Status(number_of(rest)?)),
+        "differs" => Ok(Step::Differs(rest)),
+        "keep" => Ok(Step::Keep(rest)),
+        "cut" => Ok(Step::Cut(length_of(rest)?)),
+        _ => longer_step_of(head, rest),
+    }
+}
+
+/// The step of a line that has two parts behind its first word, or a mark and a kind of bytes in its first word.
+fn longer_step_of<'a>(head: &'a str, rest: &'a str) -> Result<Step<'a>> {
+    let (first, second) = rest.split_once(' ').unwrap_or((rest, ""));
+    match head {
+        "repeat" => repeated(first, second),
+        "set" => changed(first, second),
+        "each" => Ok(Step::Each(length_of(first)?, length_of(second)?)),
+        "fail" => failing(first, second),
+        _ => given(head, rest),
+    }
+}
+
+fn number_of(text: &str) -> Result<u8> {
+    text.parse::<u8>().context("a number below 256")
+}
+
+fn length_of(text: &str) -> Result<usize> {
+    text.parse::<usize>().context("a number")
+}
+
+fn repeated<'a>(times: &'a str, line: &'a str) -> Result<Step<'a>> {
+    let times = times.parse::<u32>().context("a number")?;
+    let (head, rest) = line.split_once(' ').unwrap_or((line, ""));
+    match Piece::of(head, rest) {
+        Some(piece) => Ok(Step::Repeat(times, piece)),
+        None => bail!("no bytes to repeat: {line}"),
+    }
+}
+
+fn changed<'a>(place: &'a str, digits: &'a str) -> Result<Step<'a>> {
+    let byte = u8::from_str_radix(digits, 16).context("two digits of a byte")?;
+    Ok(Step::Set(length_of(place)?, byte))
+}
+
+fn failing<'a>(place: &'a str, call: &'a str) -> Result<Step<'a>> {
+    let call = call.parse::<u64>().context("the number of a call")?;
+    Ok(Step::Fail(place_of(place)?, call))
+}
+
+fn place_of(name: &str) -> Result<Place> {
+    match name {
+        "spec" => Ok(Place::Spec),
+        "header" => Ok(Place::Header),
+        "program" => Ok(Place::Program),
+        "trace" => Ok(Place::Trace),
+        "out" => Ok(Place::Out),
+        "err" => Ok(Place::Err),
+        _ => bail!("no such place: {name}"),
+    }
+}
+
+/// The step of a line with what a run was to write.
+fn given<'a>(head: &'a str, rest: &'a str) -> Result<Step<'a>> {
+    if let Some(kind) = head.strip_prefix('>')
+        && let Some(piece) = Piece::of_kind(kind, rest)
+    {
+        return Ok(Step::Output(piece));
+    }
+    if let Some(kind) = head.strip_prefix('!')
+        && let Some(piece) = Piece::of_kind(kind, rest)
+    {
+        return Ok(Step::Errors(piece));
+    }
+    bail!("no such step: {head} {rest}")
+}
