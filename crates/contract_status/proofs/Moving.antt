@@ -15,11 +15,13 @@ use Rattle.mltl_base.specs.Atoms.{Row}
 use Rattle.mltl_base.specs.Programs.{output_of, outputs}
 use Rattle.mltl_base.specs.Reports.{Output, words, same_word, goes_on, of_words}
 use Rattle.mltl_base.proofs.Words.{words_fit}
+use Rattle.contract_status.specs.declared.cursor.Cursor.{Cursor}
 use Rattle.contract_status.specs.declared.engines.Engines.{Engines}
 use Rattle.contract_status.specs.declared.engines.Stretch.{Stretch}
 use Rattle.contract_status.specs.Open.{ArePlaced, known_counts, known_counts_of, left_open, open_of, times_left}
 use Rattle.contract_status.specs.Standing.{StandFor}
-use Rattle.contract_status.specs.Stretches.{Covers, FindsOpen, HaveTaken, IsFirstOpen, Lasts, known_words}
+use Rattle.contract_status.specs.Cursors.{IsCursor}
+use Rattle.contract_status.specs.Stretches.{AreTold, Covers, FindsOpen, HaveTaken, IsFirstOpen, Lasts, known_words}
 use Rattle.contract_status.proofs.Opening.{no_other, no_words}
 use Rattle.contract_status.proofs.Stretching.{count_at, lasts_in_rows, lasts_within}
 
@@ -216,6 +218,31 @@ tells style program rows places k last stretch output there placed first covers 
       early = lasts_in_rows program rows output (slice_index places k) last stretch.word covers.lasts;
       first = gives_first style program rows places k last stretch output there inside first covers;
       placed = placed_moved program rows places k (last + 1) output placed there (omega arith) (omega arith);
+    }
+
+-- the search goes on at the output whose report was given, with what is left of its stretch
+told_moved : (program : Program) (rows : List Row) (places : List ℕ) (k next : ℕ) → AreTold program rows places k → AreTold program rows (slice_set places k next) k
+told_moved program rows places k next told j below =
+    let other : j ≢ k = omega arith in rw (get_or-set_other places k j next 0 other) (told j below)
+
+pub cursor_behind : (program : Program) (rows : List Row) (places : List ℕ) (k last : ℕ) (stretch : Stretch) (cursor : Cursor) → k < length places → slice_index places k ≤ last → IsFirstOpen program rows places k stretch
+    → cursor.out ≡ k → ((left : Stretch) → cursor.stretch ≡ Some left → (left ≡ stretch) × (last < left.last)) → IsCursor program rows (slice_set places k (last + 1)) cursor
+cursor_behind program rows places k last stretch cursor inside up first here left =
+    let told : AreTold program rows (slice_set places k (last + 1)) k = told_moved program rows places k (last + 1) first.told in
+    let moved : slice_index (slice_set places k (last + 1)) k ≡ last + 1 = get_or-set_same places k (last + 1) 0 inside in
+    record {
+      told = rw here told;
+      kept = λ found is.
+          let same : found ≡ stretch = (left found is).0 in
+          let later : last < found.last = (left found is).1 in
+          let ends : last < stretch.last = subst (λ (s : Stretch). last < s.last) same later in
+          let rest : IsFirstOpen program rows (slice_set places k (last + 1)) k stretch = record {
+            output = first.output;
+            there = first.there;
+            told = told;
+            here = rw moved (record { upward = omega (arith, ends); alike = λ t low high. first.here.alike t (omega arith) high });
+          } in
+          rw (here, same) rest;
     }
 
 -- something is open exactly where the first open output is found

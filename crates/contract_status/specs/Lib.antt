@@ -1,3 +1,4 @@
 pub mod Open
 pub mod Standing
 pub mod Stretches
+pub mod Cursors

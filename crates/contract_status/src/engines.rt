@@ -7,6 +7,7 @@ ghost use Rattle.mltl_base.specs.declared.program.Out.{Out as Output};
 ghost use Rattle.mltl_base.specs.declared.interval.Engine.TheVariants.{Pt as past};
 ghost use Rattle.mltl_base.specs.declared.report.Style.TheVariants.{Runs as runs};
 
+use crate::cursor::Cursor;
 use ft_engine::Ft;
 use mltl_base::{Engine, Out, Program, Style, Word};
 use pt_boxes::Pt;
@@ -28,7 +29,8 @@ pub struct Stretch {
 }
 
 impl Engines<'_> {
-    ghost use Rattle.contract_status.specs.Stretches.{CanRead, CanReport, Covers, FindsOpen, HaveTaken, Lasts, ShowsVerdicts, ShowsWords, contract_words, formula_words, known_verdicts, known_words};
+    ghost use Rattle.contract_status.specs.Cursors.{IsCursor};
+    ghost use Rattle.contract_status.specs.Stretches.{AreReadable, AreTold, CanRead, CanReport, Covers, FindsOpen, HaveTaken, Lasts, ShowsVerdicts, ShowsWords, contract_words, formula_words, known_verdicts, known_words};
     ghost use Rattle.contract_status.specs.Open.{ArePlaced};
 
     /// The verdict of an instruction at a time, and a time up to which it stays the same.
@@ -161,17 +163,45 @@ impl Engines<'_> {
         last
     }
 
-    /// The first output with a known word at its place, and a stretch of that word.
-    pub fn first_open(&self, program: &Program, places: &[u64]) -> Option<(usize, Stretch)>
-        requires readable { (k : ℕ) (out : Output) → slice_get program.now.outs k ≡ Some out → CanReport self.now out (slice_index places.now k) }
+    /// The first output from `first` on with a known word at its place, and a stretch of that word.
+    pub fn first_open(
+        &self,
+        program: &Program,
+        places: &[u64],
+        first: usize,
+    ) -> Option<(usize, Stretch)>
+        requires readable { AreReadable program.now self.now places.now }
         requires same_length { length places.now ≡ length program.now.outs }
-        ensures finds { (rows : List Row) → HaveTaken program.now rows self.now → ArePlaced program.now rows places.now → FindsOpen program.now rows places.now result }
+        requires told { (rows : List Row) → HaveTaken program.now rows self.now → ArePlaced program.now rows places.now
+            → AreTold program.now rows places.now first }
+        ensures finds { (rows : List Row) → HaveTaken program.now rows self.now → ArePlaced program.now rows places.now
+            → FindsOpen program.now rows places.now result }
     {
-        for (k, out) in program.outs.as_slice().iter().enumerate() {
-            if let Some(stretch) = self.stretch_from(out, places[k]) {
+        for k in first..program.outs.len() {
+            if let Some(stretch) = self.stretch_from(program.outs.get(k), places[k]) {
                 return Some((k, stretch));
             }
         }
         None
+    }
+
+    /// The first output with a known word at its place, and a stretch of that word; the search goes on at a cursor.
+    pub fn next_open(
+        &self,
+        program: &Program,
+        places: &[u64],
+        cursor: Cursor,
+    ) -> Option<(usize, Stretch)>
+        requires readable { AreReadable program.now self.now places.now }
+        requires same_length { length places.now ≡ length program.now.outs }
+        requires cursor { (rows : List Row) → HaveTaken program.now rows self.now → ArePlaced program.now rows places.now
+            → IsCursor program.now rows places.now cursor }
+        ensures finds { (rows : List Row) → HaveTaken program.now rows self.now → ArePlaced program.now rows places.now
+            → FindsOpen program.now rows places.now result }
+    {
+        match cursor.stretch {
+            Some(stretch) => Some((cursor.out, stretch)),
+            None => self.first_open(program, places, cursor.out),
+        }
     }
 }

@@ -1,6 +1,7 @@
 //! Reports of the outputs of a program: which are open after some rows, one after another, and how they are written.
 #![tactic(auto)]
 
+mod cursor;
 mod engines;
 pub mod laws;
 mod line;
@@ -9,5 +10,6 @@ mod telling;
 #[cfg(test)]
 mod tests;
 
+pub use cursor::Cursor;
 pub use line::line_of;
 pub use outs::Outs;

@@ -1,5 +1,6 @@
 //! The outputs of a program and their next times.
 
+use crate::cursor::Cursor;
 use crate::engines::Engines;
 use crate::telling::tell_first;
 use ft_engine::Ft;
@@ -28,6 +29,7 @@ impl Outs {
     ghost use Rattle.mltl_base.specs.declared.report.Style.{Style as Form};
     ghost use Rattle.mltl_base.specs.declared.report.Style.TheVariants.{Each as each, Runs as runs};
     ghost use Rattle.mltl_base.specs.Atoms.{Row};
+    ghost use Rattle.contract_status.specs.Cursors.{FitsCursor, IsCursor};
     ghost use Rattle.contract_status.specs.Open.{ArePlaced, GivesFirst, known_counts_of, open_of, times_left};
     ghost use Rattle.contract_status.specs.Standing.{StandFor};
 
@@ -45,16 +47,17 @@ impl Outs {
     pub fn next(&mut self, checked: &Checked, ft: &Ft, pt: &Pt, n: u64) -> Option<Report>
         requires early { n ≤ 2 ^ 40 }
         requires stands { (rows : List Row) × StandFor checked.now rows n ft.now pt.now self.old }
-        ensures first { (rows : List Row) → StandFor checked.now rows n ft.now pt.now self.old → GivesFirst each checked.now rows self.old self.new result }
-        ensures placed { (rows : List Row) → StandFor checked.now rows n ft.now pt.now self.old → ArePlaced checked.now rows self.new }
+        ensures first { (rows : List Row) → StandFor checked.now rows n ft.now pt.now self.old
+            → GivesFirst each checked.now rows self.old self.new result }
+        ensures placed { (rows : List Row) → StandFor checked.now rows n ft.now pt.now self.old
+            → ArePlaced checked.now rows self.new }
         ensures none { IsNone result → self.new ≡ self.old }
         ensures moved { IfSome result (λ report. self.new ≡ slice_set self.old report.out (report.time + 1)) }
         ensures exists { IfSome result (λ report. report.out < length checked.now.outs) }
         ensures taken { IfSome result (λ report. report.time < n) }
         ensures fewer { IfSome result (λ _. times_left n self.new < times_left n self.old) }
     {
-        let engines = Engines { ft, pt, rows: n };
-        tell_first(Style::Each, checked.program(), &engines, &mut self.times)
+        self.next_at(Style::Each, &mut Cursor::start(), checked, ft, pt, n)
     }
 
     /// The first report that is open after `n` rows, one for each longest stretch of one word. `None` exactly where
@@ -62,8 +65,38 @@ impl Outs {
     pub fn next_run(&mut self, checked: &Checked, ft: &Ft, pt: &Pt, n: u64) -> Option<Report>
         requires early { n ≤ 2 ^ 40 }
         requires stands { (rows : List Row) × StandFor checked.now rows n ft.now pt.now self.old }
-        ensures first { (rows : List Row) → StandFor checked.now rows n ft.now pt.now self.old → GivesFirst runs checked.now rows self.old self.new result }
-        ensures placed { (rows : List Row) → StandFor checked.now rows n ft.now pt.now self.old → ArePlaced checked.now rows self.new }
+        ensures first { (rows : List Row) → StandFor checked.now rows n ft.now pt.now self.old
+            → GivesFirst runs checked.now rows self.old self.new result }
+        ensures placed { (rows : List Row) → StandFor checked.now rows n ft.now pt.now self.old
+            → ArePlaced checked.now rows self.new }
+        ensures none { IsNone result → self.new ≡ self.old }
+        ensures moved { IfSome result (λ report. self.new ≡ slice_set self.old report.out (report.time + 1)) }
+        ensures exists { IfSome result (λ report. report.out < length checked.now.outs) }
+        ensures taken { IfSome result (λ report. report.time < n) }
+        ensures fewer { IfSome result (λ _. times_left n self.new < times_left n self.old) }
+    {
+        self.next_at(Style::Runs, &mut Cursor::start(), checked, ft, pt, n)
+    }
+
+    /// The first report that is open after `n` rows, in a style. The search goes on at the cursor of these rows.
+    pub fn next_at(
+        &mut self,
+        style: Style,
+        cursor: &mut Cursor,
+        checked: &Checked,
+        ft: &Ft,
+        pt: &Pt,
+        n: u64,
+    ) -> Option<Report>
+        requires early { n ≤ 2 ^ 40 }
+        requires stands { (rows : List Row) × StandFor checked.now rows n ft.now pt.now self.old }
+        requires cursor { FitsCursor checked.now n ft.now pt.now self.old cursor.old }
+        ensures first { (rows : List Row) → StandFor checked.now rows n ft.now pt.now self.old
+            → GivesFirst style checked.now rows self.old self.new result }
+        ensures placed { (rows : List Row) → StandFor checked.now rows n ft.now pt.now self.old
+            → ArePlaced checked.now rows self.new }
+        ensures cursor { (rows : List Row) → StandFor checked.now rows n ft.now pt.now self.old
+            → IsCursor checked.now rows self.new cursor.new }
         ensures none { IsNone result → self.new ≡ self.old }
         ensures moved { IfSome result (λ report. self.new ≡ slice_set self.old report.out (report.time + 1)) }
         ensures exists { IfSome result (λ report. report.out < length checked.now.outs) }
@@ -71,7 +104,7 @@ impl Outs {
         ensures fewer { IfSome result (λ _. times_left n self.new < times_left n self.old) }
     {
         let engines = Engines { ft, pt, rows: n };
-        tell_first(Style::Runs, checked.program(), &engines, &mut self.times)
+        tell_first(style, checked.program(), &engines, &mut self.times, cursor)
     }
 
     /// Whether no report is open after `n` rows, in either style.
@@ -80,6 +113,7 @@ impl Outs {
         ensures drained { (style : Form) (rows : List Row) → StandFor checked.now rows n ft.now pt.now self.now → IsTrue result ↔ (open_of style checked.now rows self.now ≡ []) }
     {
         let engines = Engines { ft, pt, rows: n };
-        engines.first_open(checked.program(), &self.times).is_none()
+        let open = engines.first_open(checked.program(), &self.times, 0);
+        open.is_none()
     }
 }

@@ -3,37 +3,45 @@
 ghost use Rattle.std.specs.Prelude.{◌≡◌, ℕ, ◌+◌, ◌^◌, ◌<◌, ◌≤◌, List, length, slice_set, IfSome, IsNone};
 ghost use Rattle.mltl_base.specs.Atoms.{Row};
 ghost use Rattle.obs_verify.specs.WellFormed.{IsWellFormed};
+ghost use Rattle.contract_status.specs.Cursors.{IsCursor};
 ghost use Rattle.contract_status.specs.Open.{ArePlaced, GivesFirst, times_left};
 ghost use Rattle.contract_status.specs.Stretches.{HaveTaken};
 
+use crate::cursor::Cursor;
 use crate::engines::Engines;
 use mltl_base::{Program, Report, Style};
 
 /// Gives the first report that the outputs' places leave open, and moves its output's place past it. `None`, and no
-/// change, where none is open.
+/// change, where none is open. The search goes on at the cursor.
 pub fn tell_first(
     style: Style,
     program: &Program,
     engines: &Engines,
     places: &mut [u64],
+    cursor: &mut Cursor,
 ) -> Option<Report>
     requires well_formed { IsWellFormed program.now }
     requires few { length program.now.outs < 2 ^ 32 }
     requires early { engines.now.rows ≤ 2 ^ 40 }
     requires stands { (rows : List Row) × HaveTaken program.now rows engines.now × ArePlaced program.now rows places.old }
+    requires cursor { (rows : List Row) → HaveTaken program.now rows engines.now → ArePlaced program.now rows places.old
+        → IsCursor program.now rows places.old cursor.old }
     ensures first { (rows : List Row) → HaveTaken program.now rows engines.now → ArePlaced program.now rows places.old
         → GivesFirst style program.now rows places.old places.new result }
     ensures placed { (rows : List Row) → HaveTaken program.now rows engines.now → ArePlaced program.now rows places.old
         → ArePlaced program.now rows places.new }
+    ensures cursor { (rows : List Row) → HaveTaken program.now rows engines.now → ArePlaced program.now rows places.old
+        → IsCursor program.now rows places.new cursor.new }
     ensures none { IsNone result → places.new ≡ places.old }
     ensures moved { IfSome result (λ report. places.new ≡ slice_set places.old report.out (report.time + 1)) }
     ensures exists { IfSome result (λ report. report.out < length program.now.outs) }
     ensures taken { IfSome result (λ report. report.time < engines.now.rows) }
     ensures fewer { IfSome result (λ _. times_left engines.now.rows places.new < times_left engines.now.rows places.old) }
 {
-    let (k, stretch) = engines.first_open(program, places)?;
+    let (k, stretch) = engines.next_open(program, places, *cursor)?;
     let time = engines.last_covered(style, program.outs.get(k), places[k], stretch);
     places[k] = time + 1;
+    *cursor = Cursor::behind(k, time, stretch);
     Some(Report {
         out: k as u32,
         time,

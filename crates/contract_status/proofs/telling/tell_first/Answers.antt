@@ -1,11 +1,11 @@
 use Rattle.std.proofs.Common.{◌+◌, arith}
 use Rattle.std.proofs.lemmas.Option.{slice_get_within}
-use Rattle.contract_status.proofs.Moving.{fewer_left, gives_none, open_here, tells}
+use Rattle.contract_status.proofs.Moving.{cursor_behind, fewer_left, gives_none, open_here, tells}
 use Rattle.contract_status.proofs.Placing.{readable}
 use Rattle.contract_status.proofs.telling.tell_first.Goals as goal
 
-pub first_open-requires-clause-readable : goal.first_open-requires-clause-readable
-first_open-requires-clause-readable c = λ k output there.
+pub next_open-requires-clause-readable : goal.next_open-requires-clause-readable
+next_open-requires-clause-readable c = λ k output there.
     let stands = c.requires.stands in
     readable c.args.program.now stands.0 c.args.engines.now c.args.places.now k output c.requires.well_formed stands.1 stands.2 there
 
@@ -80,3 +80,11 @@ returns-clause-fewer c =
     let covers = c.last_covered-time.ensures.covers program stands.0 stands.1 (open_here program stands.0 places k c.in_ok-k.stretch out c.get.ensures first) in
     let told = tells c.args.style program stands.0 places k c.last_covered-time.result c.in_ok-k.stretch out c.get.ensures stands.2 first covers in
     fewer_left c.args.engines.now.rows places k (c.last_covered-time.result + 1) told.inside (omega (arith, told.upward)) (omega (arith, told.early, stands.1.count))
+
+pub returns-clause-cursor : goal.returns-clause-cursor
+returns-clause-cursor c = λ rows taken placed.
+    let program = c.args.program.now in let places = c.args.places.now in let k = c.in_ok-k.k in let out = c.get.result.now in
+    let first = c.in_ok-k.ensures.finds rows taken placed in
+    let covers = c.last_covered-time.ensures.covers program rows taken (open_here program rows places k c.in_ok-k.stretch out c.get.ensures first) in
+    let told = tells c.args.style program rows places k c.last_covered-time.result c.in_ok-k.stretch out c.get.ensures placed first covers in
+    cursor_behind program rows places k c.last_covered-time.result c.in_ok-k.stretch c.behind.result told.inside told.upward first c.behind.ensures.out c.behind.ensures.kept

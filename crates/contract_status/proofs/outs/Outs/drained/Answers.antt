@@ -4,8 +4,8 @@ use Rattle.contract_status.proofs.Moving.{none_found, taken_by}
 use Rattle.contract_status.proofs.Placing.{readable}
 use Rattle.contract_status.proofs.outs.Outs.drained.Goals as goal
 
-pub first_open-requires-clause-readable : goal.first_open-requires-clause-readable
-first_open-requires-clause-readable c =
+pub first_open-open-requires-clause-readable : goal.first_open-open-requires-clause-readable
+first_open-open-requires-clause-readable c =
     let engines : Engines = record { ft = c.args.ft; pt = c.args.pt; rows = c.args.n } in
     let places : c.deref.result.now ≡ c.args.self.now = c.deref.ensures.value ∙ c.self.view_is in
     let stands = c.requires.stands in
@@ -17,7 +17,7 @@ returns c = record {
   drained = λ style rows stands.
       let engines : Engines = record { ft = c.args.ft; pt = c.args.pt; rows = c.args.n } in
       let places : c.deref.result.now ≡ c.args.self.now = c.deref.ensures.value ∙ c.self.view_is in
-      let finds = rw (c.program.ensures.program, places) at c.first_open.ensures.finds in
-      none_found style c.args.checked.now rows c.args.self.now c.first_open.result c.is_none.result c.is_none.ensures stands.placed
+      let finds = rw (c.program.ensures.program, places) at c.first_open-open.ensures.finds in
+      none_found style c.args.checked.now rows c.args.self.now c.first_open-open.result c.is_none.result c.is_none.ensures stands.placed
       (finds rows (taken_by c.args.checked.now rows engines c.args.self.now stands) stands.placed);
 }

@@ -1,16 +1,4 @@
-use Rattle.std.proofs.Common.{◌≡◌, ◌++◌, ℕ, List, length, take, drop, ap, ◌∙◌, arith}
-use Rattle.std.proofs.Math.Seq.{take-append_seam}
-use Rattle.contract_status.specs.declared.engines.Engines.{Engines}
-use Rattle.contract_status.proofs.Moving.{taken_by}
 use Rattle.contract_status.proofs.outs.Outs.next.Goals as goal
 
-pub returns-clause-first : goal.returns-clause-first
-returns-clause-first c = λ rows stands.
-    let engines : Engines = record { ft = c.args.ft; pt = c.args.pt; rows = c.args.n } in
-    let times = c.self.inside.times in
-    let new : List ℕ = c.tell_first.new.places in
-    let places : c.deref_mut.result.now ≡ c.args.self.now = c.deref_mut.ensures.value ∙ c.self.view_is in
-    let whole : times.len ≡ length new = omega (arith, c.tell_first.auto.places, ap length c.deref_mut.ensures.value, times.ok.0) in
-    let written : take times.len (new ++ drop (length new) times.items) ≡ new = ap (λ n. take n (new ++ drop (length new) times.items)) whole ∙ take-append_seam new (drop (length new) times.items) in
-    let first = rw (c.program.ensures.program, places) at c.tell_first.ensures.first in
-    rw written (first rows (taken_by c.args.checked.now rows engines c.args.self.now stands) stands.placed)
+pub next_at-requires-clause-cursor : goal.next_at-requires-clause-cursor
+next_at-requires-clause-cursor c = λ rows stands. c.start.ensures c.args.checked.now rows c.args.self.now
