@@ -12,7 +12,8 @@ use Rattle.tool_io.specs.Log.{Event}
 use Rattle.tool_io.specs.Cutting.{Cutting, is_long, line_text, lines_of, next_number, CutsLine}
 use Rattle.mltl_monitor.specs.declared.state.State.{State}
 use Rattle.mltl_monitor.specs.Monitoring.{Stands, last_of}
-use Rattle.sparse_feed.specs.Stamps.{has_stamp, is_blank_line, may_follow, place_behind, stamp_meaning, timed, times_between}
+use Rattle.mltl_base.specs.Blanks.{is_blank_line}
+use Rattle.sparse_feed.specs.Stamps.{has_stamp, may_follow, place_behind, stamp_meaning, timed, times_between}
 use Rattle.sparse_feed.specs.Stamps.{time_of as stamp_time}
 use Rattle.sparse_feed.specs.declared.stamp.Stamp.{Stamp}
 use Rattle.sparse_feed.specs.declared.stamp.Stamp.TheVariants.{At, Blank, Bad, Order, Late}
