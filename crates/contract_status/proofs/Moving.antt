@@ -18,7 +18,7 @@ use Rattle.mltl_base.proofs.Words.{words_fit}
 use Rattle.contract_status.specs.declared.cursor.Cursor.{Cursor}
 use Rattle.contract_status.specs.declared.engines.Engines.{Engines}
 use Rattle.contract_status.specs.declared.engines.Stretch.{Stretch}
-use Rattle.contract_status.specs.Open.{ArePlaced, known_counts, known_counts_of, left_open, open_of, times_left}
+use Rattle.contract_status.specs.Open.{AreKnown, ArePlaced, known_counts, known_counts_of, left_open, open_of, times_left}
 use Rattle.contract_status.specs.Standing.{StandFor}
 use Rattle.contract_status.specs.Cursors.{IsCursor}
 use Rattle.contract_status.specs.Stretches.{AreTold, Covers, FindsOpen, HaveTaken, IsFirstOpen, Lasts, known_words}
@@ -224,6 +224,13 @@ tells style program rows places k last stretch output there placed first covers 
 told_moved : (program : Program) (rows : List Row) (places : List ℕ) (k next : ℕ) → AreTold program rows places k → AreTold program rows (slice_set places k next) k
 told_moved program rows places k next told j below =
     let other : j ≢ k = omega arith in rw (get_or-set_other places k j next 0 other) (told j below)
+
+-- places that are known after a report were known before it
+pub known_before : (program : Program) (rows : List Row) (places : List ℕ) (k last : ℕ) → k < length places → slice_index places k ≤ last → AreKnown program rows (slice_set places k (last + 1)) → AreKnown program rows places
+known_before program rows places k last inside up known j below = elim (cases_eq j k) [
+  | inl e ↦ rw e (let moved = get_or-set_same places k (last + 1) 0 inside in omega (arith, known k (omega (arith, e)), moved))
+  | inr other ↦ let same = get_or-set_other places k j (last + 1) 0 other in omega (arith, known j below, same)
+]
 
 pub cursor_behind : (program : Program) (rows : List Row) (places : List ℕ) (k last : ℕ) (stretch : Stretch) (cursor : Cursor) → k < length places → slice_index places k ≤ last → IsFirstOpen program rows places k stretch
     → cursor.out ≡ k → ((left : Stretch) → cursor.stretch ≡ Some left → (left ≡ stretch) × (last < left.last)) → IsCursor program rows (slice_set places k (last + 1)) cursor

@@ -14,7 +14,7 @@ use Rattle.mltl_base.specs.Reports.{Output, words}
 use Rattle.mltl_base.proofs.Words.{words_fit}
 use Rattle.contract_status.specs.declared.engines.Engines.{Engines}
 use Rattle.contract_status.specs.declared.engines.Stretch.{Stretch}
-use Rattle.contract_status.specs.Open.{ArePlaced, known_counts_of}
+use Rattle.contract_status.specs.Open.{AreKnown, known_counts_of}
 use Rattle.contract_status.specs.Stretches.{CanRead, CanReport, Covers, IsFirstOpen, Lasts, known_words}
 
 -- a stretch ends within the words, and within the rows
@@ -66,9 +66,9 @@ count_at program rows k output there =
     get_or_from_slice_get (known_counts_of program rows) k (length (known_words program rows output)) 0 counted
 
 -- the place of an output is at most the number of its known words
-pub placed_within : (program : Program) (rows : List Row) (places : List ℕ) (k : ℕ) (output : out.Out) → ArePlaced program rows places → slice_get program.outs k ≡ Some output → slice_index places k ≤ length (known_words program rows output)
-placed_within program rows places k output placed there =
-    omega (arith, placed.known k (slice_get_within program.outs k output there), count_at program rows k output there)
+pub placed_within : (program : Program) (rows : List Row) (places : List ℕ) (k : ℕ) (output : out.Out) → AreKnown program rows places → slice_get program.outs k ≡ Some output → slice_index places k ≤ length (known_words program rows output)
+placed_within program rows places k output known there =
+    omega (arith, known k (slice_get_within program.outs k output there), count_at program rows k output there)
 
 -- all words of one more output were told
 pub more_told : (program : Program) (rows : List Row) (places : List ℕ) (k : ℕ) (output : out.Out) → slice_get program.outs k ≡ Some output → ((j : ℕ) → j < k → slice_index (known_counts_of program rows) j ≤ slice_index places j)

@@ -1,14 +1,17 @@
 -- Where the search for open reports goes on, after the same rows.
 
-use Rattle.std.specs.Prelude.{ℕ, ◌≡◌, Some, List}
+use Rattle.std.specs.Prelude.{ℕ, ◌≡◌, Some, List, length}
 use Rattle.mltl_base.specs.declared.program.Program.{Program}
 use Rattle.mltl_base.specs.Atoms.{Row}
 use Rattle.ft_engine.specs.declared.Ft.{Ft}
+use Rattle.ft_engine.specs.Standing as future
 use Rattle.pt_boxes.specs.declared.Pt.{Pt}
+use Rattle.pt_boxes.specs.Standing as past
 use Rattle.contract_status.specs.declared.cursor.Cursor.{Cursor}
+use Rattle.contract_status.specs.declared.engines.Engines.{Engines}
 use Rattle.contract_status.specs.declared.engines.Stretch.{Stretch}
-use Rattle.contract_status.specs.Standing.{StandFor}
-use Rattle.contract_status.specs.Stretches.{AreTold, IsFirstOpen}
+use Rattle.contract_status.specs.Open.{AreKnown}
+use Rattle.contract_status.specs.Stretches.{AreTold, HaveTaken, IsFirstOpen}
 
 -- all outputs before the cursor's were told, and the stretch that it keeps is the first that is open
 pub record IsCursor (program : Program) (rows : List Row) (places : List ℕ) (cursor : Cursor) : Type 0 where
@@ -17,4 +20,11 @@ pub record IsCursor (program : Program) (rows : List Row) (places : List ℕ) (c
 
 -- a cursor of outputs at these places, over engines that have taken n rows
 abbrev pub FitsCursor : Program → ℕ → Ft → Pt → List ℕ → Cursor → Type 0
-FitsCursor program n ft pt places cursor = (rows : List Row) → StandFor program rows n ft pt places → IsCursor program rows places cursor
+FitsCursor program n ft pt places cursor =
+    (rows : List Row) → future.Stands program rows ft → past.Stands program rows pt → length rows ≡ n
+    → AreKnown program rows places → IsCursor program rows places cursor
+
+-- the same of both engines at once
+abbrev pub FitsEngines : Program → Engines → List ℕ → Cursor → Type 0
+FitsEngines program engines places cursor =
+    (rows : List Row) → HaveTaken program rows engines → AreKnown program rows places → IsCursor program rows places cursor

@@ -25,11 +25,15 @@ known_counts rows outs = map (λ o. length (words rows o)) outs
 abbrev pub known_counts_of : Program → List Row → List ℕ
 known_counts_of program rows = known_counts rows (outputs program)
 
+-- the place of each output is at most the number of its words that are known
+abbrev pub AreKnown : Program → List Row → List ℕ → Type 0
+AreKnown program rows places = (k : ℕ) → k < length program.outs → slice_index places k ≤ slice_index (known_counts_of program rows) k
+
 -- One place for each output, its next time. It is at most the number of words that are known, and at least the number
 -- that were known before the last row.
 pub record ArePlaced (program : Program) (rows : List Row) (places : List ℕ) : Type 0 where
   pub count : length places ≡ length program.outs
-  pub known : (k : ℕ) → k < length program.outs → slice_index places k ≤ slice_index (known_counts_of program rows) k
+  pub known : AreKnown program rows places
   pub recent : (before : List Row) (row : Row) → rows ≡ before ++ row ∷ [] → (k : ℕ) → k < length program.outs → slice_index (known_counts_of program before) k ≤ slice_index places k
 
 -- the answer is the first of the reports that were open, and the others still are; nothing where none was open

@@ -29,9 +29,9 @@ pub struct Stretch {
 }
 
 impl Engines<'_> {
-    ghost use Rattle.contract_status.specs.Cursors.{IsCursor};
+    ghost use Rattle.contract_status.specs.Cursors.{FitsEngines};
     ghost use Rattle.contract_status.specs.Stretches.{AreReadable, AreTold, CanRead, CanReport, Covers, FindsOpen, HaveTaken, Lasts, ShowsVerdicts, ShowsWords, contract_words, formula_words, known_verdicts, known_words};
-    ghost use Rattle.contract_status.specs.Open.{ArePlaced};
+    ghost use Rattle.contract_status.specs.Open.{AreKnown};
 
     /// The verdict of an instruction at a time, and a time up to which it stays the same.
     fn verdicts_from(&self, engine: Engine, i: u32, from: u64) -> Seen
@@ -172,9 +172,9 @@ impl Engines<'_> {
     ) -> Option<(usize, Stretch)>
         requires readable { AreReadable program.now self.now places.now }
         requires same_length { length places.now ≡ length program.now.outs }
-        requires told { (rows : List Row) → HaveTaken program.now rows self.now → ArePlaced program.now rows places.now
+        requires told { (rows : List Row) → HaveTaken program.now rows self.now → AreKnown program.now rows places.now
             → AreTold program.now rows places.now first }
-        ensures finds { (rows : List Row) → HaveTaken program.now rows self.now → ArePlaced program.now rows places.now
+        ensures finds { (rows : List Row) → HaveTaken program.now rows self.now → AreKnown program.now rows places.now
             → FindsOpen program.now rows places.now result }
     {
         for k in first..program.outs.len() {
@@ -194,9 +194,8 @@ impl Engines<'_> {
     ) -> Option<(usize, Stretch)>
         requires readable { AreReadable program.now self.now places.now }
         requires same_length { length places.now ≡ length program.now.outs }
-        requires cursor { (rows : List Row) → HaveTaken program.now rows self.now → ArePlaced program.now rows places.now
-            → IsCursor program.now rows places.now cursor }
-        ensures finds { (rows : List Row) → HaveTaken program.now rows self.now → ArePlaced program.now rows places.now
+        requires cursor { FitsEngines program.now self.now places.now cursor }
+        ensures finds { (rows : List Row) → HaveTaken program.now rows self.now → AreKnown program.now rows places.now
             → FindsOpen program.now rows places.now result }
     {
         match cursor.stretch {

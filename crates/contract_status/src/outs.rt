@@ -29,7 +29,7 @@ impl Outs {
     ghost use Rattle.mltl_base.specs.declared.report.Style.{Style as Form};
     ghost use Rattle.mltl_base.specs.declared.report.Style.TheVariants.{Each as each, Runs as runs};
     ghost use Rattle.mltl_base.specs.Atoms.{Row};
-    ghost use Rattle.contract_status.specs.Cursors.{FitsCursor, IsCursor};
+    ghost use Rattle.contract_status.specs.Cursors.{FitsCursor};
     ghost use Rattle.contract_status.specs.Open.{ArePlaced, GivesFirst, known_counts_of, open_of, times_left};
     ghost use Rattle.contract_status.specs.Standing.{StandFor};
 
@@ -95,8 +95,7 @@ impl Outs {
             → GivesFirst style checked.now rows self.old self.new result }
         ensures placed { (rows : List Row) → StandFor checked.now rows n ft.now pt.now self.old
             → ArePlaced checked.now rows self.new }
-        ensures cursor { (rows : List Row) → StandFor checked.now rows n ft.now pt.now self.old
-            → IsCursor checked.now rows self.new cursor.new }
+        ensures cursor { FitsCursor checked.now n ft.now pt.now self.new cursor.new }
         ensures none { IsNone result → self.new ≡ self.old }
         ensures moved { IfSome result (λ report. self.new ≡ slice_set self.old report.out (report.time + 1)) }
         ensures exists { IfSome result (λ report. report.out < length checked.now.outs) }

@@ -3,7 +3,7 @@
 ghost use Rattle.std.specs.Prelude.{◌≡◌, ℕ, ◌+◌, ◌^◌, ◌<◌, ◌≤◌, List, length, slice_set, IfSome, IsNone};
 ghost use Rattle.mltl_base.specs.Atoms.{Row};
 ghost use Rattle.obs_verify.specs.WellFormed.{IsWellFormed};
-ghost use Rattle.contract_status.specs.Cursors.{IsCursor};
+ghost use Rattle.contract_status.specs.Cursors.{FitsEngines};
 ghost use Rattle.contract_status.specs.Open.{ArePlaced, GivesFirst, times_left};
 ghost use Rattle.contract_status.specs.Stretches.{HaveTaken};
 
@@ -24,14 +24,12 @@ pub fn tell_first(
     requires few { length program.now.outs < 2 ^ 32 }
     requires early { engines.now.rows ≤ 2 ^ 40 }
     requires stands { (rows : List Row) × HaveTaken program.now rows engines.now × ArePlaced program.now rows places.old }
-    requires cursor { (rows : List Row) → HaveTaken program.now rows engines.now → ArePlaced program.now rows places.old
-        → IsCursor program.now rows places.old cursor.old }
+    requires cursor { FitsEngines program.now engines.now places.old cursor.old }
     ensures first { (rows : List Row) → HaveTaken program.now rows engines.now → ArePlaced program.now rows places.old
         → GivesFirst style program.now rows places.old places.new result }
     ensures placed { (rows : List Row) → HaveTaken program.now rows engines.now → ArePlaced program.now rows places.old
         → ArePlaced program.now rows places.new }
-    ensures cursor { (rows : List Row) → HaveTaken program.now rows engines.now → ArePlaced program.now rows places.old
-        → IsCursor program.now rows places.new cursor.new }
+    ensures cursor { FitsEngines program.now engines.now places.new cursor.new }
     ensures none { IsNone result → places.new ≡ places.old }
     ensures moved { IfSome result (λ report. places.new ≡ slice_set places.old report.out (report.time + 1)) }
     ensures exists { IfSome result (λ report. report.out < length program.now.outs) }

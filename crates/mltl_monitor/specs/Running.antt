@@ -11,6 +11,8 @@ use Rattle.obs_verify.specs.Layout.{HasLayout}
 use Rattle.obs_verify.specs.WellFormed.{IsWellFormed}
 use Rattle.ft_engine.specs.Running as future
 use Rattle.pt_boxes.specs.Running as past
+use Rattle.contract_status.specs.declared.cursor.Cursor.{Cursor}
+use Rattle.contract_status.specs.Cursors.{FitsCursor}
 use Rattle.contract_status.specs.Open as status
 use Rattle.contract_status.specs.Standing.{StandFor}
 use Rattle.mltl_monitor.specs.declared.running.Running.{Running}
@@ -38,6 +40,10 @@ left_to_tell running = status.times_left running.taken running.outs
 -- the same after a report was given: the next time of its output is the one after the report's
 abbrev pub after_report : Report → Running → Running
 after_report report running = record running { outs = slice_set running.outs report.out (report.time + 1) }
+
+-- the search for open reports may go on at this cursor
+abbrev pub Fits : Running → Cursor → Type 0
+Fits running cursor = FitsCursor running.checked running.taken running.ft running.pt running.outs cursor
 
 -- the answer is the first of the reports that were open, and the others still are
 abbrev pub GivesFirst : Style → Option Report → Running → Running → List Row → Type 0

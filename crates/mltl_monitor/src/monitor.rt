@@ -2,7 +2,8 @@
 
 use crate::running::Running;
 use crate::state::State;
-use mltl_base::Report;
+use contract_status::Cursor;
+use mltl_base::{Report, Style};
 use obs_verify::Checked;
 use scq_ring::steps::Steps;
 use std::alloc::{AllocError, Global};
@@ -16,12 +17,15 @@ use trace_feed::{RowAnswer, row_fields};
 #[derive(Drop)]
 pub struct Monitor {
     state: State,
+    /// Where the search for the next report of the last row goes on.
+    cursor: Cursor,
 }
 
 impl Model for Monitor {
     ghost use Rattle.mltl_monitor.specs.declared.state.State.{State as Shown};
     ghost use Rattle.mltl_monitor.specs.contracts.state.State.{the_row};
     ghost use Rattle.mltl_monitor.specs.Monitoring.{IsSound};
+    ghost use Rattle.mltl_monitor.specs.Running.{Fits};
 
     ghost Value = { Shown };
 
@@ -29,7 +33,7 @@ impl Model for Monitor {
 
     ghost view = { λ monitor. monitor.state };
 
-    ghost invariant = { λ monitor. IsSound monitor.state };
+    ghost invariant = { λ monitor. IsSound monitor.state × Fits monitor.state.running monitor.cursor };
 }
 
 impl Monitor {
@@ -60,6 +64,7 @@ impl Monitor {
                 last,
                 read,
             },
+            cursor: Cursor::start(),
         })
     }
 
@@ -80,6 +85,7 @@ impl Monitor {
     {
         self.state.last.copy_from_slice(fields);
         self.state.running.take(fields, steps);
+        self.cursor = Cursor::start();
     }
 
     /// Takes the row of a line, if the line is one. `Good`: its row was taken; otherwise nothing changed.
@@ -116,6 +122,7 @@ impl Monitor {
         ensures counted { steps.new ≤ steps.old + row_work (program_of self.old) }
     {
         self.state.running.take(&self.state.last, steps);
+        self.cursor = Cursor::start();
     }
 
     /// Takes the row that was read.
@@ -128,6 +135,25 @@ impl Monitor {
     {
         mem::swap(&mut self.state.last, &mut self.state.read);
         self.state.running.take(&self.state.last, steps);
+        self.cursor = Cursor::start();
+    }
+
+    /// The next report of the last row, in a style. `None`, and no change, where none is left.
+    pub fn next(&mut self, style: Style) -> Option<Report>
+        ensures first { (rows : List Row) → Stands self.old rows → GivesFirst style result self.old self.new rows }
+        ensures stands { (rows : List Row) → Stands self.old rows → Stands self.new rows }
+        ensures none { IsNone result ↔ IsDrained self.old }
+        ensures same { IfNone result (self.new ≡ self.old) }
+        ensures drained { IfNone result (IsDrained self.new) }
+        ensures moved { IfSome result (λ report. Gives report self.old self.new) }
+        ensures exists { IfSome result (λ report. report.out < length (program_of self.old).outs) }
+        ensures taken { IfSome result (λ report. report.time < taken_by self.old) }
+        ensures early { IfSome result (λ report. report.time < 2 ^ 40) }
+        ensures fewer { IfSome result (λ _. left_to_tell self.new < left_to_tell self.old) }
+        ensures program { program_of self.new ≡ program_of self.old }
+        ensures as_many { taken_by self.new ≡ taken_by self.old }
+    {
+        self.state.running.next(style, &mut self.cursor)
     }
 
     /// The next report of the last row, one for each newly known time. `None`, and no change, where none is left.
@@ -145,7 +171,7 @@ impl Monitor {
         ensures program { program_of self.new ≡ program_of self.old }
         ensures as_many { taken_by self.new ≡ taken_by self.old }
     {
-        self.state.running.next_report()
+        self.next(Style::Each)
     }
 
     /// The next report of the last row, one for each longest stretch of newly known times with one word, with its last
@@ -164,7 +190,7 @@ impl Monitor {
         ensures program { program_of self.new ≡ program_of self.old }
         ensures as_many { taken_by self.new ≡ taken_by self.old }
     {
-        self.state.running.next_run()
+        self.next(Style::Runs)
     }
 
     /// Whether all reports were given.

@@ -1,9 +1,9 @@
 //! What runs in a monitor.
 
 use booleanizer::Bz;
-use contract_status::Outs;
+use contract_status::{Cursor, Outs};
 use ft_engine::Ft;
-use mltl_base::Report;
+use mltl_base::{Report, Style};
 use obs_verify::Checked;
 use pt_boxes::Pt;
 use scq_ring::steps::Steps;
@@ -23,11 +23,10 @@ pub struct Running {
 
 impl Running {
     ghost use Rattle.std.specs.Prelude.{◌≡◌, ◌+◌, ◌^◌, ◌<◌, ◌≤◌, ◌↔◌, List, [], length, IfOk, IfSome, IsNone, IsTrue};
-    ghost use Rattle.mltl_base.specs.declared.report.Style.{Style};
-    ghost use Rattle.mltl_base.specs.declared.report.Style.TheVariants.{Each, Runs};
+    ghost use Rattle.mltl_base.specs.declared.report.Style.{Style as Form};
     ghost use Rattle.mltl_base.specs.Atoms.{Row};
     ghost use Rattle.mltl_base.specs.Programs.{IsFit};
-    ghost use Rattle.mltl_monitor.specs.Running.{GivesFirst, HasTaken, IsDrained, TakesRow, after_report, left_to_tell, open_of, row_work};
+    ghost use Rattle.mltl_monitor.specs.Running.{Fits, GivesFirst, HasTaken, IsDrained, TakesRow, after_report, left_to_tell, open_of, row_work};
 
     /// The engines of a program, before the first row. All memory is taken here.
     pub fn load(alloc: Global, checked: Checked) -> Result<Running, AllocError>
@@ -68,42 +67,27 @@ impl Running {
         self.taken += 1;
     }
 
-    /// The first report that is open, one for each time. `None`, and no change, where none is.
-    pub fn next_report(&mut self) -> Option<Report>
+    /// The first report that is open, in a style. `None`, and no change, where none is. The search goes on at the cursor.
+    pub fn next(&mut self, style: Style, cursor: &mut Cursor) -> Option<Report>
         requires some { (rows : List Row) × HasTaken self.old rows }
         requires early { self.old.taken ≤ 2 ^ 40 }
-        ensures first { (rows : List Row) → HasTaken self.old rows → GivesFirst Each result self.old self.new rows }
+        requires cursor { Fits self.old cursor.old }
+        ensures first { (rows : List Row) → HasTaken self.old rows → GivesFirst style result self.old self.new rows }
         ensures stands { (rows : List Row) → HasTaken self.old rows → HasTaken self.new rows }
+        ensures cursor { Fits self.new cursor.new }
         ensures none { IsNone result → self.new ≡ self.old }
         ensures moved { IfSome result (λ report. self.new ≡ after_report report self.old) }
         ensures exists { IfSome result (λ report. report.out < length self.old.checked.outs) }
         ensures taken { IfSome result (λ report. report.time < self.old.taken) }
         ensures fewer { IfSome result (λ _. left_to_tell self.new < left_to_tell self.old) }
     {
-        self.outs
-            .next(&self.checked, &self.ft, &self.pt, self.taken)
-    }
-
-    /// The first report that is open, one for each longest stretch of one word. `None`, and no change, where none is.
-    pub fn next_run(&mut self) -> Option<Report>
-        requires some { (rows : List Row) × HasTaken self.old rows }
-        requires early { self.old.taken ≤ 2 ^ 40 }
-        ensures first { (rows : List Row) → HasTaken self.old rows → GivesFirst Runs result self.old self.new rows }
-        ensures stands { (rows : List Row) → HasTaken self.old rows → HasTaken self.new rows }
-        ensures none { IsNone result → self.new ≡ self.old }
-        ensures moved { IfSome result (λ report. self.new ≡ after_report report self.old) }
-        ensures exists { IfSome result (λ report. report.out < length self.old.checked.outs) }
-        ensures taken { IfSome result (λ report. report.time < self.old.taken) }
-        ensures fewer { IfSome result (λ _. left_to_tell self.new < left_to_tell self.old) }
-    {
-        self.outs
-            .next_run(&self.checked, &self.ft, &self.pt, self.taken)
+        self.outs.next_at(style, cursor, &self.checked, &self.ft, &self.pt, self.taken)
     }
 
     /// Whether no report is open, in either style.
     pub fn is_drained(&self) -> bool
         requires some { (rows : List Row) × HasTaken self.now rows }
-        ensures open { (style : Style) (rows : List Row) → HasTaken self.now rows → IsTrue result ↔ (open_of style self.now rows ≡ []) }
+        ensures open { (style : Form) (rows : List Row) → HasTaken self.now rows → IsTrue result ↔ (open_of style self.now rows ≡ []) }
     {
         self.outs
             .drained(&self.checked, &self.ft, &self.pt, self.taken)

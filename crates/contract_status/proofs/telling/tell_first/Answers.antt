@@ -1,6 +1,6 @@
 use Rattle.std.proofs.Common.{◌+◌, arith}
 use Rattle.std.proofs.lemmas.Option.{slice_get_within}
-use Rattle.contract_status.proofs.Moving.{cursor_behind, fewer_left, gives_none, open_here, tells}
+use Rattle.contract_status.proofs.Moving.{cursor_behind, fewer_left, gives_none, known_before, open_here, tells}
 use Rattle.contract_status.proofs.Placing.{readable}
 use Rattle.contract_status.proofs.telling.tell_first.Goals as goal
 
@@ -10,12 +10,12 @@ next_open-requires-clause-readable c = λ k output there.
     readable c.args.program.now stands.0 c.args.engines.now c.args.places.now k output c.requires.well_formed stands.1 stands.2 there
 
 pub returns-in_err-k-clause-first : goal.returns-in_err-k-clause-first
-returns-in_err-k-clause-first c = λ rows taken placed. rw c.from_residual.ensures (gives_none c.args.style c.args.program.now rows c.args.places.now (c.in_err-k.ensures.finds rows taken placed))
+returns-in_err-k-clause-first c = λ rows taken placed. rw c.from_residual.ensures (gives_none c.args.style c.args.program.now rows c.args.places.now (c.in_err-k.ensures.finds rows taken placed.known))
 
 pub get-requires : goal.get-requires
 get-requires c =
     let stands = c.requires.stands in
-    let first = c.in_ok-k.ensures.finds stands.0 stands.1 stands.2 in
+    let first = c.in_ok-k.ensures.finds stands.0 stands.1 stands.2.known in
     slice_get_within c.args.program.now.outs c.in_ok-k.k first.output first.there
 
 pub offset_bounds-places-k : goal.offset_bounds-places-k
@@ -32,7 +32,7 @@ last_covered-time-requires-clause-readable c =
 pub overflow_add-places : goal.overflow_add-places
 overflow_add-places c =
     let program = c.args.program.now in let places = c.args.places.now in let stands = c.requires.stands in let k = c.in_ok-k.k in let out = c.get.result.now in
-    let first = c.in_ok-k.ensures.finds stands.0 stands.1 stands.2 in
+    let first = c.in_ok-k.ensures.finds stands.0 stands.1 stands.2.known in
     let covers = c.last_covered-time.ensures.covers program stands.0 stands.1 (open_here program stands.0 places k c.in_ok-k.stretch out c.get.ensures first) in
     let told = tells c.args.style program stands.0 places k c.last_covered-time.result c.in_ok-k.stretch out c.get.ensures stands.2 first covers in
     record { fits = omega (arith, told.early, stands.1.count, c.requires.early) }
@@ -49,7 +49,7 @@ overflow_cast-result c = record { fits = omega (arith, c.requires.few, slice_get
 pub returns-clause-first : goal.returns-clause-first
 returns-clause-first c = λ rows taken placed.
     let program = c.args.program.now in let places = c.args.places.now in let k = c.in_ok-k.k in let out = c.get.result.now in
-    let first = c.in_ok-k.ensures.finds rows taken placed in
+    let first = c.in_ok-k.ensures.finds rows taken placed.known in
     let covers = c.last_covered-time.ensures.covers program rows taken (open_here program rows places k c.in_ok-k.stretch out c.get.ensures first) in
     let told = tells c.args.style program rows places k c.last_covered-time.result c.in_ok-k.stretch out c.get.ensures placed first covers in
     told.first
@@ -57,7 +57,7 @@ returns-clause-first c = λ rows taken placed.
 pub returns-clause-placed : goal.returns-clause-placed
 returns-clause-placed c = λ rows taken placed.
     let program = c.args.program.now in let places = c.args.places.now in let k = c.in_ok-k.k in let out = c.get.result.now in
-    let first = c.in_ok-k.ensures.finds rows taken placed in
+    let first = c.in_ok-k.ensures.finds rows taken placed.known in
     let covers = c.last_covered-time.ensures.covers program rows taken (open_here program rows places k c.in_ok-k.stretch out c.get.ensures first) in
     let told = tells c.args.style program rows places k c.last_covered-time.result c.in_ok-k.stretch out c.get.ensures placed first covers in
     told.placed
@@ -68,7 +68,7 @@ returns-clause-exists c = slice_get_within c.args.program.now.outs c.in_ok-k.k c
 pub returns-clause-taken : goal.returns-clause-taken
 returns-clause-taken c =
     let program = c.args.program.now in let places = c.args.places.now in let stands = c.requires.stands in let k = c.in_ok-k.k in let out = c.get.result.now in
-    let first = c.in_ok-k.ensures.finds stands.0 stands.1 stands.2 in
+    let first = c.in_ok-k.ensures.finds stands.0 stands.1 stands.2.known in
     let covers = c.last_covered-time.ensures.covers program stands.0 stands.1 (open_here program stands.0 places k c.in_ok-k.stretch out c.get.ensures first) in
     let told = tells c.args.style program stands.0 places k c.last_covered-time.result c.in_ok-k.stretch out c.get.ensures stands.2 first covers in
     omega (arith, told.early, stands.1.count)
@@ -76,15 +76,17 @@ returns-clause-taken c =
 pub returns-clause-fewer : goal.returns-clause-fewer
 returns-clause-fewer c =
     let program = c.args.program.now in let places = c.args.places.now in let stands = c.requires.stands in let k = c.in_ok-k.k in let out = c.get.result.now in
-    let first = c.in_ok-k.ensures.finds stands.0 stands.1 stands.2 in
+    let first = c.in_ok-k.ensures.finds stands.0 stands.1 stands.2.known in
     let covers = c.last_covered-time.ensures.covers program stands.0 stands.1 (open_here program stands.0 places k c.in_ok-k.stretch out c.get.ensures first) in
     let told = tells c.args.style program stands.0 places k c.last_covered-time.result c.in_ok-k.stretch out c.get.ensures stands.2 first covers in
     fewer_left c.args.engines.now.rows places k (c.last_covered-time.result + 1) told.inside (omega (arith, told.upward)) (omega (arith, told.early, stands.1.count))
 
 pub returns-clause-cursor : goal.returns-clause-cursor
-returns-clause-cursor c = λ rows taken placed.
-    let program = c.args.program.now in let places = c.args.places.now in let k = c.in_ok-k.k in let out = c.get.result.now in
-    let first = c.in_ok-k.ensures.finds rows taken placed in
-    let covers = c.last_covered-time.ensures.covers program rows taken (open_here program rows places k c.in_ok-k.stretch out c.get.ensures first) in
-    let told = tells c.args.style program rows places k c.last_covered-time.result c.in_ok-k.stretch out c.get.ensures placed first covers in
-    cursor_behind program rows places k c.last_covered-time.result c.in_ok-k.stretch c.behind.result told.inside told.upward first c.behind.ensures.out c.behind.ensures.kept
+returns-clause-cursor c =
+    let program = c.args.program.now in let places = c.args.places.now in let stands = c.requires.stands in let k = c.in_ok-k.k in let out = c.get.result.now in
+    let found = c.in_ok-k.ensures.finds stands.0 stands.1 stands.2.known in
+    let covers = c.last_covered-time.ensures.covers program stands.0 stands.1 (open_here program stands.0 places k c.in_ok-k.stretch out c.get.ensures found) in
+    let told = tells c.args.style program stands.0 places k c.last_covered-time.result c.in_ok-k.stretch out c.get.ensures stands.2 found covers in
+    λ rows taken known.
+    let before = known_before program rows places k c.last_covered-time.result told.inside told.upward known in
+    cursor_behind program rows places k c.last_covered-time.result c.in_ok-k.stretch c.behind.result told.inside told.upward (c.in_ok-k.ensures.finds rows taken before) c.behind.ensures.out c.behind.ensures.kept

@@ -3,18 +3,18 @@ use Rattle.contract_status.proofs.engines.Engines.first_open.Goals as goal
 
 pub returns-in-Some : goal.returns-in-Some
 returns-in-Some c = record {
-  finds = λ rows taken placed.
+  finds = λ rows taken known.
       let program = c.args.program.now in
       let k = c.loop-k.k in
       let out = c.get.result.now in
-      first_here program rows c.args.places.now k out c.in-Some.stretch c.get.ensures (c.loop-k.invariant rows taken placed)
-      (c.in-Some.ensures.shows program rows taken (placed_within program rows c.args.places.now k out placed c.get.ensures));
+      first_here program rows c.args.places.now k out c.in-Some.stretch c.get.ensures (c.loop-k.invariant rows taken known)
+      (c.in-Some.ensures.shows program rows taken (placed_within program rows c.args.places.now k out known c.get.ensures));
 }
 
 pub loop-k-preserved : goal.loop-k-preserved
-loop-k-preserved c = λ rows taken placed.
+loop-k-preserved c = λ rows taken known.
     let program = c.args.program.now in
     let k = c.loop-k.k in
     let out = c.get.result.now in
-    more_told program rows c.args.places.now k out c.get.ensures (c.loop-k.invariant rows taken placed)
-    (c.in_default.ensures.shows program rows taken (placed_within program rows c.args.places.now k out placed c.get.ensures))
+    more_told program rows c.args.places.now k out c.get.ensures (c.loop-k.invariant rows taken known)
+    (c.in_default.ensures.shows program rows taken (placed_within program rows c.args.places.now k out known c.get.ensures))

@@ -1,9 +1,9 @@
 use Rattle.std.proofs.Common.{ℕ, ◌<◌, ◌≤◌, List, slice_index}
 use Rattle.mltl_base.specs.Atoms.{Row}
-use Rattle.contract_status.specs.Open.{ArePlaced, known_counts_of}
+use Rattle.contract_status.specs.Open.{AreKnown, known_counts_of}
 use Rattle.contract_status.specs.Stretches.{HaveTaken}
 use Rattle.contract_status.proofs.engines.Engines.first_open.Given as goal
 
 abbrev pub invariant-loop-k : goal.invariant-loop-k
 invariant-loop-k l =
-    (rows : List Row) → HaveTaken l.program rows l.self → ArePlaced l.program rows l.places → (j : ℕ) → j < l.k → slice_index (known_counts_of l.program rows) j ≤ slice_index l.places j
+    (rows : List Row) → HaveTaken l.program rows l.self → AreKnown l.program rows l.places → (j : ℕ) → j < l.k → slice_index (known_counts_of l.program rows) j ≤ slice_index l.places j

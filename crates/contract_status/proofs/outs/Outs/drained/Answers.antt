@@ -19,5 +19,5 @@ returns c = record {
       let places : c.deref.result.now ≡ c.args.self.now = c.deref.ensures.value ∙ c.self.view_is in
       let finds = rw (c.program.ensures.program, places) at c.first_open-open.ensures.finds in
       none_found style c.args.checked.now rows c.args.self.now c.first_open-open.result c.is_none.result c.is_none.ensures stands.placed
-      (finds rows (taken_by c.args.checked.now rows engines c.args.self.now stands) stands.placed);
+      (finds rows (taken_by c.args.checked.now rows engines c.args.self.now stands) stands.placed.known);
 }

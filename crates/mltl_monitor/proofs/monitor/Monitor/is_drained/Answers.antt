@@ -10,7 +10,7 @@ use Rattle.mltl_monitor.proofs.monitor.Monitor.is_drained.Goals as goal
 pub returns-clause-drained : goal.returns-clause-drained
 returns-clause-drained c =
     subst (λ (monitor : State). IsTrue c.is_drained.result ↔ IsDrained monitor) c.self.view_is
-    (tells_drained c.is_drained.result c.self.inside.state.running c.is_drained.ensures.open (c.self.invariant.some.0, c.self.invariant.some.1.taken))
+    (tells_drained c.is_drained.result c.self.inside.state.running c.is_drained.ensures.open (c.self.invariant.0.some.0, c.self.invariant.0.some.1.taken))
 
 pub returns-clause-open : goal.returns-clause-open
 returns-clause-open c =
