@@ -20,7 +20,7 @@ use Rattle.tool_runs.specs.Telling.{HelpLog}
 use Rattle.tool_runs.proofs.AttachLaws.{no_reads_none, writes_unread}
 use Rattle.r2u2_runs.specs.Asking.{Ask, help, over, nothing, served, ask, asked_names}
 use Rattle.r2u2_runs.specs.Outcome.{due_by}
-use Rattle.r2u2_runs.specs.Run.{found_in, FileOutcome, HelpOutcome, NothingOutcome, OutcomeOf, TriesSecond, IsPrompt, Ran}
+use Rattle.r2u2_runs.specs.Run.{found_in, FileOutcome, HelpOutcome, NothingOutcome, OutcomeOf, RefusesBehind, TriesSecond, IsPrompt, Ran}
 
 -- help, or a front of it, went out
 help_ran : (answer : status.Status) (sent : List ℕ) (events : List Event) → Writes Out sent events → OutcomeOf answer help events None → OpensAsTold answer events → (answer ≡ status.TheVariants.Memory → ⊥) → Ran help answer None events
@@ -31,6 +31,7 @@ help_ran answer sent events writes outcome opened some = record {
   prompt = Prompt-from_by (λ bytes. []) [] events (Writes-prompt (λ bytes. []) [] [] Out sent events writes);
   outcome = outcome;
   opened = opened;
+  begun = tt;
   early = λ memory. absurd (some memory);
   quiet = Writes-given_elsewhere Out at.Err sent events refl writes;
 }
@@ -59,14 +60,20 @@ memory_none help = record { no_lines = refl; no_monitor = refl }
 memory_none (over asked) = (omega arith, record { no_lines = refl; no_monitor = refl })
 memory_none nothing = record { no_lines = refl; no_monitor = refl }
 
-run_none : (asked : Ask) (answer : status.Status) → OutcomeOf answer asked [] None → OpensAsTold answer [] → Ran asked answer None []
-run_none asked answer outcome opened = record {
+memory_begun : (asked : Ask) → RefusesBehind asked status.TheVariants.Memory []
+memory_begun help = tt
+memory_begun (over asked) = λ unrefused. tt
+memory_begun nothing = tt
+
+run_none : (asked : Ask) (answer : status.Status) → OutcomeOf answer asked [] None → OpensAsTold answer [] → RefusesBehind asked answer [] → Ran asked answer None []
+run_none asked answer outcome opened begun = record {
   names = record { rest = asked_names asked; split = refl };
   second = second_none asked;
   attached = no_reads_none;
   prompt = prompt_none asked;
   outcome = outcome;
   opened = opened;
+  begun = begun;
   early = λ memory before after piece is. absurd (none before after piece is);
   quiet = refl;
 }
@@ -76,17 +83,10 @@ run_none asked answer outcome opened = record {
     none (event ∷ before) after piece is = cc
 
 pub run_no_memory : (asked : Ask) → Ran asked status.TheVariants.Memory None []
-run_no_memory asked = run_none asked status.TheVariants.Memory (memory_none asked) tt
+run_no_memory asked = run_none asked status.TheVariants.Memory (memory_none asked) tt (memory_begun asked)
 
 pub run_nothing : (asked : Ask) → asked ≡ nothing → Ran asked status.TheVariants.Usage None []
-run_nothing asked is = subst (λ a. Ran a status.TheVariants.Usage None []) (sym is) (run_none nothing status.TheVariants.Usage (record { no_lines = refl; no_monitor = refl }) tt)
-
--- stamped rows are asked for as nothing
-pub served_run : (asked : RunAsked) (answer : status.Status) (kept : Option State) (events : List Event) → asked.timed ≡ false → Ran (over asked) answer kept events → Ran (served (words.run asked)) answer kept events
-served_run asked answer kept events is ran = subst (λ a. Ran a answer kept events) (sym (ap (λ (b : Bool). if b then nothing else over asked) is)) ran
-
-pub served_stamped : (asked : RunAsked) → asked.timed ≡ true → Ran (served (words.run asked)) status.TheVariants.Usage None []
-served_stamped asked is = run_nothing (served (words.run asked)) (ap (λ (b : Bool). if b then nothing else over asked) is)
+run_nothing asked is = subst (λ a. Ran a status.TheVariants.Usage None []) (sym is) (run_none nothing status.TheVariants.Usage (record { no_lines = refl; no_monitor = refl }) tt tt)
 
 -- how an answer tells what was asked
 asks_over : (answer : status.Status) (asked : RunAsked) (file : List ℕ) (file_end : Bool) (bytes : List ℕ) (ended : Bool) (out : List ℕ) (kept : Option State) → FileOutcome answer asked file file_end bytes ended out kept → (answer ≡ status.TheVariants.Usage → ⊥) × (answer ≡ status.TheVariants.Helped → ⊥)

@@ -22,7 +22,7 @@ use Rattle.tool_runs.proofs.AttachLaws.{ReadsAttached-append, file_attached, fil
 use Rattle.r2u2_runs.specs.Asking.{over}
 use Rattle.r2u2_runs.specs.ProgramBy.{file_refusal, unless_long, unless_refused, begins_long, header_in, program_by, program_over}
 use Rattle.r2u2_runs.specs.Outcome.{due_by, Silent, NeverRan, LinesOutcome}
-use Rattle.r2u2_runs.specs.Run.{file_of, file_ended, trace_of, trace_ended, lines_in, found_in, IsReadable, ReadsFirstLine, ByLines, FileOutcome, Ran}
+use Rattle.r2u2_runs.specs.Run.{file_of, file_ended, trace_of, trace_ended, lines_in, found_in, IsReadable, ReadsFirstLine, ByLines, FileOutcome, BegunFor, RefusesBehind, Ran}
 use Rattle.r2u2_runs.specs.Phases.{NotOpened, IsOpened, RanFile, TraceOutcome, RanTrace}
 use Rattle.r2u2_runs.proofs.Refusing.{Refuses, file_refuses}
 use Rattle.r2u2_runs.proofs.TraceRuns.{trace_elsewhere}
@@ -88,8 +88,8 @@ one_tried : (names : List (place.Place × List ℕ)) (one : place.Place × List 
 one_tried names one is two = let less : 1 < 1 = subst (λ ns. 1 < length ns) is two in omega (arith, less)
 
 -- a run whose file was read, and nothing more: the log is that of the file
-run_read : (asked : RunAsked) (bytes : List ℕ) (ended : Bool) (answer : status.Status) (events : List Event) (read : HasRead asked.source asked.file bytes ended events) → FileOutcome answer asked bytes ended [] false [] None → OpensAsTold answer events → Ran (over asked) answer None events
-run_read asked bytes ended answer events read outcome opened =
+run_read : (asked : RunAsked) (bytes : List ℕ) (ended : Bool) (answer : status.Status) (events : List Event) (read : HasRead asked.source asked.file bytes ended events) → FileOutcome answer asked bytes ended [] false [] None → OpensAsTold answer events → RefusesBehind (over asked) answer events → Ran (over asked) answer None events
+run_read asked bytes ended answer events read outcome opened begun =
     let due_of = due_by asked (found_in asked events) false in
     record {
       names = record { rest = (Trace, asked.trace) ∷ []; split = ap (λ names. names ++ (Trace, asked.trace) ∷ []) (sym read.names) };
@@ -103,6 +103,7 @@ run_read asked bytes ended answer events read outcome opened =
           (subst (λ v. FileOutcome answer asked bytes ended [] v (given Out events) None) (sym read.no_trace_end)
           (subst (λ b. FileOutcome answer asked bytes ended [] false b None) (sym read.no_lines) outcome))));
       opened = opened;
+      begun = begun;
       early = λ memory. read.early;
       quiet = read.quiet;
     }
@@ -120,6 +121,7 @@ missed asked events (inl is) = subst (Ran (over asked) (status.TheVariants.OpenF
   prompt = Prompt-from_by (due_by asked (found_in asked (Missed (file_place asked.source) asked.file ∷ [])) false) [] (Missed (file_place asked.source) asked.file ∷ []) tt;
   outcome = open_outcome asked.source asked refl;
   opened = refl;
+  begun = λ unrefused. tt;
   early = λ memory. cc;
   quiet = refl;
 })
@@ -130,6 +132,7 @@ missed asked events (inr is) = subst (Ran (over asked) (status.TheVariants.OpenF
   prompt = Prompt-from_by (due_by asked (found_in asked []) false) [] [] tt;
   outcome = open_outcome asked.source asked refl;
   opened = refl;
+  begun = λ unrefused. tt;
   early = λ memory. cc;
   quiet = refl;
 })
@@ -148,15 +151,15 @@ run_unread asked (status.TheVariants.ReadFault p) events is =
     subst (λ q. Ran (over asked) (status.TheVariants.ReadFault q) None events) (sym p_is)
     (subst (Ran (over asked) (status.TheVariants.ReadFault (file_place asked.source)) None) (sym is.3)
     (let read = has_read asked.source asked.file bytes false log is.4 in
-    run_read asked bytes false (status.TheVariants.ReadFault (file_place asked.source)) (Attached (file_place asked.source) asked.file ∷ log) read (read_outcome asked.source asked bytes refl is.5) read.opened))
+    run_read asked bytes false (status.TheVariants.ReadFault (file_place asked.source)) (Attached (file_place asked.source) asked.file ∷ log) read (read_outcome asked.source asked bytes refl is.5) read.opened (λ unrefused. tt)))
 run_unread asked (status.TheVariants.TextTooLong p) events is =
     let log = is.1 in
     let bytes = is.2 in
     subst (Ran (over asked) (status.TheVariants.TextTooLong p) None) (sym is.3)
-    (run_read asked bytes false (status.TheVariants.TextTooLong p) (Attached (file_place asked.source) asked.file ∷ log) (has_read asked.source asked.file bytes false log is.4) (is.0, is.5, silent) tt)
+    (run_read asked bytes false (status.TheVariants.TextTooLong p) (Attached (file_place asked.source) asked.file ∷ log) (has_read asked.source asked.file bytes false log is.4) (is.0, is.5, silent) tt (λ unrefused. tt))
 run_unread asked status.TheVariants.Memory events is =
     subst (Ran (over asked) status.TheVariants.Memory None) (sym is.2)
-    (run_read asked is.1 false status.TheVariants.Memory (Attached (file_place asked.source) asked.file ∷ is.0) (has_read asked.source asked.file is.1 false is.0 is.3) (is.4, silent) tt)
+    (run_read asked is.1 false status.TheVariants.Memory (Attached (file_place asked.source) asked.file ∷ is.0) (has_read asked.source asked.file is.1 false is.0 is.3) (is.4, silent) tt (λ unrefused. tt))
 run_unread asked answer events is = absurd is
 
 -- how the outcome over a trace is one of the run
@@ -242,6 +245,8 @@ module _ (asked : RunAsked) (bytes : List ℕ) (answer : status.Status) (kept : 
         (subst (λ b. FileOutcome answer asked bytes true (trace_of second) (trace_ended second) b kept) (sym all_out)
         (file_outcome answer asked bytes second kept readable is.ran.outcome)))));
     opened = run_opened answer asked bytes kept first second read.unopened is.ran.outcome is.ran.opened;
+    begun = λ unrefused.
+        subst (λ v. BegunFor answer v (lines_of v (trace_of all))) (sym all_ended) (subst (λ b. BegunFor answer (trace_ended second) (lines_of (trace_ended second) b)) (sym all_trace) is.ran.begun);
     early = λ memory. early_both first second read.early read.no_trace_bytes (is.ran.early memory);
     quiet = given-append at.Err first second ∙ ap (λ b. b ++ given at.Err second) read.quiet ∙ is.ran.quiet;
   }
@@ -264,10 +269,11 @@ closed_opened (status.TheVariants.ReadFault p) events speaks = absurd speaks
 closed_opened answer events speaks = tt
 
 run_closed : (asked : RunAsked) (bytes : List ℕ) (answer : status.Status) (first : List Event) → HasRead asked.source asked.file bytes true first → length bytes ≤ file_limit asked.source → (answer ≡ status.TheVariants.Memory) ⊎ (file_refusal asked.source bytes ≡ Some answer) → Ran (over asked) answer None first
-run_closed asked bytes answer first read fits (inl memory) = subst (λ s. Ran (over asked) s None first) (sym memory) (run_read asked bytes true status.TheVariants.Memory first read (fits, silent) tt)
+run_closed asked bytes answer first read fits (inl memory) = subst (λ s. Ran (over asked) s None first) (sym memory) (run_read asked bytes true status.TheVariants.Memory first read (fits, silent) tt (λ unrefused. tt))
 run_closed asked bytes answer first read fits (inr refused) =
     let speaks = file_refuses asked.source bytes answer refused in
     run_read asked bytes true answer first read (closed_outcome answer asked bytes speaks fits (refused_over asked.source bytes [] answer refused)) (closed_opened answer first speaks)
+    (λ unrefused. absurd (let no : None ≡ Some answer = sym unrefused ∙ ap (file_refusal asked.source) read.file ∙ refused in cc))
 
 pub run_file_ran : (asked : RunAsked) (bytes : Vec ℕ Global) (answer : status.Status) (kept : Option State) (first second : List Event) → FileLog (Ok bytes) (file_place asked.source) (file_limit asked.source) asked.file first → RanFile asked bytes.items answer kept second → Ran (over asked) answer kept (first ++ second)
 run_file_ran asked bytes answer kept first second read (inl closed) =

@@ -19,19 +19,27 @@ use Rattle.trace_feed.specs.Header.{begins_header}
 use Rattle.trace_watch.specs.declared.status.TraceWhy.TheVariants.{LongLine}
 use Rattle.trace_watch.specs.declared.status.Watched as watched
 use Rattle.trace_watch.specs.Trace.{TraceRows, trace_rows, due}
+use Rattle.trace_watch.specs.Stamped.{stamped_rows}
 use Rattle.trace_watch.specs.Watch.{OnlyRun, IsTold, Outcome, IsWatch}
 use Rattle.trace_watch.proofs.LineLaws.{reads_prompt, OnlyRun-append, OnlyRun-reads, row_line}
 use Rattle.tool_runs.specs.declared.status.Status as status
 use Rattle.r2u2_runs.specs.ProgramBy.{file_refusal, program_by, header_in, begins_long, unless_long, unless_refused, program_over}
-use Rattle.r2u2_runs.specs.Outcome.{due_by, Silent, AllTold, NeverRan, LinesOutcome}
-use Rattle.r2u2_runs.specs.Run.{trace_of, trace_ended, lines_in, ReadsFirstLine}
+use Rattle.r2u2_runs.specs.Outcome.{due_by, rows_by, Silent, AllTold, NeverRan, LinesOutcome}
+use Rattle.r2u2_runs.specs.Run.{trace_of, trace_ended, lines_in, BegunFor, HasBegun, ReadsFirstLine}
 use Rattle.r2u2_runs.specs.Phases.{FirstRead, StandsFirst, IsFirst, header_of_row, header_at, FirstLog, RanLoop, NoMemory, NoProgram, HasProgram, RanRows, RanLines, status_of}
 use Rattle.r2u2_runs.proofs.Refusing.{Refuses, IsMarked, program_refuses}
+
+-- no line says no row
+rows_none : (asked : RunAsked) (program : Program) → (rows_by asked program 1 []).rows ≡ []
+rows_none asked program =
+    elim asked.timed as (λ (v : Bool). (if v then stamped_rows program asked.mission 1 [] else trace_rows program asked.mission 1 []).rows ≡ []) [ true ↦ refl | false ↦ refl ]
 
 -- nothing is due for bytes without a line
 due_none : (asked : RunAsked) (found : Result Program status.Status) (more : List ℕ) → HasNoNewline more → length more < 65536 → due_by asked found false more ≡ []
 unfolding reports_after
-due_none asked (Ok program) more plain short = ap (λ raws. lines asked.style (output_names program) (outputs program) (trace_rows program asked.mission 1 raws).rows) (lines_of-none more plain short)
+due_none asked (Ok program) more plain short =
+    ap (λ raws. lines asked.style (output_names program) (outputs program) (rows_by asked program 1 raws).rows) (lines_of-none more plain short)
+    ∙ ap (lines asked.style (output_names program) (outputs program)) (rows_none asked program)
 due_none asked (Err answer) more plain short = refl
 
 -- before each of the reads that are needed no newline was taken
@@ -90,15 +98,40 @@ found_over source bytes row lines none has =
     ∙ ap (program_by source bytes) has.header
 
 -- what the loop left is what the run leaves
-told_all : (program : Program) (asked : RunAsked) (ended : Bool) (bytes out : List ℕ) (monitor : State) → IsTold program asked.style (trace_rows program asked.mission 1) ended bytes out monitor → AllTold asked (Ok program) ended bytes out (Some monitor)
+told_all : (program : Program) (asked : RunAsked) (ended : Bool) (bytes out : List ℕ) (monitor : State) → IsTold program asked.style (rows_by asked program 1) ended bytes out monitor → AllTold asked (Ok program) ended bytes out (Some monitor)
 told_all program asked ended bytes out monitor told = record { out_is = told.told; keeps = told.kept; some_kept = λ none. cc }
 
-lines_outcome : (answer : watched.Watched) (program : Program) (asked : RunAsked) (ended : Bool) (bytes out : List ℕ) (monitor : State) → Outcome answer program asked.style (trace_rows program asked.mission 1) ended bytes out monitor → LinesOutcome (status_of answer) asked (Ok program) ended bytes out (Some monitor)
+lines_outcome : (answer : watched.Watched) (program : Program) (asked : RunAsked) (ended : Bool) (bytes out : List ℕ) (monitor : State) → Outcome answer program asked.style (rows_by asked program 1) ended bytes out monitor → LinesOutcome (status_of answer) asked (Ok program) ended bytes out (Some monitor)
 lines_outcome watched.TheVariants.Done program asked ended bytes out monitor is = (is.0, is.1, told_all program asked ended bytes out monitor is.2, refl)
 lines_outcome watched.TheVariants.TooLong program asked ended bytes out monitor is = (is.0, told_all program asked ended bytes out monitor is.1)
 lines_outcome (watched.TheVariants.BadTrace number why) program asked ended bytes out monitor is = inr (is.0, told_all program asked ended bytes out monitor is.1)
-lines_outcome watched.TheVariants.ReadFault program asked ended bytes out monitor is = (is.0, told_all program asked false bytes out monitor is.1)
+lines_outcome watched.TheVariants.ReadFault program asked ended bytes out monitor is = (is.0, inr is.1, told_all program asked false bytes out monitor is.2)
 lines_outcome watched.TheVariants.WriteFault program asked ended bytes out monitor is = (is.0, is.1)
+
+-- where the first line stands in front, or the trace has none, it has begun
+first_begun : (row : Option (List ℕ)) (pending : List ℕ) (ended : Bool) → StandsFirst row pending ended → HasBegun ended (lines_of ended pending)
+first_begun None pending ended stands = inl stands.1
+first_begun (Some raw) pending ended stands =
+    let behind : Cutting = record { pending = stands.0; row = None; kept = false; ended = ended; number = 0 } in
+    let split : lines_of ended pending ≡ raw ∷ lines_of ended stands.0 = ap (lines_of ended) stands.1 ∙ row_line raw behind ended stands.0 stands.3 (λ met. (met, refl)) in
+    inr (λ none. let is : raw ∷ lines_of ended stands.0 ≡ [] = sym split ∙ none in cc)
+
+has_begun : (start : Cutting) (events : List Event) → FirstRead start events → IsFirst start → HasBegun (trace_ended events) (lines_in events)
+has_begun start events has first =
+    subst (λ v. HasBegun v (lines_of v (trace_of events))) (sym (first_ended start events has))
+    (subst (λ b. HasBegun start.ended (lines_of start.ended b)) (sym (first_taken start events has)) (first_begun start.row start.pending start.ended first.stands))
+
+begun_for : (answer : status.Status) (ended : Bool) (raws : List (List ℕ)) → HasBegun ended raws → BegunFor answer ended raws
+begun_for (status.TheVariants.Refused line why) ended raws is = is
+begun_for answer ended raws is = tt
+
+-- the loop ends by no refusal
+loop_begun : (answer : watched.Watched) (ended : Bool) (raws : List (List ℕ)) → BegunFor (status_of answer) ended raws
+loop_begun watched.TheVariants.Done ended raws = tt
+loop_begun watched.TheVariants.TooLong ended raws = tt
+loop_begun (watched.TheVariants.BadTrace number why) ended raws = tt
+loop_begun watched.TheVariants.ReadFault ended raws = tt
+loop_begun watched.TheVariants.WriteFault ended raws = tt
 
 -- no memory came
 lines_no_memory : (asked : RunAsked) (bytes : List ℕ) (cut : Cutting) (events : List Event) → FirstRead cut events → RanLines asked bytes status.TheVariants.Memory None events
@@ -108,6 +141,7 @@ lines_no_memory asked bytes cut events has =
       only = first_only cut events has;
       prompt = Prompt-from_by (due_by asked found false) [] events (first_prompt asked found cut events has);
       outcome = record { no_lines = first_given cut events has; no_monitor = refl };
+      begun = tt;
       early = λ is. first_line_early cut events has;
     }
 
@@ -143,6 +177,7 @@ lines_refused asked bytes start answer events has first none is =
       only = first_only start events has;
       prompt = Prompt-from_by (due_by asked found false) [] events (first_prompt asked found start events has);
       outcome = refused_outcome answer asked found (trace_ended events) (trace_of events) (given Out events) (program_refuses asked.source bytes (header_at start) answer (row_marked start.row) is) refused (first_given start events has);
+      begun = begun_for answer (trace_ended events) (lines_in events) (has_begun start events has first);
       early = refused_early answer start events has;
     }
 
@@ -160,7 +195,7 @@ module _ (asked : RunAsked) (bytes : List ℕ) (start : Cutting) (answer : statu
   all = first ++ second
 
   abbrev rows_in : List (List ℕ) → TraceRows
-  rows_in = trace_rows program asked.mission 1
+  rows_in = rows_by asked program 1
 
   all_taken : start.pending ++ taken Trace second ≡ trace_of all
   all_taken = ap (λ b. b ++ taken Trace second) (sym (first_taken start first has)) ∙ sym (taken-append Trace first second)
@@ -181,14 +216,14 @@ module _ (asked : RunAsked) (bytes : List ℕ) (start : Cutting) (answer : statu
       subst (λ v. Outcome ran.ended_so program asked.style rows_in v (trace_of all) (given Out all) ran.monitor) all_ended
       (subst (λ b. Outcome ran.ended_so program asked.style rows_in ran.cut.ended b (given Out all) ran.monitor) all_taken
       (subst (λ b. Outcome ran.ended_so program asked.style rows_in ran.cut.ended (start.pending ++ taken Trace second) b ran.monitor) all_given
-      (subst (λ n. Outcome ran.ended_so program asked.style (trace_rows program asked.mission n) ran.cut.ended (start.pending ++ taken Trace second) (given Out second) ran.monitor) is_first.numbered ran.watch.outcome)))
+      (subst (λ n. Outcome ran.ended_so program asked.style (rows_by asked program n) ran.cut.ended (start.pending ++ taken Trace second) (given Out second) ran.monitor) is_first.numbered ran.watch.outcome)))
 
   loop_prompt : PromptBy (due_by asked (Ok program) false) (taken Trace first) (given Out first) second
   loop_prompt =
       subst (λ b. PromptBy (due_by asked (Ok program) false) b (given Out first) second) (sym (first_taken start first has))
       (subst (λ b. PromptBy (due_by asked (Ok program) false) start.pending b second) (sym (first_given start first has))
       (PromptBy-from (due_by asked (Ok program) false) start.pending second
-      (subst (λ n. Prompt (due program asked.style (trace_rows program asked.mission n) false) start.pending second) is_first.numbered ran.watch.prompt)))
+      (subst (λ n. Prompt (due program asked.style (rows_by asked program n) false) start.pending second) is_first.numbered ran.watch.prompt)))
 
   pub lines_looped : RanLines asked bytes answer kept all
   lines_looped = record {
@@ -199,6 +234,7 @@ module _ (asked : RunAsked) (bytes : List ℕ) (start : Cutting) (answer : statu
         (subst (λ k. LinesOutcome answer asked (Ok program) (trace_ended all) (trace_of all) (given Out all) k) (sym ran.kept_is)
         (subst (λ s. LinesOutcome s asked (Ok program) (trace_ended all) (trace_of all) (given Out all) (Some ran.monitor)) (sym ran.is)
         (lines_outcome ran.ended_so program asked (trace_ended all) (trace_of all) (given Out all) ran.monitor loop_outcome)));
+    begun = subst (λ s. BegunFor s (trace_ended all) (lines_in all)) (sym ran.is) (loop_begun ran.ended_so (trace_ended all) (lines_in all));
     early = λ memory. absurd (never_memory ran.ended_so (sym ran.is ∙ memory));
   }
 
@@ -239,6 +275,7 @@ lines_long asked bytes number cut events none has numbered plain size =
       only = first_only cut events has;
       prompt = Prompt-from_by (due_by asked found false) [] events (first_prompt asked found cut events has);
       outcome = inl (record { refused = refused ∙ ap (λ n. Err (status.TheVariants.BadTrace n LongLine)) (sym numbered); silent = record { no_lines = first_given cut events has; no_monitor = refl } });
+      begun = tt;
       early = λ is. cc;
     }
 
@@ -251,12 +288,14 @@ lines_unread asked bytes cut events has plain short unmet =
       prompt = Prompt-from_by (due_by asked found false) [] events (first_prompt asked found cut events has);
       outcome = (
         first_ended cut events has ∙ unmet,
+        inl (ap (lines_of false) (first_taken cut events has) ∙ lines_of-none cut.pending plain short),
         record {
           out_is = first_given cut events has ∙ sym (ap (due_by asked found false) (first_taken cut events has) ∙ due_none asked found cut.pending plain short);
           keeps = tt;
           some_kept = λ none. first_given cut events has;
         },
       );
+      begun = tt;
       early = λ is. cc;
     }
 

@@ -26,9 +26,9 @@ use Rattle.tool_runs.specs.Telling.{ToldWhole}
 use Rattle.tool_runs.proofs.AttachLaws.{ReadsAttached-append, is_attached-append, opened_still, split_at, writes_unattached, writes_unread}
 use Rattle.tool_runs.proofs.CauseLaws.{err_stays, rose_at}
 use Rattle.r2u2_runs.specs.Asking.{Ask, help, over, nothing, asked_names}
-use Rattle.r2u2_runs.specs.ProgramBy.{header_in, program_over}
+use Rattle.r2u2_runs.specs.ProgramBy.{file_refusal, header_in, program_over}
 use Rattle.r2u2_runs.specs.Outcome.{due_by, StopsBy, LinesOutcome}
-use Rattle.r2u2_runs.specs.Run.{file_of, file_ended, trace_of, trace_ended, lines_in, found_in, IsReadable, FileOutcome, HelpOutcome, NothingOutcome, OutcomeOf, TriesSecond, IsPrompt, TellsFormulas, Ran, CompletesBy, Complete, IsRun}
+use Rattle.r2u2_runs.specs.Run.{BegunFor, RefusesBehind, file_of, file_ended, trace_of, trace_ended, lines_in, found_in, IsReadable, FileOutcome, HelpOutcome, NothingOutcome, OutcomeOf, TriesSecond, IsPrompt, TellsFormulas, Ran, CompletesBy, Complete, IsRun}
 use Rattle.r2u2_runs.proofs.Telling.{settled_by}
 
 -- rows that end cleanly, and a program, where another end is told, or no program
@@ -133,6 +133,13 @@ module _ (first second : List Event) (sent : List ℕ) (writes : Writes at.Err s
       (subst (λ v. FileOutcome answer asked (file_of asked first) (file_ended asked first) (trace_of first) v (given Out all) kept) (sym (all_ended Trace))
       (subst (λ b. FileOutcome answer asked (file_of asked first) (file_ended asked first) (trace_of first) (trace_ended first) b kept) (sym all_out) is))))
 
+  pub begun_still : (asked : Ask) (answer : status.Status) → RefusesBehind asked answer first → RefusesBehind asked answer all
+  begun_still help answer is = tt
+  begun_still nothing answer is = tt
+  begun_still (over asked) answer is = λ unrefused.
+      subst (λ v. BegunFor answer v (lines_in all)) (sym (all_ended Trace))
+      (subst (BegunFor answer (trace_ended first)) (sym all_lines) (is (ap (file_refusal asked.source) (sym (all_taken (file_place asked.source))) ∙ unrefused)))
+
 tells_formulas : (asked : Ask) (events : List Event) → TellsFormulas asked events
 tells_formulas help events = tt
 tells_formulas nothing events = tt
@@ -150,6 +157,7 @@ run_told asked answer kept before between now first second sent unsent ran cause
       settled = tells_formulas asked (first ++ second);
       outcome = outcome;
       opened = opened_still answer first second (λ p. ap (is_attached p) writes.are ∙ writes_unattached p writes.pieces) ran.opened;
+      begun = begun_still first second sent writes asked answer ran.begun;
       early = λ memory start after piece is. elim (split_at first second start after (Took Trace piece) is) [
         | inl found ↦ ran.early memory start found.0 piece found.1
         | inr found ↦ absurd (writes_unread at.Err writes.pieces found.0 after Trace piece (sym writes.are ∙ found.2))

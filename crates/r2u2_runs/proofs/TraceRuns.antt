@@ -100,6 +100,7 @@ trace_ran asked bytes answer kept events log is ran =
       prompt = Prompt-from_by due_of [] (Attached Trace asked.trace ∷ log) (PromptBy-from due_of [] log ran.prompt);
       outcome = trace_outcome answer asked bytes (Attached Trace asked.trace ∷ log) kept ran.outcome;
       opened = opens_first answer asked bytes log kept asked.trace log ran.outcome;
+      begun = ran.begun;
       early = λ memory. early_first asked.trace log (ran.early memory);
       quiet = run_quiet log ran.only;
     })
@@ -114,6 +115,7 @@ trace_missed asked bytes events (inl is) = subst (RanTrace asked bytes (status.T
   prompt = Prompt-from_by (due_by asked (program_over asked.source bytes []) false) [] (Missed Trace asked.trace ∷ []) tt;
   outcome = record { no_lines = refl; no_monitor = refl };
   opened = refl;
+  begun = tt;
   early = λ memory. cc;
   quiet = refl;
 })
@@ -125,6 +127,7 @@ trace_missed asked bytes events (inr is) = subst (RanTrace asked bytes (status.T
   prompt = Prompt-from_by (due_by asked (program_over asked.source bytes []) false) [] [] tt;
   outcome = record { no_lines = refl; no_monitor = refl };
   opened = refl;
+  begun = tt;
   early = λ memory. cc;
   quiet = refl;
 })

@@ -1,6 +1,6 @@
 -- What the words of r2u2 ask for, of what it does.
 
-use Rattle.std.specs.Prelude.{ℕ, Bool, true, false, if◌then◌else◌, List, [], ◌∷◌}
+use Rattle.std.specs.Prelude.{ℕ, Bool, true, false, List, [], ◌∷◌}
 use Rattle.mltl_base.specs.declared.limits.TheConstants.{MAX_SPEC_BYTES, MAX_PROGRAM_BYTES}
 use Rattle.tool_io.specs.declared.host.Place.{Place}
 use Rattle.tool_io.specs.declared.host.Place.TheVariants.{Spec, Program, Trace}
@@ -15,10 +15,10 @@ pub data Ask : Type 0 where
   over : RunAsked → Ask
   nothing : Ask
 
--- of what words may ask for; stamped rows and demos aren't served
+-- of what words may ask for; demos aren't served
 abbrev pub served : Asked → Ask
 served words.help = help
-served (words.run asked) = if asked.timed then nothing else over asked
+served (words.run asked) = over asked
 served (words.demo seed rows) = nothing
 served words.nothing = nothing
 

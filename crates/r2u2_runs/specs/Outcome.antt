@@ -1,6 +1,6 @@
 -- How the answer of a run follows from the lines of its trace, with what is out and the monitor that is kept.
 
-use Rattle.std.specs.Prelude.{◌≡◌, ℕ, ◌⊎◌, Bool, true, false, IsSome, Option, Some, None, Result, Ok, Err, List, []}
+use Rattle.std.specs.Prelude.{◌≡◌, ℕ, ◌⊎◌, Bool, true, false, if◌then◌else◌, IsSome, Option, Some, None, Result, Ok, Err, List, []}
 use Rattle.mltl_base.specs.declared.program.Program.{Program}
 use Rattle.mltl_base.specs.Atoms.{Row}
 use Rattle.tool_io.specs.declared.host.Place.TheVariants.{Trace, Out}
@@ -9,17 +9,23 @@ use Rattle.tool_io.specs.Cutting.{lines_of}
 use Rattle.tool_words.specs.R2u2Words.{RunAsked}
 use Rattle.mltl_monitor.specs.declared.state.State.{State}
 use Rattle.trace_watch.specs.Trace.{TraceRows, Stop, Clean, Past, Bad, trace_rows, due}
+use Rattle.trace_watch.specs.Stamped.{stamped_rows}
 use Rattle.trace_watch.specs.Watch.{HasTold, HasFront}
 use Rattle.tool_runs.specs.declared.status.Status.{Status}
 use Rattle.tool_runs.specs.declared.status.Status.TheVariants.{Done, Refused, BadProgram, BadTrace, TooLong, ReadFault, WriteFault, Memory}
 
--- what the bytes of a trace say to the program that runs over them, within the mission time of the words
+-- what the lines of a trace say to the program that runs over them, within the mission time of the words: stamped rows
+-- where the words ask for them; the first line has the number `first`
+abbrev pub rows_by : RunAsked → Program → ℕ → List (List ℕ) → TraceRows
+rows_by asked program first raws = if asked.timed then stamped_rows program asked.mission first raws else trace_rows program asked.mission first raws
+
+-- what the bytes of a trace say
 abbrev pub rows_over : RunAsked → Program → Bool → List ℕ → TraceRows
-rows_over asked program ended bytes = trace_rows program asked.mission 1 (lines_of ended bytes)
+rows_over asked program ended bytes = rows_by asked program 1 (lines_of ended bytes)
 
 -- the lines that are due for the bytes of a trace, in the style of the words; none without a program
 abbrev pub due_by : RunAsked → Result Program Status → Bool → List ℕ → List ℕ
-due_by asked (Ok program) ended bytes = due program asked.style (trace_rows program asked.mission 1) ended bytes
+due_by asked (Ok program) ended bytes = due program asked.style (rows_by asked program 1) ended bytes
 due_by asked (Err status) ended bytes = []
 
 -- nothing is out, and no monitor was kept
@@ -49,6 +55,10 @@ abbrev pub StopsBy : Stop → RunAsked → Result Program Status → Bool → Li
 StopsBy stop asked (Ok program) ended bytes = (rows_over asked program ended bytes).stop ≡ stop
 StopsBy stop asked (Err status) ended bytes = ⊥
 
+-- a trace may be read on: its first line isn't there yet, or a program runs and the rows so far end clean
+abbrev pub ReadsOn : RunAsked → Result Program Status → List ℕ → Type 0
+ReadsOn asked found bytes = (lines_of false bytes ≡ []) ⊎ StopsBy Clean asked found false bytes
+
 -- there is no program to run, by this status, and nothing came of it
 pub record NeverRan (status : Status) (found : Result Program Status) (out : List ℕ) (kept : Option State) : Type 0 where
   pub refused : found ≡ Err status
@@ -63,7 +73,7 @@ LinesOutcome (BadTrace number why) asked found ended bytes out kept =
     NeverRan (BadTrace number why) found out kept ⊎ StopsBy (Bad number why) asked found ended bytes × AllTold asked found ended bytes out kept
 LinesOutcome (Refused line refusal) asked found ended bytes out kept = NeverRan (Refused line refusal) found out kept
 LinesOutcome (BadProgram fault) asked found ended bytes out kept = NeverRan (BadProgram fault) found out kept
-LinesOutcome (ReadFault Trace) asked found ended bytes out kept = (ended ≡ false) × AllTold asked found false bytes out kept
+LinesOutcome (ReadFault Trace) asked found ended bytes out kept = (ended ≡ false) × ReadsOn asked found bytes × AllTold asked found false bytes out kept
 LinesOutcome (WriteFault Out) asked found ended bytes out kept =
     IsFront out (due_by asked found ended bytes) × KeepsFront kept asked found ended bytes
 LinesOutcome Memory asked found ended bytes out kept = Silent out kept

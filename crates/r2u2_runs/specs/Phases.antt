@@ -19,7 +19,6 @@ use Rattle.trace_feed.specs.Header.{begins_header}
 use Rattle.mltl_monitor.specs.declared.state.State.{State}
 use Rattle.trace_watch.specs.declared.status.TraceWhy.TheVariants.{LongLine}
 use Rattle.trace_watch.specs.declared.status.Watched as watched
-use Rattle.trace_watch.specs.Trace.{trace_rows}
 use Rattle.trace_watch.specs.Watch.{OnlyRun, IsWatch, first_of}
 use Rattle.tool_runs.specs.declared.message.Tool.TheVariants.{R2u2}
 use Rattle.r2u2_runs.specs.declared.opening.Opened.{Opened}
@@ -30,8 +29,8 @@ use Rattle.tool_runs.specs.Causes.{RunCause}
 use Rattle.tool_runs.specs.Attaching.{OpensAsTold, ReadsAttached}
 use Rattle.tool_runs.specs.Files.{file_place}
 use Rattle.r2u2_runs.specs.ProgramBy.{file_refusal, program_by, program_over}
-use Rattle.r2u2_runs.specs.Outcome.{due_by, Silent, LinesOutcome}
-use Rattle.r2u2_runs.specs.Run.{trace_of, trace_ended, lines_in, ReadsFirstLine}
+use Rattle.r2u2_runs.specs.Outcome.{due_by, rows_by, Silent, LinesOutcome}
+use Rattle.r2u2_runs.specs.Run.{BegunFor, trace_of, trace_ended, lines_in, ReadsFirstLine}
 
 -- what was made of a file: a specification that says its items, or the program that its bytes spell
 abbrev pub Opens : Opened → Bool → List ℕ → Type 0
@@ -85,7 +84,7 @@ pub record RanLoop (program : Program) (asked : RunAsked) (start : Cutting) (ans
   pub monitor : State
   pub ended_so : watched.Watched
   pub is : answer ≡ status_of ended_so
-  pub watch : IsWatch program asked.style (trace_rows program asked.mission (first_of start)) start cut monitor ended_so events
+  pub watch : IsWatch program asked.style (rows_by asked program (first_of start)) start cut monitor ended_so events
   pub kept_is : kept ≡ Some monitor
 
 pub record NoMemory (answer : status.Status) (kept : Option State) (events : List Event) : Type 0 where
@@ -117,6 +116,7 @@ pub record RanLines (asked : RunAsked) (bytes : List ℕ) (answer : status.Statu
   pub only : OnlyRun events
   pub prompt : Prompt (due_by asked (program_over asked.source bytes (lines_in events)) false) [] events
   pub outcome : LinesOutcome answer asked (program_over asked.source bytes (lines_in events)) (trace_ended events) (trace_of events) (given place.TheVariants.Out events) kept
+  pub begun : BegunFor answer (trace_ended events) (lines_in events)
   pub early : answer ≡ status.TheVariants.Memory → ReadsFirstLine events
 
 -- how a run over a trace that is to be attached ends
@@ -134,6 +134,7 @@ pub record RanTrace (asked : RunAsked) (bytes : List ℕ) (answer : status.Statu
   pub prompt : Prompt (due_by asked (program_over asked.source bytes (lines_in events)) false) [] events
   pub outcome : TraceOutcome answer asked bytes events kept
   pub opened : OpensAsTold answer events
+  pub begun : BegunFor answer (trace_ended events) (lines_in events)
   pub early : answer ≡ status.TheVariants.Memory → ReadsFirstLine events
   pub quiet : given place.TheVariants.Err events ≡ []
 

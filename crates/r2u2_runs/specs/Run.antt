@@ -107,6 +107,21 @@ OutcomeOf answer nothing events kept = NothingOutcome answer (given place.TheVar
 OutcomeOf answer (over asked) events kept =
     FileOutcome answer asked (file_of asked events) (file_ended asked events) (trace_of events) (trace_ended events) (given place.TheVariants.Out events) kept
 
+-- the first line of a trace is there, or its end was met
+abbrev pub HasBegun : Bool → List (List ℕ) → Type 0
+HasBegun ended lines = (ended ≡ true) ⊎ (lines ≢ [])
+
+-- the limits of a program refuse it only where the trace has begun
+abbrev pub BegunFor : status.Status → Bool → List (List ℕ) → Type 0
+BegunFor (status.TheVariants.Refused line why) ended lines = HasBegun ended lines
+BegunFor answer ended lines = Unit {0}
+
+-- so they do where the file isn't refused by itself
+abbrev pub RefusesBehind : Ask → status.Status → List Event → Type 0
+RefusesBehind (over asked) answer events =
+    file_refusal asked.source (file_of asked events) ≡ None → BegunFor answer (trace_ended events) (lines_in events)
+RefusesBehind other answer events = Unit {0}
+
 -- the log of a run before its message
 pub record Ran (asked : Ask) (answer : status.Status) (kept : Option State) (events : List Event) : Type 0 where
   pub names : IsFront (names_of events) (asked_names asked)
@@ -115,6 +130,7 @@ pub record Ran (asked : Ask) (answer : status.Status) (kept : Option State) (eve
   pub prompt : IsPrompt asked events
   pub outcome : OutcomeOf answer asked events kept
   pub opened : OpensAsTold answer events
+  pub begun : RefusesBehind asked answer events
   pub early : answer ≡ status.TheVariants.Memory → ReadsFirstLine events
   pub quiet : given place.TheVariants.Err events ≡ []
 
@@ -140,6 +156,7 @@ pub record IsRun (asked : Ask) (answer : status.Status) (kept : Option State) (b
   pub settled : TellsFormulas asked events
   pub outcome : OutcomeOf answer asked events kept
   pub opened : OpensAsTold answer events
+  pub begun : RefusesBehind asked answer events
   pub early : answer ≡ status.TheVariants.Memory → ReadsFirstLine events
   pub told_user : IsFront (given place.TheVariants.Err events) (told_to_user R2u2 answer)
   pub told_whole : ToldWhole R2u2 answer (before place.TheVariants.Err) (now place.TheVariants.Err) events

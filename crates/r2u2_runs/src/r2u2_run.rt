@@ -4,7 +4,7 @@ ghost use Rattle.std.specs.Prelude.{◌≡◌, ◌≢◌, ◌≤◌, ◌↔◌, 
 ghost use Rattle.tool_io.specs.Log.{OnLog};
 ghost use Rattle.tool_io.specs.declared.host.Place.{Place as Where};
 ghost use Rattle.tool_io.specs.declared.host.Place.TheVariants.{Err};
-ghost use Rattle.tool_words.specs.R2u2Words.{IsInBounds, asked_of, run as words_run, run_of};
+ghost use Rattle.tool_words.specs.R2u2Words.{IsInBounds, asked_of, run_of};
 ghost use Rattle.tool_runs.specs.Causes.{CauseAt, RunCause};
 ghost use Rattle.tool_runs.specs.Files.{file_limit};
 ghost use Rattle.r2u2_runs.specs.Asking.{ask, help, nothing, over, served};
@@ -57,25 +57,6 @@ fn run_file<H: Host>(
     }
 }
 
-/// A run over stamped rows isn't served yet.
-fn run_unstamped<H: Host>(
-    alloc: Global,
-    asked: &Run<'_>,
-    host: &mut H,
-    kept: &mut Option<Monitor>,
-) -> Status
-    requires mission { asked.now.mission ≤ 2 ^ 40 }
-    requires none_kept { kept.old ≡ None }
-    ensures cause { RunCause result (H.faults host.old) (H.faults host.new) }
-    ensures log { OnLog (H.log host.old) (H.log host.new) (Ran (served (words_run (run_of asked.now))) result kept.new) }
-{
-    if asked.timed {
-        Status::Usage
-    } else {
-        run_file(alloc, asked, host, kept)
-    }
-}
-
 /// Does what was asked for.
 fn run_asked<H: Host>(
     alloc: Global,
@@ -90,7 +71,7 @@ fn run_asked<H: Host>(
 {
     match asked {
         R2u2Ask::Help => give_help(Tool::R2u2, host),
-        R2u2Ask::Run(asked) => run_unstamped(alloc, &asked, host, kept),
+        R2u2Ask::Run(asked) => run_file(alloc, &asked, host, kept),
         R2u2Ask::Demo { .. } => Status::Usage,
         R2u2Ask::Nothing => Status::Usage,
     }
@@ -112,8 +93,8 @@ fn run<H: Host>(alloc: Global, words: &Words, host: &mut H, kept: &mut Option<Mo
 
 /// The top call of r2u2: does what the words ask for, and tells the user on `Err` what went wrong.
 ///
-/// It runs over a trace, with a specification or with a program file, or gives help; stamped rows and demos are asked for
-/// by words that are `Usage` yet. Before it reads on in the trace, the verdict lines of all whole lines that it has taken
+/// It runs over a trace, with a specification or with a program file, or gives help; a demo is asked for by words that
+/// are `Usage` yet. Before it reads on in the trace, the verdict lines of all whole lines that it has taken
 /// are out. The monitor that ran is left in `kept`.
 pub fn r2u2_main<H: Host>(
     alloc: Global,

@@ -1,9 +1,12 @@
 //! A run over a trace, from its attachment to its end.
 
-ghost use Rattle.std.specs.Prelude.{◌≡◌, ◌≤◌, ◌^◌, List as Seq, ℕ, None, is_some};
+ghost use Rattle.std.specs.Prelude.{◌≡◌, ◌≤◌, ◌^◌, List as Seq, ℕ, None, [], is_some};
 ghost use Rattle.tool_io.specs.Log.{OnLog};
 ghost use Rattle.tool_words.specs.R2u2Words.{run_of};
 ghost use Rattle.tool_runs.specs.Causes.{RunCause};
+ghost use Rattle.mltl_monitor.specs.Monitoring.{IsDrained, Stands, program_of};
+ghost use Rattle.trace_watch.specs.Watch.{IsWatch, WatchCause, first_of};
+ghost use Rattle.r2u2_runs.specs.Outcome.{rows_by};
 ghost use Rattle.r2u2_runs.specs.Phases.{IsFirst, LoopLog, Opens, RanLines, RanRows, RanTrace, status_of};
 
 use crate::opening::{Opened, program_for};
@@ -14,7 +17,7 @@ use std::alloc::Global;
 use tool_io::{Attached, Host, LineCut, Place};
 use tool_runs::Status;
 use tool_words::Run;
-use trace_watch::{Watched, watch};
+use trace_watch::{Watched, watch, watch_timed};
 
 /// Attaches the trace, and runs over its lines.
 pub(crate) fn run_trace<H: Host>(
@@ -100,9 +103,31 @@ fn watch_rows<H: Host>(
         Ok(monitor) => monitor,
         Err(_) => return Status::Memory,
     };
-    let watched = watch(&mut monitor, cut, host, asked.mission, asked.style);
+    let watched = watch_asked(&mut monitor, cut, host, asked);
     *kept = Some(monitor);
     status_after(watched)
+}
+
+/// Watches the trace, over stamped rows where the words ask for them.
+fn watch_asked<H: Host>(
+    monitor: &mut Monitor,
+    cut: &mut LineCut,
+    host: &mut H,
+    asked: &Run<'_>,
+) -> Watched
+    requires no_rows { Stands monitor.old [] }
+    requires drained { IsDrained monitor.old }
+    requires mission { asked.now.mission ≤ 2 ^ 40 }
+    requires numbered { cut.old.number ≤ 1 }
+    ensures cause { WatchCause result (H.faults host.old) (H.faults host.new) }
+    ensures log { OnLog (H.log host.old) (H.log host.new) (IsWatch (program_of monitor.old) asked.now.style (rows_by (run_of asked.now) (program_of monitor.old) (first_of cut.old)) cut.old cut.new monitor.new result) }
+    ensures program { program_of monitor.new ≡ program_of monitor.old }
+{
+    if asked.timed {
+        watch_timed(monitor, cut, host, asked.mission, asked.style)
+    } else {
+        watch(monitor, cut, host, asked.mission, asked.style)
+    }
 }
 
 fn status_after(watched: Watched) -> Status

@@ -194,7 +194,7 @@ fn words_and_missing_files(rt: HostRuntime) -> Result<(), Fail> {
 --source$1
 --source file trace more$1
 --Source file trace$1
---timed --source file trace$1
+--timed --source file trace$4
 --demo 7,6$1
 --source absent trace$6
 absent trace$6

@@ -13,8 +13,8 @@ returns-in-Help-clause-log g c =
 
 pub returns-in-Run-clause-log : goal.returns-in-Run-clause-log
 returns-in-Run-clause-log g c =
-    OnLog-map _ _ _ c.run_unstamped.ensures.log
-    (λ events ran. subst (λ asked. Ran (served (asked_of asked)) c.run_unstamped.result c.run_unstamped.new.kept events) (sym c.in-Run.is) ran)
+    OnLog-map _ _ _ c.run_file.ensures.log
+    (λ events ran. subst (λ asked. Ran (served (asked_of asked)) c.run_file.result c.run_file.new.kept events) (sym c.in-Run.is) ran)
 
 pub returns-in-Demo-clause-log : goal.returns-in-Demo-clause-log
 returns-in-Demo-clause-log g c = OnLog-none _ _ (rw c.requires.none_kept (run_nothing (served (asked_of c.args.asked)) (ap (λ asked. served (asked_of asked)) c.in-Demo.is)))
