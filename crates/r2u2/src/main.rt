@@ -21,7 +21,7 @@ fn words_of(rt: &HostRuntime, alloc: Global) -> Result<Words, AllocError> {
 
 /// Word `i`, or `None` behind the last one. A buffer that is too short is made twice as long.
 fn word_at(rt: &HostRuntime, alloc: Global, i: usize) -> Result<Option<Vec<u8>>, AllocError> {
-    for power in 10..40 {
+    for power in 10u32..40 {
         let mut word = vec![in alloc; 0u8; 1usize << power]?;
         match rt.arg(i, &mut word) {
             Ok(len) => {
