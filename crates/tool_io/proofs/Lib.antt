@@ -6,6 +6,7 @@ pub mod ListLaws
 pub mod LogLaws
 pub mod MemFilesLemmas
 pub mod MemHostLemmas
+pub mod Newlines
 pub mod Prompting
 pub mod Reading
 pub mod TapeLemmas

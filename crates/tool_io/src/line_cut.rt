@@ -7,6 +7,7 @@ ghost use Rattle.tool_io.specs.Host.{IsSource, ReadCause, LeftElsewhere};
 ghost use Rattle.tool_io.specs.Cutting.{HasNoNewline, EndsLine, IsRow, fresh, keeps, row_of, line_text, IsReady, CutsLine, LineCause};
 
 use crate::host::{Got, Host, Place};
+use memchr::memchr;
 use std::alloc::{AllocError, Global};
 use std::marker::Model;
 
@@ -61,10 +62,11 @@ impl Model for LineCut {
 }
 
 /// The place of the first newline.
+#[tactic(auto, using(crate::proofs::Newlines::first_is_position))]
 fn first_newline(bytes: &[u8]) -> Option<usize>
     ensures { result ≡ position (λ byte. byte == 10) bytes.now }
 {
-    bytes.iter().position(|byte| *byte == b'\n')
+    memchr(b'\n', bytes)
 }
 
 /// Moves the bytes from `next` to `end` to the front.

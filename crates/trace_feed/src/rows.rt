@@ -45,10 +45,15 @@ fn cut_field(line: &[u8]) -> (&[u8], &[u8])
     (&line[..end], &line[rest..])
 }
 
+/// How many commas there are. Each turn adds without a branch, so that several bytes are compared at once.
 fn commas(line: &[u8]) -> usize
     ensures { result ≡ count_by is_comma line.now }
 {
-    line.iter().filter(|byte| **byte == b',').count()
+    let mut count = 0;
+    for i in 0..line.len() {
+        count += usize::from(line[i] == b',');
+    }
+    count
 }
 
 /// Reads the fields of a line from left to right, each into the place of its mark.
