@@ -1,44 +1,24 @@
 //! The loop over a trace.
 
-ghost use Rattle.std.specs.Prelude.{◌≡◌, ◌≤◌, ◌<◌, ◌^◌, [], ◌↔◌, IsSome, IsNone, IfNone, IfSome, List, length};
+ghost use Rattle.std.specs.Prelude.{◌≡◌, ◌≤◌, ◌<◌, ◌^◌, [], IsSome, List};
 ghost use Rattle.mltl_base.specs.Atoms.{Row};
 ghost use Rattle.mltl_base.specs.Lines.{lines_of_reports};
 ghost use Rattle.mltl_base.specs.Programs.{output_names};
 ghost use Rattle.tool_io.specs.Log.{OnLog};
-ghost use Rattle.mltl_monitor.specs.Monitoring.{program_of, taken_by, last_of, read_of, IsDrained, Stands, left_to_tell, GivesFirst, open_of};
+ghost use Rattle.mltl_monitor.specs.Monitoring.{program_of, taken_by, last_of, read_of, IsDrained, Stands, open_of};
 ghost use Rattle.trace_watch.specs.Trace.{is_marked, trace_rows};
 ghost use Rattle.trace_watch.specs.Watch.{IsWatch, WatchCause, first_of};
 ghost use Rattle.trace_watch.specs.Telling.{TellCause, StepCause, SendsText, IsDrainedIf, TakesIt, RowSteps, Turns, text_of};
 
 use crate::{TraceWhy, Watched};
 use contract_status::line_of;
-use mltl_base::{Report, Style};
+use mltl_base::Style;
 use mltl_monitor::Monitor;
 use scq_ring::steps::Steps;
 use std::marker::Brand;
 use std::sync::ledger::{Blank, Ledger};
 use tool_io::{Host, Line, LineCut, Place, Put, put_all};
 use trace_feed::RowAnswer;
-
-/// The next report in a style.
-fn next(monitor: &mut Monitor, style: Style) -> Option<Report>
-    ensures first { (rows : List Row) → Stands monitor.old rows → GivesFirst style result monitor.old monitor.new rows }
-    ensures stands { (rows : List Row) → Stands monitor.old rows → Stands monitor.new rows }
-    ensures none { IsNone result ↔ IsDrained monitor.old }
-    ensures drained { IfNone result (IsDrained monitor.new) }
-    ensures fewer { IfSome result (λ _. left_to_tell monitor.new < left_to_tell monitor.old) }
-    ensures program { program_of monitor.new ≡ program_of monitor.old }
-    ensures exists { IfSome result (λ report. report.out < length (program_of monitor.new).outs) }
-    ensures early { IfSome result (λ report. report.time < 2 ^ 40) }
-    ensures as_many { taken_by monitor.new ≡ taken_by monitor.old }
-    ensures last { last_of monitor.new ≡ last_of monitor.old }
-    ensures read { read_of monitor.new ≡ read_of monitor.old }
-{
-    match style {
-        Style::Each => monitor.next_report(),
-        Style::Runs => monitor.next_run(),
-    }
-}
 
 /// Writes the lines of all reports that are still to be given. Answers whether all went out.
 pub(crate) fn tell<H: Host>(monitor: &mut Monitor, host: &mut H, style: Style) -> bool
@@ -51,7 +31,7 @@ pub(crate) fn tell<H: Host>(monitor: &mut Monitor, host: &mut H, style: Style) -
     ensures read { read_of monitor.new ≡ read_of monitor.old }
     ensures drained { IsDrainedIf result monitor.new }
 {
-    while let Some(report) = next(monitor, style) {
+    while let Some(report) = monitor.next(style) {
         let line = line_of(&report, monitor.checked());
         if let Put::Failed = put_all(host, Place::Out, &line) {
             return false;

@@ -4,7 +4,7 @@ use Rattle.tool_io.proofs.HostLaws.{RoseAt-after, NoFault-then}
 use Rattle.tool_io.proofs.LogLaws.{OnLog-none, OnLog-map, OnLog-then}
 use Rattle.mltl_base.specs.Lines.{lines_of_reports}
 use Rattle.mltl_base.specs.Programs.{output_names}
-use Rattle.mltl_monitor.specs.Monitoring.{program_of, open_of}
+use Rattle.mltl_monitor.specs.Monitoring.{program_of, open_of, last_of, read_of}
 use Rattle.trace_watch.proofs.TellLaws.{HasSent-none, HasSent-more, HasSent-all, HasSent-front, next_line}
 use Rattle.trace_watch.proofs.trace_loop.tell.Goals as goal
 
@@ -27,7 +27,7 @@ returns-in-Failed-clause-log g c rows stands =
     let was = c.loop-report.invariant in
     let names = output_names (program_of c.args.monitor.now) in
     let same = ap output_names (c.checked.ensures.program ∙ c.next.ensures.program ∙ was.program) in
-    let lines = next_line names (output_names c.checked.result.now) (open_of c.args.style c.loop-report.monitor rows) (open_of c.args.style c.next.new.monitor rows) c.in-Some.report c.line_of-line.result.items c.deref.result.now (c.in-Some.ensures.first rows (was.stands rows stands)) same c.line_of-line.ensures.line c.deref.ensures.0 in
+    let lines = next_line names (output_names c.checked.result.now) (open_of c.args.style c.loop-report.monitor rows) (open_of c.args.style c.next.new.self rows) c.in-Some.report c.line_of-line.result.items c.deref.result.now (c.in-Some.ensures.first rows (was.stands rows stands)) same c.line_of-line.ensures.line c.deref.ensures.0 in
     OnLog-then _ _ _ _ (was.log rows stands) c.in-Failed.ensures.log (λ first second has fails. HasSent-front _ _ _ c.deref.result.now first second has lines fails)
 
 pub loop-report-preserved : goal.loop-report-preserved
@@ -39,11 +39,11 @@ loop-report-preserved g c =
       no_fault = NoFault-then _ _ _ was.no_fault c.in_default-put_all.ensures.cause;
       program = c.next.ensures.program ∙ was.program;
       as_many = c.next.ensures.as_many ∙ was.as_many;
-      last = c.next.ensures.last ∙ was.last;
-      read = c.next.ensures.read ∙ was.read;
+      last = c.in-Some.ensures.moved.last ∙ was.last;
+      read = c.in-Some.ensures.moved.read ∙ was.read;
       stands = λ rows stands. c.next.ensures.stands rows (was.stands rows stands);
       log = λ rows stands.
-          let lines = next_line names (output_names c.checked.result.now) (open_of c.args.style c.loop-report.monitor rows) (open_of c.args.style c.next.new.monitor rows) c.in-Some.report c.line_of-line.result.items c.deref.result.now (c.in-Some.ensures.first rows (was.stands rows stands)) same c.line_of-line.ensures.line c.deref.ensures.0 in
+          let lines = next_line names (output_names c.checked.result.now) (open_of c.args.style c.loop-report.monitor rows) (open_of c.args.style c.next.new.self rows) c.in-Some.report c.line_of-line.result.items c.deref.result.now (c.in-Some.ensures.first rows (was.stands rows stands)) same c.line_of-line.ensures.line c.deref.ensures.0 in
           OnLog-then _ _ _ _ (was.log rows stands) c.in_default-put_all.ensures.log (λ first second has sends. HasSent-more _ _ _ c.deref.result.now first second has lines sends);
     }
 
@@ -60,13 +60,13 @@ pub returns-clause-as_many : goal.returns-clause-as_many
 returns-clause-as_many g c = c.next.ensures.as_many ∙ c.loop-report.invariant.as_many
 
 pub returns-in-Failed-clause-last : goal.returns-in-Failed-clause-last
-returns-in-Failed-clause-last g c = c.next.ensures.last ∙ c.loop-report.invariant.last
+returns-in-Failed-clause-last g c = c.in-Some.ensures.moved.last ∙ c.loop-report.invariant.last
 
 pub returns-clause-last : goal.returns-clause-last
-returns-clause-last g c = c.next.ensures.last ∙ c.loop-report.invariant.last
+returns-clause-last g c = ap last_of c.in_default.ensures.same ∙ c.loop-report.invariant.last
 
 pub returns-in-Failed-clause-read : goal.returns-in-Failed-clause-read
-returns-in-Failed-clause-read g c = c.next.ensures.read ∙ c.loop-report.invariant.read
+returns-in-Failed-clause-read g c = c.in-Some.ensures.moved.read ∙ c.loop-report.invariant.read
 
 pub returns-clause-read : goal.returns-clause-read
-returns-clause-read g c = c.next.ensures.read ∙ c.loop-report.invariant.read
+returns-clause-read g c = ap read_of c.in_default.ensures.same ∙ c.loop-report.invariant.read
