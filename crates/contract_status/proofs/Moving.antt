@@ -1,6 +1,6 @@
 -- What is open once the first report was given.
 
-use Rattle.std.proofs.Common.{◌≡◌, ◌≢◌, ◌↔◌, ℕ, zero, suc, ◌+◌, ◌-◌, ◌<◌, ◌≤◌, inl, inr, Bool, true, false, not, is_some, IsTrue, replicate, Option, Some, None, List, [], ◌∷◌, ◌++◌, length, map, drop, slice_get, slice_index, slice_index_or, slice_set, refl, sym, ap, subst, ◌∙◌, arith, add-one}
+use Rattle.std.proofs.Common.{◌≡◌, ◌≢◌, ◌↔◌, ℕ, zero, suc, ◌+◌, ◌-◌, ◌<◌, ◌≤◌, ◌⊎◌, inl, inr, Bool, true, false, not, is_some, IsTrue, replicate, Option, Some, None, List, [], ◌∷◌, ◌++◌, length, map, drop, slice_get, slice_index, slice_index_or, slice_set, refl, sym, ap, subst, ◌∙◌, arith, add-one}
 use Rattle.std.proofs.lemmas.Bool.{cases_eq}
 use Rattle.std.proofs.lemmas.List.{drop_all, drop_more, drop-set-lt, get_or-set_other, get_or-set_same, length-map, length-set}
 use Rattle.std.proofs.lemmas.List.Sums.{sum_by-set}
@@ -23,7 +23,7 @@ use Rattle.contract_status.specs.Standing.{StandFor}
 use Rattle.contract_status.specs.Cursors.{IsCursor}
 use Rattle.contract_status.specs.Stretches.{AreTold, Covers, FindsOpen, HaveTaken, IsFirstOpen, Lasts, known_words}
 use Rattle.contract_status.proofs.Opening.{no_other, no_words}
-use Rattle.contract_status.proofs.Stretching.{count_at, lasts_in_rows, lasts_within}
+use Rattle.contract_status.proofs.Stretching.{count_at, lasts_in_rows, lasts_within, more_told}
 
 -- nothing is open at a place past all words
 nothing_past : (style : Style) (k place : ℕ) (ws : List Word) → length ws ≤ place → of_words style k place (drop place ws) ≡ []
@@ -232,16 +232,24 @@ known_before program rows places k last inside up known j below = elim (cases_eq
   | inr other ↦ let same = get_or-set_other places k j (last + 1) 0 other in omega (arith, known j below, same)
 ]
 
+-- the places that are told at the next output, where the place of this one is past all rows
+told_past : (program : Program) (rows : List Row) (places : List ℕ) (k last : ℕ) (stretch : Stretch) → k < length places → IsFirstOpen program rows places k stretch → last + 1 ≡ length rows → AreTold program rows (slice_set places k (last + 1)) (k + 1)
+told_past program rows places k last stretch inside first end =
+    let moved : slice_index (slice_set places k (last + 1)) k ≡ last + 1 = get_or-set_same places k (last + 1) 0 inside in
+    let fit : length (known_words program rows first.output) ≤ length rows = words_fit rows (output_of program first.output) in
+    more_told program rows (slice_set places k (last + 1)) k first.output first.there (told_moved program rows places k (last + 1) first.told) (omega (arith, moved, fit, end))
+
 pub cursor_behind : (program : Program) (rows : List Row) (places : List ℕ) (k last : ℕ) (stretch : Stretch) (cursor : Cursor) → k < length places → slice_index places k ≤ last → IsFirstOpen program rows places k stretch
-    → cursor.out ≡ k → ((left : Stretch) → cursor.stretch ≡ Some left → (left ≡ stretch) × (last < left.last)) → IsCursor program rows (slice_set places k (last + 1)) cursor
+    → (cursor.out ≡ k) ⊎ ((cursor.out ≡ k + 1) × (last + 1 ≡ length rows)) → ((left : Stretch) → cursor.stretch ≡ Some left → (cursor.out ≡ k) × (left ≡ stretch) × (last < left.last)) → IsCursor program rows (slice_set places k (last + 1)) cursor
 cursor_behind program rows places k last stretch cursor inside up first here left =
     let told : AreTold program rows (slice_set places k (last + 1)) k = told_moved program rows places k (last + 1) first.told in
     let moved : slice_index (slice_set places k (last + 1)) k ≡ last + 1 = get_or-set_same places k (last + 1) 0 inside in
     record {
-      told = rw here told;
+      told = elim here [ inl same ↦ rw same told | inr next ↦ rw next.0 (told_past program rows places k last stretch inside first next.1) ];
       kept = λ found is.
-          let same : found ≡ stretch = (left found is).0 in
-          let later : last < found.last = (left found is).1 in
+          let at : cursor.out ≡ k = (left found is).0 in
+          let same : found ≡ stretch = (left found is).1 in
+          let later : last < found.last = (left found is).2 in
           let ends : last < stretch.last = subst (λ (s : Stretch). last < s.last) same later in
           let rest : IsFirstOpen program rows (slice_set places k (last + 1)) k stretch = record {
             output = first.output;
@@ -249,7 +257,7 @@ cursor_behind program rows places k last stretch cursor inside up first here lef
             told = told;
             here = rw moved (record { upward = omega (arith, ends); alike = λ t low high. first.here.alike t (omega arith) high });
           } in
-          rw (here, same) rest;
+          rw (at, same) rest;
     }
 
 -- something is open exactly where the first open output is found

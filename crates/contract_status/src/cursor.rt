@@ -11,7 +11,7 @@ pub struct Cursor {
 }
 
 impl Cursor {
-    ghost use Rattle.std.specs.Prelude.{◌≡◌, ◌<◌, ℕ, List, Some};
+    ghost use Rattle.std.specs.Prelude.{◌≡◌, ◌+◌, ◌^◌, ◌<◌, ◌⊎◌, ℕ, List, Some};
     ghost use Rattle.mltl_base.specs.declared.program.Program.{Program};
     ghost use Rattle.mltl_base.specs.Atoms.{Row};
     ghost use Rattle.contract_status.specs.declared.engines.Stretch.{Stretch as Found};
@@ -27,11 +27,20 @@ impl Cursor {
         }
     }
 
-    /// The search goes on at an output of which a stretch was told up to `time`.
-    pub fn behind(out: usize, time: u64, stretch: Stretch) -> Cursor
-        ensures out { result.out ≡ out }
-        ensures kept { (left : Found) → result.stretch ≡ Some left → (left ≡ stretch) × (time < left.last) }
+    /// The search goes on behind a report of an output up to `time`, after so many rows: at the next output where no
+    /// further time can be known, else at this one, with what is left of the stretch.
+    pub fn behind(out: usize, time: u64, stretch: Stretch, rows: u64) -> Cursor
+        requires within { out + 1 < 2 ^ 64 }
+        requires early { time < rows }
+        ensures place { (result.out ≡ out) ⊎ ((result.out ≡ out + 1) × (time + 1 ≡ rows)) }
+        ensures kept { (left : Found) → result.stretch ≡ Some left → (result.out ≡ out) × (left ≡ stretch) × (time < left.last) }
     {
+        if time + 1 == rows {
+            return Cursor {
+                out: out + 1,
+                stretch: None,
+            };
+        }
         let stretch = if time < stretch.last {
             Some(stretch)
         } else {

@@ -11,5 +11,5 @@ mod telling;
 mod tests;
 
 pub use cursor::Cursor;
-pub use line::line_of;
+pub use line::{line_of, put_line};
 pub use outs::Outs;

@@ -21,16 +21,27 @@ pub fn line_of(report: &Report, checked: &Checked) -> ArrayVec<u8, 128>
     ensures short { array_vec_len result ≤ 88 }
 {
     let mut text = ArrayVec::new();
+    put_line(&mut text, report, checked);
+    text
+}
+
+/// Puts the line of a report in the place of what the text holds.
+pub fn put_line(text: &mut ArrayVec<u8, 128>, report: &Report, checked: &Checked)
+    requires exists { report.now.out < length checked.now.outs }
+    requires early { report.now.time < 2 ^ 41 }
+    ensures line { text.new.items ≡ line (output_names checked.now) report.now }
+    ensures short { array_vec_len text.new ≤ 88 }
+{
+    text.clear();
     add(
-        &mut text,
+        text,
         name_of(checked.program().outs.get(report.out as usize)),
     );
-    add(&mut text, b":");
-    add_number(&mut text, report.time);
-    add(&mut text, b",");
-    add(&mut text, text_of(report.word).as_bytes());
-    add(&mut text, b"\n");
-    text
+    add(text, b":");
+    add_number(text, report.time);
+    add(text, b",");
+    add(text, text_of(report.word).as_bytes());
+    add(text, b"\n");
 }
 
 fn name_of(out: &Out) -> &[u8]

@@ -39,7 +39,7 @@ pub fn tell_first(
     let (k, stretch) = engines.next_open(program, places, *cursor)?;
     let time = engines.last_covered(style, program.outs.get(k), places[k], stretch);
     places[k] = time + 1;
-    *cursor = Cursor::behind(k, time, stretch);
+    *cursor = Cursor::behind(k, time, stretch, engines.rows);
     Some(Report {
         out: k as u32,
         time,

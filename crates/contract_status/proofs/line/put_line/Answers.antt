@@ -7,7 +7,7 @@ use Rattle.mltl_base.specs.declared.program.Program.{Program}
 use Rattle.mltl_base.specs.declared.report.Report.{Report}
 use Rattle.mltl_base.specs.Lines.{line_with, word_text}
 use Rattle.mltl_base.specs.Programs.{name_of}
-use Rattle.contract_status.proofs.line.line_of.Goals as goal
+use Rattle.contract_status.proofs.line.put_line.Goals as goal
 
 -- the pieces of a line, put behind one another
 pieces : (name : List ℕ) (report : Report) (a b c d e f : List ℕ) → a ≡ name → b ≡ a ++ codes ":" → c ≡ b ++ decimal report.time → d ≡ c ++ codes "," → e ≡ d ++ word_text report.word → f ≡ e ++ codes "\n" → f ≡ line_with name report
@@ -23,7 +23,7 @@ returns-clause-line c =
     let out = c.get.result.now in
     let outs = c.args.checked.now.outs in
     let there : slice_get outs report.out ≡ Some out = ap (λ (program : Program). slice_get program.outs report.out) (sym c.program.ensures.program) ∙ c.get.ensures in
-    let name : c.add.new.text.items ≡ name_of out = c.add.ensures.items ∙ ap (λ bytes. bytes ++ c.name_of.result.now) c.new-text.ensures ∙ c.name_of.ensures.name in
+    let name : c.add.new.text.items ≡ name_of out = c.add.ensures.items ∙ ap (λ bytes. bytes ++ c.name_of.result.now) c.clear.ensures ∙ c.name_of.ensures.name in
     let word : c.add-4.new.text.items ≡ c.add-3.new.text.items ++ word_text report.word = c.add-4.ensures.items ∙ ap (λ text. c.add-3.new.text.items ++ text) (c.as_bytes.ensures.value ∙ c.text_of.ensures.text) in
     pieces (name_of out) report _ _ _ _ _ _ name c.add-2.ensures.items c.add_number.ensures.items c.add-3.ensures.items word c.add-5.ensures.items
     ∙ ap (λ bytes. line_with bytes report) (sym (name_among outs report.out out there))
