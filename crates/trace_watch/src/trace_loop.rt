@@ -11,7 +11,8 @@ ghost use Rattle.trace_watch.specs.Watch.{IsWatch, WatchCause, first_of};
 ghost use Rattle.trace_watch.specs.Telling.{TellCause, StepCause, SendsText, IsDrainedIf, TakesIt, RowSteps, Turns, text_of};
 
 use crate::{TraceWhy, Watched};
-use contract_status::line_of;
+use arrayvec::ArrayVec;
+use contract_status::put_line;
 use mltl_base::Style;
 use mltl_monitor::Monitor;
 use scq_ring::steps::Steps;
@@ -31,8 +32,9 @@ pub(crate) fn tell<H: Host>(monitor: &mut Monitor, host: &mut H, style: Style) -
     ensures read { read_of monitor.new ≡ read_of monitor.old }
     ensures drained { IsDrainedIf result monitor.new }
 {
+    let mut line = ArrayVec::new();
     while let Some(report) = monitor.next(style) {
-        let line = line_of(&report, monitor.checked());
+        put_line(&mut line, &report, monitor.checked());
         if let Put::Failed = put_all(host, Place::Out, &line) {
             return false;
         }

@@ -27,7 +27,7 @@ returns-in-Failed-clause-log g c rows stands =
     let was = c.loop-report.invariant in
     let names = output_names (program_of c.args.monitor.now) in
     let same = ap output_names (c.checked.ensures.program ∙ c.next.ensures.program ∙ was.program) in
-    let lines = next_line names (output_names c.checked.result.now) (open_of c.args.style c.loop-report.monitor rows) (open_of c.args.style c.next.new.self rows) c.in-Some.report c.line_of-line.result.items c.deref.result.now (c.in-Some.ensures.first rows (was.stands rows stands)) same c.line_of-line.ensures.line c.deref.ensures.0 in
+    let lines = next_line names (output_names c.checked.result.now) (open_of c.args.style c.loop-report.monitor rows) (open_of c.args.style c.next.new.self rows) c.in-Some.report c.put_line.new.text.items c.deref.result.now (c.in-Some.ensures.first rows (was.stands rows stands)) same c.put_line.ensures.line c.deref.ensures.0 in
     OnLog-then _ _ _ _ (was.log rows stands) c.in-Failed.ensures.log (λ first second has fails. HasSent-front _ _ _ c.deref.result.now first second has lines fails)
 
 pub loop-report-preserved : goal.loop-report-preserved
@@ -43,7 +43,7 @@ loop-report-preserved g c =
       read = c.in-Some.ensures.moved.read ∙ was.read;
       stands = λ rows stands. c.next.ensures.stands rows (was.stands rows stands);
       log = λ rows stands.
-          let lines = next_line names (output_names c.checked.result.now) (open_of c.args.style c.loop-report.monitor rows) (open_of c.args.style c.next.new.self rows) c.in-Some.report c.line_of-line.result.items c.deref.result.now (c.in-Some.ensures.first rows (was.stands rows stands)) same c.line_of-line.ensures.line c.deref.ensures.0 in
+          let lines = next_line names (output_names c.checked.result.now) (open_of c.args.style c.loop-report.monitor rows) (open_of c.args.style c.next.new.self rows) c.in-Some.report c.put_line.new.text.items c.deref.result.now (c.in-Some.ensures.first rows (was.stands rows stands)) same c.put_line.ensures.line c.deref.ensures.0 in
           OnLog-then _ _ _ _ (was.log rows stands) c.in_default-put_all.ensures.log (λ first second has sends. HasSent-more _ _ _ c.deref.result.now first second has lines sends);
     }
 
