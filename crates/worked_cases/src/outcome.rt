@@ -1,6 +1,6 @@
 //! What a run gives, and where two of them differ.
 
-ghost use Rattle.std.specs.Prelude.{◌≡◌, ◌↔◌, IsTrue};
+ghost use Rattle.std.specs.Prelude.{◌≢◌, ◌↔◌, IsTrue};
 
 use std::alloc::Global;
 

@@ -36,6 +36,14 @@ impl<'a> Piece<'a> {
             _ => None,
         }
     }
+
+    /// Whether the number of a repetition stands in the text.
+    pub fn has_numbers(&self) -> bool {
+        match self {
+            Piece::Line(text) | Piece::Text(text) => text.contains('$'),
+            Piece::Hex(_) | Piece::Copy(_) => false,
+        }
+    }
 }
 
 /// The bytes of pairs of hexadecimal digits, which blanks may part.
@@ -49,16 +57,22 @@ pub fn hex_bytes(alloc: Global, digits: &str) -> Result<Vec<u8>> {
 }
 
 /// A text in which `$n` stands for a number and `$m` for the next one.
-pub fn numbered(alloc: Global, text: &str, number: u32) -> Result<String, AllocError> {
-    let mut numbered = String::new(alloc);
-    for (place, part) in text.split('$').enumerate() {
-        if let Some(rest) = part.strip_prefix('n') && place > 0 {
-            write!(numbered, "{number}{rest}")?;
-        } else if let Some(rest) = part.strip_prefix('m') && place > 0 {
-            let next = number.saturating_add(1);
-            write!(numbered, "{next}{rest}")?;
-        } else {
-            numbered.push_str(part)?;
+pub fn numbered(alloc: Global, text: &[u8], number: u32) -> Result<Vec<u8>, AllocError> {
+    let next = number.saturating_add(1);
+    let this = format!(in alloc; "{number}")?;
+    let next = format!(in alloc; "{next}")?;
+    let mut numbered = Vec::new(alloc);
+    for (place, part) in text.split(|byte| *byte == b'$').enumerate() {
+        match part.split_first() {
+            Some((b'n', rest)) if place > 0 => {
+                numbered.extend_from_slice(this.as_bytes())?;
+                numbered.extend_from_slice(rest)?;
+            }
+            Some((b'm', rest)) if place > 0 => {
+                numbered.extend_from_slice(next.as_bytes())?;
+                numbered.extend_from_slice(rest)?;
+            }
+            _ => numbered.extend_from_slice(part)?,
         }
     }
     Ok(numbered)

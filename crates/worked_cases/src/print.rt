@@ -16,7 +16,13 @@ fn shown(alloc: Global, bytes: &[u8]) -> Result<String, AllocError> {
 }
 
 /// Prints what came and what was wanted.
-fn print_both(rt: &impl Print, alloc: Global, name: &str, came: &[u8], wanted: &[u8]) -> Result<()> {
+fn print_both(
+    rt: &impl Print,
+    alloc: Global,
+    name: &str,
+    came: &[u8],
+    wanted: &[u8],
+) -> Result<()> {
     let came = shown(alloc, came)?;
     let wanted = shown(alloc, wanted)?;
     println!(rt; "  {name}:\n{came}\n  wanted:\n{wanted}")?;
@@ -43,7 +49,13 @@ pub fn print_difference(
         print_both(rt, alloc, "output", &found.output, &asked.wanted.output)?;
     }
     if parts.errors != asked.meant.errors {
-        print_both(rt, alloc, "error output", &found.errors, &asked.wanted.errors)?;
+        print_both(
+            rt,
+            alloc,
+            "error output",
+            &found.errors,
+            &asked.wanted.errors,
+        )?;
     }
     Ok(())
 }

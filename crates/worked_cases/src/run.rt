@@ -1,6 +1,7 @@
 //! One run of a program over a host in memory.
 
-ghost use Rattle.std.specs.Prelude.{◌≡◌, ◌≤◌};
+ghost use Rattle.std.specs.Prelude.{◌≡◌, OnOk};
+ghost use Rattle.tool_io.specs.MemFiles.{no_files};
 
 use crate::files::NamedBytes;
 use crate::outcome::{Outcome, Parts};
@@ -12,7 +13,8 @@ use tool_io::{MemHost, Place};
 
 /// The events and bytes for which a host has room: more than the longest case needs.
 const EVENTS: usize = 2_000_000;
-const BYTES: usize = 4_000_000;
+
+const BYTES: usize = 17_000_000;
 
 /// A run that a script asks for, and what it is to give.
 #[derive(Debug, Drop)]
@@ -25,7 +27,11 @@ pub struct Asked {
     pub meant: Parts,
 }
 
-fn put_files(host: &mut MemHost, files: &[NamedBytes]) -> Result<(), AllocError> {
+/// Lets a host of which no place is attached have these files.
+fn put_files(host: &mut MemHost, files: &[NamedBytes]) -> Result<(), AllocError>
+    requires unread { host.old.store.readings ≡ no_files.readings }
+    ensures still { OnOk result (host.new.store.readings ≡ no_files.readings) }
+{
     for file in files {
         host.put_file(file.name.as_str(), &file.bytes)?;
     }
@@ -33,7 +39,12 @@ fn put_files(host: &mut MemHost, files: &[NamedBytes]) -> Result<(), AllocError>
 }
 
 /// The host of a run, with the files of its case in place of those of all cases.
-fn host_of(alloc: Global, scenes: &Scenes, asked: &Asked, block: usize) -> Result<MemHost, AllocError> {
+fn host_of(
+    alloc: Global,
+    scenes: &Scenes,
+    asked: &Asked,
+    block: usize,
+) -> Result<MemHost, AllocError> {
     let mut host = MemHost::make(alloc, EVENTS, BYTES)?;
     put_files(&mut host, scenes.common.files.as_slice())?;
     put_files(&mut host, scenes.own.files.as_slice())?;

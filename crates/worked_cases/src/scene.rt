@@ -105,23 +105,21 @@ impl Scenes {
 
     /// Goes on with a piece so many times, each time with the next number.
     pub fn repeat(&mut self, times: u32, piece: Piece<'_>) -> Result<()> {
-        for number in 0..times {
-            self.add_numbered(number, piece)?;
+        if piece.has_numbers() {
+            return self.repeat_numbered(times, piece);
+        }
+        let bytes = self.bytes_of(piece)?;
+        for _ in 0..times {
+            self.current().files.add(&bytes)?;
         }
         Ok(())
     }
 
-    fn add_numbered(&mut self, number: u32, piece: Piece<'_>) -> Result<()> {
-        match piece {
-            Piece::Line(text) => {
-                let text = numbered(self.alloc, text, number)?;
-                self.add(Piece::Line(text.as_str()))
-            }
-            Piece::Text(text) => {
-                let text = numbered(self.alloc, text, number)?;
-                self.add(Piece::Text(text.as_str()))
-            }
-            Piece::Hex(_) | Piece::Copy(_) => self.add(piece),
+    fn repeat_numbered(&mut self, times: u32, piece: Piece<'_>) -> Result<()> {
+        for number in 0..times {
+            let bytes = numbered(self.alloc, &self.bytes_of(piece)?, number)?;
+            self.current().files.add(&bytes)?;
         }
+        Ok(())
     }
 }

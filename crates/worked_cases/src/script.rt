@@ -1,6 +1,7 @@
 //! A script, line by line.
 
 use crate::outcome::{Outcome, Parts};
+use crate::piece::Piece;
 use crate::print::print_difference;
 use crate::run::{Asked, outcome_of};
 use crate::scene::Scenes;
@@ -57,7 +58,10 @@ impl Stage {
             return Ok(());
         }
         let runs = self.tally.runs.saturating_sub(self.before.runs);
-        let agreeing = self.tally.agreeing_runs.saturating_sub(self.before.agreeing_runs);
+        let agreeing = self
+            .tally
+            .agreeing_runs
+            .saturating_sub(self.before.agreeing_runs);
         if runs == 0 {
             bail!("a case without a run");
         }
@@ -65,6 +69,15 @@ impl Stage {
         self.scenes.own.clear();
         self.scenes.in_case = false;
         Ok(())
+    }
+
+    /// Begins a file.
+    fn begin_file(&mut self, name: &str, piece: Option<Piece<'_>>) -> Result<()> {
+        self.scenes.current().files.begin(name)?;
+        match piece {
+            Some(piece) => self.scenes.add(piece),
+            None => Ok(()),
+        }
     }
 
     /// Takes the words of a run; what it is to give follows.
@@ -144,7 +157,7 @@ impl Stage {
         match step {
             Step::Blank => self.end(),
             Step::Case(name) => self.begin(name),
-            Step::File(name) => self.scenes.current().files.begin(name),
+            Step::File(name, piece) => self.begin_file(name, piece),
             Step::Add(piece) => self.scenes.add(piece),
             Step::Repeat(times, piece) => self.scenes.repeat(times, piece),
             Step::Set(place, byte) => self.scenes.current().files.set(place, byte),

@@ -13,8 +13,8 @@ pub enum Step<'a> {
     Blank,
     /// A case of this name begins.
     Case(&'a str),
-    /// A file of this name begins, without bytes.
-    File(&'a str),
+    /// A file of this name begins, with these bytes or with none.
+    File(&'a str, Option<Piece<'a>>),
     /// The file goes on with these bytes.
     Add(Piece<'a>),
     /// The file goes on with these bytes so many times.
@@ -65,7 +65,6 @@ pub fn step_of(line: &str) -> Result<Step<'_>> {
     match head {
         "#" => Ok(Step::Remark),
         "case" => Ok(Step::Case(rest)),
-        "file" => Ok(Step::File(rest)),
         "block" => Ok(Step::Block(rest)),
         "$" => Ok(Step::Run(rest)),
         "=" => Ok(Step::Status(number_of(rest)?)),
@@ -80,6 +79,7 @@ pub fn step_of(line: &str) -> Result<Step<'_>> {
 fn longer_step_of<'a>(head: &'a str, rest: &'a str) -> Result<Step<'a>> {
     let (first, second) = rest.split_once(' ').unwrap_or((rest, ""));
     match head {
+        "file" => begun(first, second),
         "repeat" => repeated(first, second),
         "set" => changed(first, second),
         "each" => Ok(Step::Each(length_of(first)?, length_of(second)?)),
@@ -96,13 +96,25 @@ fn length_of(text: &str) -> Result<usize> {
     text.parse::<usize>().context("a number")
 }
 
-fn repeated<'a>(times: &'a str, line: &'a str) -> Result<Step<'a>> {
-    let times = times.parse::<u32>().context("a number")?;
-    let (head, rest) = line.split_once(' ').unwrap_or((line, ""));
+/// The bytes that a part of a line says.
+fn piece_of(part: &str) -> Result<Piece<'_>> {
+    let (head, rest) = part.split_once(' ').unwrap_or((part, ""));
     match Piece::of(head, rest) {
-        Some(piece) => Ok(Step::Repeat(times, piece)),
-        None => bail!("no bytes to repeat: {line}"),
+        Some(piece) => Ok(piece),
+        None => bail!("no bytes: {part}"),
     }
+}
+
+fn begun<'a>(name: &'a str, part: &'a str) -> Result<Step<'a>> {
+    if part.is_empty() {
+        return Ok(Step::File(name, None));
+    }
+    Ok(Step::File(name, Some(piece_of(part)?)))
+}
+
+fn repeated<'a>(times: &'a str, part: &'a str) -> Result<Step<'a>> {
+    let times = times.parse::<u32>().context("a number")?;
+    Ok(Step::Repeat(times, piece_of(part)?))
 }
 
 fn changed<'a>(place: &'a str, digits: &'a str) -> Result<Step<'a>> {
