@@ -22,6 +22,3 @@ pub mod token;
 pub use fault::LexFault;
 pub use lexer::lex;
 pub use token::{Keyword, Sign, Token, Tokens, What};
-
-#[cfg(test)]
-mod tests;
