@@ -13,8 +13,6 @@ pub mod fault;
 mod form;
 mod parser;
 pub mod section;
-#[cfg(test)]
-mod tests;
 
 pub use c2po_tree::{Body, Expr, FieldDecl, Item, Node, SpecTree, TypeTree};
 pub use fault::ParseFault;
