@@ -12,8 +12,6 @@ pub mod items;
 pub mod kind;
 pub mod operand;
 pub mod scope;
-#[cfg(test)]
-mod tests;
 
 pub use declarations::Declarations;
 pub use expression::kind_of;
