@@ -13,8 +13,6 @@
 pub mod checking;
 pub mod progress;
 pub mod steps;
-#[cfg(test)]
-mod tests;
 pub mod typed;
 
 pub use c2po_kinds::{Signal, TypeFault};
