@@ -15,8 +15,6 @@ pub mod laws;
 pub mod names;
 pub mod progress;
 pub mod steps;
-#[cfg(test)]
-mod tests;
 
 pub use expanding::expand;
 pub use plain_nodes::{Expanded, Plain, PlainOut};
