@@ -17,6 +17,3 @@ pub mod values;
 
 pub use fault::UnfoldFault;
 pub use unfolding::{Unfolded, Unfolding};
-
-#[cfg(test)]
-mod tests;
