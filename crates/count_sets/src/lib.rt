@@ -20,6 +20,3 @@ mod table;
 pub use gate::Gate;
 pub use laws::formula_counts;
 pub use networks::network;
-
-#[cfg(test)]
-mod tests;
