@@ -6,6 +6,3 @@ mod range;
 pub use range::{
     NoRange, Range, constant, difference, negation, product, quotient, remainder, signal, sum,
 };
-
-#[cfg(test)]
-mod tests;
