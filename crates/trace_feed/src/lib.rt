@@ -18,6 +18,3 @@ pub use fields::{FieldFault, Reading};
 pub use header_fault::HeaderFault;
 pub use laws::rows_are_fit;
 pub use rows::{RowAnswer, row_fields};
-
-#[cfg(test)]
-mod tests;
