@@ -9,6 +9,3 @@ mod soundness;
 pub use bz::Bz;
 pub use fitting::is_fit;
 pub use soundness::sound_instructions_compute;
-
-#[cfg(test)]
-mod tests;
