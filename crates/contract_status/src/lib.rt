@@ -7,8 +7,6 @@ pub mod laws;
 mod line;
 mod outs;
 mod telling;
-#[cfg(test)]
-mod tests;
 
 pub use cursor::Cursor;
 pub use line::{line_of, put_line};
