@@ -4,7 +4,5 @@
 mod engine;
 pub mod laws;
 mod loaded;
-#[cfg(test)]
-mod tests;
 
 pub use engine::Ft;
