@@ -7,8 +7,6 @@
 mod conjunction;
 mod negation;
 mod operand;
-#[cfg(test)]
-mod tests;
 mod until;
 
 pub use conjunction::and_row;
