@@ -3,8 +3,6 @@
 
 mod rows;
 mod slab;
-#[cfg(test)]
-mod tests;
 mod truths;
 
 pub use slab::Queues;
