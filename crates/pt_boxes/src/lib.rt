@@ -7,7 +7,5 @@ mod boxes;
 mod engine;
 mod rows;
 mod since;
-#[cfg(test)]
-mod tests;
 
 pub use engine::Pt;
