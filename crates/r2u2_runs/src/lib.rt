@@ -17,6 +17,3 @@ mod reading;
 mod running;
 
 pub use r2u2_run::r2u2_main;
-
-#[cfg(test)]
-mod tests;
