@@ -16,6 +16,3 @@ pub use delay_lists::Delays;
 pub use laws::delays_of_formulas;
 pub use propagation::{DelayFault, delays};
 pub use queues::{SizeFault, queue_lengths, queue_sizes, slot_count};
-
-#[cfg(test)]
-mod tests;
