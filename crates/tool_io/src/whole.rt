@@ -82,6 +82,3 @@ pub fn read_whole<H: Host>(
         }
     }
 }
-
-#[cfg(test)]
-mod tests;
