@@ -1,0 +1,13 @@
+-- The demo's items have no fault.
+
+use Rattle.std.proofs.Common.{◌≡◌, refl}
+use Rattle.std.specs.Prelude.{None}
+use Rattle.mltl_base.specs.Ranges.{range}
+use Rattle.node_facts.specs.Faults.{formula_fault}
+use Rattle.node_facts.specs.Tenses.{has_past, has_future}
+use Rattle.c2po_types.specs.FirstFault.{checked, first_fault}
+use Rattle.demo_runs.proofs.DemoTrees.{demo_items}
+
+pub faultless : first_fault demo_items ≡ None
+unfolding checked formula_fault has_past has_future range
+faultless = refl

@@ -1,0 +1,6 @@
+pub mod DemoTokens
+pub mod DemoPieces
+pub mod DemoTrees
+pub mod DemoFaults
+pub mod DemoOutputs
+pub mod DemoCompiles

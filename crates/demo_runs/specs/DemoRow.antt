@@ -1,0 +1,18 @@
+-- The rows of the demo.
+
+use Rattle.std.specs.Prelude.{ℕ, ◌+◌, ◌*◌, ◌%◌, ◌^◌, ◌==◌, nat_lt, ℤ, pos, ◌-ℤ◌, Bool, if◌then◌else◌, List, [], ◌∷◌}
+
+-- what a row is made of: a number below 1,000
+abbrev pub demo_value : ℕ → ℕ → ℕ
+demo_value seed k = ((k % 65536) ^ 2 * 7 + (k % 999) * 13 + seed * 31) % 1000
+
+-- a truth as the number of its column
+abbrev pub bit : Bool → ℤ
+bit b = if b then pos 1 else pos 0
+
+abbrev pub row_of : ℕ → List ℤ
+row_of v = bit (v % 3 == 0) ∷ bit (nat_lt (v % 5) 2) ∷ (pos v -ℤ pos 500) ∷ []
+
+-- row k, counted from 0: a, b and x
+abbrev pub demo_row : ℕ → ℕ → List ℤ
+demo_row seed k = row_of (demo_value seed k)

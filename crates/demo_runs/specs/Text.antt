@@ -1,0 +1,25 @@
+-- The text of the demo, and what it says.
+
+use Rattle.std.specs.Prelude.{ℕ, List, [], ◌∷◌, codes, pos}
+use Rattle.mltl_base.specs.declared.interval.Engine.TheVariants.{Ft, Pt}
+use Rattle.mltl_base.specs.Atoms.{Atom, is_true, column, constant, less}
+use Rattle.mltl_base.specs.Formula.{Formula, atom, implication, finally, globally, once}
+use Rattle.mltl_base.specs.Reports.{formula, contract}
+use Rattle.mltl_base.specs.Subformulas.{Asked}
+
+-- a future formula, one over whole numbers, a contract and a past formula
+abbrev pub demo_text : List ℕ
+demo_text = codes "INPUT a, b: bool; x: int;\nFTSPEC resp: a -> F[0,3] b; low: G[0,2] (x < 0); agc: a => F[0,1] b;\nPTSPEC once: O[0,4] a;\n"
+
+abbrev pub a : Formula
+a = atom (is_true 0)
+
+abbrev pub b : Formula
+b = atom (is_true 1)
+
+abbrev pub demo_outputs : List Asked
+demo_outputs =
+    record { engine = Ft; name = codes "resp"; output = formula (implication a (finally (record { lo = 0; hi = 3 }) b)) }
+    ∷ record { engine = Ft; name = codes "low"; output = formula (globally (record { lo = 0; hi = 2 }) (atom (less (column 2) (constant (pos 0))))) }
+    ∷ record { engine = Ft; name = codes "agc"; output = contract a (finally (record { lo = 0; hi = 1 }) b) }
+    ∷ record { engine = Pt; name = codes "once"; output = formula (once (record { lo = 0; hi = 4 }) a) } ∷ []
