@@ -1,10 +1,10 @@
 -- The demo's text is compiled.
 
-use Rattle.std.proofs.Common.{◌≡◌, ◌∙◌, ℕ, List, [], ◌∷◌, length, refl, sym, ap, ap₂, codes}
-use Rattle.std.specs.Prelude.{Bool, true, false, None, Ok}
+use Rattle.std.proofs.Common.{◌≡◌, ◌≢◌, ◌∙◌, ℕ, List, [], ◌∷◌, length, refl, sym, ap, ap₂, codes}
+use Rattle.std.specs.Prelude.{Bool, true, false, None, Result, Ok, Err}
 use Rattle.mltl_base.specs.declared.program.Columns.{Columns}
 use Rattle.mltl_base.specs.declared.program.Program.{Program}
-use Rattle.c2po_kinds.specs.declared.kind.Signal.{Signal}
+use Rattle.mltl_base.specs.declared.signal.Signal.{Signal}
 use Rattle.c2po_lexer.specs.declared.token.Token.{Token}
 use Rattle.c2po_lexer.specs.Tokens.{tokens_of}
 use Rattle.c2po_tree.specs.ItemShape.{ItemShape}
@@ -13,6 +13,8 @@ use Rattle.c2po_types.specs.FirstFault.{first_fault}
 use Rattle.c2po_types.specs.Signals.{signals_of}
 use Rattle.set_expand.specs.Outputs.{outputs_of}
 use Rattle.trace_feed.specs.Header.{columns_in_order}
+use Rattle.spec_compile.specs.declared.fault.CompileFault.{CompileFault}
+use Rattle.spec_compile.specs.declared.fault.CompileFault.TheVariants.{Memory}
 use Rattle.spec_compile.specs.Compiled.{columns_by, image_of_text, outputs_in, signals_in}
 use Rattle.spec_compile.specs.Front.{first_refusal, items_in}
 use Rattle.spec_compile.specs.Image.{image, over_columns}
@@ -61,3 +63,10 @@ pub compiles : image_of_text demo_text None ≡ Ok demo_program
 compiles =
     compiled demo_text None demo_columns demo_program not_refused columns_are (ap (λ outs. limit_refusal (over_columns demo_columns outs)) outputs_are ∙ within_limits)
     (sym (ap₂ (image demo_columns) signals_are outputs_are))
+
+both : (found : Result Program CompileFault) (p : Program) (fault : CompileFault) → found ≡ Ok p → found ≡ Err fault → ⊥
+both found p fault h e = cc
+
+-- no fault but want of memory
+pub never_refused : (fault : CompileFault) → (fault ≢ Memory → image_of_text demo_text None ≡ Err fault) → fault ≢ Memory → ⊥
+never_refused fault h other = both (image_of_text demo_text None) demo_program fault compiles (h other)

@@ -4,3 +4,7 @@ pub mod DemoTrees
 pub mod DemoFaults
 pub mod DemoOutputs
 pub mod DemoCompiles
+pub mod Counting
+pub mod Rows
+pub mod SummaryLaws
+pub mod Playing

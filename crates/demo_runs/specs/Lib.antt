@@ -1,2 +1,5 @@
 pub mod Text
 pub mod DemoRow
+pub mod Tallies
+pub mod Summary
+pub mod Played

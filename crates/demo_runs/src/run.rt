@@ -1,0 +1,126 @@
+//! The run of the demo.
+
+ghost use Rattle.std.specs.Prelude.{◌≡◌, ◌≢◌, Err, ◌+◌, ◌≤◌, ◌<◌, ◌^◌, ◌++◌, ◌∷◌, [], length, List as Seq, None, Ok, IfOk};
+ghost use Rattle.mltl_base.specs.Atoms.{Row};
+ghost use Rattle.mltl_base.specs.Programs.{IsFit};
+ghost use Rattle.mltl_monitor.specs.Monitoring.{IsDrained, Stands, TakesRow, program_of, taken_by};
+ghost use Rattle.spec_compile.specs.Compiled.{image_of_text};
+ghost use Rattle.demo_runs.specs.Played.{Played};
+ghost use Rattle.demo_runs.specs.Summary.{demo_rows, demo_summary};
+ghost use Rattle.demo_runs.specs.Tallies.{AreCounted};
+
+use crate::row::demo_row;
+use crate::summary::summary_of;
+use crate::tally::Tally;
+use crate::text::DEMO_TEXT;
+use mltl_monitor::Monitor;
+use scq_ring::steps::Steps;
+use spec_compile::{CompileFault, compile};
+use std::alloc::{AllocError, Global};
+use std::marker::Brand;
+use std::sync::ledger::{Blank, Ledger};
+
+/// A demo that ran: its monitor, and how many reports each output has of each word.
+#[derive(Drop)]
+pub struct Demo {
+    pub monitor: Monitor,
+    pub summary: Vec<u8>,
+}
+
+/// Runs a monitor of the demo's text over so many rows that are made from a seed, and sums its reports up. It fails
+/// only for want of memory: the text is never refused.
+pub fn run_demo(alloc: Global, seed: u32, rows: u32) -> Result<Demo, AllocError>
+    ensures summary { IfOk result (λ demo. demo.summary.items ≡ demo_summary seed rows) }
+    ensures program { IfOk result (λ demo. image_of_text DEMO_TEXT.now None ≡ Ok (program_of demo.monitor)) }
+    ensures stands { IfOk result (λ demo. Stands demo.monitor (demo_rows seed rows)) }
+    ensures drained { IfOk result (λ demo. IsDrained demo.monitor) }
+{
+    let mut monitor = demo_monitor(alloc)?;
+    let mut tallies = vec![in alloc; Tally::none(); monitor.checked().program().outs.len()]?;
+    play(&mut monitor, &mut tallies, seed, rows);
+    let outs = monitor.checked().program().outs.as_slice();
+    let summary = summary_of(alloc, rows, outs, &tallies)?;
+    Ok(Demo { monitor, summary })
+}
+
+/// A monitor of the demo's text that has taken no rows.
+fn demo_monitor(alloc: Global) -> Result<Monitor, AllocError>
+    ensures program { IfOk result (λ monitor. image_of_text DEMO_TEXT.now None ≡ Ok (program_of monitor)) }
+    ensures taken { IfOk result (λ monitor. taken_by monitor ≡ 0) }
+    ensures stands { IfOk result (λ monitor. Stands monitor []) }
+    ensures drained { IfOk result (λ monitor. IsDrained monitor) }
+{
+    match compile(alloc, DEMO_TEXT, None) {
+        Ok(checked) => Monitor::load(alloc, checked),
+        Err(fault) => Err(want_of_memory(fault)),
+    }
+}
+
+/// What a fault of the demo's text is: the text isn't refused.
+fn want_of_memory(fault: CompileFault) -> AllocError
+    requires { fault ≢ CompileFault.Memory → image_of_text DEMO_TEXT.now None ≡ Err fault }
+{
+    match fault {
+        CompileFault::Memory => AllocError,
+        _ => unreachable!(),
+    }
+}
+
+/// Lets a monitor of the demo's text take all rows, and counts its reports of each.
+fn play(monitor: &mut Monitor, tallies: &mut [Tally], seed: u32, rows: u32)
+    requires before { Played tallies.old monitor.old seed 0 }
+    ensures after { Played tallies.new monitor.new seed rows }
+{
+    for k in 0..rows {
+        play_row(monitor, tallies, seed, k);
+    }
+}
+
+/// Lets it take row k, and counts its reports.
+fn play_row(monitor: &mut Monitor, tallies: &mut [Tally], seed: u32, k: u32)
+    requires few { k < 2 ^ 32 }
+    requires before { Played tallies.old monitor.old seed k }
+    ensures after { Played tallies.new monitor.new seed (k + 1) }
+{
+    take_row(monitor, &demo_row(seed, u64::from(k)));
+    drain(monitor, tallies);
+}
+
+/// Gives all reports that a monitor has still to give, and counts them.
+fn drain(monitor: &mut Monitor, tallies: &mut [Tally])
+    requires counted { (rows : Seq Row) × Stands monitor.old rows × AreCounted tallies.old monitor.old rows }
+    ensures program { program_of monitor.new ≡ program_of monitor.old }
+    ensures taken { taken_by monitor.new ≡ taken_by monitor.old }
+    ensures stands { (rows : Seq Row) → Stands monitor.old rows → Stands monitor.new rows }
+    ensures drained { IsDrained monitor.new }
+    ensures counted { (rows : Seq Row) → Stands monitor.old rows → AreCounted tallies.old monitor.old rows
+        → AreCounted tallies.new monitor.new rows }
+{
+    while let Some(report) = monitor.next_report() {
+        let out = report.out as usize;
+        tallies[out] = tallies[out].with(report.word);
+    }
+}
+
+/// Lets a monitor take a row, and counts no steps.
+fn take_row(monitor: &mut Monitor, fields: &[i64])
+    requires drained { IsDrained monitor.old }
+    requires early { taken_by monitor.old < 2 ^ 40 }
+    requires fit { IsFit (program_of monitor.old) fields.now }
+    ensures takes { TakesRow fields.now monitor.old monitor.new }
+{
+    advance::<Brand>(monitor, fields, Blank::new(1));
+}
+
+/// Lets a monitor take a row over a counter of its own.
+fn advance<L: Ledger>(monitor: &mut Monitor, fields: &[i64], blank: Blank)
+    requires name { blank.name ≡ L.name }
+    requires parts { blank.parts ≡ L.parts }
+    requires some_parts { 0 < blank.parts }
+    requires drained { IsDrained monitor.old }
+    requires early { taken_by monitor.old < 2 ^ 40 }
+    requires fit { IsFit (program_of monitor.old) fields.now }
+    ensures takes { TakesRow fields.now monitor.old monitor.new }
+{
+    monitor.advance(fields, &mut Steps::<L>::start(blank));
+}

@@ -1,0 +1,62 @@
+//! How often each word was told of an output.
+
+ghost use Rattle.std.specs.Prelude.{◌≡◌, ◌+◌, ◌<◌, ◌^◌, if◌then◌else◌};
+ghost use Rattle.mltl_base.specs.Reports.{same_word};
+ghost use Rattle.mltl_base.specs.declared.report.Word.{Word as Told};
+ghost use Rattle.demo_runs.specs.Tallies.{count_in, none as no_words};
+
+use mltl_base::Word;
+
+/// How often each word was told of an output.
+#[derive(Clone, Copy)]
+pub(crate) struct Tally {
+    holds: u64,
+    fails: u64,
+    inactive: u64,
+    invalid: u64,
+    verified: u64,
+}
+
+impl Tally {
+    /// No word was told.
+    pub(crate) fn none() -> Tally
+        ensures { result ≡ no_words }
+    {
+        Tally {
+            holds: 0,
+            fails: 0,
+            inactive: 0,
+            invalid: 0,
+            verified: 0,
+        }
+    }
+
+    /// The tally with a word once more.
+    pub(crate) fn with(self, word: Word) -> Tally
+        requires room { count_in self word < 2 ^ 63 }
+        ensures { (w : Told) → count_in result w ≡ count_in self w + (if same_word word w then 1 else 0) }
+    {
+        let mut tally = self;
+        match word {
+            Word::True => tally.holds += 1,
+            Word::False => tally.fails += 1,
+            Word::Inactive => tally.inactive += 1,
+            Word::Invalid => tally.invalid += 1,
+            Word::Verified => tally.verified += 1,
+        }
+        tally
+    }
+
+    /// How often a word was told.
+    pub(crate) fn count(&self, word: Word) -> u64
+        ensures { result ≡ count_in self.now word }
+    {
+        match word {
+            Word::True => self.holds,
+            Word::False => self.fails,
+            Word::Inactive => self.inactive,
+            Word::Invalid => self.invalid,
+            Word::Verified => self.verified,
+        }
+    }
+}
