@@ -1,11 +1,11 @@
--- Runs by what the words ask for: help, nothing, or a file for which memory is wanting before it is read.
+-- Runs by what the words ask for: help, a demo, nothing, or a file for which memory is wanting before it is read.
 
 use Rattle.std.proofs.Common.{◌≡◌, ◌≢◌, ◌↔◌, ℕ, ◌≤◌, ◌<◌, ◌⊎◌, Bool, true, false, if◌then◌else◌, Option, Some, None, List, [], ◌∷◌, ◌++◌, length, map, refl, sym, ◌∙◌, ap, subst, arith, inl, inr}
 use Rattle.std.proofs.lemmas.List.{append-nil}
 use Rattle.tool_io.specs.declared.host.Place as place
 use Rattle.tool_io.specs.declared.host.Place.TheVariants.{Trace, Out}
 use Rattle.tool_io.specs.declared.host.Place.TheVariants as at
-use Rattle.tool_io.specs.Log.{Event, Took, Gave, given, names_of, Prompt, Writes}
+use Rattle.tool_io.specs.Log.{Event, Took, Gave, given, names_of, Prompt, Writes, WritesFront}
 use Rattle.tool_io.proofs.LogLaws.{Writes-given, Writes-given_elsewhere, Writes-names}
 use Rattle.tool_io.proofs.Prompting.{Prompt-from_by, Writes-prompt}
 use Rattle.tool_words.specs.R2u2Words.{RunAsked}
@@ -18,7 +18,9 @@ use Rattle.tool_runs.specs.Attaching.{OpensAsTold, ReadsAttached}
 use Rattle.tool_runs.specs.Files.{file_limit}
 use Rattle.tool_runs.specs.Telling.{HelpLog}
 use Rattle.tool_runs.proofs.AttachLaws.{no_reads_none, writes_unread}
-use Rattle.r2u2_runs.specs.Asking.{Ask, help, over, nothing, served, ask, asked_names}
+use Rattle.r2u2_runs.specs.Asking.{Ask, help, over, demo, nothing, served, ask, asked_names}
+use Rattle.demo_runs.specs.Summary.{demo_summary}
+use Rattle.r2u2_runs.specs.Demo.{DemoLog, DemoOutcome, KeepsDemo, SummaryLog}
 use Rattle.r2u2_runs.specs.Outcome.{due_by}
 use Rattle.r2u2_runs.specs.Run.{found_in, FileOutcome, HelpOutcome, NothingOutcome, OutcomeOf, RefusesBehind, TriesSecond, IsPrompt, Ran}
 
@@ -48,21 +50,25 @@ run_help answer events is = absurd is
 second_none : (asked : Ask) → TriesSecond asked []
 second_none help = tt
 second_none (over asked) = λ two. let none : 1 < 0 = two in absurd (omega (arith, none))
+second_none (demo seed rows) = tt
 second_none nothing = tt
 
 prompt_none : (asked : Ask) → IsPrompt asked []
 prompt_none help = Prompt-from_by (λ bytes. []) [] [] tt
 prompt_none (over asked) = Prompt-from_by (due_by asked (found_in asked []) false) [] [] tt
+prompt_none (demo seed rows) = Prompt-from_by (λ bytes. []) [] [] tt
 prompt_none nothing = Prompt-from_by (λ bytes. []) [] [] tt
 
 memory_none : (asked : Ask) → OutcomeOf status.TheVariants.Memory asked [] None
 memory_none help = record { no_lines = refl; no_monitor = refl }
 memory_none (over asked) = (omega arith, record { no_lines = refl; no_monitor = refl })
+memory_none (demo seed rows) = record { no_lines = refl; no_monitor = refl }
 memory_none nothing = record { no_lines = refl; no_monitor = refl }
 
 memory_begun : (asked : Ask) → RefusesBehind asked status.TheVariants.Memory []
 memory_begun help = tt
 memory_begun (over asked) = λ unrefused. tt
+memory_begun (demo seed rows) = tt
 memory_begun nothing = tt
 
 run_none : (asked : Ask) (answer : status.Status) → OutcomeOf answer asked [] None → OpensAsTold answer [] → RefusesBehind asked answer [] → Ran asked answer None []
@@ -88,6 +94,39 @@ run_no_memory asked = run_none asked status.TheVariants.Memory (memory_none aske
 pub run_nothing : (asked : Ask) → asked ≡ nothing → Ran asked status.TheVariants.Usage None []
 run_nothing asked is = subst (λ a. Ran a status.TheVariants.Usage None []) (sym is) (run_none nothing status.TheVariants.Usage (record { no_lines = refl; no_monitor = refl }) tt tt)
 
+-- the summary of a demo, or a front of it, went out
+demo_ran : (seed rows : ℕ) (answer : status.Status) (kept : Option State) (sent : List ℕ) (events : List Event) → Writes Out sent events → OutcomeOf answer (demo seed rows) events kept
+    → OpensAsTold answer events → (answer ≡ status.TheVariants.Memory → ⊥) → Ran (demo seed rows) answer kept events
+demo_ran seed rows answer kept sent events writes outcome opened some = record {
+  names = record { rest = []; split = sym (append-nil (names_of events) ∙ Writes-names Out sent events writes) };
+  second = tt;
+  attached = λ before after p piece is. absurd (writes_unread Out writes.pieces before after p piece (sym writes.are ∙ is));
+  prompt = Prompt-from_by (λ bytes. []) [] events (Writes-prompt (λ bytes. []) [] [] Out sent events writes);
+  outcome = outcome;
+  opened = opened;
+  begun = tt;
+  early = λ memory. absurd (some memory);
+  quiet = Writes-given_elsewhere Out at.Err sent events refl writes;
+}
+
+pub demo_told : (answer : status.Status) (seed rows : ℕ) (text : List ℕ) (kept : Option State) (events : List Event) → text ≡ demo_summary seed rows → KeepsDemo seed rows kept
+    → SummaryLog answer text events → DemoLog answer seed rows kept events
+demo_told status.TheVariants.Done seed rows text kept events is keeps told = (subst (λ b. Writes Out b events) is told, keeps)
+demo_told (status.TheVariants.WriteFault place.TheVariants.Out) seed rows text kept events is keeps told = (subst (λ b. WritesFront Out b events) is told, keeps)
+demo_told answer seed rows text kept events is keeps told = absurd told
+
+pub run_demo : (seed rows : ℕ) (answer : status.Status) (kept : Option State) (events : List Event) → DemoLog answer seed rows kept events → Ran (demo seed rows) answer kept events
+run_demo seed rows status.TheVariants.Done kept events told =
+    demo_ran seed rows status.TheVariants.Done kept (demo_summary seed rows) events told.0 (Writes-given Out (demo_summary seed rows) events told.0, told.1) tt (λ is. cc)
+run_demo seed rows (status.TheVariants.WriteFault place.TheVariants.Out) kept events told =
+    let fronts = told.0 in
+    demo_ran seed rows (status.TheVariants.WriteFault Out) kept fronts.sent events fronts.writes
+    (record { rest = fronts.unsent; split = fronts.split ∙ ap (λ b. b ++ fronts.unsent) (sym (Writes-given Out fronts.sent events fronts.writes)) }, told.1) tt (λ is. cc)
+run_demo seed rows status.TheVariants.Memory kept events told =
+    subst (λ es. Ran (demo seed rows) status.TheVariants.Memory kept es) (sym told.0)
+    (subst (λ k. Ran (demo seed rows) status.TheVariants.Memory k []) (sym told.1) (run_no_memory (demo seed rows)))
+run_demo seed rows answer kept events told = absurd told
+
 -- how an answer tells what was asked
 asks_over : (answer : status.Status) (asked : RunAsked) (file : List ℕ) (file_end : Bool) (bytes : List ℕ) (ended : Bool) (out : List ℕ) (kept : Option State) → FileOutcome answer asked file file_end bytes ended out kept → (answer ≡ status.TheVariants.Usage → ⊥) × (answer ≡ status.TheVariants.Helped → ⊥)
 asks_over answer asked file file_end bytes ended out kept is = (
@@ -103,11 +142,13 @@ nothing_usage answer out kept is some = absurd is
 pub run_usage : (asked : Ask) (answer : status.Status) (kept : Option State) (events : List Event) → Ran asked answer kept events → answer ≢ status.TheVariants.Memory → (answer ≡ status.TheVariants.Usage) ↔ (asked ≡ nothing)
 run_usage help answer kept events ran some = (λ same. absurd (subst (λ s. HelpOutcome s (given Out events) kept) same ran.outcome), λ is. cc)
 run_usage (over asked) answer kept events ran some = (λ same. absurd ((asks_over answer asked _ _ _ _ _ kept ran.outcome).0 same), λ is. cc)
+run_usage (demo seed rows) answer kept events ran some = (λ same. absurd (subst (λ s. DemoOutcome s seed rows (given Out events) kept) same ran.outcome), λ is. cc)
 run_usage nothing answer kept events ran some = (λ same. refl, λ is. nothing_usage answer (given Out events) kept ran.outcome some)
 
 pub run_helped : (asked : Ask) (answer : status.Status) (kept : Option State) (events : List Event) → Ran asked answer kept events → answer ≡ status.TheVariants.Helped → asked ≡ help
 run_helped help answer kept events ran is = refl
 run_helped (over asked) answer kept events ran is = absurd ((asks_over answer asked _ _ _ _ _ kept ran.outcome).1 is)
+run_helped (demo seed rows) answer kept events ran is = absurd (subst (λ s. DemoOutcome s seed rows (given Out events) kept) is ran.outcome)
 run_helped nothing answer kept events ran is = absurd (subst (λ s. NothingOutcome s (given Out events) kept) is ran.outcome)
 
 -- what was read of the words

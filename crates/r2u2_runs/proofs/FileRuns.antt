@@ -139,8 +139,8 @@ missed asked events (inr is) = subst (Ran (over asked) (status.TheVariants.OpenF
 
 -- it couldn't be read whole
 read_outcome : (source : Bool) (asked : RunAsked) (bytes : List ℕ) → asked.source ≡ source → length bytes ≤ file_limit asked.source → FileOutcome (status.TheVariants.ReadFault (file_place source)) asked bytes false [] false [] None
-read_outcome true asked bytes is fits = (ap file_place (sym is), fits, silent)
-read_outcome false asked bytes is fits = (ap file_place (sym is), fits, silent)
+read_outcome true asked bytes is fits = (ap file_place (sym is), refl, fits, silent)
+read_outcome false asked bytes is fits = (ap file_place (sym is), refl, fits, silent)
 
 pub run_unread : (asked : RunAsked) (answer : status.Status) (events : List Event) → FileLog (Err answer) (file_place asked.source) (file_limit asked.source) asked.file events → Ran (over asked) answer None events
 run_unread asked (status.TheVariants.OpenFault p) events is = subst (λ q. Ran (over asked) (status.TheVariants.OpenFault q) None events) (sym is.0) (missed asked events is.1)

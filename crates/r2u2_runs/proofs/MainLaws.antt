@@ -25,7 +25,8 @@ use Rattle.tool_runs.specs.Files.{file_limit, file_place}
 use Rattle.tool_runs.specs.Telling.{ToldWhole}
 use Rattle.tool_runs.proofs.AttachLaws.{ReadsAttached-append, is_attached-append, opened_still, split_at, writes_unattached, writes_unread}
 use Rattle.tool_runs.proofs.CauseLaws.{err_stays, rose_at}
-use Rattle.r2u2_runs.specs.Asking.{Ask, help, over, nothing, asked_names}
+use Rattle.r2u2_runs.specs.Demo.{DemoOutcome}
+use Rattle.r2u2_runs.specs.Asking.{Ask, help, over, demo, nothing, asked_names}
 use Rattle.r2u2_runs.specs.ProgramBy.{file_refusal, header_in, program_over}
 use Rattle.r2u2_runs.specs.Outcome.{due_by, StopsBy, LinesOutcome}
 use Rattle.r2u2_runs.specs.Run.{BegunFor, RefusesBehind, file_of, file_ended, trace_of, trace_ended, lines_in, found_in, IsReadable, FileOutcome, HelpOutcome, NothingOutcome, OutcomeOf, TriesSecond, IsPrompt, TellsFormulas, Ran, CompletesBy, Complete, IsRun}
@@ -80,9 +81,17 @@ help_complete (status.TheVariants.WriteFault at.Err) out kept before between now
 help_complete (status.TheVariants.WriteFault p) out kept before between now cause same none is = absurd (rose_at before between now p cause same none (λ e. cc))
 help_complete answer out kept before between now cause same none is = absurd is
 
+demo_complete : (answer : status.Status) (seed rows : ℕ) (out : List ℕ) (kept : Option State) (before between now : place.Place → ℕ) → RunCause answer before between → ((q : place.Place) → q ≢ at.Err → now q ≡ between q) → NoOtherRose before now → DemoOutcome answer seed rows out kept → (answer ≡ status.TheVariants.Done) ⊎ (answer ≡ status.TheVariants.Memory)
+demo_complete status.TheVariants.Done seed rows out kept before between now cause same none is = inl refl
+demo_complete status.TheVariants.Memory seed rows out kept before between now cause same none is = inr refl
+demo_complete (status.TheVariants.WriteFault at.Err) seed rows out kept before between now cause same none is = absurd cause
+demo_complete (status.TheVariants.WriteFault p) seed rows out kept before between now cause same none is = absurd (rose_at before between now p cause same none (λ e. cc))
+demo_complete answer seed rows out kept before between now cause same none is = absurd is
+
 complete_run : (asked : Ask) (answer : status.Status) (kept : Option State) (before between now : place.Place → ℕ) (events : List Event) → RunCause answer before between → ((q : place.Place) → q ≢ at.Err → now q ≡ between q) → OutcomeOf answer asked events kept → Complete asked answer before now events
 complete_run nothing answer kept before between now events cause same is = λ none. tt
 complete_run help answer kept before between now events cause same is = λ none. help_complete answer (given Out events) kept before between now cause same none is
+complete_run (demo seed rows) answer kept before between now events cause same is = λ none. demo_complete answer seed rows (given Out events) kept before between now cause same none is
 complete_run (over asked) answer kept before between now events cause same is = λ none fits clean. file_complete answer asked (file_of asked events) (file_ended asked events) (trace_of events) (trace_ended events) (given Out events) kept before between now cause same none fits clean is
 
 -- a message behind a run changes nothing but what Err was given
@@ -114,11 +123,13 @@ module _ (first second : List Event) (sent : List ℕ) (writes : Writes at.Err s
   pub prompt_still : (asked : Ask) → IsPrompt asked first → IsPrompt asked all
   prompt_still help is = still_prompt (λ bytes. []) is
   prompt_still nothing is = still_prompt (λ bytes. []) is
+  prompt_still (demo seed rows) is = still_prompt (λ bytes. []) is
   prompt_still (over asked) is = subst (λ f. Prompt (due_by asked f false) [] all) (sym (all_found asked)) (still_prompt (due_by asked (found_in asked first) false) is)
 
   pub second_still : (asked : Ask) → TriesSecond asked first → TriesSecond asked all
   second_still help is = tt
   second_still nothing is = tt
+  second_still (demo seed rows) is = tt
   second_still (over asked) is = λ two.
       subst (λ b. IsReadable asked b (file_ended asked all)) (sym (all_taken (file_place asked.source)))
       (subst (IsReadable asked (file_of asked first)) (sym (all_ended (file_place asked.source))) (is (subst (λ ns. 1 < length ns) all_names two)))
@@ -126,6 +137,7 @@ module _ (first second : List Event) (sent : List ℕ) (writes : Writes at.Err s
   pub outcome_still : (asked : Ask) (answer : status.Status) (kept : Option State) → OutcomeOf answer asked first kept → OutcomeOf answer asked all kept
   outcome_still help answer kept is = subst (λ b. HelpOutcome answer b kept) (sym all_out) is
   outcome_still nothing answer kept is = subst (λ b. NothingOutcome answer b kept) (sym all_out) is
+  outcome_still (demo seed rows) answer kept is = subst (λ b. DemoOutcome answer seed rows b kept) (sym all_out) is
   outcome_still (over asked) answer kept is =
       subst (λ b. FileOutcome answer asked b (file_ended asked all) (trace_of all) (trace_ended all) (given Out all) kept) (sym (all_taken (file_place asked.source)))
       (subst (λ v. FileOutcome answer asked (file_of asked first) v (trace_of all) (trace_ended all) (given Out all) kept) (sym (all_ended (file_place asked.source)))
@@ -135,6 +147,7 @@ module _ (first second : List Event) (sent : List ℕ) (writes : Writes at.Err s
 
   pub begun_still : (asked : Ask) (answer : status.Status) → RefusesBehind asked answer first → RefusesBehind asked answer all
   begun_still help answer is = tt
+  begun_still (demo seed rows) answer is = tt
   begun_still nothing answer is = tt
   begun_still (over asked) answer is = λ unrefused.
       subst (λ v. BegunFor answer v (lines_in all)) (sym (all_ended Trace))
@@ -143,6 +156,7 @@ module _ (first second : List Event) (sent : List ℕ) (writes : Writes at.Err s
 tells_formulas : (asked : Ask) (events : List Event) → TellsFormulas asked events
 tells_formulas help events = tt
 tells_formulas nothing events = tt
+tells_formulas (demo seed rows) events = tt
 tells_formulas (over asked) events = settled_by asked (file_of asked events) (lines_in events) (trace_ended events) (trace_of events)
 
 -- a run, and then a front of its message

@@ -2,5 +2,6 @@ pub mod Asking
 pub mod ProgramBy
 pub mod Outcome
 pub mod Settled
+pub mod Demo
 pub mod Run
 pub mod Phases

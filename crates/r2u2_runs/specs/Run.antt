@@ -16,8 +16,9 @@ use Rattle.tool_runs.specs.Causes.{NoOtherRose}
 use Rattle.tool_runs.specs.Attaching.{OpensAsTold, ReadsAttached}
 use Rattle.tool_runs.specs.Files.{file_limit, file_place}
 use Rattle.tool_runs.specs.Telling.{ToldWhole}
-use Rattle.r2u2_runs.specs.Asking.{Ask, help, over, nothing, asked_names}
+use Rattle.r2u2_runs.specs.Asking.{Ask, help, over, demo, nothing, asked_names}
 use Rattle.r2u2_runs.specs.ProgramBy.{file_refusal, header_in, program_over}
+use Rattle.r2u2_runs.specs.Demo.{DemoOutcome}
 use Rattle.r2u2_runs.specs.Outcome.{due_by, Silent, StopsBy, LinesOutcome}
 use Rattle.r2u2_runs.specs.Settled.{IsSettledBy}
 
@@ -81,7 +82,7 @@ FileOutcome (status.TheVariants.OpenFault p) asked file file_end bytes ended out
 FileOutcome (status.TheVariants.ReadFault place.TheVariants.Trace) asked file file_end bytes ended out kept =
     IsReadable asked file file_end × ByLines (status.TheVariants.ReadFault place.TheVariants.Trace) asked file file_end bytes ended out kept
 FileOutcome (status.TheVariants.ReadFault p) asked file file_end bytes ended out kept =
-    (p ≡ file_place asked.source) × (length file ≤ file_limit asked.source) × Silent out kept
+    (p ≡ file_place asked.source) × (file_end ≡ false) × (length file ≤ file_limit asked.source) × Silent out kept
 FileOutcome (status.TheVariants.TextTooLong p) asked file file_end bytes ended out kept =
     (p ≡ file_place asked.source) × (file_limit asked.source < length file) × Silent out kept
 FileOutcome status.TheVariants.Memory asked file file_end bytes ended out kept = (length file ≤ file_limit asked.source) × Silent out kept
@@ -104,6 +105,7 @@ NothingOutcome answer out kept = ⊥
 abbrev pub OutcomeOf : status.Status → Ask → List Event → Option State → Type 0
 OutcomeOf answer help events kept = HelpOutcome answer (given place.TheVariants.Out events) kept
 OutcomeOf answer nothing events kept = NothingOutcome answer (given place.TheVariants.Out events) kept
+OutcomeOf answer (demo seed rows) events kept = DemoOutcome answer seed rows (given place.TheVariants.Out events) kept
 OutcomeOf answer (over asked) events kept =
     FileOutcome answer asked (file_of asked events) (file_ended asked events) (trace_of events) (trace_ended events) (given place.TheVariants.Out events) kept
 
@@ -135,13 +137,14 @@ pub record Ran (asked : Ask) (answer : status.Status) (kept : Option State) (eve
   pub quiet : given place.TheVariants.Err events ≡ []
 
 -- A file and a header that give a program, and a trace without a faulty line and within the mission time, give Done,
--- unless memory is wanting; and help is given where it is asked for.
+-- unless memory is wanting, and so does a demo; help is given where it is asked for.
 abbrev pub CompletesBy : Ask → status.Status → List Event → Type 0
 CompletesBy (over asked) answer events =
     length (file_of asked events) ≤ file_limit asked.source
     → StopsBy Clean asked (found_in asked events) (trace_ended events) (trace_of events)
     → (answer ≡ status.TheVariants.Done) ⊎ (answer ≡ status.TheVariants.Memory)
 CompletesBy help answer events = (answer ≡ status.TheVariants.Helped) ⊎ (answer ≡ status.TheVariants.Memory)
+CompletesBy (demo seed rows) answer events = (answer ≡ status.TheVariants.Done) ⊎ (answer ≡ status.TheVariants.Memory)
 CompletesBy nothing answer events = Unit {0}
 
 abbrev pub Complete : Ask → status.Status → (place.Place → ℕ) → (place.Place → ℕ) → List Event → Type 0

@@ -11,6 +11,7 @@
 //! [`watch_timed`]: trace_watch::watch_timed
 #![tactic(auto)]
 
+mod demo;
 mod opening;
 mod r2u2_run;
 mod reading;

@@ -11,6 +11,7 @@ ghost use Rattle.r2u2_runs.specs.Asking.{ask, help, nothing, over, served};
 ghost use Rattle.r2u2_runs.specs.Run.{IsRun, Ran};
 ghost use Rattle.r2u2_runs.specs.Phases.{RanFile};
 
+use crate::demo::give_demo;
 use crate::opening::open_file;
 use crate::running::run_trace;
 use mltl_monitor::Monitor;
@@ -72,7 +73,7 @@ fn run_asked<H: Host>(
     match asked {
         R2u2Ask::Help => give_help(Tool::R2u2, host),
         R2u2Ask::Run(asked) => run_file(alloc, &asked, host, kept),
-        R2u2Ask::Demo { .. } => Status::Usage,
+        R2u2Ask::Demo { seed, rows } => give_demo(alloc, seed, rows, host, kept),
         R2u2Ask::Nothing => Status::Usage,
     }
 }
@@ -93,9 +94,8 @@ fn run<H: Host>(alloc: Global, words: &Words, host: &mut H, kept: &mut Option<Mo
 
 /// The top call of r2u2: does what the words ask for, and tells the user on `Err` what went wrong.
 ///
-/// It runs over a trace, with a specification or with a program file, or gives help; a demo is asked for by words that
-/// are `Usage` yet. Before it reads on in the trace, the verdict lines of all whole lines that it has taken
-/// are out. The monitor that ran is left in `kept`.
+/// It runs over a trace, with a specification or with a program file, runs the demo, or gives help. Before it reads on in
+/// the trace, the verdict lines of all whole lines that it has taken are out. The monitor that ran is left in `kept`.
 pub fn r2u2_main<H: Host>(
     alloc: Global,
     words: &Words,
