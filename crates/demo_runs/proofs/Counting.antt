@@ -1,7 +1,7 @@
 -- Tallies count reports, one after another.
 
-use Rattle.std.proofs.Common.{◌≡◌, ◌≢◌, ◌∙◌, ℕ, suc, ◌+◌, ◌-◌, ◌<◌, ◌≤◌, ◌^◌, ◌==◌, Bool, true, false, ◌&&◌, cond, List, [], ◌∷◌, ◌++◌, length, replicate, get_or, refl, ap, ap₂, sym, subst, arith, append_assoc, length-set}
-use Rattle.std.specs.Prelude.{Some, slice_get, slice_set, slice_index_or, MatchBool, count_by, map, if◌then◌else◌}
+use Rattle.std.proofs.Common.{◌≡◌, ◌≢◌, ◌∙◌, ℕ, suc, ◌+◌, ◌<◌, ◌≤◌, ◌^◌, ◌==◌, Bool, true, false, ◌&&◌, cond, List, [], ◌∷◌, ◌++◌, length, get_or, refl, ap, ap₂, sym, subst, arith, append_assoc, length-set}
+use Rattle.std.specs.Prelude.{Some, slice_get, slice_set, slice_index_or, MatchBool, if◌then◌else◌}
 use Rattle.std.proofs.lemmas.Bool.{eq-eqb, eqb-false, eqb-true}
 use Rattle.std.proofs.lemmas.List.{append-nil, get_or-set_same, get_or-set_other, length-map}
 use Rattle.std.proofs.lemmas.List.Sums.{sum_by-append}

@@ -1,7 +1,7 @@
 -- The items of the demo's text.
 
 use Rattle.std.proofs.Common.{◌≡◌, ℕ, ◌+◌, ◌*◌, ◌≤◌, List, [], ◌∷◌, length, take, drop, refl, ap, sym, ◌∙◌, codes, lit≤}
-use Rattle.std.specs.Prelude.{Option, Some, None, Ok, pos}
+use Rattle.std.specs.Prelude.{Some, None, Ok, pos}
 use Rattle.mltl_base.specs.declared.interval.Engine.TheVariants.{Ft, Pt}
 use Rattle.mltl_base.specs.declared.operators.CompareOp.TheVariants.{Lt}
 use Rattle.mltl_base.specs.declared.operators.LogicOp.TheVariants.{Implies}

@@ -1,10 +1,9 @@
 -- A demo's monitor takes its rows one by one.
 
-use Rattle.std.proofs.Common.{◌≡◌, ◌∙◌, ℕ, ◌+◌, ◌<◌, List, [], ◌∷◌, ◌++◌, length, replicate, take, drop, refl, ap, sym, subst, arith, Option, None, Result, Ok, IfOk}
+use Rattle.std.proofs.Common.{◌≡◌, ◌∙◌, ℕ, ◌+◌, ◌<◌, List, [], ◌∷◌, ◌++◌, length, replicate, take, drop, ap, sym, subst, arith, None, Ok}
 use Rattle.std.specs.Prelude.{slice_index_or}
 use Rattle.std.proofs.Math.Seq.{drop-length}
 use Rattle.std.proofs.lemmas.List.{append-nil, get_or-replicate, length-replicate, take_all}
-use Rattle.mltl_base.specs.declared.program.Program.{Program}
 use Rattle.mltl_base.specs.declared.report.Style.TheVariants.{Each}
 use Rattle.mltl_base.specs.Atoms.{Row}
 use Rattle.mltl_base.specs.Programs.{IsFit, outputs}

@@ -2,7 +2,7 @@
 
 use Rattle.std.specs.Prelude.{ℕ, List, [], ◌∷◌, codes, pos}
 use Rattle.mltl_base.specs.declared.interval.Engine.TheVariants.{Ft, Pt}
-use Rattle.mltl_base.specs.Atoms.{Atom, is_true, column, constant, less}
+use Rattle.mltl_base.specs.Atoms.{is_true, column, constant, less}
 use Rattle.mltl_base.specs.Formula.{Formula, atom, implication, finally, globally, once}
 use Rattle.mltl_base.specs.Reports.{formula, contract}
 use Rattle.mltl_base.specs.Subformulas.{Asked}

@@ -1,4 +1,4 @@
-use Rattle.std.proofs.Common.{◌∙◌, refl, arith}
+use Rattle.std.proofs.Common.{◌∙◌, refl}
 use Rattle.demo_runs.proofs.Counting.{counted_step_of, room_at}
 use Rattle.demo_runs.proofs.run.drain.Goals as goal
 
