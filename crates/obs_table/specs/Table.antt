@@ -1,0 +1,104 @@
+-- The instruction table of a program, as comma-separated values: a first line that names the columns, then a line for
+-- each instruction.
+
+use Rattle.std.specs.Prelude.{ℕ, List, [], ◌∷◌, ◌++◌, map, codes, decimal, slice_index}
+use Rattle.std.specs.Fmt.{signed_decimal}
+use Rattle.std.specs.List.{enumerate_from, flat_map}
+use Rattle.csv.specs.Writing.{default_writer, row_text}
+use Rattle.mltl_base.specs.declared.interval.Interval.{Interval}
+use Rattle.mltl_base.specs.declared.operators.BzOp.{BzOp}
+use Rattle.mltl_base.specs.declared.operators.BzOp.TheVariants as bz
+use Rattle.mltl_base.specs.declared.operators.FtOp.{FtOp}
+use Rattle.mltl_base.specs.declared.operators.FtOp.TheVariants as ft
+use Rattle.mltl_base.specs.declared.operators.PtOp.{PtOp}
+use Rattle.mltl_base.specs.declared.operators.PtOp.TheVariants as pt
+use Rattle.mltl_base.specs.declared.program.Program.{Program}
+use Rattle.mltl_base.specs.Queues.{best_delays, worst_delays}
+
+-- a field, as its text
+abbrev pub Field : Type 0
+Field = List ℕ
+
+-- a field that doesn't apply is empty
+abbrev pub blank : Field
+blank = []
+
+-- the names of the columns
+abbrev pub columns : List Field
+columns = codes "engine" ∷ codes "number" ∷ codes "operation" ∷ codes "left" ∷ codes "right" ∷ codes "low" ∷ codes "high" ∷ codes "best" ∷ codes "worst" ∷ codes "size" ∷ []
+
+-- The fields from operation to high: the name of an instruction, its operands, and the bounds of its interval.
+abbrev pub bare : Field → List Field
+bare name = name ∷ blank ∷ blank ∷ blank ∷ blank ∷ []
+
+abbrev pub unary : Field → Field → List Field
+unary name left = name ∷ left ∷ blank ∷ blank ∷ blank ∷ []
+
+abbrev pub binary : Field → ℕ → ℕ → List Field
+binary name left right = name ∷ decimal left ∷ decimal right ∷ blank ∷ blank ∷ []
+
+abbrev pub temporal : Field → ℕ → ℕ → Interval → List Field
+temporal name left right window = name ∷ decimal left ∷ decimal right ∷ decimal window.lo ∷ decimal window.hi ∷ []
+
+-- those fields of each instruction; a constant shows its value as its left operand
+unfoldable pub bz_fields : BzOp → List Field
+bz_fields (bz.Column c) = unary (codes "column") (decimal c)
+bz_fields (bz.IsTrue c) = unary (codes "istrue") (decimal c)
+bz_fields (bz.Const value) = unary (codes "const") (signed_decimal value)
+bz_fields (bz.Neg a) = unary (codes "neg") (decimal a)
+bz_fields (bz.Add a b) = binary (codes "add") a b
+bz_fields (bz.Sub a b) = binary (codes "sub") a b
+bz_fields (bz.Mul a b) = binary (codes "mul") a b
+bz_fields (bz.Div a b) = binary (codes "div") a b
+bz_fields (bz.Rem a b) = binary (codes "rem") a b
+bz_fields (bz.Eq a b) = binary (codes "eq") a b
+bz_fields (bz.Lt a b) = binary (codes "lt") a b
+bz_fields (bz.Le a b) = binary (codes "le") a b
+
+unfoldable pub ft_fields : FtOp → List Field
+ft_fields ft.True = bare (codes "true")
+ft_fields (ft.Load a) = unary (codes "load") (decimal a)
+ft_fields (ft.Not g) = unary (codes "not") (decimal g)
+ft_fields (ft.And l r) = binary (codes "and") l r
+ft_fields (ft.Until l r window) = temporal (codes "until") l r window
+
+unfoldable pub pt_fields : PtOp → List Field
+pt_fields pt.True = bare (codes "true")
+pt_fields (pt.Load a) = unary (codes "load") (decimal a)
+pt_fields (pt.Not g) = unary (codes "not") (decimal g)
+pt_fields (pt.And l r) = binary (codes "and") l r
+pt_fields (pt.Since l r window) = temporal (codes "since") l r window
+
+-- the best delay, the worst delay and the size of an instruction
+abbrev pub ft_figure_fields : Program → ℕ → List Field
+ft_figure_fields program i =
+    decimal (slice_index (best_delays program.ft) i) ∷ decimal (slice_index (worst_delays program.ft) i) ∷ decimal (slice_index program.sizes.ft i) ∷ []
+
+abbrev pub pt_figure_fields : Program → ℕ → List Field
+pt_figure_fields program i = blank ∷ blank ∷ decimal (slice_index program.sizes.pt i) ∷ []
+
+-- the record of instruction i: its engine, its number, and the fields above
+abbrev pub bz_record : ℕ → BzOp → List Field
+bz_record i op = codes "bz" ∷ decimal i ∷ bz_fields op ++ (blank ∷ blank ∷ blank ∷ [])
+
+abbrev pub ft_record : Program → ℕ → FtOp → List Field
+ft_record program i op = codes "ft" ∷ decimal i ∷ ft_fields op ++ ft_figure_fields program i
+
+abbrev pub pt_record : Program → ℕ → PtOp → List Field
+pt_record program i op = codes "pt" ∷ decimal i ∷ pt_fields op ++ pt_figure_fields program i
+
+-- the records of instructions in order, which are numbered from 0
+abbrev pub numbered : {X : Type 0} → (ℕ → X → List Field) → List X → List (List Field)
+numbered record_of ops = map (λ p. record_of p.0 p.1) (enumerate_from 0 ops)
+
+-- the records of a program: the Booleanizer's, then future time's, then past time's
+abbrev pub records : Program → List (List Field)
+records program = numbered bz_record program.bz ++ (numbered (ft_record program) program.ft ++ numbered (pt_record program) program.pt)
+
+-- the lines of records, as csv writes them by default
+abbrev pub lines : List (List Field) → List ℕ
+lines rows = flat_map (row_text default_writer) rows
+
+-- the table of a program
+abbrev pub table : Program → List ℕ
+table program = lines (columns ∷ records program)
