@@ -1,8 +1,9 @@
 //! The public calls of the product under one name.
 //!
-//! [`r2u2_main`] is the top call of the monitor.
+//! [`c2po_main`] is the top call of the compiler, and [`r2u2_main`] that of the monitor.
 #![tactic(auto)]
 
+pub use c2po_runs::c2po_main;
 pub use mltl_monitor::Monitor;
 pub use obs_files::{ProgramFault, image};
 pub use r2u2_runs::r2u2_main;

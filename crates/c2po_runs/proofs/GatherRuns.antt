@@ -1,0 +1,349 @@
+-- What was read gives the bytes that are written, or a refusal.
+
+use Rattle.std.proofs.Common.{◌≡◌, ℕ, ◌≤◌, ◌<◌, ◌⊎◌, Bool, true, false, ◌||◌, Option, Some, None, is_some, Result, Ok, Err, List, [], ◌∷◌, ◌++◌, length, Vec, refl, sym, ◌∙◌, ap, subst, inl, inr}
+use Rattle.std.specs.declared.alloc.Global.{Global}
+use Rattle.std.proofs.lemmas.List.{append-nil}
+use Rattle.tool_io.specs.declared.host.Place as place
+use Rattle.tool_io.specs.declared.host.Place.TheVariants as at
+use Rattle.tool_io.specs.Log.{Event, Attached, Missed, same_place, taken, ended_from, names_of, IsFront}
+use Rattle.tool_io.specs.Host.{IsSource}
+use Rattle.tool_io.specs.Whole.{Takes}
+use Rattle.tool_io.specs.Cutting.{lines_of}
+use Rattle.tool_io.proofs.LogLaws.{taken-append, ended_from-append, names_of-append}
+use Rattle.spec_compile.specs.Front.{first_refusal}
+use Rattle.tool_runs.specs.declared.status.Status as status
+use Rattle.tool_runs.specs.declared.status.Status.TheVariants as answers
+use Rattle.tool_runs.specs.Attaching.{is_attached, ReadsAttached, OpensAsTold}
+use Rattle.tool_runs.specs.Files.{file_place, file_limit}
+use Rattle.tool_runs.specs.Reading.{FileLog}
+use Rattle.tool_runs.proofs.AttachLaws.{is_attached-append, ReadsAttached-append, no_reads_none, missed_none, or_true}
+use Rattle.c2po_runs.specs.declared.make.Product.{Product}
+use Rattle.c2po_runs.specs.declared.make.Product.TheVariants.{Image, Table, Upgrade}
+use Rattle.c2po_runs.specs.Asking.{MakeAsked, from_text, place_named, read_names}
+use Rattle.c2po_runs.specs.Made.{made, made_of_text}
+use Rattle.c2po_runs.specs.Run.{Seen, seen, place_of, is_tried, IsFaultless, Makes, MakeOutcome}
+use Rattle.c2po_runs.specs.Phases.{Refuses, HeaderLog, RefusedLog, MadeLog, SpecLog, TextLog, FileMadeLog, BehindLog, OnlySources, Gathered, NotGathered, GatherLog}
+use Rattle.c2po_runs.proofs.LogLaws.{HasRead, has_read, sources-append, sources_given, sources_unattached}
+
+-- what two logs say alike
+pub same_seen : (a b : Seen) → a.names ≡ b.names → a.file ≡ b.file → a.whole ≡ b.whole → a.header ≡ b.header → a.out ≡ b.out → a.attached ≡ b.attached → a ≡ b
+same_seen a b n f w h o t =
+    ap (λ x. record { names = x; file = a.file; whole = a.whole; header = a.header; out = a.out; attached = a.attached }) n
+    ∙ ap (λ x. record { names = b.names; file = x; whole = a.whole; header = a.header; out = a.out; attached = a.attached }) f
+    ∙ ap (λ x. record { names = b.names; file = b.file; whole = x; header = a.header; out = a.out; attached = a.attached }) w
+    ∙ ap (λ x. record { names = b.names; file = b.file; whole = b.whole; header = x; out = a.out; attached = a.attached }) h
+    ∙ ap (λ x. record { names = b.names; file = b.file; whole = b.whole; header = b.header; out = x; attached = a.attached }) o
+    ∙ ap (λ x. record { names = b.names; file = b.file; whole = b.whole; header = b.header; out = b.out; attached = x }) t
+
+-- the file isn't at the place of the header
+header_else : (text : Bool) → same_place at.Header (file_place text) ≡ false
+header_else true = refl
+header_else false = refl
+
+file_else : (text : Bool) → same_place (file_place text) at.Header ≡ false
+file_else true = refl
+file_else false = refl
+
+file_source : (text : Bool) → IsSource (file_place text)
+file_source true = tt
+file_source false = tt
+
+-- what comes behind the file: the names that are tried there, and the lines of the header file
+pub record Behind (asked : MakeAsked) (names : List (place.Place × List ℕ)) (lines : List (List ℕ)) (events : List Event) : Type 0 where
+  pub names_are : names_of events ≡ names
+  pub sources : OnlySources events
+  pub reads : ReadsAttached [] events
+  pub no_file : taken (place_of asked) events ≡ []
+  pub no_file_end : (ended : Bool) → ended_from ended (place_of asked) events ≡ ended
+  pub lines_are : lines_of (ended_from false at.Header events) (taken at.Header events) ≡ lines
+
+behind_none : (asked : MakeAsked) (events : List Event) → events ≡ [] → Behind asked [] [] events
+behind_none asked events is = subst (Behind asked [] []) (sym is) (record {
+  names_are = refl;
+  sources = tt;
+  reads = no_reads_none;
+  no_file = refl;
+  no_file_end = λ ended. refl;
+  lines_are = refl;
+})
+
+behind_missed : (asked : MakeAsked) (name : List ℕ) (events : List Event) → events ≡ Missed at.Header name ∷ [] → Behind asked ((at.Header, name) ∷ []) [] events
+behind_missed asked name events is = subst (Behind asked ((at.Header, name) ∷ []) []) (sym is) (record {
+  names_are = refl;
+  sources = (tt, tt);
+  reads = missed_none at.Header name;
+  no_file = refl;
+  no_file_end = λ ended. refl;
+  lines_are = refl;
+})
+
+behind_header : (asked : MakeAsked) (name bytes : List ℕ) (ended : Bool) (log events : List Event) → events ≡ Attached at.Header name ∷ log → Takes at.Header bytes ended log → Behind asked ((at.Header, name) ∷ []) (lines_of ended bytes) events
+behind_header asked name bytes ended log events is takes =
+    let read = has_read at.Header name bytes ended log tt takes in
+    let other = file_else (from_text asked.product) in
+    subst (Behind asked ((at.Header, name) ∷ []) (lines_of ended bytes)) (sym is) (record {
+      names_are = read.names;
+      sources = read.sources;
+      reads = read.reads;
+      no_file = read.takes_else (place_of asked) other;
+      no_file_end = λ start. read.end_else (place_of asked) start other;
+      lines_are = ap (λ v. lines_of v (taken at.Header (Attached at.Header name ∷ log))) read.end ∙ ap (lines_of ended) read.takes;
+    })
+
+-- the file was read, and this came behind it
+abbrev pub read_so : MakeAsked → List ℕ → Bool → List (place.Place × List ℕ) → List (List ℕ) → Seen
+read_so asked bytes ended names lines = record { names = (place_of asked, asked.file) ∷ names; file = bytes; whole = ended; header = lines; out = []; attached = false }
+
+module _ (asked : MakeAsked) (bytes : List ℕ) (ended : Bool) (first second : List Event) (names : List (place.Place × List ℕ)) (lines : List (List ℕ)) (read : HasRead (place_of asked) asked.file bytes ended first) (behind : Behind asked names lines second) where
+  abbrev p : place.Place
+  p = place_of asked
+
+  abbrev all : List Event
+  all = first ++ second
+
+  all_sources : OnlySources all
+  all_sources = sources-append first second read.sources behind.sources
+
+  all_names : names_of all ≡ (p, asked.file) ∷ names
+  all_names = names_of-append first second ∙ ap (λ ns. ns ++ names_of second) read.names ∙ ap (λ ns. (p, asked.file) ∷ ns) behind.names_are
+
+  seen_both : seen asked all ≡ read_so asked bytes ended names lines
+  seen_both = same_seen (seen asked all) (read_so asked bytes ended names lines)
+      all_names
+      (taken-append p first second ∙ ap (λ b. b ++ taken p second) read.takes ∙ ap (λ b. bytes ++ b) behind.no_file ∙ append-nil bytes)
+      (ended_from-append false p first second ∙ behind.no_file_end (ended_from false p first) ∙ read.end)
+      (ap (λ v. lines_of v (taken at.Header all)) (ended_from-append false at.Header first second ∙ ap (λ v. ended_from v at.Header second) (read.end_else at.Header false (header_else (from_text asked.product))))
+      ∙ ap (lines_of (ended_from false at.Header second)) (taken-append at.Header first second ∙ ap (λ b. b ++ taken at.Header second) (read.takes_else at.Header (header_else (from_text asked.product))))
+      ∙ behind.lines_are)
+      (sources_given at.Out all all_sources)
+      (sources_unattached all all_sources)
+
+  -- the header was tried only where names say so
+  tries_both : (is_tried at.Header names ≡ true → IsFaultless asked (read_so asked bytes ended names lines)) → is_tried at.Header (names_of all) ≡ true → IsFaultless asked (seen asked all)
+  tries_both faultless tried =
+      subst (IsFaultless asked) (sym seen_both)
+      (faultless (sym (ap (λ v. v || is_tried at.Header names) (header_else (from_text asked.product))) ∙ sym (ap (is_tried at.Header) all_names) ∙ tried))
+
+  pub gather_ok : (made_bytes : List ℕ) → names ≡ place_named at.Header asked.header → Makes asked (read_so asked bytes ended names lines) (Ok made_bytes) → (is_tried at.Header names ≡ true → IsFaultless asked (read_so asked bytes ended names lines)) → Gathered asked made_bytes all
+  gather_ok made_bytes complete makes faultless = record {
+    names = all_names ∙ ap (λ ns. (p, asked.file) ∷ ns) complete;
+    sources = all_sources;
+    reads = ReadsAttached-append first second read.reads behind.reads;
+    makes = subst (λ run. Makes asked run (Ok made_bytes)) (sym seen_both) makes;
+    tries = tries_both faultless;
+  }
+
+  pub gather_not : (answer : status.Status) → IsFront names (place_named at.Header asked.header) → MakeOutcome answer asked (read_so asked bytes ended names lines) → (is_tried at.Header names ≡ true → IsFaultless asked (read_so asked bytes ended names lines)) → OpensAsTold answer all → NotGathered asked answer all
+  gather_not answer front outcome faultless opened_so = record {
+    names = record { rest = front.rest; split = ap (λ ns. (p, asked.file) ∷ ns) front.split ∙ ap (λ ns. ns ++ front.rest) (sym all_names) };
+    sources = all_sources;
+    reads = ReadsAttached-append first second read.reads behind.reads;
+    outcome = subst (MakeOutcome answer asked) (sym seen_both) outcome;
+    tries = tries_both faultless;
+    opened = opened_so;
+  }
+
+-- a status that refuses tells of no call
+refuses_opened : (answer : status.Status) (events : List Event) → Refuses answer → OpensAsTold answer events
+refuses_opened (answers.OpenFault p) events speaks = absurd speaks
+refuses_opened (answers.ReadFault p) events speaks = absurd speaks
+refuses_opened answer events speaks = tt
+
+refusal_outcome : (answer : status.Status) (asked : MakeAsked) (run : Seen) → Refuses answer → run.out ≡ [] → is_tried at.Out run.names ≡ false → Makes asked run (Err answer) → MakeOutcome answer asked run
+refusal_outcome (answers.Refused line why) asked run speaks none untried makes = record { refused = makes; none_out = none }
+refusal_outcome (answers.BadProgram fault) asked run speaks none untried makes = record { refused = makes; none_out = none }
+refusal_outcome (answers.BadHeader why) asked run speaks none untried makes = record { refused = makes; none_out = none }
+refusal_outcome answers.Memory asked run speaks none untried makes = (none, untried)
+refusal_outcome answer asked run speaks none untried makes = absurd speaks
+
+-- the output is none of the places that are read
+out_untried : (text : Bool) (name : List ℕ) → is_tried at.Out ((file_place text, name) ∷ []) ≡ false
+out_untried true name = refl
+out_untried false name = refl
+
+out_untried_header : (text : Bool) (name head : List ℕ) → is_tried at.Out ((file_place text, name) ∷ (at.Header, head) ∷ []) ≡ false
+out_untried_header true name head = refl
+out_untried_header false name head = refl
+
+-- the file was read whole, within its limit
+module _ (asked : MakeAsked) (bytes : List ℕ) (first second : List Event) (read : HasRead (place_of asked) asked.file bytes true first) (within : length bytes ≤ file_limit (from_text asked.product)) where
+  abbrev alone : Seen
+  alone = read_so asked bytes true [] []
+
+  abbrev headed : List ℕ → List (List ℕ) → Seen
+  headed name lines = read_so asked bytes true ((at.Header, name) ∷ []) lines
+
+  no_front : IsFront {X = place.Place × List ℕ} [] (place_named at.Header asked.header)
+  no_front = record { rest = place_named at.Header asked.header; split = refl }
+
+  -- nothing comes behind it: it is refused
+  refused_alone : (answer : status.Status) → RefusedLog (Err answer) (made asked bytes []) second → NotGathered asked answer (first ++ second)
+  refused_alone answers.Memory is =
+      gather_not asked bytes true first second [] [] read (behind_none asked second is) answers.Memory no_front
+      (refl, out_untried (from_text asked.product) asked.file) (λ tried. absurd (cc)) tt
+  refused_alone answer is =
+      gather_not asked bytes true first second [] [] read (behind_none asked second is.0) answer no_front
+      (refusal_outcome answer asked alone is.1 refl (out_untried (from_text asked.product) asked.file) (record { whole = record { ended = refl; within = within }; is = is.2 }))
+      (λ tried. absurd (cc)) (refuses_opened answer (first ++ second) is.1)
+
+  -- or its bytes are made of it
+  made_alone : (result : Result (Vec ℕ Global) status.Status) → place_named at.Header asked.header ≡ [] → MadeLog result (made asked bytes []) second → GatherLog result asked (first ++ second)
+  made_alone (Ok bytes_made) none is =
+      gather_ok asked bytes true first second [] [] read (behind_none asked second is.0) bytes_made.items (sym none)
+      (record { whole = record { ended = refl; within = within }; is = is.1 }) (λ tried. absurd (cc))
+  made_alone (Err answer) none is = refused_alone answer is
+
+  -- a header file comes behind it, which a specification without a fault names
+  module _ (tabled : Bool) (name : List ℕ) (named : asked.header ≡ Some name) (is_made : (lines : List (List ℕ)) → made asked bytes lines ≡ made_of_text tabled (Some name) bytes lines) (none : first_refusal bytes ≡ None) where
+    faultless : (lines : List (List ℕ)) → IsFaultless asked (headed name lines)
+    faultless lines = record { whole = record { ended = refl; within = within }; faultless = none }
+
+    all_named : (at.Header, name) ∷ [] ≡ place_named at.Header asked.header
+    all_named = sym (ap (place_named at.Header) named)
+
+    whole_front : IsFront {X = place.Place × List ℕ} ((at.Header, name) ∷ []) (place_named at.Header asked.header)
+    whole_front = record { rest = []; split = sym all_named }
+
+    has_name : is_some asked.header ≡ true
+    has_name = ap is_some named
+
+    missed_attached : (events : List Event) → is_attached at.Header events ≡ false → is_attached at.Header (first ++ events) ≡ false
+    missed_attached events un =
+        is_attached-append at.Header first events ∙ ap (λ v. v || is_attached at.Header events) (read.unattached at.Header (header_else (from_text asked.product))) ∙ un
+
+    header_missed : second ≡ Missed at.Header name ∷ [] → NotGathered asked (answers.OpenFault at.Header) (first ++ second)
+    header_missed is =
+        gather_not asked bytes true first second ((at.Header, name) ∷ []) [] read (behind_missed asked name second is) (answers.OpenFault at.Header) whole_front
+        (record { named = has_name; spec = faultless []; none_out = refl }) (λ tried. faultless []) (missed_attached second (ap (is_attached at.Header) is))
+
+    header_untold : second ≡ [] → NotGathered asked (answers.OpenFault at.Header) (first ++ second)
+    header_untold is =
+        gather_not asked bytes true first second [] [] read (behind_none asked second is) (answers.OpenFault at.Header) no_front
+        (record { named = has_name; spec = record { whole = record { ended = refl; within = within }; faultless = none }; none_out = refl }) (λ tried. absurd (cc)) (missed_attached second (ap (is_attached at.Header) is))
+
+    header_attached : (log : List Event) → second ≡ Attached at.Header name ∷ log → is_attached at.Header (first ++ second) ≡ true
+    header_attached log is =
+        is_attached-append at.Header first second ∙ ap (λ v. is_attached at.Header first || v) (ap (is_attached at.Header) is) ∙ or_true (is_attached at.Header first)
+
+    header_made : (result : Result (Vec ℕ Global) status.Status) → HeaderLog result tabled name bytes second → GatherLog result asked (first ++ second)
+    header_made (Ok made_bytes) is =
+        let line = is.2 in
+        let lines = lines_of line.ended line.bytes in
+        gather_ok asked bytes true first second ((at.Header, name) ∷ []) lines read (behind_header asked name line.bytes line.ended is.0 second is.1 line.takes) made_bytes.items all_named
+        (record { whole = record { ended = refl; within = within }; is = is_made lines ∙ line.makes name }) (λ tried. faultless lines)
+    header_made (Err (answers.OpenFault at.Header)) (inl is) = header_missed is
+    header_made (Err (answers.OpenFault at.Header)) (inr is) = header_untold is
+    header_made (Err (answers.ReadFault at.Header)) is =
+        let line = is.2 in
+        let lines = lines_of line.ended line.bytes in
+        gather_not asked bytes true first second ((at.Header, name) ∷ []) lines read (behind_header asked name line.bytes line.ended is.0 second is.1 line.takes) (answers.ReadFault at.Header) whole_front
+        (record { named = has_name; spec = faultless lines; none_out = refl }) (λ tried. faultless lines) (header_attached is.0 is.1)
+    header_made (Err answers.Memory) is =
+        let line = is.2 in
+        let lines = lines_of line.ended line.bytes in
+        gather_not asked bytes true first second ((at.Header, name) ∷ []) lines read (behind_header asked name line.bytes line.ended is.0 second is.1 line.takes) answers.Memory whole_front
+        (refl, out_untried_header (from_text asked.product) asked.file name) (λ tried. faultless lines) tt
+    header_made (Err (answers.TextTooLong at.Header)) is =
+        let line = is.2 in
+        let lines = lines_of line.ended line.bytes in
+        gather_not asked bytes true first second ((at.Header, name) ∷ []) lines read (behind_header asked name line.bytes line.ended is.0 second is.1 line.takes) (answers.TextTooLong at.Header) whole_front
+        (record { refused = record { whole = record { ended = refl; within = within }; is = is_made lines ∙ line.makes name }; none_out = refl }) (λ tried. faultless lines) tt
+    header_made (Err answer) is =
+        let speaks = is.2.0 in
+        let line = is.2.1 in
+        let lines = lines_of line.ended line.bytes in
+        gather_not asked bytes true first second ((at.Header, name) ∷ []) lines read (behind_header asked name line.bytes line.ended is.0 second is.1 line.takes) answer whole_front
+        (refusal_outcome answer asked (headed name lines) speaks refl (out_untried_header (from_text asked.product) asked.file name) (record { whole = record { ended = refl; within = within }; is = is_made lines ∙ line.makes name }))
+        (λ tried. faultless lines) (refuses_opened answer (first ++ second) speaks)
+
+  spec_made : (header : Option (List ℕ)) (tabled : Bool) (result : Result (Vec ℕ Global) status.Status) → asked.header ≡ header → ((lines : List (List ℕ)) → made asked bytes lines ≡ made_of_text tabled header bytes lines) → first_refusal bytes ≡ None → SpecLog result tabled header bytes second → GatherLog result asked (first ++ second)
+  spec_made None tabled result named is_made none is = made_alone result (ap (place_named at.Header) named) (subst (λ found. MadeLog result found second) (sym (is_made [])) is)
+  spec_made (Some name) tabled result named is_made none is = header_made tabled name named is_made none result is
+
+  text_made : (tabled : Bool) (result : Result (Vec ℕ Global) status.Status) → ((lines : List (List ℕ)) → made asked bytes lines ≡ made_of_text tabled asked.header bytes lines) → TextLog result tabled asked.header bytes second → GatherLog result asked (first ++ second)
+  text_made tabled (Ok made_bytes) is_made (inl is) = absurd is
+  text_made tabled (Err answer) is_made (inl is) = refused_alone answer (subst (λ found. RefusedLog (Err answer) found second) (sym (is_made [])) is)
+  text_made tabled result is_made (inr is) = spec_made asked.header tabled result refl is_made is.0 is.1
+
+-- by what is made
+file_made : (product : Product) (name : List ℕ) (header out : Option (List ℕ)) (bytes : List ℕ) (result : Result (Vec ℕ Global) status.Status) (first second : List Event) → (product ≡ Upgrade → header ≡ None)
+    → HasRead (file_place (from_text product)) name bytes true first → length bytes ≤ file_limit (from_text product) → FileMadeLog product result header bytes second
+    → GatherLog result (record { product = product; file = name; header = header; out = out }) (first ++ second)
+unfolding made
+file_made Image name header out bytes result first second no_header read within is =
+    text_made (record { product = Image; file = name; header = header; out = out }) bytes first second read within false result (λ lines. refl) is
+file_made Table name header out bytes result first second no_header read within is =
+    text_made (record { product = Table; file = name; header = header; out = out }) bytes first second read within true result (λ lines. refl) is
+file_made Upgrade name header out bytes result first second no_header read within is =
+    made_alone (record { product = Upgrade; file = name; header = header; out = out }) bytes first second read within result (ap (place_named at.Header) (no_header refl)) is
+
+pub gather_behind : (asked : MakeAsked) (bytes : Vec ℕ Global) (result : Result (Vec ℕ Global) status.Status) (first second : List Event) → (asked.product ≡ Upgrade → asked.header ≡ None)
+    → FileLog (Ok bytes) (place_of asked) (file_limit (from_text asked.product)) asked.file first → BehindLog result asked bytes.items second → GatherLog result asked (first ++ second)
+gather_behind asked bytes result first second no_header read is =
+    let was = subst (HasRead (place_of asked) asked.file bytes.items true) (sym read.1) (has_read (place_of asked) asked.file bytes.items true read.0 (file_source (from_text asked.product)) read.2) in
+    file_made asked.product asked.file asked.header asked.out bytes.items result first second no_header was read.3 is
+
+-- the file wasn't read whole
+module _ (asked : MakeAsked) where
+  abbrev untouched : Seen
+  untouched = record { names = (place_of asked, asked.file) ∷ []; file = []; whole = false; header = []; out = []; attached = false }
+
+  read_alone : (answer : status.Status) (bytes : List ℕ) (log events : List Event) → events ≡ Attached (place_of asked) asked.file ∷ log → Takes (place_of asked) bytes false log
+      → MakeOutcome answer asked (read_so asked bytes false [] []) → OpensAsTold answer events → NotGathered asked answer events
+  read_alone answer bytes log events is takes outcome opened_so =
+      let read = subst (HasRead (place_of asked) asked.file bytes false) (sym is) (has_read (place_of asked) asked.file bytes false log (file_source (from_text asked.product)) takes) in
+      subst (NotGathered asked answer) (append-nil events)
+      (gather_not asked bytes false events [] [] [] read (behind_none asked [] refl) answer (record { rest = place_named at.Header asked.header; split = refl }) outcome (λ tried. absurd (cc)) (subst (OpensAsTold answer) (sym (append-nil events)) opened_so))
+
+  file_missed : (events : List Event) → (events ≡ Missed (place_of asked) asked.file ∷ []) ⊎ (events ≡ []) → MakeOutcome (answers.OpenFault (place_of asked)) asked untouched → MakeOutcome (answers.OpenFault (place_of asked)) asked (record untouched { names = [] }) → NotGathered asked (answers.OpenFault (place_of asked)) events
+  file_missed events (inl is) outcome none = subst (NotGathered asked (answers.OpenFault (place_of asked))) (sym is) (record {
+    names = record { rest = place_named at.Header asked.header; split = refl };
+    sources = (file_source (from_text asked.product), tt);
+    reads = missed_none (place_of asked) asked.file;
+    outcome = outcome;
+    tries = λ tried. absurd (let none : same_place at.Header (place_of asked) ≡ false = header_else (from_text asked.product) in let some : (same_place at.Header (place_of asked) || false) ≡ true = tried in cc);
+    opened = refl;
+  })
+  file_missed events (inr is) outcome none = subst (NotGathered asked (answers.OpenFault (place_of asked))) (sym is) (record {
+    names = record { rest = read_names asked; split = refl };
+    sources = tt;
+    reads = no_reads_none;
+    outcome = none;
+    tries = λ tried. absurd (cc);
+    opened = refl;
+  })
+
+-- an outcome at the place of the file
+open_outcome : (product : Product) (asked : MakeAsked) (run : Seen) → asked.product ≡ product → run.file ≡ [] → run.out ≡ [] → MakeOutcome (answers.OpenFault (file_place (from_text product))) asked run
+open_outcome Image asked run is none silent = (ap (λ p. file_place (from_text p)) (sym is), none, silent)
+open_outcome Table asked run is none silent = (ap (λ p. file_place (from_text p)) (sym is), none, silent)
+open_outcome Upgrade asked run is none silent = (ap (λ p. file_place (from_text p)) (sym is), none, silent)
+
+read_outcome : (product : Product) (asked : MakeAsked) (run : Seen) → asked.product ≡ product → length run.file ≤ file_limit (from_text asked.product) → run.out ≡ [] → MakeOutcome (answers.ReadFault (file_place (from_text product))) asked run
+read_outcome Image asked run is within silent = (ap (λ p. file_place (from_text p)) (sym is), within, silent)
+read_outcome Table asked run is within silent = (ap (λ p. file_place (from_text p)) (sym is), within, silent)
+read_outcome Upgrade asked run is within silent = (ap (λ p. file_place (from_text p)) (sym is), within, silent)
+
+long_outcome : (product : Product) (asked : MakeAsked) (run : Seen) → asked.product ≡ product → file_limit (from_text asked.product) < length run.file → run.out ≡ [] → MakeOutcome (answers.TextTooLong (file_place (from_text product))) asked run
+long_outcome Image asked run is long silent = (ap (λ p. file_place (from_text p)) (sym is), long, silent)
+long_outcome Table asked run is long silent = (ap (λ p. file_place (from_text p)) (sym is), long, silent)
+long_outcome Upgrade asked run is long silent = (ap (λ p. file_place (from_text p)) (sym is), long, silent)
+
+file_attached_so : (text : Bool) (name : List ℕ) (log : List Event) → is_attached (file_place text) (Attached (file_place text) name ∷ log) ≡ true
+file_attached_so true name log = refl
+file_attached_so false name log = refl
+
+pub gather_unread : (asked : MakeAsked) (answer : status.Status) (events : List Event) → FileLog (Err answer) (place_of asked) (file_limit (from_text asked.product)) asked.file events → NotGathered asked answer events
+gather_unread asked (answers.OpenFault p) events is =
+    subst (λ q. NotGathered asked (answers.OpenFault q) events) (sym is.0)
+    (file_missed asked events is.1 (open_outcome asked.product asked (untouched asked) refl refl refl) (open_outcome asked.product asked (record (untouched asked) { names = [] }) refl refl refl))
+gather_unread asked (answers.ReadFault p) events is =
+    subst (λ q. NotGathered asked (answers.ReadFault q) events) (sym is.0)
+    (read_alone asked (answers.ReadFault (place_of asked)) is.2 is.1 events is.3 is.4 (read_outcome asked.product asked (read_so asked is.2 false [] []) refl is.5 refl)
+    (ap (is_attached (place_of asked)) is.3 ∙ file_attached_so (from_text asked.product) asked.file is.1))
+gather_unread asked (answers.TextTooLong p) events is =
+    subst (λ q. NotGathered asked (answers.TextTooLong q) events) (sym is.0)
+    (read_alone asked (answers.TextTooLong (place_of asked)) is.2 is.1 events is.3 is.4 (long_outcome asked.product asked (read_so asked is.2 false [] []) refl is.5 refl) tt)
+gather_unread asked answers.Memory events is =
+    read_alone asked answers.Memory is.1 is.0 events is.2 is.3 (refl, out_untried (from_text asked.product) asked.file) tt
+gather_unread asked answer events is = absurd is

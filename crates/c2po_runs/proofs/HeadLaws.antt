@@ -1,0 +1,180 @@
+-- The first line of a header file, and what is made under it.
+
+use Rattle.std.proofs.Common.{◌≡◌, ◌≢◌, ℕ, ◌-◌, ◌≤◌, ◌==◌, ◌&&◌, nat_lt, Bool, true, false, if◌then◌else◌, Option, Some, None, unwrap_or, Result, Ok, Err, IfOk, IfErr, List, [], ◌∷◌, ◌++◌, length, take, slice_index, Vec, refl, sym, ◌∙◌, ap, subst, arith, inl, inr}
+use Rattle.std.specs.declared.alloc.Global.{Global}
+use Rattle.std.specs.List.{concat}
+use Rattle.std.proofs.lemmas.List.{append-nil, length-append, length-take}
+use Rattle.std.proofs.lemmas.Bool.Decides.{nat_tests}
+use Rattle.tool_io.specs.declared.host.Place.TheVariants.{Header}
+use Rattle.tool_io.specs.declared.line_cut.Line as line
+use Rattle.tool_io.specs.Log.{Event, Attached}
+use Rattle.tool_io.specs.Whole.{Takes}
+use Rattle.tool_io.specs.Cutting.{Cutting, IsRow, CutsLine, ends_in, without_end, line_text, lines_of, fresh, row_of}
+use Rattle.tool_io.proofs.CutLaws.{lines_of-row, lines_of-last, lines_of-long, is_long-row}
+use Rattle.c2po_tree.specs.ItemShape.{ItemShape}
+use Rattle.spec_compile.specs.Front.{first_refusal, items_in}
+use Rattle.spec_compile.specs.Refusals.{IsFirstRefusal}
+use Rattle.spec_compile.specs.declared.fault.CompileFault.{CompileFault}
+use Rattle.spec_compile.specs.Compiled.{image_of_text}
+use Rattle.spec_compile.specs.declared.fault.HeaderWhy.TheVariants.{NoHeader}
+use Rattle.spec_compile.specs.declared.fault.CompileFault.TheVariants as compile
+use Rattle.spec_compile.proofs.CompiledLaws.{header_refused}
+use Rattle.tool_runs.specs.declared.status.Status as status
+use Rattle.tool_runs.specs.declared.status.Status.TheVariants as answers
+use Rattle.c2po_runs.specs.Made.{compile_status, compiled_bytes, unless_long, begins_long, first_line, made_of_text}
+use Rattle.c2po_runs.specs.Phases.{Refuses, ReadsLine, LineLog, HeaderLog, RefusedLog, MadeLog}
+use Rattle.c2po_runs.proofs.MakingLaws.{headed, refused_so}
+
+-- what a call that makes no other call answers
+abbrev pub Made : Result (Vec ℕ Global) status.Status → Result (List ℕ) status.Status → Type 0
+Made (Ok bytes) found = found ≡ Ok bytes.items
+Made (Err answer) found = Refuses answer × (answer ≢ answers.Memory → found ≡ Err answer)
+
+-- the byte at the end of a line
+last_byte : (body : List ℕ) → slice_index (body ++ 10 ∷ []) (length body) ≡ 10
+last_byte [] = refl
+last_byte (byte ∷ body) = last_byte body
+
+ends_line : (body : List ℕ) → ends_in 10 (body ++ 10 ∷ []) ≡ true
+ends_line body =
+    let size : length (body ++ 10 ∷ []) - 1 ≡ length body = omega (arith, length-append body (10 ∷ [])) in
+    let some : nat_lt 0 (length (body ++ 10 ∷ [])) ≡ true = grind (arith, nat_tests, length-append body (10 ∷ [])) in
+    ap (λ b. b && (slice_index (body ++ 10 ∷ []) (length (body ++ 10 ∷ []) - 1) == 10)) some
+    ∙ ap (λ n. slice_index (body ++ 10 ∷ []) n == 10) size
+    ∙ ap (λ n. n == 10) (last_byte body)
+
+without_shorter : (byte : ℕ) (bytes : List ℕ) → length (without_end byte bytes) ≤ length bytes
+without_shorter byte bytes =
+    elim (ends_in byte bytes) as (λ b. length (if b then take (length bytes - 1) bytes else bytes) ≤ length bytes) [
+      | true ↦ omega (arith, length-take (length bytes - 1) bytes)
+      | false ↦ omega arith
+    ]
+
+-- the text of a line is shorter than the longest line
+text_short : (raw rest : List ℕ) (ended : Bool) → length raw ≤ 65536 → IsRow raw rest ended → length (line_text raw) ≤ 65535
+text_short raw rest ended fits (inl whole) =
+    let ends : ends_in 10 raw ≡ true = ap (ends_in 10) whole.is ∙ ends_line whole.body in
+    let text : line_text raw ≡ without_end 13 (take (length raw - 1) raw) = ap (λ (b : Bool). if b then without_end 13 (take (length raw - 1) raw) else raw) ends in
+    let short : length (without_end 13 (take (length raw - 1) raw)) ≤ 65535 = omega (arith, fits, without_shorter 13 (take (length raw - 1) raw), length-take (length raw - 1) raw) in
+    subst (λ t. length t ≤ 65535) (sym text) short
+text_short raw rest ended fits (inr last) =
+    elim (ends_in 10 raw) as (λ b. length (if b then without_end 13 (take (length raw - 1) raw) else raw) ≤ 65535) [
+      | true ↦ omega (arith, fits, without_shorter 13 (take (length raw - 1) raw), length-take (length raw - 1) raw)
+      | false ↦ omega (arith, last.short)
+    ]
+
+pub line_short : (cut : Cutting) (events : List Event) → CutsLine Header fresh cut line.TheVariants.Row events → length (line_text (row_of cut)) ≤ 65535
+line_short cut events cuts =
+    let raw = cuts.answer.0 in
+    let gives = cuts.answer.1 in
+    subst (λ row. length (line_text (unwrap_or row [])) ≤ 65535) (sym gives.row) (text_short raw cut.pending cut.ended gives.fits gives.line)
+
+-- the lines of what was read begin with the row
+row_lines : (raw rest : List ℕ) (ended : Bool) → IsRow raw rest ended → (others : List (List ℕ)) × (lines_of ended (raw ++ rest) ≡ raw ∷ others)
+row_lines raw rest ended (inl whole) = (lines_of ended rest, lines_of-row ended raw rest whole)
+row_lines raw rest ended (inr last) = ([], lines_of-last raw rest ended last)
+
+-- what a cut took
+module _ (cut : Cutting) (events : List Event) where
+  cut_takes : (outcome : line.Line) (cuts : CutsLine Header fresh cut outcome events) → Takes Header (concat cuts.pieces) cut.ended events
+  cut_takes outcome cuts = record { pieces = cuts.pieces; are = cuts.reads; joined = refl; end = sym cuts.ended }
+
+  module _ (tabled : Bool) (text : List ℕ) (none : first_refusal text ≡ None) where
+    -- the first line gives what the header's columns give
+    line_makes : (found : Result (List ℕ) status.Status) (cuts : CutsLine Header fresh cut line.TheVariants.Row events) → compiled_bytes tabled (image_of_text text (Some (line_text (row_of cut)))) ≡ found → ReadsLine tabled text found events
+    line_makes found cuts is =
+        let raw = cuts.answer.0 in
+        let gives = cuts.answer.1 in
+        let lines = row_lines raw cut.pending cut.ended gives.line in
+        let are : lines_of cut.ended (concat cuts.pieces) ≡ raw ∷ lines.0 = ap (lines_of cut.ended) gives.split ∙ lines.1 in
+        let short : begins_long (lines_of cut.ended (concat cuts.pieces)) ≡ false = ap begins_long are ∙ is_long-row raw cut.pending cut.ended gives.fits gives.line in
+        let first : first_line (lines_of cut.ended (concat cuts.pieces)) ≡ line_text (row_of cut) = ap first_line are ∙ ap (λ row. line_text (unwrap_or row [])) (sym gives.row) in
+        record {
+          bytes = concat cuts.pieces;
+          ended = cut.ended;
+          takes = cut_takes line.TheVariants.Row cuts;
+          makes = λ name. headed tabled name text (lines_of cut.ended (concat cuts.pieces)) none
+              ∙ ap (λ b. unless_long b (compiled_bytes tabled (image_of_text text (Some (first_line (lines_of cut.ended (concat cuts.pieces))))))) short
+              ∙ ap (λ l. compiled_bytes tabled (image_of_text text (Some l))) first ∙ is;
+        }
+
+    pub row_made : (result : Result (Vec ℕ Global) status.Status) (cuts : CutsLine Header fresh cut line.TheVariants.Row events) → Made result (compiled_bytes tabled (image_of_text text (Some (line_text (row_of cut))))) → LineLog result tabled text events
+    row_made (Ok bytes) cuts made = line_makes (Ok bytes.items) cuts made
+    row_made (Err answers.Memory) cuts made = record { bytes = concat cuts.pieces; ended = cut.ended; takes = cut_takes line.TheVariants.Row cuts }
+    row_made (Err (answers.Refused line why)) cuts made = (tt, line_makes (Err (answers.Refused line why)) cuts (made.1 (λ e. cc)))
+    row_made (Err (answers.BadProgram fault)) cuts made = (tt, line_makes (Err (answers.BadProgram fault)) cuts (made.1 (λ e. cc)))
+    row_made (Err (answers.BadHeader why)) cuts made = (tt, line_makes (Err (answers.BadHeader why)) cuts (made.1 (λ e. cc)))
+    row_made (Err answer) cuts made = absurd made.0
+
+    -- there is no line
+    pub end_made : CutsLine Header fresh cut line.TheVariants.End events → LineLog (Err (answers.BadHeader NoHeader)) tabled text events
+    end_made cuts =
+        let all = cuts.answer.1 in
+        let are : lines_of cut.ended (concat cuts.pieces) ≡ [] = ap (lines_of cut.ended) all ∙ no_lines cut.ended in (
+          tt,
+          record {
+            bytes = concat cuts.pieces;
+            ended = cut.ended;
+            takes = cut_takes line.TheVariants.End cuts;
+            makes = λ name. headed tabled name text (lines_of cut.ended (concat cuts.pieces)) none
+                ∙ ap (λ lines. unless_long (begins_long lines) (compiled_bytes tabled (image_of_text text (Some (first_line lines))))) are
+                ∙ ap (compiled_bytes tabled) (header_refused text (Some []) (compile.BadHeader NoHeader) none refl);
+          },
+        )
+      where
+        no_lines : (ended : Bool) → lines_of ended [] ≡ []
+        no_lines true = refl
+        no_lines false = refl
+
+    -- it doesn't end
+    pub long_made : CutsLine Header fresh cut line.TheVariants.LongLine events → LineLog (Err (answers.TextTooLong Header)) tabled text events
+    long_made cuts =
+        let gives = cuts.answer.0 in
+        let long = lines_of-long cut.ended (concat cuts.pieces) [] gives.no_newline cuts.answer.1 in
+        let begins : begins_long (lines_of cut.ended (concat cuts.pieces)) ≡ true = ap (λ b. begins_long (lines_of cut.ended b)) (sym (append-nil (concat cuts.pieces))) ∙ ap begins_long long.split ∙ long.long in
+        record {
+          bytes = concat cuts.pieces;
+          ended = cut.ended;
+          takes = cut_takes line.TheVariants.LongLine cuts;
+          makes = λ name. headed tabled name text (lines_of cut.ended (concat cuts.pieces)) none
+              ∙ ap (λ b. unless_long b (compiled_bytes tabled (image_of_text text (Some (first_line (lines_of cut.ended (concat cuts.pieces))))))) begins;
+        }
+
+  pub fault_made : (tabled : Bool) (text : List ℕ) → CutsLine Header fresh cut line.TheVariants.ReadFault events → LineLog (Err (answers.ReadFault Header)) tabled text events
+  fault_made tabled text cuts = record { bytes = concat cuts.pieces; ended = cut.ended; takes = cut_takes line.TheVariants.ReadFault cuts }
+
+-- nothing was read
+pub none_made : (tabled : Bool) (text : List ℕ) → LineLog (Err answers.Memory) tabled text []
+none_made tabled text = record { bytes = []; ended = false; takes = record { pieces = []; are = refl; joined = refl; end = refl } }
+
+-- behind the attach of a header file
+pub header_log : (result : Result (Vec ℕ Global) status.Status) (tabled : Bool) (name text : List ℕ) (events : List Event) → (log : List Event) × (events ≡ Attached Header name ∷ log) × LineLog result tabled text log → HeaderLog result tabled name text events
+header_log (Ok bytes) tabled name text events has = has
+header_log (Err (answers.OpenFault Header)) tabled name text events has = absurd has.2.0
+header_log (Err answer) tabled name text events has = has
+
+-- what the calls that make bytes answer
+pub made_so : (tabled : Bool) (header : Option (List ℕ)) (items : List ItemShape) (text : List ℕ) (result : Result (Vec ℕ Global) status.Status)
+    → IfOk result (λ bytes. (text : List ℕ) → first_refusal text ≡ None → items ≡ items_in text → compiled_bytes tabled (image_of_text text header) ≡ Ok bytes.items)
+    → IfErr result (λ answer. answer ≢ answers.Memory → (text : List ℕ) → first_refusal text ≡ None → items ≡ items_in text → compiled_bytes tabled (image_of_text text header) ≡ Err answer)
+    → IfErr result Refuses → first_refusal text ≡ None → items ≡ items_in text → Made result (compiled_bytes tabled (image_of_text text header))
+made_so tabled header items text (Ok bytes) made refused speaks none same = made text none same
+made_so tabled header items text (Err answer) made refused speaks none same = (speaks, λ some. refused some text none same)
+
+pub made_log : (found : Result (List ℕ) status.Status) (result : Result (Vec ℕ Global) status.Status) → Made result found → MadeLog result found []
+made_log found (Ok bytes) made = (refl, made)
+made_log found (Err answers.Memory) made = refl
+made_log found (Err (answers.Refused line why)) made = (refl, tt, made.1 (λ e. cc))
+made_log found (Err (answers.BadProgram fault)) made = (refl, tt, made.1 (λ e. cc))
+made_log found (Err (answers.BadHeader why)) made = (refl, tt, made.1 (λ e. cc))
+made_log found (Err answer) made = absurd made.0
+
+pub program_made : (found : Result (List ℕ) status.Status) (result : Result (Vec ℕ Global) status.Status) → IfOk result (λ made. found ≡ Ok made.items) → IfErr result (λ answer. answer ≢ answers.Memory → found ≡ Err answer) → IfErr result Refuses → MadeLog result found []
+program_made found (Ok bytes) made refused speaks = made_log found (Ok bytes) made
+program_made found (Err answer) made refused speaks = made_log found (Err answer) (speaks, refused)
+
+-- a text is refused
+pub front_refused : (tabled : Bool) (header : Option (List ℕ)) (text : List ℕ) (fault : CompileFault) → IsFirstRefusal (first_refusal text) fault → RefusedLog (Err (compile_status fault)) (made_of_text tabled header text []) []
+front_refused tabled header text (compile.Refused line why) is = (refl, tt, refused_so tabled header text (compile.Refused line why) is (λ e. cc))
+front_refused tabled header text (compile.BadHeader why) is = absurd is
+front_refused tabled header text compile.Memory is = refl

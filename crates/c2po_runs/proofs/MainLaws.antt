@@ -1,0 +1,136 @@
+-- The message behind a run, and what follows from a run without a fault.
+
+use Rattle.std.proofs.Common.{◌≡◌, ◌≢◌, ℕ, ◌≤◌, ◌⊎◌, Bool, true, false, ◌||◌, Result, Ok, Err, List, [], ◌∷◌, ◌++◌, length, map, refl, sym, ◌∙◌, ap, subst, inl, inr, arith}
+use Rattle.std.proofs.lemmas.List.{append-nil}
+use Rattle.tool_io.specs.declared.host.Place as place
+use Rattle.tool_io.specs.declared.host.Place.TheVariants as at
+use Rattle.tool_io.specs.declared.host.Put as put
+use Rattle.tool_io.specs.Log.{Event, Gave, taken, given, ended_from, names_of, Writes}
+use Rattle.tool_io.specs.Host.{Rose, WriteCause}
+use Rattle.tool_io.specs.Cutting.{lines_of}
+use Rattle.tool_io.specs.Whole.{PutAllLog}
+use Rattle.tool_io.proofs.LogLaws.{taken-append, given-append, ended_from-append, names_of-append, Writes-given, Writes-given_elsewhere, Writes-taken, Writes-names, Writes-ended}
+use Rattle.tool_runs.specs.declared.message.Tool.TheVariants.{C2po}
+use Rattle.tool_runs.specs.declared.status.Status as status
+use Rattle.tool_runs.specs.declared.status.Status.TheVariants as answers
+use Rattle.tool_runs.specs.Messages.{told_to_user}
+use Rattle.tool_runs.specs.Causes.{RunCause, NoOtherRose}
+use Rattle.tool_runs.specs.Attaching.{is_attached}
+use Rattle.tool_runs.specs.Files.{file_limit}
+use Rattle.tool_runs.specs.Telling.{ToldWhole}
+use Rattle.tool_runs.proofs.AttachLaws.{is_attached-append, ReadsAttached-append, writes_unread, writes_unattached, opened_still}
+use Rattle.tool_runs.proofs.CauseLaws.{rose_at, err_stays}
+use Rattle.c2po_runs.specs.Asking.{Ask, help, make, nothing, MakeAsked, from_text}
+use Rattle.c2po_runs.specs.Run.{Seen, seen, place_of, TriesOf, TriesInTurn, WritesAttached, names_out, MakeOutcome, HelpOutcome, NothingOutcome, OutcomeOf, Complete, Ran, IsMade}
+use Rattle.c2po_runs.specs.Made.{made}
+use Rattle.c2po_runs.proofs.LogLaws.{writes-append}
+use Rattle.c2po_runs.proofs.GatherRuns.{same_seen}
+
+or_false : (b : Bool) → (b || false) ≡ b
+or_false true = refl
+or_false false = refl
+
+-- bytes that are made aren't refused
+not_refused : (answer : status.Status) (bytes : List ℕ) (found : Result (List ℕ) status.Status) → found ≡ Ok bytes → found ≡ Err answer → ⊥
+not_refused answer bytes found is refused = let same : Ok bytes ≡ Err answer = sym is ∙ refused in cc
+
+-- what gives bytes is done, unless memory is wanting
+make_complete : (answer : status.Status) (asked : MakeAsked) (run : Seen) (before between now : place.Place → ℕ) → RunCause answer before between → ((q : place.Place) → q ≢ at.Err → now q ≡ between q) → NoOtherRose before now
+    → (bytes : List ℕ) → length run.file ≤ file_limit (from_text asked.product) → made asked run.file run.header ≡ Ok bytes → MakeOutcome answer asked run → (answer ≡ answers.Done) ⊎ (answer ≡ answers.Memory)
+make_complete answers.Done asked run before between now cause same none bytes within makes is = inl refl
+make_complete answers.Memory asked run before between now cause same none bytes within makes is = inr refl
+make_complete (answers.OpenFault at.Err) asked run before between now cause same none bytes within makes is = absurd cause
+make_complete (answers.OpenFault p) asked run before between now cause same none bytes within makes is = absurd (rose_at before between now p cause same none (λ e. cc))
+make_complete (answers.ReadFault at.Err) asked run before between now cause same none bytes within makes is = absurd cause
+make_complete (answers.ReadFault p) asked run before between now cause same none bytes within makes is = absurd (rose_at before between now p cause same none (λ e. cc))
+make_complete (answers.WriteFault at.Err) asked run before between now cause same none bytes within makes is = absurd cause
+make_complete (answers.WriteFault p) asked run before between now cause same none bytes within makes is = absurd (rose_at before between now p cause same none (λ e. cc))
+make_complete (answers.TextTooLong at.Header) asked run before between now cause same none bytes within makes is = absurd (not_refused _ bytes _ makes is.refused.is)
+make_complete (answers.TextTooLong p) asked run before between now cause same none bytes within makes is = absurd (let long = is.1 in omega (arith, long, within))
+make_complete (answers.Refused line why) asked run before between now cause same none bytes within makes is = absurd (not_refused _ bytes _ makes is.refused.is)
+make_complete (answers.BadProgram fault) asked run before between now cause same none bytes within makes is = absurd (not_refused _ bytes _ makes is.refused.is)
+make_complete (answers.BadHeader why) asked run before between now cause same none bytes within makes is = absurd (not_refused _ bytes _ makes is.refused.is)
+make_complete answer asked run before between now cause same none bytes within makes is = absurd is
+
+help_complete : (answer : status.Status) (out : List ℕ) (before between now : place.Place → ℕ) → RunCause answer before between → ((q : place.Place) → q ≢ at.Err → now q ≡ between q) → NoOtherRose before now → HelpOutcome answer out → (answer ≡ answers.Helped) ⊎ (answer ≡ answers.Memory)
+help_complete answers.Helped out before between now cause same none is = inl refl
+help_complete answers.Memory out before between now cause same none is = inr refl
+help_complete (answers.WriteFault at.Err) out before between now cause same none is = absurd cause
+help_complete (answers.WriteFault p) out before between now cause same none is = absurd (rose_at before between now p cause same none (λ e. cc))
+help_complete answer out before between now cause same none is = absurd is
+
+complete_run : (asked : Ask) (answer : status.Status) (before between now : place.Place → ℕ) (events : List Event) → RunCause answer before between → ((q : place.Place) → q ≢ at.Err → now q ≡ between q) → OutcomeOf answer asked events → Complete asked answer before now events
+complete_run nothing answer before between now events cause same is = λ none. tt
+complete_run help answer before between now events cause same is = λ none. help_complete answer (given at.Out events) before between now cause same none is
+complete_run (make asked) answer before between now events cause same is = λ none bytes within makes. make_complete answer asked (seen asked events) before between now cause same none bytes within makes is
+
+-- a message behind a run changes nothing but what Err was given
+module _ (first second : List Event) (sent : List ℕ) (writes : Writes at.Err sent second) where
+  abbrev all : List Event
+  all = first ++ second
+
+  all_taken : (p : place.Place) → taken p all ≡ taken p first
+  all_taken p = taken-append p first second ∙ ap (λ b. taken p first ++ b) (Writes-taken at.Err p sent second writes) ∙ append-nil (taken p first)
+
+  all_ended : (p : place.Place) → ended_from false p all ≡ ended_from false p first
+  all_ended p = ended_from-append false p first second ∙ Writes-ended (ended_from false p first) at.Err p sent second writes
+
+  all_out : given at.Out all ≡ given at.Out first
+  all_out = given-append at.Out first second ∙ ap (λ b. given at.Out first ++ b) (Writes-given_elsewhere at.Err at.Out sent second refl writes) ∙ append-nil (given at.Out first)
+
+  pub all_names : names_of all ≡ names_of first
+  all_names = names_of-append first second ∙ ap (λ names. names_of first ++ names) (Writes-names at.Err sent second writes) ∙ append-nil (names_of first)
+
+  pub unattached : (p : place.Place) → is_attached p second ≡ false
+  unattached p = ap (is_attached p) writes.are ∙ writes_unattached p writes.pieces
+
+  all_attached : is_attached at.Out all ≡ is_attached at.Out first
+  all_attached = is_attached-append at.Out first second ∙ ap (λ v. is_attached at.Out first || v) (unattached at.Out) ∙ or_false (is_attached at.Out first)
+
+  all_seen : (asked : MakeAsked) → seen asked all ≡ seen asked first
+  all_seen asked = same_seen (seen asked all) (seen asked first) all_names (all_taken (place_of asked)) (all_ended (place_of asked))
+      (ap (λ v. lines_of v (taken at.Header all)) (all_ended at.Header) ∙ ap (lines_of (ended_from false at.Header first)) (all_taken at.Header)) all_out all_attached
+
+  pub tries_still : (asked : Ask) → TriesOf asked first → TriesOf asked all
+  tries_still help tries = tt
+  tries_still (make asked) tries = subst (TriesInTurn asked) (sym (all_seen asked)) tries
+  tries_still nothing tries = tt
+
+  pub outcome_still : (asked : Ask) (answer : status.Status) → OutcomeOf answer asked first → OutcomeOf answer asked all
+  outcome_still help answer is = subst (HelpOutcome answer) (sym all_out) is
+  outcome_still (make asked) answer is = subst (MakeOutcome answer asked) (sym (all_seen asked)) is
+  outcome_still nothing answer is = subst (NothingOutcome answer) (sym all_out) is
+
+  no_gave : (pieces : List (List ℕ)) (before after : List Event) (piece : List ℕ) → map (Gave at.Err) pieces ≡ before ++ Gave at.Out piece ∷ after → ⊥
+  no_gave [] [] after piece is = cc
+  no_gave [] (event ∷ before) after piece is = cc
+  no_gave (first ∷ pieces) [] after piece is = cc
+  no_gave (first ∷ pieces) (event ∷ before) after piece is = no_gave pieces before after piece (let rest : map (Gave at.Err) pieces ≡ before ++ Gave at.Out piece ∷ after = cc in rest)
+
+  pub writes_still : (named : Bool) → WritesAttached named first → WritesAttached named all
+  writes_still named is = writes-append named first second is (λ named before after piece split. absurd (no_gave writes.pieces before after piece (sym writes.are ∙ split)))
+
+-- a run, and then a front of its message
+run_told : (asked : Ask) (answer : status.Status) (before between now : place.Place → ℕ) (first second : List Event) (sent unsent : List ℕ) → Ran asked answer first → RunCause answer before between → ((q : place.Place) → q ≢ at.Err → now q ≡ between q) → Writes at.Err sent second → told_to_user C2po answer ≡ sent ++ unsent → ToldWhole C2po answer (before at.Err) (now at.Err) (first ++ second) → IsMade asked answer before now (first ++ second)
+run_told asked answer before between now first second sent unsent ran cause same writes split whole =
+    let outcome = outcome_still first second sent writes asked answer ran.outcome in
+    record {
+      names = record { rest = ran.names.rest; split = ran.names.split ∙ ap (λ names. names ++ ran.names.rest) (sym (all_names first second sent writes)) };
+      tries = tries_still first second sent writes asked ran.tries;
+      reads = ReadsAttached-append first second ran.reads (λ start after p piece is. absurd (writes_unread at.Err writes.pieces start after p piece (sym writes.are ∙ is)));
+      writes = writes_still first second sent writes (names_out asked) ran.writes;
+      outcome = outcome;
+      opened = opened_still answer first second (unattached first second sent writes) ran.opened;
+      told_user = record { rest = unsent; split = split ∙ ap (λ b. b ++ unsent) (sym (given-append at.Err first second ∙ ap (λ b. b ++ given at.Err second) ran.quiet ∙ Writes-given at.Err sent second writes)) };
+      told_whole = whole;
+      complete = complete_run asked answer before between now (first ++ second) cause same outcome;
+    }
+
+pub main_ran : (asked : Ask) (answer : status.Status) (before between now : place.Place → ℕ) (first second : List Event) (sending : put.Put) → Ran asked answer first → RunCause answer before between → WriteCause sending between now at.Err → PutAllLog sending at.Err (told_to_user C2po answer) second → IsMade asked answer before now (first ++ second)
+main_ran asked answer before between now first second (put.TheVariants.Wrote n) ran cause wrote writes =
+    let text = told_to_user C2po answer in
+    let out : given at.Err (first ++ second) ≡ text = given-append at.Err first second ∙ ap (λ b. b ++ given at.Err second) ran.quiet ∙ Writes-given at.Err text second writes in
+    run_told asked answer before between now first second text [] ran cause (λ q other. wrote q) writes (sym (append-nil text)) (λ unrisen. out)
+main_ran asked answer before between now first second put.TheVariants.Failed ran cause failed fronts =
+    run_told asked answer before between now first second fronts.sent fronts.unsent ran cause (λ q other. failed.others q other) fronts.writes fronts.split
+    (λ unrisen. absurd (unrisen (subst (λ n. Rose n (now at.Err)) (err_stays answer before between cause) failed.rose)))

@@ -1,0 +1,71 @@
+-- What the words of c2po ask for, of what it does.
+
+use Rattle.std.specs.Prelude.{ℕ, Bool, true, false, if◌then◌else◌, Option, Some, None, option_map, List, [], ◌∷◌, ◌++◌}
+use Rattle.tool_io.specs.declared.host.Place.{Place}
+use Rattle.tool_io.specs.declared.host.Place.TheVariants.{Header, Out}
+use Rattle.tool_words.specs.C2poWords.{Asked, CompileAsked}
+use Rattle.tool_words.specs.C2poWords as words
+use Rattle.tool_runs.specs.Files.{file_place}
+use Rattle.c2po_runs.specs.declared.make.Product.{Product}
+use Rattle.c2po_runs.specs.declared.make.Product.TheVariants.{Image, Table, Upgrade}
+use Rattle.c2po_runs.specs.declared.make.Make as told
+
+-- what is made of a file: of a specification its image or its table, maybe under a header; of a program its upgrade;
+-- and the file into which it is written, where one is named
+pub record MakeAsked : Type 0 where
+  pub product : Product
+  pub file : List ℕ
+  pub header : Option (List ℕ)
+  pub out : Option (List ℕ)
+
+-- help, something that is made, or nothing
+pub data Ask : Type 0 where
+  help : Ask
+  make : MakeAsked → Ask
+  nothing : Ask
+
+-- the image of a specification, or its table
+abbrev pub product_of : Bool → Product
+product_of true = Table
+product_of false = Image
+
+abbrev pub compile_asked : CompileAsked → MakeAsked
+compile_asked asked = record { product = product_of asked.table; file = asked.spec; header = asked.header; out = asked.out }
+
+abbrev pub upgrade_asked : List ℕ → List ℕ → MakeAsked
+upgrade_asked out program = record { product = Upgrade; file = program; header = None; out = Some out }
+
+-- of what words may ask for; simplified images and texts aren't served
+abbrev pub served : Asked → Ask
+served words.help = help
+served (words.compile asked) = if asked.simplify then nothing else make (compile_asked asked)
+served (words.upgrade out program) = make (upgrade_asked out program)
+served (words.show out program) = nothing
+served words.nothing = nothing
+
+unfoldable pub ask : List (List ℕ) → Ask
+ask list = served (words.ask list)
+
+-- whether the file is a specification
+abbrev pub from_text : Product → Bool
+from_text Image = true
+from_text Table = true
+from_text Upgrade = false
+
+-- a place with the name of a file, where one is named
+abbrev pub place_named : Place → Option (List ℕ) → List (Place × List ℕ)
+place_named p None = []
+place_named p (Some name) = (p, name) ∷ []
+
+-- the places that are to be attached, with their names, in order: those that are read, and the output
+abbrev pub read_names : MakeAsked → List (Place × List ℕ)
+read_names asked = (file_place (from_text asked.product), asked.file) ∷ place_named Header asked.header
+
+abbrev pub asked_names : Ask → List (Place × List ℕ)
+asked_names help = []
+asked_names (make asked) = read_names asked ++ place_named Out asked.out
+asked_names nothing = []
+
+-- what the code holds of it
+abbrev pub make_of : told.Make → MakeAsked
+make_of m = record { product = m.product; file = m.file.now; header = option_map (λ name. name.now) m.header; out = option_map (λ name. name.now) m.out }

@@ -1,0 +1,4 @@
+pub mod Asking
+pub mod Made
+pub mod Run
+pub mod Phases

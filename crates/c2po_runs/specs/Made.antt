@@ -1,0 +1,81 @@
+-- The bytes that are made of a file, or the first that refuses them.
+
+use Rattle.std.specs.Prelude.{ℕ, Bool, true, false, Option, Some, None, Result, Ok, Err, List, [], ◌∷◌}
+use Rattle.mltl_base.specs.declared.interval.Part.TheVariants.{Bz}
+use Rattle.mltl_base.specs.declared.program.Program.{Program}
+use Rattle.tool_io.specs.declared.host.Place.TheVariants.{Header}
+use Rattle.tool_io.specs.Cutting.{line_text, is_long}
+use Rattle.obs_binary.specs.Layout.{spelling}
+use Rattle.obs_verify.specs.Upgrade.{up, clash_of}
+use Rattle.obs_files.specs.declared.fault.FileFault.{FileFault}
+use Rattle.obs_files.specs.declared.fault.ProgramFault.TheVariants.{Operand}
+use Rattle.obs_files.specs.Faults.{opened}
+use Rattle.obs_table.specs.Table.{table}
+use Rattle.spec_compile.specs.declared.fault.CompileFault.{CompileFault}
+use Rattle.spec_compile.specs.declared.fault.CompileFault.TheVariants as compile_fault
+use Rattle.spec_compile.specs.Front.{first_refusal}
+use Rattle.spec_compile.specs.Compiled.{image_of_text}
+use Rattle.tool_runs.specs.declared.status.Status.{Status}
+use Rattle.tool_runs.specs.declared.status.Status.TheVariants.{Refused, BadProgram, BadHeader, TextTooLong, Memory}
+use Rattle.tool_runs.specs.Files.{file_status}
+use Rattle.c2po_runs.specs.declared.make.Product.{Product}
+use Rattle.c2po_runs.specs.declared.make.Product.TheVariants.{Image, Table, Upgrade}
+use Rattle.c2po_runs.specs.Asking.{MakeAsked}
+
+-- the status of a run whose specification isn't compiled
+abbrev pub compile_status : CompileFault → Status
+compile_status (compile_fault.Refused line refusal) = Refused line refusal
+compile_status (compile_fault.BadHeader why) = BadHeader why
+compile_status compile_fault.Memory = Memory
+
+-- what is written of a compiled program: its table, or its bytes
+abbrev pub written_as : Bool → Program → List ℕ
+written_as true program = table program
+written_as false program = spelling program
+
+abbrev pub compiled_bytes : Bool → Result Program CompileFault → Result (List ℕ) Status
+compiled_bytes tabled (Ok program) = Ok (written_as tabled program)
+compiled_bytes tabled (Err fault) = Err (compile_status fault)
+
+-- what is written of a program file: the bytes of its program in version 2, unless one column is read in both ways
+abbrev pub raised_bytes : Program → Option ℕ → Result (List ℕ) Status
+raised_bytes program None = Ok (spelling (up program))
+raised_bytes program (Some i) = Err (BadProgram (Operand Bz i))
+
+abbrev pub upgraded_bytes : Result Program FileFault → Result (List ℕ) Status
+upgraded_bytes (Ok program) = raised_bytes program (clash_of program)
+upgraded_bytes (Err fault) = Err (file_status fault)
+
+-- the first line of a header file, and whether it is too long; a file without a line has an empty one
+abbrev pub first_line : List (List ℕ) → List ℕ
+first_line [] = []
+first_line (raw ∷ raws) = line_text raw
+
+abbrev pub begins_long : List (List ℕ) → Bool
+begins_long [] = false
+begins_long (raw ∷ raws) = is_long raw
+
+-- what was made, unless the first line is too long, or unless the text is refused before
+abbrev pub unless_long : Bool → Result (List ℕ) Status → Result (List ℕ) Status
+unless_long true made = Err (TextTooLong Header)
+unless_long false made = made
+
+abbrev pub unless_refused : Option CompileFault → Result (List ℕ) Status → Result (List ℕ) Status
+unless_refused None made = made
+unless_refused (Some fault) made = Err (compile_status fault)
+
+-- What a text gives: without a header over the columns in order of declaration; with one over the columns that its
+-- first line names, and the text is refused first, then a line that is too long, then the header, then a limit.
+abbrev pub made_of_text : Bool → Option (List ℕ) → List ℕ → List (List ℕ) → Result (List ℕ) Status
+made_of_text tabled None text lines = compiled_bytes tabled (image_of_text text None)
+made_of_text tabled (Some name) text lines =
+    unless_refused (first_refusal text) (unless_long (begins_long lines) (compiled_bytes tabled (image_of_text text (Some (first_line lines)))))
+
+-- what a file gives, with the lines of the header file that were read
+abbrev pub made_as : Product → Option (List ℕ) → List ℕ → List (List ℕ) → Result (List ℕ) Status
+made_as Image header file lines = made_of_text false header file lines
+made_as Table header file lines = made_of_text true header file lines
+made_as Upgrade header file lines = upgraded_bytes (opened file)
+
+unfoldable pub made : MakeAsked → List ℕ → List (List ℕ) → Result (List ℕ) Status
+made asked file lines = made_as asked.product asked.header file lines

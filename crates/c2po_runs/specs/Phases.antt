@@ -1,0 +1,142 @@
+-- What each phase of a run tells.
+
+use Rattle.std.specs.Prelude.{◌≡◌, ℕ, ◌⊎◌, Bool, true, false, Option, Some, None, is_some, Result, Ok, Err, List, [], ◌∷◌, Vec}
+use Rattle.std.specs.declared.alloc.Global.{Global}
+use Rattle.tool_io.specs.declared.host.Place as place
+use Rattle.tool_io.specs.Log.{Event, Attached, Missed, Took, Gave, given, names_of, IsFront, Writes, WritesFront}
+use Rattle.tool_io.specs.Host.{IsSource}
+use Rattle.tool_io.specs.Whole.{Takes}
+use Rattle.tool_io.specs.Cutting.{lines_of}
+use Rattle.spec_compile.specs.Front.{first_refusal}
+use Rattle.tool_runs.specs.declared.status.Status as status
+use Rattle.tool_runs.specs.Attaching.{is_attached, ReadsAttached, OpensAsTold}
+use Rattle.c2po_runs.specs.declared.make.Product.{Product}
+use Rattle.c2po_runs.specs.declared.make.Product.TheVariants.{Image, Table, Upgrade}
+use Rattle.c2po_runs.specs.Asking.{MakeAsked, read_names, place_named}
+use Rattle.c2po_runs.specs.Made.{upgraded_bytes, made_of_text}
+use Rattle.obs_files.specs.Faults.{opened}
+use Rattle.c2po_runs.specs.Run.{seen, is_tried, IsFaultless, Makes, MakeOutcome, WritesAttached}
+
+-- a status by which a file, a header or a limit refuses, or memory is wanting
+abbrev pub Refuses : status.Status → Type 0
+Refuses (status.TheVariants.Refused line refusal) = Unit {0}
+Refuses (status.TheVariants.BadProgram fault) = Unit {0}
+Refuses (status.TheVariants.BadHeader why) = Unit {0}
+Refuses status.TheVariants.Memory = Unit {0}
+Refuses answer = ⊥
+
+-- reads of an attached header file gave its first line, or met its end before one, or there is no end of that line
+pub record ReadsLine (tabled : Bool) (text : List ℕ) (found : Result (List ℕ) status.Status) (log : List Event) : Type 0 where
+  pub bytes : List ℕ
+  pub ended : Bool
+  pub takes : Takes place.TheVariants.Header bytes ended log
+  pub makes : (name : List ℕ) → made_of_text tabled (Some name) text (lines_of ended bytes) ≡ found
+
+-- reads that gave nothing
+pub record ReadsNone (log : List Event) : Type 0 where
+  pub bytes : List ℕ
+  pub ended : Bool
+  pub takes : Takes place.TheVariants.Header bytes ended log
+
+-- the log under the first line of an attached header file, by a text that isn't refused
+abbrev pub LineLog : Result (Vec ℕ Global) status.Status → Bool → List ℕ → List Event → Type 0
+LineLog (Ok bytes) tabled text log = ReadsLine tabled text (Ok bytes.items) log
+LineLog (Err (status.TheVariants.ReadFault place.TheVariants.Header)) tabled text log = ReadsNone log
+LineLog (Err status.TheVariants.Memory) tabled text log = ReadsNone log
+LineLog (Err (status.TheVariants.TextTooLong place.TheVariants.Header)) tabled text log =
+    ReadsLine tabled text (Err (status.TheVariants.TextTooLong place.TheVariants.Header)) log
+LineLog (Err answer) tabled text log = Refuses answer × ReadsLine tabled text (Err answer) log
+
+-- the same where the header file is to be attached
+abbrev pub HeaderLog : Result (Vec ℕ Global) status.Status → Bool → List ℕ → List ℕ → List Event → Type 0
+HeaderLog (Err (status.TheVariants.OpenFault place.TheVariants.Header)) tabled name text events =
+    (events ≡ Missed place.TheVariants.Header name ∷ []) ⊎ (events ≡ [])
+HeaderLog result tabled name text events =
+    (log : List Event) × (events ≡ Attached place.TheVariants.Header name ∷ log) × LineLog result tabled text log
+
+-- nothing was called, and this refuses what was there
+abbrev pub RefusedLog : Result (Vec ℕ Global) status.Status → Result (List ℕ) status.Status → List Event → Type 0
+RefusedLog (Ok bytes) found events = ⊥
+RefusedLog (Err status.TheVariants.Memory) found events = events ≡ []
+RefusedLog (Err answer) found events = (events ≡ []) × Refuses answer × (found ≡ Err answer)
+
+-- nothing was called, and this was made of what was there
+abbrev pub MadeLog : Result (Vec ℕ Global) status.Status → Result (List ℕ) status.Status → List Event → Type 0
+MadeLog (Ok bytes) found events = (events ≡ []) × (found ≡ Ok bytes.items)
+MadeLog result found events = RefusedLog result found events
+
+-- behind a specification without a fault
+abbrev pub SpecLog : Result (Vec ℕ Global) status.Status → Bool → Option (List ℕ) → List ℕ → List Event → Type 0
+SpecLog result tabled None text events = MadeLog result (made_of_text tabled None text []) events
+SpecLog result tabled (Some name) text events = HeaderLog result tabled name text events
+
+-- behind the text of a specification: it is refused, or it has no fault
+abbrev pub TextLog : Result (Vec ℕ Global) status.Status → Bool → Option (List ℕ) → List ℕ → List Event → Type 0
+TextLog result tabled header text events =
+    RefusedLog result (made_of_text tabled header text []) events
+    ⊎ ((first_refusal text ≡ None) × SpecLog result tabled header text events)
+
+-- behind the bytes of a file
+abbrev pub FileMadeLog : Product → Result (Vec ℕ Global) status.Status → Option (List ℕ) → List ℕ → List Event → Type 0
+FileMadeLog Image result header file events = TextLog result false header file events
+FileMadeLog Table result header file events = TextLog result true header file events
+FileMadeLog Upgrade result header file events = MadeLog result (upgraded_bytes (opened file)) events
+
+abbrev pub BehindLog : Result (Vec ℕ Global) status.Status → MakeAsked → List ℕ → List Event → Type 0
+BehindLog result asked file events = FileMadeLog asked.product result asked.header file events
+
+-- the events are calls at places that are read
+abbrev pub OnlySources : List Event → Type 0
+OnlySources [] = Unit {0}
+OnlySources (Attached p name ∷ events) = IsSource p × OnlySources events
+OnlySources (Missed p name ∷ events) = IsSource p × OnlySources events
+OnlySources (Took p piece ∷ events) = IsSource p × OnlySources events
+OnlySources (Gave p piece ∷ events) = ⊥
+
+-- all was read, and gave these bytes
+pub record Gathered (asked : MakeAsked) (bytes : List ℕ) (events : List Event) : Type 0 where
+  pub names : names_of events ≡ read_names asked
+  pub sources : OnlySources events
+  pub reads : ReadsAttached [] events
+  pub makes : Makes asked (seen asked events) (Ok bytes)
+  pub tries : is_tried place.TheVariants.Header (names_of events) ≡ true → IsFaultless asked (seen asked events)
+
+-- something failed or was refused
+pub record NotGathered (asked : MakeAsked) (answer : status.Status) (events : List Event) : Type 0 where
+  pub names : IsFront (names_of events) (read_names asked)
+  pub sources : OnlySources events
+  pub reads : ReadsAttached [] events
+  pub outcome : MakeOutcome answer asked (seen asked events)
+  pub tries : is_tried place.TheVariants.Header (names_of events) ≡ true → IsFaultless asked (seen asked events)
+  pub opened : OpensAsTold answer events
+
+abbrev pub GatherLog : Result (Vec ℕ Global) status.Status → MakeAsked → List Event → Type 0
+GatherLog (Ok bytes) asked events = Gathered asked bytes.items events
+GatherLog (Err answer) asked events = NotGathered asked answer events
+
+-- the bytes went out, or a front of them
+abbrev pub GivenLog : status.Status → List ℕ → List Event → Type 0
+GivenLog status.TheVariants.Done bytes events = Writes place.TheVariants.Out bytes events
+GivenLog (status.TheVariants.WriteFault place.TheVariants.Out) bytes events = WritesFront place.TheVariants.Out bytes events
+GivenLog answer bytes events = ⊥
+
+-- the events are calls at Out
+abbrev pub OnlyOut : List Event → Type 0
+OnlyOut [] = Unit {0}
+OnlyOut (Attached place.TheVariants.Out name ∷ events) = OnlyOut events
+OnlyOut (Missed place.TheVariants.Out name ∷ events) = OnlyOut events
+OnlyOut (Gave place.TheVariants.Out piece ∷ events) = OnlyOut events
+OnlyOut (event ∷ events) = ⊥
+
+-- how bytes are written, into a file where one is named
+abbrev pub PutOutcome : status.Status → Option (List ℕ) → List ℕ → List ℕ → Bool → Type 0
+PutOutcome status.TheVariants.Done out bytes sent attached = (sent ≡ bytes) × (attached ≡ is_some out)
+PutOutcome (status.TheVariants.WriteFault place.TheVariants.Out) out bytes sent attached = IsFront sent bytes × (attached ≡ is_some out)
+PutOutcome (status.TheVariants.OpenFault place.TheVariants.Out) out bytes sent attached = (is_some out ≡ true) × (sent ≡ []) × (attached ≡ false)
+PutOutcome answer out bytes sent attached = ⊥
+
+pub record PutLog (answer : status.Status) (out : Option (List ℕ)) (bytes : List ℕ) (events : List Event) : Type 0 where
+  pub names : IsFront (names_of events) (place_named place.TheVariants.Out out)
+  pub only : OnlyOut events
+  pub writes : WritesAttached (is_some out) events
+  pub outcome : PutOutcome answer out bytes (given place.TheVariants.Out events) (is_attached place.TheVariants.Out events)

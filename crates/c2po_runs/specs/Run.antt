@@ -1,0 +1,187 @@
+-- What a whole run of c2po tells: from its words to its message.
+
+use Rattle.std.specs.Prelude.{◌≡◌, ℕ, ◌<◌, ◌≤◌, ◌⊎◌, Bool, true, false, None, is_some, Result, Ok, Err, List, [], ◌∷◌, ◌++◌, length}
+use Rattle.std.specs.List.{list_any}
+use Rattle.tool_io.specs.declared.host.Place as place
+use Rattle.tool_io.specs.Log.{Event, Gave, same_place, taken, given, ended_from, names_of, IsFront}
+use Rattle.tool_io.specs.Cutting.{lines_of}
+use Rattle.spec_compile.specs.Front.{first_refusal}
+use Rattle.tool_runs.specs.declared.message.Tool.TheVariants.{C2po}
+use Rattle.tool_runs.specs.declared.status.Status as status
+use Rattle.tool_runs.specs.Messages.{usage, told_to_user}
+use Rattle.tool_runs.specs.Causes.{NoOtherRose}
+use Rattle.tool_runs.specs.Attaching.{is_attached, ReadsAttached, OpensAsTold}
+use Rattle.tool_runs.specs.Files.{file_place, file_limit}
+use Rattle.tool_runs.specs.Telling.{ToldWhole}
+use Rattle.c2po_runs.specs.Asking.{Ask, help, make, nothing, MakeAsked, from_text, asked_names}
+use Rattle.c2po_runs.specs.Made.{made}
+
+-- What a log says of a run that makes something: the places that were tried with their names, the bytes of the file and
+-- whether its end was met, the lines of the header file that were read, what is out, and whether Out was attached.
+pub record Seen : Type 0 where
+  pub names : List (place.Place × List ℕ)
+  pub file : List ℕ
+  pub whole : Bool
+  pub header : List (List ℕ)
+  pub out : List ℕ
+  pub attached : Bool
+
+abbrev pub place_of : MakeAsked → place.Place
+place_of asked = file_place (from_text asked.product)
+
+abbrev pub seen : MakeAsked → List Event → Seen
+seen asked events = record {
+  names = names_of events;
+  file = taken (place_of asked) events;
+  whole = ended_from false (place_of asked) events;
+  header = lines_of (ended_from false place.TheVariants.Header events) (taken place.TheVariants.Header events);
+  out = given place.TheVariants.Out events;
+  attached = is_attached place.TheVariants.Out events;
+}
+
+-- the bytes of the file that were taken, and what they give with the header's lines
+abbrev pub file_in : MakeAsked → List Event → List ℕ
+file_in asked events = taken (place_of asked) events
+
+abbrev pub made_in : MakeAsked → List Event → Result (List ℕ) status.Status
+made_in asked events = made asked (file_in asked events) (seen asked events).header
+
+-- whether a place was tried
+abbrev pub is_tried : place.Place → List (place.Place × List ℕ) → Bool
+is_tried p names = list_any (λ named. same_place p named.0) names
+
+-- the file was read to its end, within its limit
+pub record IsWhole (asked : MakeAsked) (run : Seen) : Type 0 where
+  pub ended : run.whole ≡ true
+  pub within : length run.file ≤ file_limit (from_text asked.product)
+
+-- so was a specification, and it has no fault
+pub record IsFaultless (asked : MakeAsked) (run : Seen) : Type 0 where
+  pub whole : IsWhole asked run
+  pub faultless : first_refusal run.file ≡ None
+
+-- what was read gives these bytes, or this refusal
+pub record Makes (asked : MakeAsked) (run : Seen) (found : Result (List ℕ) status.Status) : Type 0 where
+  pub whole : IsWhole asked run
+  pub is : made asked run.file run.header ≡ found
+
+-- the header is tried only behind a specification without a fault, and Out only where the bytes exist
+pub record TriesInTurn (asked : MakeAsked) (run : Seen) : Type 0 where
+  pub header : is_tried place.TheVariants.Header run.names ≡ true → IsFaultless asked run
+  pub out : is_tried place.TheVariants.Out run.names ≡ true → (bytes : List ℕ) × Makes asked run (Ok bytes)
+
+-- the bytes are out: all of them, a front of them, or none; Out was attached exactly where a file is named
+pub record IsWritten (asked : MakeAsked) (run : Seen) : Type 0 where
+  pub bytes : Makes asked run (Ok run.out)
+  pub attached : run.attached ≡ is_some asked.out
+
+pub record IsPartlyWritten (asked : MakeAsked) (run : Seen) : Type 0 where
+  pub whole : List ℕ
+  pub bytes : Makes asked run (Ok whole)
+  pub front : IsFront run.out whole
+  pub attached : run.attached ≡ is_some asked.out
+
+pub record IsUnwritten (asked : MakeAsked) (run : Seen) : Type 0 where
+  pub whole : List ℕ
+  pub bytes : Makes asked run (Ok whole)
+  pub named : is_some asked.out ≡ true
+  pub none_out : run.out ≡ []
+
+-- the header was asked for, behind a specification without a fault, and nothing is out
+pub record IsUnheaded (asked : MakeAsked) (run : Seen) : Type 0 where
+  pub named : is_some asked.header ≡ true
+  pub spec : IsFaultless asked run
+  pub none_out : run.out ≡ []
+
+-- what was read is refused so, and nothing is out
+pub record IsRefused (answer : status.Status) (asked : MakeAsked) (run : Seen) : Type 0 where
+  pub refused : Makes asked run (Err answer)
+  pub none_out : run.out ≡ []
+
+-- how each answer follows from what was read and what is out
+abbrev pub MakeOutcome : status.Status → MakeAsked → Seen → Type 0
+MakeOutcome status.TheVariants.Done asked run = IsWritten asked run
+MakeOutcome (status.TheVariants.WriteFault place.TheVariants.Out) asked run = IsPartlyWritten asked run
+MakeOutcome (status.TheVariants.OpenFault place.TheVariants.Out) asked run = IsUnwritten asked run
+MakeOutcome (status.TheVariants.OpenFault place.TheVariants.Header) asked run = IsUnheaded asked run
+MakeOutcome (status.TheVariants.ReadFault place.TheVariants.Header) asked run = IsUnheaded asked run
+MakeOutcome (status.TheVariants.TextTooLong place.TheVariants.Header) asked run = IsRefused (status.TheVariants.TextTooLong place.TheVariants.Header) asked run
+MakeOutcome (status.TheVariants.OpenFault p) asked run = (p ≡ place_of asked) × (run.file ≡ []) × (run.out ≡ [])
+MakeOutcome (status.TheVariants.ReadFault p) asked run =
+    (p ≡ place_of asked) × (length run.file ≤ file_limit (from_text asked.product)) × (run.out ≡ [])
+MakeOutcome (status.TheVariants.TextTooLong p) asked run =
+    (p ≡ place_of asked) × (file_limit (from_text asked.product) < length run.file) × (run.out ≡ [])
+MakeOutcome (status.TheVariants.Refused line why) asked run = IsRefused (status.TheVariants.Refused line why) asked run
+MakeOutcome (status.TheVariants.BadProgram fault) asked run = IsRefused (status.TheVariants.BadProgram fault) asked run
+MakeOutcome (status.TheVariants.BadHeader why) asked run = IsRefused (status.TheVariants.BadHeader why) asked run
+MakeOutcome status.TheVariants.Memory asked run = (run.out ≡ []) × (is_tried place.TheVariants.Out run.names ≡ false)
+MakeOutcome answer asked run = ⊥
+
+-- the usage line is out whole, or a front of it
+abbrev pub HelpOutcome : status.Status → List ℕ → Type 0
+HelpOutcome status.TheVariants.Helped out = out ≡ usage C2po
+HelpOutcome (status.TheVariants.WriteFault place.TheVariants.Out) out = IsFront out (usage C2po)
+HelpOutcome status.TheVariants.Memory out = out ≡ []
+HelpOutcome answer out = ⊥
+
+-- words that ask for nothing
+abbrev pub NothingOutcome : status.Status → List ℕ → Type 0
+NothingOutcome status.TheVariants.Usage out = out ≡ []
+NothingOutcome status.TheVariants.Memory out = out ≡ []
+NothingOutcome answer out = ⊥
+
+-- how each answer follows from the words and from the log
+abbrev pub OutcomeOf : status.Status → Ask → List Event → Type 0
+OutcomeOf answer help events = HelpOutcome answer (given place.TheVariants.Out events)
+OutcomeOf answer (make asked) events = MakeOutcome answer asked (seen asked events)
+OutcomeOf answer nothing events = NothingOutcome answer (given place.TheVariants.Out events)
+
+-- the places of what is made are tried in turn
+abbrev pub TriesOf : Ask → List Event → Type 0
+TriesOf (make asked) events = TriesInTurn asked (seen asked events)
+TriesOf other events = Unit {0}
+
+-- whether the words name a file that is written
+abbrev pub names_out : Ask → Bool
+names_out (make asked) = is_some asked.out
+names_out other = false
+
+-- each write of an output that is to be attached comes behind its attach
+abbrev pub WritesAttached : Bool → List Event → Type 0
+WritesAttached named events =
+    named ≡ true → (before after : List Event) (piece : List ℕ) → events ≡ before ++ Gave place.TheVariants.Out piece ∷ after
+    → is_attached place.TheVariants.Out before ≡ true
+
+-- the log of a run before its message
+pub record Ran (asked : Ask) (answer : status.Status) (events : List Event) : Type 0 where
+  pub names : IsFront (names_of events) (asked_names asked)
+  pub tries : TriesOf asked events
+  pub reads : ReadsAttached [] events
+  pub writes : WritesAttached (names_out asked) events
+  pub outcome : OutcomeOf answer asked events
+  pub opened : OpensAsTold answer events
+  pub quiet : given place.TheVariants.Err events ≡ []
+
+-- A file without a fault and a header that names its signals, within the limits, give Done, unless memory is wanting;
+-- and help is given where it is asked for.
+abbrev pub CompletesBy : Ask → status.Status → List Event → Type 0
+CompletesBy (make asked) answer events =
+    (bytes : List ℕ) → length (file_in asked events) ≤ file_limit (from_text asked.product) → made_in asked events ≡ Ok bytes
+    → (answer ≡ status.TheVariants.Done) ⊎ (answer ≡ status.TheVariants.Memory)
+CompletesBy help answer events = (answer ≡ status.TheVariants.Helped) ⊎ (answer ≡ status.TheVariants.Memory)
+CompletesBy nothing answer events = Unit {0}
+
+abbrev pub Complete : Ask → status.Status → (place.Place → ℕ) → (place.Place → ℕ) → List Event → Type 0
+Complete asked answer before now events = NoOtherRose before now → CompletesBy asked answer events
+
+-- the log of a whole run: the message is out, or a front of it
+pub record IsMade (asked : Ask) (answer : status.Status) (before now : place.Place → ℕ) (events : List Event) : Type 0 where
+  pub names : IsFront (names_of events) (asked_names asked)
+  pub tries : TriesOf asked events
+  pub reads : ReadsAttached [] events
+  pub writes : WritesAttached (names_out asked) events
+  pub outcome : OutcomeOf answer asked events
+  pub opened : OpensAsTold answer events
+  pub told_user : IsFront (given place.TheVariants.Err events) (told_to_user C2po answer)
+  pub told_whole : ToldWhole C2po answer (before place.TheVariants.Err) (now place.TheVariants.Err) events
+  pub complete : Complete asked answer before now events

@@ -1,0 +1,89 @@
+//! What a run reads, and the bytes that it makes of it.
+
+ghost use Rattle.std.specs.Prelude.{◌≡◌, ◌≤◌, List as Seq, None, ℕ, length, option_map};
+ghost use Rattle.c2po_tree.specs.ItemShape.{spec_shape};
+ghost use Rattle.spec_compile.specs.Front.{first_refusal, items_in};
+ghost use Rattle.tool_io.specs.Log.{OnLog};
+ghost use Rattle.tool_runs.specs.Causes.{PhaseCause};
+ghost use Rattle.tool_runs.specs.Files.{file_limit};
+ghost use Rattle.c2po_runs.specs.Asking.{from_text as is_text, make_of};
+ghost use Rattle.c2po_runs.specs.Phases.{BehindLog, GatherLog, SpecLog, TextLog};
+
+use crate::heading::under_header;
+use crate::make::{Make, Product};
+use crate::making::{compiled_bytes, status_of_compile, upgraded_bytes};
+use c2po_types::TypedSpec;
+use spec_compile::front;
+use std::alloc::Global;
+use tool_io::Host;
+use tool_runs::{Status, read_file};
+
+/// The bytes that are written of a specification without a fault, under a header file where one is named.
+fn of_spec<H: Host>(
+    alloc: Global,
+    spec: &TypedSpec,
+    header: Option<&str>,
+    table: bool,
+    host: &mut H,
+) -> Result<Vec<u8>, Status>
+    ensures cause { PhaseCause result (H.faults host.old) (H.faults host.new) }
+    ensures log { (text : Seq ℕ) → first_refusal text ≡ None → spec_shape spec.now ≡ items_in text
+        → OnLog (H.log host.old) (H.log host.new) (SpecLog result table (option_map (λ name. name.now) header.entry) text) }
+{
+    match header {
+        None => compiled_bytes(alloc, spec, None, table),
+        Some(name) => under_header(alloc, spec, name, table, host),
+    }
+}
+
+/// The bytes that are written of the text of a specification.
+fn of_text<H: Host>(
+    alloc: Global,
+    text: &[u8],
+    header: Option<&str>,
+    table: bool,
+    host: &mut H,
+) -> Result<Vec<u8>, Status>
+    requires within { length text.now ≤ 1048576 }
+    ensures cause { PhaseCause result (H.faults host.old) (H.faults host.new) }
+    ensures log { OnLog (H.log host.old) (H.log host.new) (TextLog result table (option_map (λ name. name.now) header.entry) text.now) }
+{
+    match front(alloc, text) {
+        Ok(spec) => of_spec(alloc, &spec, header, table, host),
+        Err(fault) => Err(status_of_compile(fault)),
+    }
+}
+
+/// The bytes that are written of the bytes of a file.
+fn of_file<H: Host>(
+    alloc: Global,
+    asked: &Make<'_>,
+    bytes: &[u8],
+    host: &mut H,
+) -> Result<Vec<u8>, Status>
+    requires within { length bytes.now ≤ file_limit (is_text asked.now.product) }
+    ensures cause { PhaseCause result (H.faults host.old) (H.faults host.new) }
+    ensures log { OnLog (H.log host.old) (H.log host.new) (BehindLog result (make_of asked.now) bytes.now) }
+{
+    match asked.product {
+        Product::Image => of_text(alloc, bytes, asked.header, false, host),
+        Product::Table => of_text(alloc, bytes, asked.header, true, host),
+        Product::Upgrade => upgraded_bytes(alloc, bytes),
+    }
+}
+
+/// Reads the file, and the header where one is named, and makes the bytes that are to be written.
+pub(crate) fn gather<H: Host>(
+    alloc: Global,
+    asked: &Make<'_>,
+    host: &mut H,
+) -> Result<Vec<u8>, Status>
+    requires header { asked.now.product ≡ Product.Upgrade → asked.now.header ≡ None }
+    ensures cause { PhaseCause result (H.faults host.old) (H.faults host.new) }
+    ensures log { OnLog (H.log host.old) (H.log host.new) (GatherLog result (make_of asked.now)) }
+{
+    match read_file(alloc, asked.product.from_text(), asked.file, host) {
+        Ok(bytes) => of_file(alloc, asked, &bytes, host),
+        Err(status) => Err(status),
+    }
+}

@@ -1,0 +1,15 @@
+//! The runs of the compiler `c2po`: its top call, with what it is made of.
+//!
+//! [`c2po_main`] reads the words and the specification or the program that they name, and the header, where one is
+//! named. It writes what it has made of them: the image of a specification, its instruction table, or a program of
+//! version 1 in version 2.
+#![tactic(auto)]
+
+mod c2po_run;
+mod gathering;
+mod heading;
+mod make;
+mod making;
+mod writing;
+
+pub use c2po_run::c2po_main;

@@ -1,0 +1,75 @@
+//! What the words ask to be made.
+
+ghost use Rattle.std.specs.Prelude.{◌≡◌, ◌≢◌, None};
+ghost use Rattle.tool_words.specs.C2poWords.{compile_of};
+ghost use Rattle.c2po_runs.specs.Asking.{compile_asked, from_text as is_text, make_of, product_of, upgrade_asked};
+
+use tool_words::Compile;
+
+/// What is made of a file.
+#[derive(Clone, Copy, PartialEq, Eq, Debug)]
+pub(crate) enum Product {
+    /// The image of a specification.
+    Image,
+    /// The instruction table of a specification.
+    Table,
+    /// A program in version 2.
+    Upgrade,
+}
+
+impl Product {
+    /// Whether the file is a specification, and not a program.
+    pub(crate) fn from_text(self) -> bool
+        ensures { result ≡ is_text self }
+    {
+        self != Product::Upgrade
+    }
+}
+
+/// What is made of which file.
+#[derive(Clone, Copy)]
+pub(crate) struct Make<'a> {
+    pub(crate) product: Product,
+    pub(crate) file: &'a str,
+    /// The file whose first line gives the columns of a specification's signals.
+    pub(crate) header: Option<&'a str>,
+    /// The file that is written, or `None` for the standard output.
+    pub(crate) out: Option<&'a str>,
+}
+
+fn product_for(table: bool) -> Product
+    ensures product { result ≡ product_of table }
+    ensures compiles { result ≢ Product.Upgrade }
+{
+    if table {
+        Product::Table
+    } else {
+        Product::Image
+    }
+}
+
+/// The image or the table of a specification.
+pub(crate) fn compilation<'a>(asked: &Compile<'a>) -> Make<'a>
+    ensures made { make_of result ≡ compile_asked (compile_of asked.now) }
+    ensures compiles { result.product ≢ Product.Upgrade }
+{
+    Make {
+        product: product_for(asked.table),
+        file: asked.spec,
+        header: asked.header,
+        out: asked.out,
+    }
+}
+
+/// A program in version 2.
+pub(crate) fn upgrading<'a>(out: &'a str, program: &'a str) -> Make<'a>
+    ensures made { make_of result ≡ upgrade_asked out.entry.now program.entry.now }
+    ensures no_header { result.header ≡ None }
+{
+    Make {
+        product: Product::Upgrade,
+        file: program,
+        header: None,
+        out: Some(out),
+    }
+}

@@ -1,0 +1,113 @@
+//! From a specification, or from the bytes of a program, to the bytes that are written.
+
+ghost use Rattle.std.specs.Prelude.{◌≡◌, ◌≢◌, ◌≤◌, Err, IfErr, IfOk, List as Seq, None, Ok, ℕ, length};
+ghost use Rattle.std.specs.Option.{ForSome, option_copied};
+ghost use Rattle.c2po_tree.specs.ItemShape.{spec_shape};
+ghost use Rattle.obs_files.specs.Faults.{opened};
+ghost use Rattle.obs_files.specs.Names.{NamesFit};
+ghost use Rattle.spec_compile.specs.Compiled.{image_of_text};
+ghost use Rattle.spec_compile.specs.Front.{first_refusal, items_in};
+ghost use Rattle.tool_runs.specs.Files.{file_status};
+ghost use Rattle.c2po_runs.specs.Phases.{Refuses};
+ghost use Rattle.c2po_runs.specs.Made.{compile_status, compiled_bytes as bytes_of_text, upgraded_bytes as bytes_of_program, written_as};
+
+use c2po_types::TypedSpec;
+use mltl_base::Part;
+use obs_files::{FileFault, ProgramFault, image, open, upgraded_names_fit};
+use obs_table::instruction_table;
+use obs_verify::{Checked, UpgradeFault, upgrade};
+use spec_compile::{CompileFault, back, columns_of};
+use std::alloc::Global;
+use tool_runs::Status;
+
+/// The table of a program, or its bytes.
+fn written(alloc: Global, table: bool, checked: &Checked) -> Result<Vec<u8>, Status>
+    requires names { NamesFit checked.now }
+    ensures bytes { IfOk result (λ bytes. bytes.items ≡ written_as table checked.now) }
+    ensures memory { IfErr result (λ status. status ≡ Status.Memory) }
+{
+    let made = if table {
+        instruction_table(alloc, checked)
+    } else {
+        image(alloc, checked)
+    };
+    match made {
+        Ok(bytes) => Ok(bytes),
+        Err(_) => Err(Status::Memory),
+    }
+}
+
+/// What is written of a specification whose signals stand in the columns of a header line, or in the order of declaration.
+pub(crate) fn compiled_bytes(
+    alloc: Global,
+    spec: &TypedSpec,
+    header: Option<&[u8]>,
+    table: bool,
+) -> Result<Vec<u8>, Status>
+    requires line { ForSome header (λ line. length line.now ≤ 65535) }
+    ensures made { IfOk result (λ bytes. (text : Seq ℕ) → first_refusal text ≡ None → spec_shape spec.now ≡ items_in text →
+        bytes_of_text table (image_of_text text (option_copied header.entry)) ≡ Ok bytes.items) }
+    ensures refused { IfErr result (λ status. status ≢ Status.Memory → (text : Seq ℕ) → first_refusal text ≡ None → spec_shape spec.now ≡ items_in text →
+        bytes_of_text table (image_of_text text (option_copied header.entry)) ≡ Err status) }
+    ensures refuses { IfErr result Refuses }
+{
+    let columns = match columns_of(alloc, spec, header) {
+        Ok(columns) => columns,
+        Err(fault) => return Err(status_of_compile(fault)),
+    };
+    match back(alloc, spec, &columns) {
+        Ok(checked) => written(alloc, table, &checked),
+        Err(fault) => Err(status_of_compile(fault)),
+    }
+}
+
+/// The bytes of a program in version 2.
+fn raised(alloc: Global, checked: Checked) -> Result<Vec<u8>, Status>
+    requires names { NamesFit checked }
+    ensures made { IfOk result (λ made. bytes_of_program (Ok checked) ≡ Ok made.items) }
+    ensures refused { IfErr result (λ status. status ≢ Status.Memory → bytes_of_program (Ok checked) ≡ Err status) }
+    ensures refuses { IfErr result Refuses }
+{
+    upgraded_names_fit();
+    let _program = checked.program();
+    match upgrade(alloc, checked) {
+        Ok(checked) => written(alloc, false, &checked),
+        Err(UpgradeFault::Both(i)) => {
+            Err(Status::BadProgram(ProgramFault::Operand(Part::Bz, i)))
+        }
+        Err(UpgradeFault::Memory) => Err(Status::Memory),
+    }
+}
+
+/// What is written of the bytes of a program.
+pub(crate) fn upgraded_bytes(alloc: Global, bytes: &[u8]) -> Result<Vec<u8>, Status>
+    ensures made { IfOk result (λ made. bytes_of_program (opened bytes.now) ≡ Ok made.items) }
+    ensures refused { IfErr result (λ status. status ≢ Status.Memory → bytes_of_program (opened bytes.now) ≡ Err status) }
+    ensures refuses { IfErr result Refuses }
+{
+    match open(alloc, bytes) {
+        Ok(checked) => raised(alloc, checked),
+        Err(fault) => Err(status_of_file(fault)),
+    }
+}
+
+pub(crate) fn status_of_compile(fault: CompileFault) -> Status
+    ensures status { result ≡ compile_status fault }
+    ensures refuses { Refuses result }
+{
+    match fault {
+        CompileFault::Refused(line, why) => Status::Refused(line, why),
+        CompileFault::BadHeader(why) => Status::BadHeader(why),
+        CompileFault::Memory => Status::Memory,
+    }
+}
+
+fn status_of_file(fault: FileFault) -> Status
+    ensures status { result ≡ file_status fault }
+    ensures refuses { Refuses result }
+{
+    match fault {
+        FileFault::Program(fault) => Status::BadProgram(fault),
+        FileFault::Memory => Status::Memory,
+    }
+}
