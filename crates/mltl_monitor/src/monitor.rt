@@ -75,6 +75,14 @@ impl Monitor {
         &self.state.running.checked
     }
 
+    /// The number of rows that it has taken, at most 2 ^ 40.
+    pub fn rows_taken(&self) -> u64
+        ensures taken { result ≡ taken_by self.now }
+        ensures early { result ≤ 2 ^ 40 }
+    {
+        self.state.running.taken
+    }
+
     /// Takes the next row, of one number for each column. Its steps are the reads and writes of queues and boxes.
     pub fn advance<L: Ledger>(&mut self, fields: &[i64], steps: &mut Steps<L>)
         requires drained { IsDrained self.old }

@@ -1,0 +1,36 @@
+-- `empty` is at null, and owns nothing.
+use Rattle.std.proofs.Common.{◌≡◌, [], ◌∷◌, refl}
+use mir.Val.{Val}
+use base.Logic.{SProp, emp}
+use base.Fml.{ftrue}
+use types.Kit.{‵, raw, ◌⊛◌, ◌$◌, ◌∵◌, !, qed, by, keep, split, use0}
+use types.Run.{lit, no_more, and_then, returns, enter}
+use types.ByLocal.{alloc_all, pass_all, free_all, look_at, sets}
+use types.Part.{agg}
+use contract.Monad.{fact, fact_i}
+use contract.Running.{tables}
+use denote.RattleType.{owns}
+use denote.RawPtr.{null_ptr}
+use denote.Signature.{types_at}
+use denote.Steps.{nothing}
+use denote.Triple.Walked.{Stays, walk_of}
+use Rattle.std.proofs.raw_atomic.Walks.{proved_at, leaves}
+use Rattle.std.specs.declared.option.Option.TheVariants.{None}
+use Rattle.r2u2_c.proofs.Held.{Hr, lone_at, handle_good, handle_in}
+use Rattle.r2u2_c.specs.contracts.handle.R2u2.empty.{ended, clauses}
+use Rattle.r2u2_c.specs.contracts.handle.R2u2.empty.Key.{name as #self}
+use Rattle.r2u2_c.proofs.handle.R2u2.empty.Statement.{statement}
+use Rattle.r2u2_c.proofs.handle.R2u2.empty.Code as code
+
+pub empty_spec : {M : Type 1} → statement M
+empty_spec 𝓤 𝓛 𝓜 𝓡 wired =
+    let H = 𝓛.H in let 𝓣 = tables 𝓤 H 𝓜 𝓡 𝓡.env in let En = ended in let c = clauses 𝓛 𝓜.mem 𝓡.returns in let fn = code.function in
+    let hs : Stays En.signature.params En.kept = tt in
+    proved_at 𝓛 En hs c 𝓜 𝓡 tt #self fn (code.unfolded 𝓤 H 𝓜 𝓡 wired) (λ z are.
+    let Post : Val → SProp 𝓤 = (walk_of 𝓛 En hs c).post z in let made : Hr.Denot = record { at = null_ptr; value = None } in
+    qed 𝓛 ((‵ ftrue ⊛ ‵ ftrue) ∷ raw ((c z.0.0 z.0.3).requires z.1) ∷ []) ∵ split ! $
+    enter ! 𝓣.C 𝓣.Λ fn [] Post $ alloc_all ! (λ l. pass_all ! refl tt $
+    sets ! (agg ! (and_then ! (lit ! tt) (no_more !))) refl (handle_good null_ptr) $
+    nothing ! $ handle_in ! made $
+    use0 𝓛 (raw (fact 𝓤 (made.value ≡ None))) (fact_i 𝓤 (made.value ≡ None) (emp 𝓤) refl) $ nothing ! $
+    returns ! (look_at ! 0 refl) $ free_all ! refl $ keep ! (3 ∷ 0 ∷ 2 ∷ 1 ∷ []) $ by ! (leaves 𝓛 En hs c z (lone_at null_ptr) made tt tt)))

@@ -1,0 +1,65 @@
+-- What the calls of C tell, over what C keeps: the state of a monitor, if one is open.
+
+use Rattle.std.specs.Prelude.{ℕ, ◌≡◌, Option, Some, None, Result, Ok, Err, List, [], ◌∷◌}
+use Rattle.mltl_base.specs.declared.program.Program.{Program}
+use Rattle.mltl_base.specs.declared.report.Report.{Report}
+use Rattle.mltl_base.specs.declared.report.Style.{Style}
+use Rattle.mltl_base.specs.Atoms.{Row}
+use Rattle.mltl_base.specs.Programs.{output_names}
+use Rattle.mltl_monitor.specs.declared.state.State.{State}
+use Rattle.mltl_monitor.specs.Monitoring.{Gives, Stands, TakesRow, open_of, program_of}
+use Rattle.r2u2_c.specs.declared.codes.TheConstants.{NOT_A_ROW, REPORTS_LEFT, TOO_MANY_ROWS}
+use Rattle.r2u2_c.specs.declared.fault.Fault.{Fault}
+use Rattle.r2u2_c.specs.declared.opening.Refusal.{Refusal}
+use Rattle.r2u2_c.specs.declared.report.Told.{Told}
+use Rattle.r2u2_c.specs.declared.rows.RowFault.{RowFault}
+use Rattle.r2u2_c.specs.declared.rows.RowFault.TheVariants.{ReportsLeft, NotARow, TooMany}
+use Rattle.r2u2_c.specs.Faults.{told}
+use Rattle.r2u2_c.specs.Opening.{Starts}
+use Rattle.r2u2_c.specs.Reports.{shown}
+
+-- none was open, and now a fresh monitor of the program that was found is
+abbrev pub Opens : Result Program Refusal → Option State → Option State → Type 0
+Opens found None (Some monitor) = Starts found monitor
+Opens found None None = ⊥
+Opens found (Some before) after = ⊥
+
+-- there is no program, and the fault tells why
+abbrev pub Refuses : Result Program Refusal → Fault → Type 0
+Refuses (Err why) fault = fault ≡ told why
+Refuses (Ok program) fault = ⊥
+
+-- the number of columns of a row, and the names of the outputs
+abbrev pub width_of : Option State → ℕ
+width_of (Some monitor) = (program_of monitor).width
+width_of None = 0
+
+abbrev pub names_of : Option State → List (List ℕ)
+names_of (Some monitor) = output_names (program_of monitor)
+names_of None = []
+
+-- the monitor that is open has taken the row
+abbrev pub Takes : Row → Option State → Option State → Type 0
+Takes row (Some before) (Some after) = TakesRow row before after
+Takes row (Some before) None = ⊥
+Takes row None after = ⊥
+
+-- the code of each cause
+abbrev pub row_code : RowFault → ℕ
+row_code ReportsLeft = REPORTS_LEFT
+row_code NotARow = NOT_A_ROW
+row_code TooMany = TOO_MANY_ROWS
+
+-- what C reads is the first report that was open, and the others still are, after the same rows
+pub record TellsFirst (style : Style) (read : Told) (before after : State) : Type 0 where
+  pub report : Report
+  pub shown_as : read ≡ shown report
+  pub first : (rows : List Row) → Stands before rows → open_of style before rows ≡ report ∷ open_of style after rows
+  pub stands : (rows : List Row) → Stands before rows → Stands after rows
+  pub gives : Gives report before after
+
+-- the monitor that is open has told it
+abbrev pub Tells : Style → Told → Option State → Option State → Type 0
+Tells style read (Some before) (Some after) = TellsFirst style read before after
+Tells style read (Some before) None = ⊥
+Tells style read None after = ⊥

@@ -1,0 +1,127 @@
+-- What C reads of a refusal: its kind, its place and its text.
+
+use Rattle.std.specs.Prelude.{ℕ, List, ◌++◌, codes, decimal, drop, length, replicate}
+use Rattle.mltl_base.specs.declared.interval.Part as part
+use Rattle.obs_files.specs.declared.fault.ProgramFault as fault
+use Rattle.r2u2_c.specs.declared.fault.Fault.{Fault}
+use Rattle.r2u2_c.specs.declared.opening.Refusal.{Refusal}
+use Rattle.r2u2_c.specs.declared.opening.Refusal.TheVariants.{Program, NoSignals, LongHeader, NoHeader, Missing, Twice, Memory}
+
+-- the name of a part of a program
+abbrev pub part_name : part.Part → List ℕ
+part_name part.TheVariants.Bz = codes "bz"
+part_name part.TheVariants.Ft = codes "ft"
+part_name part.TheVariants.Pt = codes "pt"
+
+-- a fault's name and its number, and with the part between them
+abbrev pub numbered : List ℕ → ℕ → List ℕ
+numbered name n = name ++ codes " " ++ decimal n
+
+abbrev pub parted : List ℕ → part.Part → ℕ → List ℕ
+parted name p n = name ++ codes " " ++ part_name p ++ codes " " ++ decimal n
+
+-- what is wrong with a program file
+abbrev pub fault_text : fault.ProgramFault → List ℕ
+fault_text fault.TheVariants.Short = codes "short"
+fault_text fault.TheVariants.Magic = codes "magic"
+fault_text fault.TheVariants.Version = codes "version"
+fault_text (fault.TheVariants.Reserved at) = numbered (codes "reserved") at
+fault_text (fault.TheVariants.Opcode at) = numbered (codes "opcode") at
+fault_text fault.TheVariants.Trailing = codes "trailing"
+fault_text (fault.TheVariants.NameBytes k) = numbered (codes "namebytes") k
+fault_text (fault.TheVariants.SignalBytes k) = numbered (codes "signalbytes") k
+fault_text fault.TheVariants.Width = codes "width"
+fault_text (fault.TheVariants.Signal k) = numbered (codes "signal") k
+fault_text (fault.TheVariants.Operand p i) = parted (codes "operand") p i
+fault_text (fault.TheVariants.Interval p i) = parted (codes "interval") p i
+fault_text (fault.TheVariants.Divisor i) = numbered (codes "divisor") i
+fault_text (fault.TheVariants.Range i) = numbered (codes "range") i
+fault_text (fault.TheVariants.TooLate i) = numbered (codes "toolate") i
+fault_text (fault.TheVariants.Output k) = numbered (codes "output") k
+fault_text (fault.TheVariants.Size p i) = parted (codes "size") p i
+fault_text fault.TheVariants.TooManySlots = codes "toomanyslots"
+
+-- what is wrong, in words
+abbrev pub text_of : Refusal → List ℕ
+text_of (Program f) = fault_text f
+text_of NoSignals = codes "no signals"
+text_of LongHeader = codes "line too long"
+text_of NoHeader = codes "no header"
+text_of (Missing name) = codes "name " ++ name ++ codes " missing"
+text_of (Twice name) = codes "name " ++ name ++ codes " twice"
+text_of Memory = codes "out of memory"
+
+-- each kind of fault of a program has a number of its own
+abbrev pub fault_kind : fault.ProgramFault → ℕ
+fault_kind fault.TheVariants.Short = 1
+fault_kind fault.TheVariants.Magic = 2
+fault_kind fault.TheVariants.Version = 3
+fault_kind (fault.TheVariants.Reserved at) = 4
+fault_kind (fault.TheVariants.Opcode at) = 5
+fault_kind fault.TheVariants.Trailing = 6
+fault_kind (fault.TheVariants.NameBytes k) = 7
+fault_kind (fault.TheVariants.SignalBytes k) = 8
+fault_kind fault.TheVariants.Width = 9
+fault_kind (fault.TheVariants.Signal k) = 10
+fault_kind (fault.TheVariants.Operand p i) = 11
+fault_kind (fault.TheVariants.Interval p i) = 12
+fault_kind (fault.TheVariants.Divisor i) = 13
+fault_kind (fault.TheVariants.Range i) = 14
+fault_kind (fault.TheVariants.TooLate i) = 15
+fault_kind (fault.TheVariants.Output k) = 16
+fault_kind (fault.TheVariants.Size p i) = 17
+fault_kind fault.TheVariants.TooManySlots = 18
+
+-- and each other refusal
+abbrev pub kind_of : Refusal → ℕ
+kind_of (Program f) = fault_kind f
+kind_of NoSignals = 19
+kind_of LongHeader = 20
+kind_of NoHeader = 21
+kind_of (Missing name) = 22
+kind_of (Twice name) = 23
+kind_of Memory = 0
+
+-- the number of a part, 0 where there is none
+abbrev pub part_number : part.Part → ℕ
+part_number part.TheVariants.Bz = 1
+part_number part.TheVariants.Ft = 2
+part_number part.TheVariants.Pt = 3
+
+abbrev pub fault_part : fault.ProgramFault → ℕ
+fault_part (fault.TheVariants.Operand p i) = part_number p
+fault_part (fault.TheVariants.Interval p i) = part_number p
+fault_part (fault.TheVariants.Size p i) = part_number p
+fault_part f = 0
+
+abbrev pub part_of : Refusal → ℕ
+part_of (Program f) = fault_part f
+part_of why = 0
+
+-- the byte, the instruction, the output or the signal where the fault is; 0 where it has no place
+abbrev pub fault_place : fault.ProgramFault → ℕ
+fault_place (fault.TheVariants.Reserved at) = at
+fault_place (fault.TheVariants.Opcode at) = at
+fault_place (fault.TheVariants.NameBytes k) = k
+fault_place (fault.TheVariants.SignalBytes k) = k
+fault_place (fault.TheVariants.Signal k) = k
+fault_place (fault.TheVariants.Operand p i) = i
+fault_place (fault.TheVariants.Interval p i) = i
+fault_place (fault.TheVariants.Divisor i) = i
+fault_place (fault.TheVariants.Range i) = i
+fault_place (fault.TheVariants.TooLate i) = i
+fault_place (fault.TheVariants.Output k) = k
+fault_place (fault.TheVariants.Size p i) = i
+fault_place f = 0
+
+abbrev pub place_of : Refusal → ℕ
+place_of (Program f) = fault_place f
+place_of why = 0
+
+-- a text at the front of 96 bytes, with zeros behind it
+abbrev pub padded : List ℕ → List ℕ
+padded text = text ++ drop (length text) (replicate 96 0)
+
+-- what C reads of a refusal
+abbrev pub told : Refusal → Fault
+told why = record { kind = kind_of why; part = part_of why; place = place_of why; text = padded (text_of why) }

@@ -1,0 +1,6 @@
+pub mod Handles
+pub mod Rows
+pub mod Reports
+pub mod Opening
+pub mod Faults
+pub mod Exports

@@ -1,0 +1,68 @@
+-- The program of a monitor that is opened, or why none is.
+
+use Rattle.std.specs.Prelude.{ℕ, ◌≡◌, ◌<◌, ◌==◌, nat_lt, if◌then◌else◌, List, [], map, length, Result, Ok, Err}
+use Rattle.mltl_base.specs.declared.program.Columns.{Columns}
+use Rattle.mltl_base.specs.declared.program.Program.{Program}
+use Rattle.obs_verify.specs.Bound.{bound}
+use Rattle.obs_files.specs.declared.fault.FileFault.{FileFault}
+use Rattle.obs_files.specs.declared.fault.FileFault.TheVariants as file
+use Rattle.obs_files.specs.Faults.{opened}
+use Rattle.trace_feed.specs.declared.header_fault.HeaderFault.{HeaderFault}
+use Rattle.trace_feed.specs.declared.header_fault.HeaderFault.TheVariants as header
+use Rattle.trace_feed.specs.Header.{header_meaning}
+use Rattle.mltl_monitor.specs.declared.state.State.{State}
+use Rattle.mltl_monitor.specs.Monitoring.{IsDrained, Stands, program_of}
+use Rattle.r2u2_c.specs.declared.opening.Refusal.{Refusal}
+use Rattle.r2u2_c.specs.declared.opening.Refusal.TheVariants as refusal
+
+-- the fault of a file, and that of a header, as a refusal
+abbrev pub of_file : FileFault → Refusal
+of_file (file.Program fault) = refusal.Program fault
+of_file file.Memory = refusal.Memory
+
+abbrev pub of_header : HeaderFault → Refusal
+of_header header.NoHeader = refusal.NoHeader
+of_header (header.Missing name) = refusal.Missing name
+of_header (header.Twice name) = refusal.Twice name
+of_header header.Memory = refusal.Memory
+
+-- what a file gives, with the refusal in place of its fault
+abbrev pub unless_refused : Result Program FileFault → Result Program Refusal
+unless_refused (Ok program) = Ok program
+unless_refused (Err fault) = Err (of_file fault)
+
+-- the program that these bytes spell, or their first fault
+abbrev pub program_by : List ℕ → Result Program Refusal
+program_by bytes = unless_refused (opened bytes)
+
+-- a program over the columns that were found
+abbrev pub bound_over : Program → Result Columns HeaderFault → Result Program Refusal
+bound_over program (Ok columns) = Ok (bound program columns.width columns.of_signal)
+bound_over program (Err fault) = Err (of_header fault)
+
+-- a program with its signals in the columns that a header names; one of version 1 stores no signals
+abbrev pub bound_by : List ℕ → Program → Result Program Refusal
+bound_by line program =
+    if program.version == 2
+    then (if nat_lt (length line) 65536 then bound_over program (header_meaning (map (λ s. s.name) program.signals) line) else Err refusal.LongHeader)
+    else Err refusal.NoSignals
+
+-- the same of what was found before
+abbrev pub bound_if : List ℕ → Result Program Refusal → Result Program Refusal
+bound_if line (Ok program) = bound_by line program
+bound_if line (Err why) = Err why
+
+-- the program of these bytes under a header, or the first that refuses it: the bytes, then the header
+abbrev pub program_under : List ℕ → List ℕ → Result Program Refusal
+program_under line bytes = bound_if line (program_by bytes)
+
+-- the monitor has taken no rows, and has no report to give
+pub record IsFresh (found : Program) (monitor : State) : Type 0 where
+  pub program : program_of monitor ≡ found
+  pub stands : Stands monitor []
+  pub drained : IsDrained monitor
+
+-- it is a fresh monitor of the program that was found
+abbrev pub Starts : Result Program Refusal → State → Type 0
+Starts (Ok program) monitor = IsFresh program monitor
+Starts (Err why) monitor = ⊥

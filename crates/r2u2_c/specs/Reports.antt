@@ -1,0 +1,25 @@
+-- How reports are shown to C.
+
+use Rattle.std.specs.Prelude.{ℕ, ◌==◌, if◌then◌else◌}
+use Rattle.mltl_base.specs.declared.report.Report.{Report}
+use Rattle.mltl_base.specs.declared.report.Style.{Style}
+use Rattle.mltl_base.specs.declared.report.Style.TheVariants.{Each, Runs}
+use Rattle.mltl_base.specs.declared.report.Word.{Word}
+use Rattle.mltl_base.specs.declared.report.Word.TheVariants.{True, False, Inactive, Invalid, Verified}
+use Rattle.r2u2_c.specs.declared.report.Told.{Told}
+
+-- each word has a number of its own
+abbrev pub word_number : Word → ℕ
+word_number False = 0
+word_number True = 1
+word_number Inactive = 2
+word_number Invalid = 3
+word_number Verified = 4
+
+-- a report as C reads it
+abbrev pub shown : Report → Told
+shown report = record { time = report.time; output = report.out; word = word_number report.word }
+
+-- the style that a number asks for: 0 for each time, and any other for runs
+abbrev pub style_of : ℕ → Style
+style_of n = if n == 0 then Each else Runs

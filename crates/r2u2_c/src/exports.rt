@@ -1,0 +1,240 @@
+//! The calls of C.
+
+ghost use Rattle.std.specs.Prelude.{◌≡◌, ◌≢◌, ◌↔◌, ◌<◌, ◌≤◌, ◌^◌, [], ◌∷◌, Contains, IsSome, IsSomeAnd, IfErr, IfOk, None, Some, drop, length, slice_get, take};
+ghost use Rattle.mltl_base.specs.Programs.{name_of};
+ghost use Rattle.mltl_monitor.specs.Monitoring.{IsDrained};
+ghost use Rattle.r2u2_c.specs.declared.opening.Refusal.TheVariants.{Memory};
+ghost use Rattle.r2u2_c.specs.declared.rows.RowFault.TheVariants.{NotARow, ReportsLeft, TooMany};
+ghost use Rattle.r2u2_c.specs.Exports.{Opens, Refuses, Takes, Tells, names_of, row_code, width_of};
+ghost use Rattle.r2u2_c.specs.Faults.{told};
+ghost use Rattle.r2u2_c.specs.Opening.{program_by, program_under};
+ghost use Rattle.r2u2_c.specs.Reports.{style_of};
+ghost use Rattle.r2u2_c.specs.Rows.{IsRowCause};
+
+use crate::codes::{
+    ALREADY_OPEN, DONE, NO_MEMORY, NO_REPORT, NOT_A_ROW, NOT_OPEN, REFUSED, REPORTS_LEFT,
+    TOO_MANY_ROWS,
+};
+use crate::fault::{Fault, fill_front};
+use crate::handle::R2u2;
+use crate::opening::{Refusal, open_monitor, open_under};
+use crate::report::{Told, next_of};
+use crate::rows::{RowFault, take_row};
+use mltl_base::Out;
+use mltl_monitor::Monitor;
+use std::alloc::Global;
+
+/// Opens the program that these bytes spell. The monitor's rows have the columns that the program was compiled for.
+#[unsafe(no_mangle)]
+pub extern "C" fn r2u2_open(it: &mut R2u2, alloc: Global, bytes: &[u8], fault: &mut Fault) -> u32
+    ensures opens { result ≡ DONE → Opens (program_by bytes.now) it.old.value it.new.value }
+    ensures already { (result ≡ ALREADY_OPEN) ↔ IsSome it.old.value }
+    ensures refused { result ≡ REFUSED → Refuses (program_by bytes.now) fault.new }
+    ensures kept { 0 < result → it.new.value ≡ it.old.value }
+    ensures untold { result ≢ REFUSED → fault.new ≡ fault.old }
+    ensures codes { Contains (DONE ∷ ALREADY_OPEN ∷ REFUSED ∷ NO_MEMORY ∷ []) result }
+{
+    if it.is_open(alloc) {
+        return ALREADY_OPEN;
+    }
+    match open_monitor(alloc, bytes) {
+        Ok(monitor) => {
+            it.put(monitor);
+            DONE
+        }
+        Err(why) => refuse(why, fault),
+    }
+}
+
+/// The same with the program's signals in the columns that a header line names.
+#[unsafe(no_mangle)]
+pub extern "C" fn r2u2_open_under(
+    it: &mut R2u2,
+    alloc: Global,
+    bytes: &[u8],
+    header: &[u8],
+    fault: &mut Fault,
+) -> u32
+    ensures opens { result ≡ DONE → Opens (program_under header.now bytes.now) it.old.value it.new.value }
+    ensures already { (result ≡ ALREADY_OPEN) ↔ IsSome it.old.value }
+    ensures refused { result ≡ REFUSED → Refuses (program_under header.now bytes.now) fault.new }
+    ensures kept { 0 < result → it.new.value ≡ it.old.value }
+    ensures untold { result ≢ REFUSED → fault.new ≡ fault.old }
+    ensures codes { Contains (DONE ∷ ALREADY_OPEN ∷ REFUSED ∷ NO_MEMORY ∷ []) result }
+{
+    if it.is_open(alloc) {
+        return ALREADY_OPEN;
+    }
+    match open_under(alloc, bytes, header) {
+        Ok(monitor) => {
+            it.put(monitor);
+            DONE
+        }
+        Err(why) => refuse(why, fault),
+    }
+}
+
+/// Tells why no monitor was opened.
+fn refuse(why: Refusal, fault: &mut Fault) -> u32
+    ensures memory { why ≡ Memory → (result ≡ NO_MEMORY) × (fault.new ≡ fault.old) }
+    ensures refused { why ≢ Memory → (result ≡ REFUSED) × (fault.new ≡ told why) }
+{
+    match why {
+        Refusal::Memory => NO_MEMORY,
+        why => {
+            *fault = Fault::of(&why);
+            REFUSED
+        }
+    }
+}
+
+/// The number of columns of a row; 0 where none is open.
+#[unsafe(no_mangle)]
+pub extern "C" fn r2u2_width(it: &mut R2u2, alloc: Global) -> u32
+    ensures width { result ≡ width_of it.old.value }
+    ensures kept { it.new.value ≡ it.old.value }
+{
+    match it.take(alloc) {
+        None => 0,
+        Some(monitor) => {
+            let width = monitor.checked().program().width;
+            it.put(monitor);
+            width
+        }
+    }
+}
+
+/// The number of outputs; 0 where none is open.
+#[unsafe(no_mangle)]
+pub extern "C" fn r2u2_outputs(it: &mut R2u2, alloc: Global) -> u32
+    ensures outputs { result ≡ length (names_of it.old.value) }
+    ensures kept { it.new.value ≡ it.old.value }
+{
+    match it.take(alloc) {
+        None => 0,
+        Some(monitor) => {
+            let count = count_of(&monitor);
+            it.put(monitor);
+            count
+        }
+    }
+}
+
+/// Writes the name of output `k`, counted from 0, to the front of a buffer, and answers its length.
+#[unsafe(no_mangle)]
+pub extern "C" fn r2u2_name(it: &mut R2u2, alloc: Global, k: u32, buffer: &mut [u8]) -> u32
+    ensures named { 0 < result → slice_get (names_of it.old.value) k ≡ Some (take result buffer.new) }
+    ensures rest { drop result buffer.new ≡ drop result buffer.old }
+    ensures enough { k < length (names_of it.old.value) → 64 ≤ length buffer.old → 0 < result }
+    ensures kept { it.new.value ≡ it.old.value }
+{
+    match it.take(alloc) {
+        None => 0,
+        Some(monitor) => {
+            let length = name_in(&monitor, k, buffer);
+            it.put(monitor);
+            length
+        }
+    }
+}
+
+/// Takes the next row, of one number for each column.
+#[unsafe(no_mangle)]
+pub extern "C" fn r2u2_row(it: &mut R2u2, alloc: Global, fields: &[i64]) -> u32
+    ensures takes { result ≡ DONE → Takes fields.now it.old.value it.new.value }
+    ensures not_open { (result ≡ NOT_OPEN) ↔ (it.old.value ≡ None) }
+    ensures left { result ≡ REPORTS_LEFT → IsSomeAnd it.old.value (λ monitor. IsRowCause ReportsLeft monitor fields.now) }
+    ensures unfit { result ≡ NOT_A_ROW → IsSomeAnd it.old.value (λ monitor. IsRowCause NotARow monitor fields.now) }
+    ensures late { result ≡ TOO_MANY_ROWS → IsSomeAnd it.old.value (λ monitor. IsRowCause TooMany monitor fields.now) }
+    ensures kept { 0 < result → it.new.value ≡ it.old.value }
+    ensures codes { Contains (DONE ∷ NOT_OPEN ∷ REPORTS_LEFT ∷ NOT_A_ROW ∷ TOO_MANY_ROWS ∷ []) result }
+{
+    match it.take(alloc) {
+        None => NOT_OPEN,
+        Some(mut monitor) => {
+            let taken = take_row(&mut monitor, fields);
+            it.put(monitor);
+            code_of(taken)
+        }
+    }
+}
+
+fn code_of(taken: Result<(), RowFault>) -> u32
+    ensures done { IfOk taken (λ _. result ≡ DONE) }
+    ensures fault { IfErr taken (λ why. row_code why ≡ result) }
+{
+    match taken {
+        Ok(()) => DONE,
+        Err(RowFault::ReportsLeft) => REPORTS_LEFT,
+        Err(RowFault::NotARow) => NOT_A_ROW,
+        Err(RowFault::TooMany) => TOO_MANY_ROWS,
+    }
+}
+
+/// Gives the next report of the last row: of each time where `runs` is 0, else of each longest stretch of one word.
+#[unsafe(no_mangle)]
+pub extern "C" fn r2u2_next(it: &mut R2u2, alloc: Global, runs: u32, report: &mut Told) -> u32
+    ensures tells { result ≡ DONE → Tells (style_of runs) report.new it.old.value it.new.value }
+    ensures not_open { (result ≡ NOT_OPEN) ↔ (it.old.value ≡ None) }
+    ensures drained { (result ≡ NO_REPORT) ↔ IsSomeAnd it.old.value IsDrained }
+    ensures kept { 0 < result → it.new.value ≡ it.old.value }
+    ensures untold { 0 < result → report.new ≡ report.old }
+    ensures codes { Contains (DONE ∷ NOT_OPEN ∷ NO_REPORT ∷ []) result }
+{
+    match it.take(alloc) {
+        None => NOT_OPEN,
+        Some(mut monitor) => {
+            let next = next_of(&mut monitor, runs);
+            it.put(monitor);
+            match next {
+                None => NO_REPORT,
+                Some(next) => {
+                    *report = Told::of(next);
+                    DONE
+                }
+            }
+        }
+    }
+}
+
+/// Frees the monitor, if one is open.
+#[unsafe(no_mangle)]
+pub extern "C" fn r2u2_close(it: &mut R2u2, alloc: Global)
+    ensures closed { it.new.value ≡ None }
+{
+    it.close(alloc);
+}
+
+fn count_of(monitor: &Monitor) -> u32
+    ensures { result ≡ length (names_of (Some monitor.now)) }
+{
+    monitor.checked().program().outs.len() as u32
+}
+
+/// Writes the name of an output to the front of a buffer that has room for it, and answers its length.
+fn name_in(monitor: &Monitor, k: u32, buffer: &mut [u8]) -> u32
+    ensures named { 0 < result → slice_get (names_of (Some monitor.now)) k ≡ Some (take result buffer.new) }
+    ensures rest { drop result buffer.new ≡ drop result buffer.old }
+    ensures enough { k < length (names_of (Some monitor.now)) → 64 ≤ length buffer.old → 0 < result }
+{
+    let outs = monitor.checked().program().outs.as_slice();
+    match outs.get(k as usize) {
+        None => 0,
+        Some(out) => write_name(out, buffer),
+    }
+}
+
+fn write_name(out: &Out, buffer: &mut [u8]) -> u32
+    ensures named { 0 < result → name_of out.now ≡ take result buffer.new }
+    ensures rest { drop result buffer.new ≡ drop result buffer.old }
+    ensures enough { 64 ≤ length buffer.old → 0 < result }
+{
+    let name = match out {
+        Out::Formula(_, _, name) | Out::Contract(_, _, _, name) => name.bytes(),
+    };
+    if name.len() > buffer.len() {
+        return 0;
+    }
+    fill_front(buffer, name);
+    name.len() as u32
+}

@@ -1,0 +1,145 @@
+//! Refusals as C reads them.
+
+ghost use Rattle.std.specs.Prelude.{◌≡◌, ◌≤◌, ◌++◌, drop, length};
+ghost use Rattle.r2u2_c.specs.Faults.{fault_kind, fault_part, fault_place, kind_of, part_number, part_of, place_of, told};
+
+use crate::fault_text::text_of_refusal;
+use crate::opening::Refusal;
+use mltl_base::Part;
+use obs_files::ProgramFault;
+
+/// A refusal as C reads it.
+#[repr(C)]
+#[derive(Clone, Copy)]
+pub struct Fault {
+    /// Which one, from 1 to 23; `include/r2u2.h` names them.
+    pub kind: u32,
+    /// The part of the program: 1 bz, 2 ft, 3 pt; 0 where it has none.
+    pub part: u32,
+    /// The byte, instruction, output or signal where it is, counted from 0.
+    pub place: u64,
+    /// What is wrong, with zeros behind it.
+    pub text: [u8; 96],
+}
+
+impl Fault {
+    /// A refusal as C reads it.
+    pub(crate) fn of(why: &Refusal) -> Fault
+        ensures { result ≡ told why.now }
+    {
+        let line = text_of_refusal(why);
+        let mut text = [0; 96];
+        fill_front(&mut text, line.as_slice());
+        Fault {
+            kind: kind_of_refusal(why),
+            part: part_of_refusal(why),
+            place: place_of_refusal(why),
+            text,
+        }
+    }
+}
+
+/// Puts a piece at the front of a slice.
+pub(crate) fn fill_front(into: &mut [u8], piece: &[u8])
+    requires { length piece.now ≤ length into.old }
+    ensures { into.new ≡ piece.now ++ drop (length piece.now) into.old }
+{
+    into[..piece.len()].copy_from_slice(piece);
+}
+
+fn kind_of_refusal(why: &Refusal) -> u32
+    ensures { result ≡ kind_of why.now }
+{
+    match why {
+        Refusal::Program(fault) => kind_of_fault(*fault),
+        Refusal::NoSignals => 19,
+        Refusal::LongHeader => 20,
+        Refusal::NoHeader => 21,
+        Refusal::Missing(_) => 22,
+        Refusal::Twice(_) => 23,
+        Refusal::Memory => 0,
+    }
+}
+
+fn kind_of_fault(fault: ProgramFault) -> u32
+    ensures { result ≡ fault_kind fault }
+{
+    match fault {
+        ProgramFault::Short => 1,
+        ProgramFault::Magic => 2,
+        ProgramFault::Version => 3,
+        ProgramFault::Reserved(_) => 4,
+        ProgramFault::Opcode(_) => 5,
+        ProgramFault::Trailing => 6,
+        ProgramFault::NameBytes(_) => 7,
+        ProgramFault::SignalBytes(_) => 8,
+        ProgramFault::Width => 9,
+        ProgramFault::Signal(_) => 10,
+        ProgramFault::Operand(_, _) => 11,
+        ProgramFault::Interval(_, _) => 12,
+        ProgramFault::Divisor(_) => 13,
+        ProgramFault::Range(_) => 14,
+        ProgramFault::TooLate(_) => 15,
+        ProgramFault::Output(_) => 16,
+        ProgramFault::Size(_, _) => 17,
+        ProgramFault::TooManySlots => 18,
+    }
+}
+
+fn part_of_refusal(why: &Refusal) -> u32
+    ensures { result ≡ part_of why.now }
+{
+    match why {
+        Refusal::Program(fault) => part_of_fault(*fault),
+        _ => 0,
+    }
+}
+
+fn part_of_fault(fault: ProgramFault) -> u32
+    ensures { result ≡ fault_part fault }
+{
+    match fault {
+        ProgramFault::Operand(part, _)
+        | ProgramFault::Interval(part, _)
+        | ProgramFault::Size(part, _) => number_of_part(part),
+        _ => 0,
+    }
+}
+
+fn number_of_part(part: Part) -> u32
+    ensures { result ≡ part_number part }
+{
+    match part {
+        Part::Bz => 1,
+        Part::Ft => 2,
+        Part::Pt => 3,
+    }
+}
+
+fn place_of_refusal(why: &Refusal) -> u64
+    ensures { result ≡ place_of why.now }
+{
+    match why {
+        Refusal::Program(fault) => place_of_fault(*fault),
+        _ => 0,
+    }
+}
+
+fn place_of_fault(fault: ProgramFault) -> u64
+    ensures { result ≡ fault_place fault }
+{
+    match fault {
+        ProgramFault::Reserved(at) | ProgramFault::Opcode(at) => at,
+        ProgramFault::NameBytes(k)
+        | ProgramFault::SignalBytes(k)
+        | ProgramFault::Signal(k)
+        | ProgramFault::Output(k) => u64::from(k),
+        ProgramFault::Operand(_, i)
+        | ProgramFault::Interval(_, i)
+        | ProgramFault::Divisor(i)
+        | ProgramFault::Range(i)
+        | ProgramFault::TooLate(i)
+        | ProgramFault::Size(_, i) => u64::from(i),
+        _ => 0,
+    }
+}

@@ -1,0 +1,102 @@
+//! What C keeps of a monitor.
+
+ghost use Rattle.std.specs.Prelude.{◌≡◌, ◌↔◌, None, Some, IsSome, IsTrue, MatchOption, Option as Maybe};
+ghost use Rattle.std.specs.Coded.{coded_option};
+ghost use Rattle.mltl_monitor.specs.declared.state.State.{State};
+ghost use Rattle.mltl_monitor.specs.contracts.monitor.Monitor.{the_row};
+ghost use Rattle.r2u2_c.specs.Handles.{handle_owns};
+
+use crate::boxes::Loose;
+use mltl_monitor::Monitor;
+use std::alloc::Global;
+use std::marker::Model;
+use std::mem;
+use std::ptr::null_mut;
+
+/// What C keeps: the address of a monitor, or null where none is open. It owns the monitor, whose state contracts see as
+/// `value`.
+#[repr(C)]
+pub struct R2u2 {
+    at: *mut u8,
+    pub ghost value: { Maybe State } by { coded_option the_row.coded },
+}
+
+impl Model for R2u2 {
+    ghost also_owns = { λ it. handle_owns it.at it.value };
+}
+
+impl R2u2 {
+    fn empty() -> R2u2
+        ensures { result.value ≡ None }
+    {
+        R2u2 { at: null_mut() }
+    }
+
+    fn of(loose: Loose<Monitor, Global>) -> R2u2
+        ensures { result.value ≡ Some loose.value }
+    {
+        let Loose { at, alloc: _ } = loose;
+        R2u2 { at: at as *mut u8 }
+    }
+
+    fn into_loose(self, alloc: Global) -> Option<Loose<Monitor, Global>>
+        ensures { MatchOption result (self.value ≡ None) (λ loose. self.value ≡ Some loose.value) }
+    {
+        let R2u2 { at } = self;
+        if at.is_null() {
+            None
+        } else {
+            Some(Loose {
+                at: at as *mut Monitor,
+                alloc,
+            })
+        }
+    }
+
+    fn into_box(self, alloc: Global) -> Option<Box<Monitor>>
+        ensures { MatchOption result (self.value ≡ None) (λ monitor. self.value ≡ Some monitor.value) }
+    {
+        match self.into_loose(alloc) {
+            None => None,
+            Some(loose) => Some(loose.into_box()),
+        }
+    }
+
+    /// Takes the monitor out, if one is open.
+    pub(crate) fn take(&mut self, alloc: Global) -> Option<Box<Monitor>>
+        ensures taken { MatchOption result (self.old.value ≡ None) (λ monitor. self.old.value ≡ Some monitor.value) }
+        ensures emptied { self.new.value ≡ None }
+    {
+        mem::replace(self, R2u2::empty()).into_box(alloc)
+    }
+
+    /// Puts a monitor in, and frees one that was open.
+    pub(crate) fn put(&mut self, monitor: Box<Monitor>)
+        ensures { self.new.value ≡ Some monitor.value }
+    {
+        let alloc = *Box::allocator(&monitor);
+        let old = mem::replace(self, R2u2::of(Loose::of(monitor)));
+        drop(old.into_box(alloc));
+    }
+
+    /// Whether a monitor is open.
+    pub(crate) fn is_open(&mut self, alloc: Global) -> bool
+        ensures open { IsTrue result ↔ IsSome self.old.value }
+        ensures kept { self.new.value ≡ self.old.value }
+    {
+        match self.take(alloc) {
+            None => false,
+            Some(monitor) => {
+                self.put(monitor);
+                true
+            }
+        }
+    }
+
+    /// Frees the monitor, if one is open.
+    pub(crate) fn close(&mut self, alloc: Global)
+        ensures { self.new.value ≡ None }
+    {
+        drop(self.take(alloc));
+    }
+}

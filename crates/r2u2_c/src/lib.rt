@@ -1,0 +1,24 @@
+//! The monitor as a library for C: `include/r2u2.h` declares its calls, and says what a caller in C owes.
+//!
+//! C keeps a struct [`R2u2`], all zero at first, and passes its address to each call. A call answers a code of [`codes`];
+//! every code above 0 leaves the monitor and what it writes to unchanged. All memory is taken when a program is opened.
+#![tactic(auto)]
+
+mod boxes;
+pub mod codes;
+mod exports;
+mod fault;
+mod fault_text;
+mod handle;
+mod opening;
+mod report;
+mod rows;
+
+pub use exports::{
+    r2u2_close, r2u2_name, r2u2_next, r2u2_open, r2u2_open_under, r2u2_outputs, r2u2_row, r2u2_width,
+};
+pub use fault::Fault;
+pub use handle::R2u2;
+pub use opening::Refusal;
+pub use report::Told;
+

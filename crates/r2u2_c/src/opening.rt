@@ -1,0 +1,114 @@
+//! Monitors from the bytes of a program, and the header that binds its signals.
+
+ghost use Rattle.std.specs.Prelude.{◌≡◌, ◌≢◌, ◌≤◌, Ok, Err, IfOk, IfErr, length};
+ghost use Rattle.mltl_monitor.specs.Monitoring.{program_of};
+ghost use Rattle.r2u2_c.specs.Opening.{Starts, bound_by, of_file, of_header, program_by, program_under};
+
+use mltl_base::Name;
+use mltl_base::limits::MAX_LINE_BYTES;
+use mltl_monitor::Monitor;
+use obs_files::{FileFault, ProgramFault, open};
+use obs_verify::{Checked, rebind};
+use std::alloc::Global;
+use trace_feed::{HeaderFault, header_of};
+
+/// Why no monitor is opened.
+#[derive(Drop)]
+pub enum Refusal {
+    /// This is wrong with the program.
+    Program(ProgramFault),
+    /// A header was given, and the program stores no signals, being of version 1.
+    NoSignals,
+    /// The header has more than 65,535 bytes.
+    LongHeader,
+    /// The header doesn't begin with `#`.
+    NoHeader,
+    /// The first signal that doesn't stand exactly once in the header stands nowhere.
+    Missing(Name),
+    /// The first signal that doesn't stand exactly once in the header stands more than once.
+    Twice(Name),
+    /// Memory is wanting.
+    Memory,
+}
+
+/// The monitor of the program that these bytes spell.
+pub(crate) fn open_monitor(alloc: Global, bytes: &[u8]) -> Result<Box<Monitor>, Refusal>
+    ensures opened { IfOk result (λ monitor. Starts (program_by bytes.now) monitor.value) }
+    ensures refused { IfErr result (λ why. why ≢ Refusal.Memory → program_by bytes.now ≡ Err why) }
+{
+    match open(alloc, bytes) {
+        Ok(checked) => load(alloc, checked),
+        Err(fault) => Err(refusal_of_file(fault)),
+    }
+}
+
+/// The same with the program's signals in the columns that a header names.
+pub(crate) fn open_under(
+    alloc: Global,
+    bytes: &[u8],
+    header: &[u8],
+) -> Result<Box<Monitor>, Refusal>
+    ensures opened { IfOk result (λ monitor. Starts (program_under header.now bytes.now) monitor.value) }
+    ensures refused { IfErr result (λ why. why ≢ Refusal.Memory → program_under header.now bytes.now ≡ Err why) }
+{
+    let checked = match open(alloc, bytes) {
+        Ok(checked) => checked,
+        Err(fault) => return Err(refusal_of_file(fault)),
+    };
+    match bind(alloc, checked, header) {
+        Ok(bound) => load(alloc, bound),
+        Err(why) => Err(why),
+    }
+}
+
+/// A program with its signals in the columns that a header names.
+fn bind(alloc: Global, checked: Checked, header: &[u8]) -> Result<Checked, Refusal>
+    ensures bound { IfOk result (λ bound. bound_by header.now checked ≡ Ok bound) }
+    ensures refused { IfErr result (λ why. why ≢ Refusal.Memory → bound_by header.now checked ≡ Err why) }
+{
+    if checked.program().version != 2 {
+        return Err(Refusal::NoSignals);
+    }
+    if header.len() >= MAX_LINE_BYTES {
+        return Err(Refusal::LongHeader);
+    }
+    match header_of(alloc, header, &checked) {
+        Ok(columns) => Ok(rebind(checked, &columns)),
+        Err(fault) => Err(refusal_of_header(fault)),
+    }
+}
+
+/// A monitor in memory of its own.
+fn load(alloc: Global, checked: Checked) -> Result<Box<Monitor>, Refusal>
+    ensures starts { IfOk result (λ monitor. Starts (Ok checked) monitor.value) }
+    ensures memory { IfErr result (λ why. why ≡ Refusal.Memory) }
+{
+    let monitor = match Monitor::load(alloc, checked) {
+        Ok(monitor) => monitor,
+        Err(_) => return Err(Refusal::Memory),
+    };
+    match Box::new(alloc, monitor) {
+        Ok(monitor) => Ok(monitor),
+        Err(_) => Err(Refusal::Memory),
+    }
+}
+
+fn refusal_of_file(fault: FileFault) -> Refusal
+    ensures { result ≡ of_file fault }
+{
+    match fault {
+        FileFault::Program(fault) => Refusal::Program(fault),
+        FileFault::Memory => Refusal::Memory,
+    }
+}
+
+fn refusal_of_header(fault: HeaderFault) -> Refusal
+    ensures { result ≡ of_header fault }
+{
+    match fault {
+        HeaderFault::NoHeader => Refusal::NoHeader,
+        HeaderFault::Missing(name) => Refusal::Missing(name),
+        HeaderFault::Twice(name) => Refusal::Twice(name),
+        HeaderFault::Memory => Refusal::Memory,
+    }
+}

@@ -1,0 +1,59 @@
+//! Reports as C reads them.
+
+ghost use Rattle.std.specs.Prelude.{◌≡◌, ◌↔◌, IfNone, IfSome, IsNone, List};
+ghost use Rattle.mltl_base.specs.Atoms.{Row};
+ghost use Rattle.mltl_monitor.specs.Monitoring.{Gives, GivesFirst, IsDrained, Stands};
+ghost use Rattle.r2u2_c.specs.Reports.{shown, style_of, word_number};
+
+use mltl_base::{Report, Word};
+use mltl_monitor::Monitor;
+
+/// A report as C reads it: the word of output `output`, counted from 0, at `time`, in rows from 0.
+#[repr(C)]
+#[derive(Clone, Copy)]
+pub struct Told {
+    pub time: u64,
+    pub output: u32,
+    /// 0 false, 1 true, 2 inactive, 3 invalid, 4 verified.
+    pub word: u32,
+}
+
+impl Told {
+    /// A report as C reads it.
+    pub(crate) fn of(report: Report) -> Told
+        ensures { result ≡ shown report }
+    {
+        Told {
+            time: report.time,
+            output: report.out,
+            word: number_of(report.word),
+        }
+    }
+}
+
+fn number_of(word: Word) -> u32
+    ensures { result ≡ word_number word }
+{
+    match word {
+        Word::False => 0,
+        Word::True => 1,
+        Word::Inactive => 2,
+        Word::Invalid => 3,
+        Word::Verified => 4,
+    }
+}
+
+/// The next report: of each time where `runs` is 0, and else of each longest stretch of one word.
+pub(crate) fn next_of(monitor: &mut Monitor, runs: u32) -> Option<Report>
+    ensures first { (rows : List Row) → Stands monitor.old rows → GivesFirst (style_of runs) result monitor.old monitor.new rows }
+    ensures stands { (rows : List Row) → Stands monitor.old rows → Stands monitor.new rows }
+    ensures none { IsNone result ↔ IsDrained monitor.old }
+    ensures kept { IfNone result (monitor.new ≡ monitor.old) }
+    ensures gives { IfSome result (λ report. Gives report monitor.old monitor.new) }
+{
+    if runs == 0 {
+        monitor.next_report()
+    } else {
+        monitor.next_run()
+    }
+}

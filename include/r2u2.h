@@ -1,0 +1,153 @@
+/* r2u2.h: the proved monitor of Mission-time LTL, for programs in C and C++.
+ *
+ * The library is crates/r2u2_c/out/libr2u2_c.a, which `rt lib` makes in crates/r2u2_c; link it with the kit's
+ * liblibc_c.a, by which it calls malloc and free. docs/EMBEDDING.md has an example and what is proved of each call.
+ *
+ * WHAT A CALLER OWES. The calls are proved for callers that keep to this, and nothing checks that they do.
+ *
+ *  - A struct r2u2 is all zero before its first call (`struct r2u2 m = {0};`). Only these calls write it. It may be
+ *    moved to another address between two calls, but is never copied and then used as two.
+ *  - Each pointer is aligned, isn't null, even where its count is 0, and leads to as many elements as its count says, in
+ *    one object. Every byte of `fault`, `report` and `buffer` was written before the call (`= {0}` serves).
+ *  - What one call is given doesn't overlap, but that two pointers which are only read may be equal.
+ *  - One struct is used by one thread at a time, and stays with the thread that opened it. Different structs don't share
+ *    anything but the heap, and may be used by different threads.
+ *  - No call is made from a signal handler, nor in the forked child of a process with threads.
+ *  - malloc, realloc and free are those of one allocator, and align a block to each power of two up to 16 that divides
+ *    its size.
+ *
+ * WHO OWNS WHAT. From a successful open on the struct owns one monitor, on the heap, until r2u2_close frees it. A struct
+ * that goes away while it is open leaks its monitor. The calls keep no pointer that they are given: program, header, rows
+ * and buffers stay the caller's.
+ *
+ * MEMORY. r2u2_open and r2u2_open_under take all of it. r2u2_row, r2u2_next, r2u2_width, r2u2_outputs and r2u2_name take
+ * none, and so can't fail for want of it.
+ *
+ * ANSWERS. A call that answers a code was done where it answers R2U2_DONE, 0. At every other code the monitor is as it
+ * was before the call, and nothing was written but the fault at R2U2_REFUSED.
+ */
+#ifndef R2U2_H
+#define R2U2_H
+
+#include <stddef.h>
+#include <stdint.h>
+
+#ifdef __cplusplus
+extern "C" {
+#endif
+
+/* A monitor, or none where all is zero. The address is the library's own: don't follow it. */
+struct r2u2 {
+    void *at;
+};
+
+/* What the calls answer. */
+enum r2u2_code {
+    R2U2_DONE = 0,
+    R2U2_NOT_OPEN = 1,      /* the struct has no monitor */
+    R2U2_ALREADY_OPEN = 2,  /* the struct has a monitor: close it first */
+    R2U2_REFUSED = 3,       /* the program or the header has a fault, which was told */
+    R2U2_NO_MEMORY = 4,     /* memory is wanting */
+    R2U2_REPORTS_LEFT = 5,  /* ask for the reports of the last row first */
+    R2U2_NOT_A_ROW = 6,     /* the numbers aren't a row of the program */
+    R2U2_TOO_MANY_ROWS = 7, /* 1,099,511,627,776 rows were taken */
+    R2U2_NO_REPORT = 8      /* all reports were given: take the next row */
+};
+
+/* Which fault a program or a header has: those of a program in the order in which they are looked for, then those of a
+ * header. */
+enum r2u2_fault_kind {
+    R2U2_FAULT_SHORT = 1,           /* fewer bytes than the header of the file says */
+    R2U2_FAULT_MAGIC = 2,           /* the first four bytes aren't MLTL */
+    R2U2_FAULT_VERSION = 3,         /* neither 1 nor 2 */
+    R2U2_FAULT_RESERVED = 4,        /* a byte that must be 0 isn't, or names no engine or no kind; place: the byte */
+    R2U2_FAULT_OPCODE = 5,          /* no opcode of its part; place: the byte */
+    R2U2_FAULT_TRAILING = 6,        /* more bytes than the header of the file says */
+    R2U2_FAULT_NAME_BYTES = 7,      /* no name; place: the output, or their number where bytes are left over */
+    R2U2_FAULT_SIGNAL_BYTES = 8,    /* the same of a signal */
+    R2U2_FAULT_WIDTH = 9,           /* more than 65,536 columns */
+    R2U2_FAULT_SIGNAL = 10,         /* no column of its own, or the name of one before; place: the signal */
+    R2U2_FAULT_OPERAND = 11,        /* reads what it can't read; part and place: the instruction */
+    R2U2_FAULT_INTERVAL = 12,       /* runs downward or past its limit; part and place: the instruction */
+    R2U2_FAULT_DIVISOR = 13,        /* divides by what isn't a number other than 0; place: the instruction */
+    R2U2_FAULT_RANGE = 14,          /* may need more than 64 bits; place: the instruction */
+    R2U2_FAULT_TOO_LATE = 15,       /* a worst-case delay above 16,777,216 rows; place: the instruction */
+    R2U2_FAULT_OUTPUT = 16,         /* reports an instruction that isn't there; place: the output */
+    R2U2_FAULT_SIZE = 17,           /* a stored size isn't the one that is needed; part and place: the instruction */
+    R2U2_FAULT_TOO_MANY_SLOTS = 18, /* more than 16,777,216 slots and boxes */
+    R2U2_FAULT_NO_SIGNALS = 19,     /* a header was given to a program of version 1, which stores no names */
+    R2U2_FAULT_LONG_HEADER = 20,    /* the header has more than 65,535 bytes */
+    R2U2_FAULT_NO_HEADER = 21,      /* the header doesn't begin with '#' */
+    R2U2_FAULT_MISSING = 22,        /* the header doesn't have a signal's name; the text has it */
+    R2U2_FAULT_TWICE = 23           /* the header has a signal's name more than once; the text has it */
+};
+
+/* Why a program or a header was refused. */
+struct r2u2_fault {
+    uint32_t kind;  /* an r2u2_fault_kind */
+    uint32_t part;  /* the part of the instruction: 1 bz, 2 ft, 3 pt; 0 where it has none */
+    uint64_t place; /* the byte, instruction, output or signal, counted from 0; 0 where it has none */
+    char text[96];  /* the message, ended by a zero byte, as "operand ft 3" or "name grant missing" */
+};
+
+/* The word of an output at a time: the verdict of a formula, or the status of an assume-guarantee contract. */
+enum r2u2_word {
+    R2U2_FALSE = 0,
+    R2U2_TRUE = 1,
+    R2U2_INACTIVE = 2, /* the assumption is false */
+    R2U2_INVALID = 3,  /* the assumption is true, and the guarantee is false */
+    R2U2_VERIFIED = 4  /* both are true */
+};
+
+struct r2u2_report {
+    uint64_t time;   /* in rows, the first of which has time 0 */
+    uint32_t output; /* counted from 0 */
+    uint32_t word;   /* an r2u2_word */
+};
+
+/* How r2u2_next tells times: one by one, or one report for each longest stretch of newly known times with one word, with
+ * its last time. */
+enum r2u2_style { R2U2_EACH = 0, R2U2_RUNS = 1 };
+
+/* Opens the observer program of `count` bytes at `program`. Its rows have the columns that it was compiled for.
+ *
+ * R2U2_DONE: the monitor has taken no rows, and has no report to give. R2U2_ALREADY_OPEN. R2U2_REFUSED: `fault` tells the
+ * first fault of the program. R2U2_NO_MEMORY: all that was taken is freed again. */
+uint32_t r2u2_open(struct r2u2 *it, const uint8_t *program, size_t count, struct r2u2_fault *fault);
+
+/* The same under a header: the signals that the program stores, of version 2, stand in the columns that have their names.
+ * The header is one record of CSV behind '#', as "#request,grant", without the end of its line. Rows are as wide as the
+ * header. R2U2_REFUSED also where the header doesn't name each signal exactly once. */
+uint32_t r2u2_open_under(struct r2u2 *it, const uint8_t *program, size_t count, const char *header, size_t header_count,
+                         struct r2u2_fault *fault);
+
+/* How many numbers a row has, and how many outputs there are; 0 where none is open. */
+uint32_t r2u2_width(struct r2u2 *it);
+uint32_t r2u2_outputs(struct r2u2 *it);
+
+/* Writes the name of output `k`, counted from 0, to the front of `buffer`, without a zero byte behind it, and answers its
+ * length, 1 to 64; the rest of the buffer stays. 0, and nothing is written, where none is open, `k` is no output, or
+ * `count` is less than the name's length. */
+uint32_t r2u2_name(struct r2u2 *it, uint32_t k, char *buffer, size_t count);
+
+/* Takes the next row: one number for each column. A truth is 0 or 1, a whole number has 32 bits with its sign; columns
+ * that the program doesn't read may hold anything. Ask for all its reports before the next row.
+ *
+ * R2U2_DONE, R2U2_NOT_OPEN, R2U2_REPORTS_LEFT, R2U2_NOT_A_ROW, R2U2_TOO_MANY_ROWS: the first of these that holds. */
+uint32_t r2u2_row(struct r2u2 *it, const int64_t *numbers, size_t count);
+
+/* Gives the next report of the rows so far: outputs in order, and the times of each in order. Each time of an output is
+ * told once, as soon as the rows decide it, and no later than its worst-case delay. Where `style` is R2U2_EACH times are
+ * told one by one, and at any other number by runs.
+ *
+ * R2U2_DONE: `report` has it. R2U2_NOT_OPEN. R2U2_NO_REPORT: none is left. */
+uint32_t r2u2_next(struct r2u2 *it, uint32_t style, struct r2u2_report *report);
+
+/* Frees the monitor, if one is open. The struct is all zero again. */
+void r2u2_close(struct r2u2 *it);
+
+#ifdef __cplusplus
+}
+#endif
+
+#endif
