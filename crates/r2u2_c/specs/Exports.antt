@@ -17,6 +17,7 @@ use Rattle.r2u2_c.specs.declared.rows.RowFault.TheVariants.{ReportsLeft, NotARow
 use Rattle.r2u2_c.specs.Faults.{told}
 use Rattle.r2u2_c.specs.Opening.{Starts}
 use Rattle.r2u2_c.specs.Reports.{shown}
+use Rattle.r2u2_c.specs.Rows.{IsRowCause}
 
 -- none was open, and now a fresh monitor of the program that was found is
 abbrev pub Opens : Result Program Refusal → Option State → Option State → Type 0
@@ -43,6 +44,11 @@ abbrev pub Takes : Row → Option State → Option State → Type 0
 Takes row (Some before) (Some after) = TakesRow row before after
 Takes row (Some before) None = ⊥
 Takes row None after = ⊥
+
+-- the monitor that is open doesn't take the row, by this cause
+abbrev pub HoldsBack : RowFault → Row → Option State → Type 0
+HoldsBack why row (Some monitor) = IsRowCause why monitor row
+HoldsBack why row None = ⊥
 
 -- the code of each cause
 abbrev pub row_code : RowFault → ℕ

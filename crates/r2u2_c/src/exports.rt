@@ -1,15 +1,14 @@
 //! The calls of C.
 
-ghost use Rattle.std.specs.Prelude.{◌≡◌, ◌≢◌, ◌↔◌, ◌<◌, ◌≤◌, ◌^◌, [], ◌∷◌, Contains, IsSome, IsSomeAnd, IfErr, IfOk, None, Some, drop, length, slice_get, take};
+ghost use Rattle.std.specs.Prelude.{◌≡◌, ◌≢◌, ◌↔◌, ◌<◌, ◌≤◌, [], ◌∷◌, Contains, IsSome, IsSomeAnd, IfErr, IfOk, None, Some, drop, length, slice_get, take};
 ghost use Rattle.mltl_base.specs.Programs.{name_of};
 ghost use Rattle.mltl_monitor.specs.Monitoring.{IsDrained};
 ghost use Rattle.r2u2_c.specs.declared.opening.Refusal.TheVariants.{Memory};
 ghost use Rattle.r2u2_c.specs.declared.rows.RowFault.TheVariants.{NotARow, ReportsLeft, TooMany};
-ghost use Rattle.r2u2_c.specs.Exports.{Opens, Refuses, Takes, Tells, names_of, row_code, width_of};
+ghost use Rattle.r2u2_c.specs.Exports.{HoldsBack, Opens, Refuses, Takes, Tells, names_of, row_code, width_of};
 ghost use Rattle.r2u2_c.specs.Faults.{told};
 ghost use Rattle.r2u2_c.specs.Opening.{program_by, program_under};
 ghost use Rattle.r2u2_c.specs.Reports.{style_of};
-ghost use Rattle.r2u2_c.specs.Rows.{IsRowCause};
 
 use crate::codes::{
     ALREADY_OPEN, DONE, NO_MEMORY, NO_REPORT, NOT_A_ROW, NOT_OPEN, REFUSED, REPORTS_LEFT,
@@ -55,7 +54,8 @@ pub extern "C" fn r2u2_open_under(
     header: &[u8],
     fault: &mut Fault,
 ) -> u32
-    ensures opens { result ≡ DONE → Opens (program_under header.now bytes.now) it.old.value it.new.value }
+    ensures opens { result ≡ DONE
+        → Opens (program_under header.now bytes.now) it.old.value it.new.value }
     ensures already { (result ≡ ALREADY_OPEN) ↔ IsSome it.old.value }
     ensures refused { result ≡ REFUSED → Refuses (program_under header.now bytes.now) fault.new }
     ensures kept { 0 < result → it.new.value ≡ it.old.value }
@@ -143,9 +143,9 @@ pub extern "C" fn r2u2_name(it: &mut R2u2, alloc: Global, k: u32, buffer: &mut [
 pub extern "C" fn r2u2_row(it: &mut R2u2, alloc: Global, fields: &[i64]) -> u32
     ensures takes { result ≡ DONE → Takes fields.now it.old.value it.new.value }
     ensures not_open { (result ≡ NOT_OPEN) ↔ (it.old.value ≡ None) }
-    ensures left { result ≡ REPORTS_LEFT → IsSomeAnd it.old.value (λ monitor. IsRowCause ReportsLeft monitor fields.now) }
-    ensures unfit { result ≡ NOT_A_ROW → IsSomeAnd it.old.value (λ monitor. IsRowCause NotARow monitor fields.now) }
-    ensures late { result ≡ TOO_MANY_ROWS → IsSomeAnd it.old.value (λ monitor. IsRowCause TooMany monitor fields.now) }
+    ensures left { result ≡ REPORTS_LEFT → HoldsBack ReportsLeft fields.now it.old.value }
+    ensures unfit { result ≡ NOT_A_ROW → HoldsBack NotARow fields.now it.old.value }
+    ensures late { result ≡ TOO_MANY_ROWS → HoldsBack TooMany fields.now it.old.value }
     ensures kept { 0 < result → it.new.value ≡ it.old.value }
     ensures codes { Contains (DONE ∷ NOT_OPEN ∷ REPORTS_LEFT ∷ NOT_A_ROW ∷ TOO_MANY_ROWS ∷ []) result }
 {
@@ -161,7 +161,7 @@ pub extern "C" fn r2u2_row(it: &mut R2u2, alloc: Global, fields: &[i64]) -> u32
 
 fn code_of(taken: Result<(), RowFault>) -> u32
     ensures done { IfOk taken (λ _. result ≡ DONE) }
-    ensures fault { IfErr taken (λ why. row_code why ≡ result) }
+    ensures fault { IfErr taken (λ why. result ≡ row_code why) }
 {
     match taken {
         Ok(()) => DONE,
