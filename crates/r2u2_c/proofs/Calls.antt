@@ -23,9 +23,10 @@ told_by_call style read m n before after is now t = subst (λ (o : Option State)
 -- where a report was told, the monitor wasn't drained
 pub undrained : (m : State) (before : Option State) → before ≡ Some m → (IsDrained m → true ≡ false)
     → (0 ≡ NO_REPORT → IsSomeAnd before IsDrained) × (IsSomeAnd before IsDrained → 0 ≡ NO_REPORT)
-undrained m before is gone =
-    ((λ (wrong : 0 ≡ NO_REPORT). absurd (let e : 0 ≡ 8 = wrong in omega (arith, e))),
-    (λ (d : IsSomeAnd before IsDrained). absurd (let wrong : true ≡ false = gone (subst (λ (o : Option State). IsSomeAnd o IsDrained) is d) in cc)))
+undrained m before is gone = (
+  (λ (wrong : 0 ≡ NO_REPORT). absurd (let e : 0 ≡ 8 = wrong in omega (arith, e))),
+  (λ (d : IsSomeAnd before IsDrained). absurd (let wrong : true ≡ false = gone (subst (λ (o : Option State). IsSomeAnd o IsDrained) is d) in cc)),
+)
 
 -- the code of a row that isn't taken before the reports are given
 pub left_first : (taken : Result (Unit {0}) RowFault) (code : ℕ) (row : Row) (m : State) (before : Option State) → before ≡ Some m

@@ -75,5 +75,5 @@ module _ {M : Type 1} {𝓤 : Ura M} {𝓛 : Logic 𝓤} {K : Type 0} {Γ : List
   either_held t null_ptr None none one = drop t $ none refl refl
   either_held t null_ptr (Some n) none one = use1 𝓛 (given ⊥ (‵ ftrue)) (never_e 𝓤 _) $ learn t (λ wrong. absurd wrong)
   either_held t (block_ptr b o) None none one = use1 𝓛 (given ⊥ (‵ ftrue)) (never_e 𝓤 _) $ learn t (λ wrong. absurd wrong)
-  either_held t (block_ptr b o) (Some n) none one = 
+  either_held t (block_ptr b o) (Some n) none one =
       use1 𝓛 (given (Testable (block_ptr b o)) (‵ (boxed (block_ptr b o) n))) (tested 𝓛 (block_ptr b o) n) $ learn t (λ e. one b o n refl refl e)

@@ -30,11 +30,12 @@ abbrev pub Refuses : Result Program Refusal → Fault → Type 0
 Refuses (Err why) fault = fault ≡ told why
 Refuses (Ok program) fault = ⊥
 
--- the number of columns of a row, and the names of the outputs
+-- the number of columns of a row
 abbrev pub width_of : Option State → ℕ
 width_of (Some monitor) = (program_of monitor).width
 width_of None = 0
 
+-- the names of the outputs
 abbrev pub names_of : Option State → List (List ℕ)
 names_of (Some monitor) = output_names (program_of monitor)
 names_of None = []

@@ -13,10 +13,11 @@ part_name part.TheVariants.Bz = codes "bz"
 part_name part.TheVariants.Ft = codes "ft"
 part_name part.TheVariants.Pt = codes "pt"
 
--- a fault's name and its number, and with the part between them
+-- a fault's name and its number
 abbrev pub numbered : List ℕ → ℕ → List ℕ
 numbered name n = name ++ codes " " ++ decimal n
 
+-- a fault's name, a part and a number
 abbrev pub parted : List ℕ → part.Part → ℕ → List ℕ
 parted name p n = name ++ codes " " ++ part_name p ++ codes " " ++ decimal n
 
@@ -82,18 +83,20 @@ kind_of (Missing name) = 22
 kind_of (Twice name) = 23
 kind_of Memory = 0
 
--- the number of a part, 0 where there is none
+-- the number of a part
 abbrev pub part_number : part.Part → ℕ
 part_number part.TheVariants.Bz = 1
 part_number part.TheVariants.Ft = 2
 part_number part.TheVariants.Pt = 3
 
+-- the part where a fault of a program is, 0 where it has none
 abbrev pub fault_part : fault.ProgramFault → ℕ
 fault_part (fault.TheVariants.Operand p i) = part_number p
 fault_part (fault.TheVariants.Interval p i) = part_number p
 fault_part (fault.TheVariants.Size p i) = part_number p
 fault_part f = 0
 
+-- the same of a refusal
 abbrev pub part_of : Refusal → ℕ
 part_of (Program f) = fault_part f
 part_of why = 0
@@ -114,6 +117,7 @@ fault_place (fault.TheVariants.Output k) = k
 fault_place (fault.TheVariants.Size p i) = i
 fault_place f = 0
 
+-- the same of a refusal
 abbrev pub place_of : Refusal → ℕ
 place_of (Program f) = fault_place f
 place_of why = 0

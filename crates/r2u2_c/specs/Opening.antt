@@ -15,11 +15,12 @@ use Rattle.mltl_monitor.specs.Monitoring.{IsDrained, Stands, program_of}
 use Rattle.r2u2_c.specs.declared.opening.Refusal.{Refusal}
 use Rattle.r2u2_c.specs.declared.opening.Refusal.TheVariants as refusal
 
--- the fault of a file, and that of a header, as a refusal
+-- the fault of a file as a refusal
 abbrev pub of_file : FileFault → Refusal
 of_file (file.Program fault) = refusal.Program fault
 of_file file.Memory = refusal.Memory
 
+-- that of a header as a refusal
 abbrev pub of_header : HeaderFault → Refusal
 of_header header.NoHeader = refusal.NoHeader
 of_header (header.Missing name) = refusal.Missing name

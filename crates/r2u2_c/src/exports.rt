@@ -23,7 +23,7 @@ use mltl_base::Out;
 use mltl_monitor::Monitor;
 use std::alloc::Global;
 
-/// Opens the program that these bytes spell. The monitor's rows have the columns that the program was compiled for.
+/// Opens the program that these bytes spell. Rows have the columns that it was compiled for.
 #[unsafe(no_mangle)]
 pub extern "C" fn r2u2_open(it: &mut R2u2, alloc: Global, bytes: &[u8], fault: &mut Fault) -> u32
     ensures opens { result ≡ DONE → Opens (program_by bytes.now) it.old.value it.new.value }
@@ -125,7 +125,8 @@ pub extern "C" fn r2u2_outputs(it: &mut R2u2, alloc: Global) -> u32
 pub extern "C" fn r2u2_name(it: &mut R2u2, alloc: Global, k: u32, buffer: &mut [u8]) -> u32
     ensures named { 0 < result → slice_get (names_of it.old.value) k ≡ Some (take result buffer.new) }
     ensures rest { drop result buffer.new ≡ drop result buffer.old }
-    ensures enough { k < length (names_of it.old.value) → 64 ≤ length buffer.old → 0 < result }
+    ensures enough { k < length (names_of it.old.value) → 64 ≤ length buffer.old
+        → 0 < result }
     ensures kept { it.new.value ≡ it.old.value }
 {
     match it.take(alloc) {
@@ -147,7 +148,8 @@ pub extern "C" fn r2u2_row(it: &mut R2u2, alloc: Global, fields: &[i64]) -> u32
     ensures unfit { result ≡ NOT_A_ROW → HoldsBack NotARow fields.now it.old.value }
     ensures late { result ≡ TOO_MANY_ROWS → HoldsBack TooMany fields.now it.old.value }
     ensures kept { 0 < result → it.new.value ≡ it.old.value }
-    ensures codes { Contains (DONE ∷ NOT_OPEN ∷ REPORTS_LEFT ∷ NOT_A_ROW ∷ TOO_MANY_ROWS ∷ []) result }
+    ensures codes { Contains
+        (DONE ∷ NOT_OPEN ∷ REPORTS_LEFT ∷ NOT_A_ROW ∷ TOO_MANY_ROWS ∷ []) result }
 {
     match it.take(alloc) {
         None => NOT_OPEN,
@@ -171,7 +173,7 @@ fn code_of(taken: Result<(), RowFault>) -> u32
     }
 }
 
-/// Gives the next report of the last row: of each time where `runs` is 0, else of each longest stretch of one word.
+/// Gives the next report of the rows so far: of each time where `runs` is 0, else of each longest stretch of one word.
 #[unsafe(no_mangle)]
 pub extern "C" fn r2u2_next(it: &mut R2u2, alloc: Global, runs: u32, report: &mut Told) -> u32
     ensures tells { result ≡ DONE → Tells (style_of runs) report.new it.old.value it.new.value }
@@ -213,9 +215,11 @@ fn count_of(monitor: &Monitor) -> u32
 
 /// Writes the name of an output to the front of a buffer that has room for it, and answers its length.
 fn name_in(monitor: &Monitor, k: u32, buffer: &mut [u8]) -> u32
-    ensures named { 0 < result → slice_get (names_of (Some monitor.now)) k ≡ Some (take result buffer.new) }
+    ensures named { 0 < result
+        → slice_get (names_of (Some monitor.now)) k ≡ Some (take result buffer.new) }
     ensures rest { drop result buffer.new ≡ drop result buffer.old }
-    ensures enough { k < length (names_of (Some monitor.now)) → 64 ≤ length buffer.old → 0 < result }
+    ensures enough { k < length (names_of (Some monitor.now)) → 64 ≤ length buffer.old
+        → 0 < result }
 {
     let outs = monitor.checked().program().outs.as_slice();
     match outs.get(k as usize) {

@@ -40,7 +40,7 @@ impl R2u2 {
     }
 
     fn into_loose(self, alloc: Global) -> Option<Loose<Monitor, Global>>
-        ensures { MatchOption result (self.value ≡ None) (λ loose. self.value ≡ Some loose.value) }
+        ensures { MatchOption result (self.value ≡ None) (λ l. self.value ≡ Some l.value) }
     {
         let R2u2 { at } = self;
         if at.is_null() {
@@ -54,7 +54,7 @@ impl R2u2 {
     }
 
     fn into_box(self, alloc: Global) -> Option<Box<Monitor>>
-        ensures { MatchOption result (self.value ≡ None) (λ monitor. self.value ≡ Some monitor.value) }
+        ensures { MatchOption result (self.value ≡ None) (λ b. self.value ≡ Some b.value) }
     {
         match self.into_loose(alloc) {
             None => None,
@@ -64,7 +64,7 @@ impl R2u2 {
 
     /// Takes the monitor out, if one is open.
     pub(crate) fn take(&mut self, alloc: Global) -> Option<Box<Monitor>>
-        ensures taken { MatchOption result (self.old.value ≡ None) (λ monitor. self.old.value ≡ Some monitor.value) }
+        ensures taken { MatchOption result (self.old.value ≡ None) (λ b. self.old.value ≡ Some b.value) }
         ensures emptied { self.new.value ≡ None }
     {
         mem::replace(self, R2u2::empty()).into_box(alloc)

@@ -1,7 +1,8 @@
 //! The monitor as a library for C: `include/r2u2.h` declares its calls, and says what a caller in C owes.
 //!
-//! C keeps a struct [`R2u2`], all zero at first, and passes its address to each call. A call answers a code of [`codes`];
-//! every code above 0 leaves the monitor and what it writes to unchanged. All memory is taken when a program is opened.
+//! C keeps a struct [`R2u2`], all zero at first, and passes its address to each call; for an allocator, which takes no
+//! bytes, it passes nothing. At every code of [`codes`] above 0 the monitor is as it was, and nothing but a fault is
+//! written. All memory is taken when a program is opened.
 #![tactic(auto)]
 
 mod boxes;
@@ -15,10 +16,10 @@ mod report;
 mod rows;
 
 pub use exports::{
-    r2u2_close, r2u2_name, r2u2_next, r2u2_open, r2u2_open_under, r2u2_outputs, r2u2_row, r2u2_width,
+    r2u2_close, r2u2_name, r2u2_next, r2u2_open, r2u2_open_under, r2u2_outputs, r2u2_row,
+    r2u2_width,
 };
 pub use fault::Fault;
 pub use handle::R2u2;
 pub use opening::Refusal;
 pub use report::Told;
-

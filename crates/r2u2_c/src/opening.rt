@@ -33,7 +33,7 @@ pub enum Refusal {
 
 /// The monitor of the program that these bytes spell.
 pub(crate) fn open_monitor(alloc: Global, bytes: &[u8]) -> Result<Box<Monitor>, Refusal>
-    ensures opened { IfOk result (λ monitor. Starts (program_by bytes.now) monitor.value) }
+    ensures opened { IfOk result (λ b. Starts (program_by bytes.now) b.value) }
     ensures refused { IfErr result (λ why. why ≢ Refusal.Memory → program_by bytes.now ≡ Err why) }
 {
     match open(alloc, bytes) {
@@ -48,8 +48,9 @@ pub(crate) fn open_under(
     bytes: &[u8],
     header: &[u8],
 ) -> Result<Box<Monitor>, Refusal>
-    ensures opened { IfOk result (λ monitor. Starts (program_under header.now bytes.now) monitor.value) }
-    ensures refused { IfErr result (λ why. why ≢ Refusal.Memory → program_under header.now bytes.now ≡ Err why) }
+    ensures opened { IfOk result (λ b. Starts (program_under header.now bytes.now) b.value) }
+    ensures refused { IfErr result (λ why. why ≢ Refusal.Memory
+        → program_under header.now bytes.now ≡ Err why) }
 {
     let checked = match open(alloc, bytes) {
         Ok(checked) => checked,
@@ -80,7 +81,7 @@ fn bind(alloc: Global, checked: Checked, header: &[u8]) -> Result<Checked, Refus
 
 /// A monitor in memory of its own.
 fn load(alloc: Global, checked: Checked) -> Result<Box<Monitor>, Refusal>
-    ensures starts { IfOk result (λ monitor. Starts (Ok checked) monitor.value) }
+    ensures starts { IfOk result (λ b. Starts (Ok checked) b.value) }
     ensures memory { IfErr result (λ why. why ≡ Refusal.Memory) }
 {
     let monitor = match Monitor::load(alloc, checked) {

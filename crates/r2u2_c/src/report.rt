@@ -45,7 +45,8 @@ fn number_of(word: Word) -> u32
 
 /// The next report: of each time where `runs` is 0, and else of each longest stretch of one word.
 pub(crate) fn next_of(monitor: &mut Monitor, runs: u32) -> Option<Report>
-    ensures first { (rows : List Row) → Stands monitor.old rows → GivesFirst (style_of runs) result monitor.old monitor.new rows }
+    ensures first { (rows : List Row) → Stands monitor.old rows
+        → GivesFirst (style_of runs) result monitor.old monitor.new rows }
     ensures stands { (rows : List Row) → Stands monitor.old rows → Stands monitor.new rows }
     ensures none { IsNone result ↔ IsDrained monitor.old }
     ensures kept { IfNone result (monitor.new ≡ monitor.old) }
