@@ -1,6 +1,6 @@
 -- What the calls of C tell, from what their parts do.
 
-use Rattle.std.proofs.Common.{◌≡◌, ℕ, true, false, Option, Some, None, Result, Ok, Err, IfOk, IfErr, IsSomeAnd, Contains, List, [], ◌∷◌, sym, ap, subst, lit<, arith, ◌∙◌}
+use Rattle.std.proofs.Common.{◌≡◌, ℕ, true, false, Option, Some, Result, Ok, Err, IfOk, IfErr, IsSomeAnd, Contains, [], ◌∷◌, sym, ap, subst, lit<, arith, ◌∙◌}
 use Rattle.mltl_base.specs.declared.report.Style.{Style}
 use Rattle.mltl_base.specs.Atoms.{Row}
 use Rattle.mltl_monitor.specs.declared.state.State.{State}

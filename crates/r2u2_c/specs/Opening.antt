@@ -1,6 +1,6 @@
 -- The program of a monitor that is opened, or why none is.
 
-use Rattle.std.specs.Prelude.{ℕ, ◌≡◌, ◌<◌, ◌==◌, nat_lt, if◌then◌else◌, List, [], map, length, Result, Ok, Err}
+use Rattle.std.specs.Prelude.{ℕ, ◌≡◌, ◌==◌, nat_lt, if◌then◌else◌, List, [], map, length, Result, Ok, Err}
 use Rattle.mltl_base.specs.declared.program.Columns.{Columns}
 use Rattle.mltl_base.specs.declared.program.Program.{Program}
 use Rattle.obs_verify.specs.Bound.{bound}

@@ -9,9 +9,7 @@ use types.ByLocal.{alloc_all, pass_all, free_all, look_at, sets}
 use types.Part.{agg}
 use contract.Monad.{fact, fact_i}
 use contract.Running.{tables}
-use denote.RattleType.{owns}
 use denote.RawPtr.{null_ptr}
-use denote.Signature.{types_at}
 use denote.Steps.{nothing}
 use denote.Triple.Walked.{Stays, walk_of}
 use Rattle.std.proofs.raw_atomic.Walks.{proved_at, leaves}
