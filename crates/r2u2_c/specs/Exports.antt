@@ -14,7 +14,7 @@ use Rattle.r2u2_c.specs.declared.opening.Refusal.{Refusal}
 use Rattle.r2u2_c.specs.declared.report.Told.{Told}
 use Rattle.r2u2_c.specs.declared.rows.RowFault.{RowFault}
 use Rattle.r2u2_c.specs.declared.rows.RowFault.TheVariants.{ReportsLeft, NotARow, TooMany}
-use Rattle.r2u2_c.specs.Faults.{told}
+use Rattle.r2u2_c.specs.Faults.{fault_of}
 use Rattle.r2u2_c.specs.Opening.{Starts}
 use Rattle.r2u2_c.specs.Reports.{shown}
 use Rattle.r2u2_c.specs.Rows.{IsRowCause}
@@ -27,7 +27,7 @@ Opens found (Some before) after = ⊥
 
 -- there is no program, and the fault tells why
 abbrev pub Refuses : Result Program Refusal → Fault → Type 0
-Refuses (Err why) fault = fault ≡ told why
+Refuses (Err why) fault = fault ≡ fault_of why
 Refuses (Ok program) fault = ⊥
 
 -- the number of columns of a row

@@ -127,5 +127,5 @@ abbrev pub padded : List ℕ → List ℕ
 padded text = text ++ drop (length text) (replicate 96 0)
 
 -- what C reads of a refusal
-abbrev pub told : Refusal → Fault
-told why = record { kind = kind_of why; part = part_of why; place = place_of why; text = padded (text_of why) }
+abbrev pub fault_of : Refusal → Fault
+fault_of why = record { kind = kind_of why; part = part_of why; place = place_of why; text = padded (text_of why) }

@@ -6,7 +6,7 @@ ghost use Rattle.mltl_monitor.specs.Monitoring.{IsDrained};
 ghost use Rattle.r2u2_c.specs.declared.opening.Refusal.TheVariants.{Memory};
 ghost use Rattle.r2u2_c.specs.declared.rows.RowFault.TheVariants.{NotARow, ReportsLeft, TooMany};
 ghost use Rattle.r2u2_c.specs.Exports.{HoldsBack, Opens, Refuses, Takes, Tells, names_of, row_code, width_of};
-ghost use Rattle.r2u2_c.specs.Faults.{told};
+ghost use Rattle.r2u2_c.specs.Faults.{fault_of};
 ghost use Rattle.r2u2_c.specs.Opening.{program_by, program_under};
 ghost use Rattle.r2u2_c.specs.Reports.{style_of};
 
@@ -77,7 +77,7 @@ pub extern "C" fn r2u2_open_under(
 /// Tells why no monitor was opened.
 fn refuse(why: Refusal, fault: &mut Fault) -> u32
     ensures memory { why ≡ Memory → (result ≡ NO_MEMORY) × (fault.new ≡ fault.old) }
-    ensures refused { why ≢ Memory → (result ≡ REFUSED) × (fault.new ≡ told why) }
+    ensures refused { why ≢ Memory → (result ≡ REFUSED) × (fault.new ≡ fault_of why) }
 {
     match why {
         Refusal::Memory => NO_MEMORY,

@@ -1,7 +1,7 @@
 //! Refusals as C reads them.
 
 ghost use Rattle.std.specs.Prelude.{◌≡◌, ◌≤◌, ◌++◌, drop, length};
-ghost use Rattle.r2u2_c.specs.Faults.{fault_kind, fault_part, fault_place, kind_of, part_number, part_of, place_of, told};
+ghost use Rattle.r2u2_c.specs.Faults.{fault_kind, fault_of, fault_part, fault_place, kind_of, part_number, part_of, place_of};
 
 use crate::fault_text::text_of_refusal;
 use crate::opening::Refusal;
@@ -25,7 +25,7 @@ pub struct Fault {
 impl Fault {
     /// A refusal as C reads it.
     pub(crate) fn of(why: &Refusal) -> Fault
-        ensures { result ≡ told why.now }
+        ensures { result ≡ fault_of why.now }
     {
         let line = text_of_refusal(why);
         let mut text = [0; 96];
