@@ -15,6 +15,3 @@ mod reading;
 mod walk;
 
 pub use graph::{GraphFault, to_core};
-
-#[cfg(test)]
-mod tests;

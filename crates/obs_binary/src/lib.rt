@@ -15,6 +15,3 @@ pub use fault::ReadFault;
 pub use fields::{i64_at, u32_at};
 pub use reading::{one_program, read_program};
 pub use writing::write_program;
-
-#[cfg(test)]
-mod tests;

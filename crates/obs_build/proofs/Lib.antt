@@ -7,4 +7,3 @@ pub mod Columns
 pub mod Rules
 pub mod Building
 pub mod Tenses
-pub mod Samples

@@ -1,4 +1,3 @@
 pub mod Conditions
 pub mod Image
 pub mod Limits
-pub mod Samples

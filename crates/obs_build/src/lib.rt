@@ -12,6 +12,3 @@ mod stored;
 pub use assembly::build;
 pub use fault::BuildFault;
 pub use laws::{images_are_well_formed, images_tell_their_outputs};
-
-#[cfg(test)]
-mod tests;

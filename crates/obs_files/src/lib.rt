@@ -8,6 +8,3 @@ mod laws;
 pub use fault::{FileFault, ProgramFault};
 pub use files::{image, open};
 pub use laws::{images_open, upgraded_names_fit};
-
-#[cfg(test)]
-mod tests;

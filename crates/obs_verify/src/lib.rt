@@ -20,6 +20,3 @@ pub use laws::{
     upgraded_programs_tell_the_same, well_formed_programs_are_sound, well_formed_programs_run,
 };
 pub use layout::has_layout;
-
-#[cfg(test)]
-mod tests;

@@ -23,6 +23,3 @@ pub use compiling::{columns_of, compile};
 pub use fault::{CompileFault, HeaderWhy, Refusal};
 pub use program::back;
 pub use text::front;
-
-#[cfg(test)]
-mod tests;

@@ -7,7 +7,7 @@ use crate::files::NamedBytes;
 use crate::outcome::{Outcome, Parts};
 use crate::scene::Scenes;
 use anyhow::{Context, Result, bail};
-use mltl_tools::{Words, r2u2_main};
+use mltl_tools::{Words, c2po_main, r2u2_main};
 use std::alloc::{AllocError, Global};
 use tool_io::{MemHost, Place};
 
@@ -70,6 +70,7 @@ fn words_of(alloc: Global, text: &str) -> Result<Words, AllocError> {
 fn status_of(alloc: Global, tool: &str, words: &Words, host: &mut MemHost) -> Result<u8> {
     match tool {
         "r2u2" => Ok(r2u2_main(alloc, words, host, &mut None).code()),
+        "c2po" => Ok(c2po_main(alloc, words, host).code()),
         _ => bail!("no such program: {tool}"),
     }
 }
