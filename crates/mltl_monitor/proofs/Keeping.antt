@@ -29,10 +29,13 @@ use Rattle.mltl_monitor.proofs.Taking.{drained_places}
 pub sound_after : (before after : State) (row : Row) → IsSound before → running.TakesRow row before.running after.running → before.running.taken < 2 ^ 40 → last_of after ≡ row
     → length after.running.bz ≡ length (program_of before).bz → vec_len after.last ≡ (program_of before).width → vec_len after.read ≡ (program_of before).width → IsSound after
 sound_after before after row sound takes early last numbers wide wide' = record {
-  some = (sound.some.0 ++ row ∷ [], record {
-    taken = takes.stands sound.some.0 sound.some.1.taken;
-    last = λ rows other is. last ∙ same_last sound.some.0 rows row other is;
-  });
+  some = (
+    sound.some.0 ++ row ∷ [],
+    record {
+      taken = takes.stands sound.some.0 sound.some.1.taken;
+      last = λ rows other is. last ∙ same_last sound.some.0 rows row other is;
+    },
+  );
   early = omega (arith, takes.taken, early);
   numbers = numbers ∙ ap (λ (p : Program). length p.bz) (sym takes.program);
   last_wide = wide ∙ ap (λ (p : Program). p.width) (sym takes.program);

@@ -270,7 +270,11 @@ fn are_spelled(
         return Ok(false);
     }
     for (word, letter) in known.iter().zip(letters) {
-        let due = if *letter == b'T' { Word::True } else { Word::False };
+        let due = if *letter == b'T' {
+            Word::True
+        } else {
+            Word::False
+        };
         if *word != due {
             return Ok(false);
         }
@@ -281,7 +285,15 @@ fn are_spelled(
 #[test]
 fn operators_of_two_signals_follow_worked_rows(rt: HostRuntime) -> Result<(), Fail> {
     let alloc = rt.alloc();
-    let rows: [&[i64]; 7] = [&[1, 0], &[1, 1], &[1, 0], &[1, 0], &[0, 1], &[1, 0], &[1, 1]];
+    let rows: [&[i64]; 7] = [
+        &[1, 0],
+        &[1, 1],
+        &[1, 0],
+        &[1, 0],
+        &[0, 1],
+        &[1, 0],
+        &[1, 1],
+    ];
     let rows = row_list(alloc, &rows)?;
     let rows = rows.as_slice();
     let implies = logic(alloc, LogicOp::Implies, flag(0), flag(1))?;

@@ -5,9 +5,9 @@ ghost use Rattle.mltl_base.specs.Ranges.{negated, over};
 ghost use Rattle.plain_nodes.specs.Faults.{or_later, why_none};
 ghost use Rattle.plain_nodes.specs.Facts.{any_fault, between_fact, fact_view, fault_in, future_in, joined_fact, node_fact, past_in, range_by, range_in, told, told_fault, truth, windowed_fact};
 
+use crate::Plain;
 use mltl_base::{ArithOp, BetweenOp, WindowOp};
 use mltl_ranges::{NoRange, Range};
-use crate::Plain;
 
 /// Whether operators of the past, and of the future, are in a formula.
 #[derive(Clone, Copy)]

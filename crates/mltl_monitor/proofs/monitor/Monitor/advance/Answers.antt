@@ -7,8 +7,7 @@ pub invariant_of-self : goal.invariant_of-self
 invariant_of-self g c =
     let monitor : State = c.self.inside.state in
     let early : monitor.running.taken < 2 ^ 40 = subst (λ (m : State). m.running.taken < 2 ^ 40) (sym c.self.view_is) c.requires.early in
-    let sound = c.self.invariant.0 in
-    (
+    let sound = c.self.invariant.0 in (
       sound_after monitor (record { running = c.take.new.self; last = c.copy_from_slice.new.self; read = c.self.inside.state.read }) (c.args.fields.now) sound c.take.ensures.takes early c.copy_from_slice.ensures.items c.take.ensures.numbers (c.copy_from_slice.ensures.len ∙ sound.last_wide) sound.read_wide,
       λ rows future past count known. c.start-self-inside.ensures c.take.new.self.checked rows c.take.new.self.outs,
     )

@@ -9,11 +9,13 @@ returns-clause-stands c = record { taken = c.in_ok-running.ensures.stands; last 
 pub invariant_of-result : goal.invariant_of-result
 invariant_of-result c =
     let same = c.in_ok-running.ensures.program in
-    let width : c.program.result.now.width ≡ c.in_ok-running.running.checked.width = ap (λ (p : Program). p.width) (c.program.ensures.program ∙ sym same) in
-    (record {
-      some = ([], record { taken = c.in_ok-running.ensures.stands; last = λ before row is. absurd (none_before before row is) });
-      early = omega (arith, c.in_ok-running.ensures.taken);
-      numbers = c.in_ok-running.ensures.numbers ∙ ap (λ (p : Program). length p.bz) (sym same);
-      last_wide = c.in_ok-last.ensures.len ∙ width;
-      read_wide = c.in_ok-read.ensures.len ∙ width;
-    }, λ rows future past count known. c.start.ensures c.in_ok-running.running.checked rows c.in_ok-running.running.outs)
+    let width : c.program.result.now.width ≡ c.in_ok-running.running.checked.width = ap (λ (p : Program). p.width) (c.program.ensures.program ∙ sym same) in (
+      record {
+        some = ([], record { taken = c.in_ok-running.ensures.stands; last = λ before row is. absurd (none_before before row is) });
+        early = omega (arith, c.in_ok-running.ensures.taken);
+        numbers = c.in_ok-running.ensures.numbers ∙ ap (λ (p : Program). length p.bz) (sym same);
+        last_wide = c.in_ok-last.ensures.len ∙ width;
+        read_wide = c.in_ok-read.ensures.len ∙ width;
+      },
+      λ rows future past count known. c.start.ensures c.in_ok-running.running.checked rows c.in_ok-running.running.outs,
+    )

@@ -8,8 +8,7 @@ pub invariant_of-self : goal.invariant_of-self
 invariant_of-self g c =
     let monitor : State = c.self.inside.state in
     let early : monitor.running.taken < 2 ^ 40 = subst (λ (m : State). m.running.taken < 2 ^ 40) (sym c.self.view_is) c.requires.early in
-    let sound = c.self.invariant.0 in
-    (
+    let sound = c.self.invariant.0 in (
       sound_after monitor (record { running = c.take.new.self; last = c.swap.new.x; read = c.swap.new.y }) c.swap.new.x.items sound (rw c.deref.ensures.value at c.take.ensures.takes) early refl c.take.ensures.numbers (ap vec_len c.swap.ensures.x_after ∙ sound.read_wide) (ap vec_len c.swap.ensures.y_after ∙ sound.last_wide),
       λ rows future past count known. c.start-self-inside.ensures c.take.new.self.checked rows c.take.new.self.outs,
     )
