@@ -18,6 +18,10 @@ queue_count queues = length queues.nodes.items
 unfoldable pub size_at : Queues → ℕ → ℕ
 size_at queues i = (node_at queues.nodes.items i).size
 
+-- the slots of all queues together
+unfoldable pub slab_length : Queues → ℕ
+slab_length queues = length queues.slab.items
+
 -- the first time at which queue i has no verdict yet
 unfoldable pub front_at : Queues → ℕ → ℕ
 front_at queues i = frontier_of (node_at queues.nodes.items i).ring

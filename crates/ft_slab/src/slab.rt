@@ -2,7 +2,7 @@ ghost use Rattle.std.specs.Prelude.{◌≡◌, ℕ, ◌+◌, ◌-◌, ◌*◌, �
 ghost use Rattle.mltl_base.specs.declared.operators.FtOp.TheVariants.{Load as loads};
 ghost use Rattle.ft_slab.specs.Nodes.{op_at, work_before};
 ghost use Rattle.ft_slab.specs.Plans.{Plan};
-ghost use Rattle.ft_slab.specs.State.{AreSound, HasTable, IsPacedAfter, IsPlannedFor, ShowsRun, first_place_of, front_at, low_at, queue_count, size_at, verdict_in};
+ghost use Rattle.ft_slab.specs.State.{AreSound, HasTable, IsPacedAfter, IsPlannedFor, ShowsRun, first_place_of, front_at, low_at, queue_count, size_at, slab_length, verdict_in};
 ghost use Rattle.ft_slab.specs.Tables.{AgreeOnLoads, IsTable, Extends, Loads, Table};
 
 use crate::rows::{Node, operand, row_of};
@@ -28,6 +28,7 @@ impl Queues {
         requires few { sum sizes.now < 2 ^ 32 }
         ensures count { IfOk result (λ queues. queue_count queues ≡ length ops.now) }
         ensures sizes { IfOk result (λ queues. (i : ℕ) → i < length ops.now → size_at queues i ≡ slice_index sizes.now i) }
+        ensures slots { IfOk result (λ queues. slab_length queues ≡ sum sizes.now) }
         ensures paced { IfOk result (λ queues. (plan : Plan) → IsPlannedFor plan ops.now (slice_index sizes.now) → IsPacedAfter plan ops.now queues 0) }
         ensures empty { IfOk result (λ queues. (table : Table) → ((i : ℕ) → table i ≡ []) → HasTable ops.now table queues) }
     {
@@ -53,6 +54,7 @@ impl Queues {
         requires ready { (plan : Plan) × (n : ℕ) × (n < 2 ^ 40) × IsPacedAfter plan ops.now self.old n }
         ensures count { queue_count self.new ≡ queue_count self.old }
         ensures sizes { (i : ℕ) → size_at self.new i ≡ size_at self.old i }
+        ensures slots { slab_length self.new ≡ slab_length self.old }
         ensures paced { (plan : Plan) (n : ℕ) → n < 2 ^ 40 → IsPacedAfter plan ops.now self.old n → IsPacedAfter plan ops.now self.new (n + 1) }
         ensures counted { steps.new ≤ steps.old + work_before ops.now (size_at self.old) (length ops.now) }
         ensures verdicts { (plan : Plan) (truth : Loads) (n : ℕ) (old new : Table) → n < 2 ^ 40 → IsPacedAfter plan ops.now self.old n

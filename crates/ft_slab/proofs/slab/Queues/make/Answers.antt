@@ -1,7 +1,8 @@
-use Rattle.std.proofs.Common.{◌≡◌, ℕ, ◌+◌, length, List, [], ◌∷◌, ◌++◌, get_or, arith, refl, ap, subst, sym, ◌∙◌}
+use Rattle.std.proofs.Common.{◌≡◌, ℕ, ◌+◌, length, List, [], ◌∷◌, ◌++◌, get_or, sum, arith, refl, ap, subst, sym, ◌∙◌}
 use Rattle.std.proofs.lemmas.Grind.{common_steps}
+use Rattle.std.proofs.lemmas.List.{take_all}
 use Rattle.ft_slab.specs.declared.rows.Node.{Node}
-use Rattle.ft_slab.specs.State.{queue_count, size_at}
+use Rattle.ft_slab.specs.State.{queue_count, size_at, slab_length}
 use Rattle.ft_slab.proofs.Making.{Started, started_more, made_paced, made_table}
 use Rattle.ft_slab.proofs.slab.Queues.make.Goals as goal
 
@@ -36,6 +37,13 @@ returns-clause-count c = let ok = c.loop-i.nodes.ok.0 in omega (arith, c.loop-i.
 pub returns-clause-sizes : goal.returns-clause-sizes
 unfolding size_at
 returns-clause-sizes c = λ i h. (c.loop-i.invariant.started.fresh i (omega arith)).size
+
+pub returns-clause-slots : goal.returns-clause-slots
+unfolding slab_length
+returns-clause-slots c =
+    let slab_ok = c.in_ok-slab.slab.ok.0 in
+    let long : length c.in_ok-slab.slab.items ≡ c.loop-i.start = omega (arith, c.in_ok-slab.ensures.len) in
+    long ∙ c.loop-i.invariant.total ∙ ap (λ (ns : List ℕ). sum ns) (take_all c.loop-i.i c.args.sizes.now (omega arith))
 
 pub returns-clause-paced : goal.returns-clause-paced
 returns-clause-paced c = λ plan planned.

@@ -5,7 +5,7 @@ use Rattle.scq_ring.specs.declared.Slot.{Slot}
 use Rattle.ft_slab.specs.declared.rows.Node.{Node}
 use Rattle.ft_slab.specs.Nodes.{node_at, size_in, work_before}
 use Rattle.ft_slab.specs.Plans.{Plan, IsPaced}
-use Rattle.ft_slab.specs.State.{queue_count, size_at}
+use Rattle.ft_slab.specs.State.{queue_count, size_at, slab_length}
 use Rattle.ft_slab.specs.Tables.{HaveVerdicts, TakesRow}
 use Rattle.ft_slab.proofs.slab.Queues.row.Goals as goal
 
@@ -22,7 +22,7 @@ row_of-requires-clause-ready g c =
     )
 
 pub returns : goal.returns
-unfolding queue_count size_at
+unfolding queue_count size_at slab_length
 returns g c =
     let nodes : (with_items c.args.self.now.nodes c.row_of.new.nodes).items ≡ c.row_of.new.nodes = with_items_is c.args.self.now.nodes c.row_of.new.nodes (c.row_of.auto.nodes ∙ c.deref_mut.ensures.len) in
     let slab : (with_items c.args.self.now.slab c.row_of.new.slab).items ≡ c.row_of.new.slab = with_items_is c.args.self.now.slab c.row_of.new.slab (c.row_of.auto.slab ∙ c.deref_mut-2.ensures.len) in
@@ -31,6 +31,7 @@ returns g c =
     record {
       count = ap (λ (ns : List Node). length ns) nodes ∙ c.row_of.auto.nodes ∙ ap (λ (ns : List Node). length ns) old_nodes;
       sizes = λ i. ap (λ (ns : List Node). (node_at ns i).size) nodes ∙ c.row_of.ensures.seats.size i ∙ ap (λ (ns : List Node). (node_at ns i).size) old_nodes;
+      slots = ap (λ (xs : List Slot). length xs) slab ∙ c.row_of.auto.slab ∙ ap (λ (xs : List Slot). length xs) old_slab;
       paced = λ plan n few p. record {
         inside =
             subst (λ (ns : List Node). IsPaced plan c.args.ops.now ns (with_items c.args.self.now.slab c.row_of.new.slab).items (n + 1)) (sym nodes)
