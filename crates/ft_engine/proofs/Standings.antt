@@ -1,5 +1,5 @@
 -- What queues that have taken rows, and have their table, say of the engine.
-use Rattle.std.proofs.Common.{◌≡◌, ℕ, zero, suc, ◌+◌, ◌-◌, ◌<◌, ◌≤◌, List, [], length, map, slice_index, arith, refl, subst, sym, ap, ap₂, ◌∙◌}
+use Rattle.std.proofs.Common.{◌≡◌, ℕ, zero, suc, ◌+◌, ◌-◌, ◌<◌, ◌≤◌, List, [], length, map, slice_index, sum, arith, refl, subst, sym, ap, ap₂, ◌∙◌}
 use Rattle.std.proofs.lemmas.List.{get_or-map, length-map}
 use Rattle.mltl_base.specs.declared.interval.Engine.TheVariants.{Ft as future}
 use Rattle.mltl_base.specs.declared.operators.FtOp.{FtOp}
@@ -15,14 +15,14 @@ use Rattle.scq_ring.specs.declared.Seen.{Seen}
 use Rattle.scq_ring.specs.declared.Seen.TheVariants.{Run, Nothing}
 use Rattle.ft_slab.specs.Nodes.{op_at, work_of, work_before, ReadsAhead}
 use Rattle.ft_slab.specs.Plans.{IsSeated}
-use Rattle.ft_slab.specs.State.{HasTable, IsPacedAfter, IsPlannedFor, front_at, place_at, ShowsRun}
+use Rattle.ft_slab.specs.State.{HasTable, IsPacedAfter, IsPlannedFor, front_at, place_at, slab_length, ShowsRun}
 use Rattle.ft_slab.proofs.StateLaws.{paced_ahead, paced_count, paced_front_at_least, paced_front_at_most, paced_low, paced_size, table_front, table_verdict}
 use Rattle.ft_engine.specs.DelayPlan.{plan_of}
 use Rattle.ft_engine.specs.KnownTable.{known_table}
 use Rattle.ft_engine.proofs.Planning.{planned_for}
 use Rattle.ft_engine.specs.declared.engine.Ft.{Ft}
 use Rattle.obs_verify.specs.Running.{RunsFuture}
-use Rattle.ft_engine.specs.Standing.{Stands, instruction_count, frontier_at, lowest_at, kept_verdict, slots_at, width_of, ReadsFrom, place_of, ShowsFrom}
+use Rattle.ft_engine.specs.Standing.{Stands, instruction_count, frontier_at, lowest_at, kept_verdict, slot_total, slots_at, width_of, ReadsFrom, place_of, ShowsFrom}
 
 -- the plan of a program fits its sizes
 pub program_planned : (program : Program) → RunsFuture program → IsPlannedFor (plan_of program.ft program.outs) program.ft (λ i. slice_index program.sizes.ft i)
@@ -60,9 +60,9 @@ reads_kept program ft n i (And l r) place s front a = (omega (arith, front l s.0
 reads_kept program ft n i (Until l r window) place s front a = (omega (arith, front l s.0, front r s.1, s.6), omega (arith, front l s.0, front r s.1, s.7))
 
 pub stands_with : (program : Program) (rows : List Row) (ft : Ft) → RunsFuture program → IsPacedAfter (plan_of program.ft program.outs) program.ft ft.queues (length rows)
-    → HasTable program.ft (known_table rows (atoms program.bz) program.ft) ft.queues → Stands program rows ft
-unfolding instruction_count frontier_at lowest_at kept_verdict slots_at place_of
-stands_with program rows ft r paced table =
+    → HasTable program.ft (known_table rows (atoms program.bz) program.ft) ft.queues → slab_length ft.queues ≡ sum program.sizes.ft → Stands program rows ft
+unfolding instruction_count frontier_at lowest_at kept_verdict slot_total slots_at place_of
+stands_with program rows ft r paced table total =
     let plan = plan_of program.ft program.outs in
     let n : ℕ = length rows in
     let count = paced_count plan program.ft ft.queues n paced in
@@ -80,6 +80,7 @@ stands_with program rows ft r paced table =
           reads_kept program ft n i (op_at program.ft i) (place_at program.ft ft.queues i) seated (λ g g_in. paced_front_at_least plan program.ft ft.queues n g paced (omega arith)) (paced_ahead plan program.ft ft.queues n i paced h);
       lows = λ i h. paced_low plan program.ft ft.queues n i paced h;
       sizes = λ i h. paced_size plan program.ft ft.queues n i paced h ∙ sym ((program_planned program r).sizes i h);
+      total = total;
     }
 
 -- the work of a row goes by the sizes of instructions alone

@@ -1,5 +1,5 @@
 -- The state of the engine after some rows.
-use Rattle.std.specs.Prelude.{◌≡◌, ℕ, ◌+◌, ◌-◌, ◌≤◌, ◌<◌, Bool, List, length, slice_get, slice_index, Some}
+use Rattle.std.specs.Prelude.{◌≡◌, ℕ, ◌+◌, ◌-◌, ◌≤◌, ◌<◌, Bool, List, length, slice_get, slice_index, sum, Some}
 use Rattle.mltl_base.specs.declared.interval.Engine.TheVariants.{Ft as future}
 use Rattle.mltl_base.specs.declared.operators.FtOp.{FtOp}
 use Rattle.mltl_base.specs.declared.operators.FtOp.TheVariants.{True, Load, Not, And, Until}
@@ -12,7 +12,7 @@ use Rattle.mltl_base.specs.Verdicts.{verdicts}
 use Rattle.scq_ring.specs.declared.Seen.{Seen}
 use Rattle.scq_ring.specs.declared.Seen.TheVariants.{Run, Nothing}
 use Rattle.ft_slab.specs.Nodes.{op_at, ReadsAhead}
-use Rattle.ft_slab.specs.State.{HasTable, IsPacedAfter, front_at, low_at, place_at, queue_count, size_at, verdict_in}
+use Rattle.ft_slab.specs.State.{HasTable, IsPacedAfter, front_at, low_at, place_at, queue_count, size_at, slab_length, verdict_in}
 use Rattle.ft_engine.specs.DelayPlan.{plan_of}
 use Rattle.ft_engine.specs.KnownTable.{known_table}
 use Rattle.ft_engine.specs.declared.engine.Ft.{Ft}
@@ -36,6 +36,10 @@ kept_verdict ft i t = verdict_in ft.queues i t
 -- its slots
 unfoldable pub slots_at : Ft → ℕ → ℕ
 slots_at ft i = size_at ft.queues i
+
+-- the slots of all instructions together
+unfoldable pub slot_total : Ft → ℕ
+slot_total ft = slab_length ft.queues
 
 -- a run of the verdicts of instruction i from time `from` on; nothing exactly at or past its frontier
 abbrev pub ShowsFrom : Ft → ℕ → ℕ → Seen → Type 0
@@ -79,3 +83,5 @@ pub record Stands (program : Program) (rows : List Row) (ft : Ft) : Type 0 where
   -- the low place is 0 or at most n - 1 less the width, and the slots are those of the program
   pub lows : (i : ℕ) → i < length program.ft → lowest_at ft i ≤ length rows - 1 - width_of program i
   pub sizes : (i : ℕ) → i < length program.ft → slots_at ft i ≡ slice_index program.sizes.ft i
+  -- together they are as many, and none is left over
+  pub total : slot_total ft ≡ sum program.sizes.ft

@@ -44,5 +44,6 @@ returns c =
     record {
       stands = stands_with program [] _ runs
           (subst (λ (xs : List FtOp). IsPacedAfter plan xs c.in_ok-queues.queues 0) ops (c.in_ok-queues.ensures.paced plan (planned_with program _ _ runs ops sizes)))
-          (subst (λ (xs : List FtOp). HasTable xs table c.in_ok-queues.queues) ops (c.in_ok-queues.ensures.empty table (λ i. nothing (atoms program.bz) program.ft i)));
+          (subst (λ (xs : List FtOp). HasTable xs table c.in_ok-queues.queues) ops (c.in_ok-queues.ensures.empty table (λ i. nothing (atoms program.bz) program.ft i)))
+          (c.in_ok-queues.ensures.slots ∙ ap (λ (ns : List ℕ). sum ns) sizes);
     }

@@ -18,7 +18,7 @@ use Rattle.ft_engine.proofs.Tabled.{extends, is_table, truth_of_last}
 use Rattle.obs_verify.specs.Running.{IsTruthExpression}
 use Rattle.obs_verify.proofs.RunLaws.{runs_future}
 use Rattle.ft_engine.specs.Running.{row_work}
-use Rattle.ft_engine.specs.Standing.{slots_at}
+use Rattle.ft_engine.specs.Standing.{slot_total, slots_at}
 use Rattle.ft_engine.proofs.Standings.{program_planned, stands_with, work_by_sizes}
 use Rattle.obs_verify.proofs.Truths.{truth_there, truth_within}
 use Rattle.ft_engine.proofs.engine.Ft.row.Goals as goal
@@ -42,6 +42,7 @@ invariant_of-self g c =
     record { sound = paced_sound plan c.as_slice.result.now c.row.new.self (n + 1) (c.row.ensures.paced plan n c.requires.stands.2 paced) }
 
 pub returns-clause-stands : goal.returns-clause-stands
+unfolding slot_total
 returns-clause-stands g c = λ rows row few given stands.
     let program = c.args.checked.now in
     let plan = plan_of program.ft program.outs in
@@ -67,6 +68,7 @@ returns-clause-stands g c = λ rows row few given stands.
     (extends rows (row ∷ []) loaded program.ft)
     (subst (λ (xs : List FtOp). AgreeOnLoads xs (truth_at more loaded n) (λ k v. (row : Row) (bz : List BzOp) (atom : Atom) → c.args.bz.now ≡ numbers_on row bz → slice_get (expressions bz) k ≡ Some (truth atom) → v ≡ holds atom row)) (sym ops) agree)
     has))
+    (c.row.ensures.slots ∙ stands.total)
 
 pub returns-clause-counted : goal.returns-clause-counted
 unfolding slots_at
