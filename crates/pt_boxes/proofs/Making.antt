@@ -1,5 +1,5 @@
 -- Nodes that are new.
-use Rattle.std.proofs.Common.{◌≡◌, ℕ, ◌+◌, ◌<◌, ◌≤◌, List, [], ◌∷◌, ◌++◌, inl, inr, subst, length, get_or, drop, arith, refl, ap, sym, ◌∙◌, length-drop, length-take-le}
+use Rattle.std.proofs.Common.{◌≡◌, ℕ, ◌+◌, ◌<◌, ◌≤◌, List, [], ◌∷◌, ◌++◌, inl, inr, subst, length, get_or, sum, drop, arith, refl, ap, sym, ◌∙◌, length-drop, length-take-le}
 use Rattle.std.proofs.lemmas.Bool.{cases_eq}
 use Rattle.std.proofs.lemmas.List.{get_or-map, get_or_append_left, get_or_push}
 use Rattle.mltl_base.specs.declared.operators.PtOp.{PtOp}
@@ -89,8 +89,8 @@ first_belongs boxes spans e = subst (λ (b : Boxes). Belongs b spans) (sym e) (r
 
 -- new nodes stand for no rows
 pub made_stands : (program : Program) (pt : Pt) → RunsPast program → length pt.nodes.items ≡ length program.pt → Started program.sizes.pt pt.nodes.items (length pt.slab.items) (length program.pt) → pt.rows ≡ 0
-    → Stands program [] pt
-made_stands program pt runs same_length started none =
+    → length pt.slab.items ≡ sum program.sizes.pt → Stands program [] pt
+made_stands program pt runs same_length started none total =
     let nodes : List Node = pt.nodes.items in
     let slab : List Span = pt.slab.items in
     let nothing : (i : ℕ) → i < length program.pt → boxes_in slab (node_at nodes i) ≡ [] =
@@ -117,3 +117,4 @@ made_stands program pt runs same_length started none =
       told = λ i h. first_told (op_at program.pt i) (meaning_of program []) (boxes_in slab (node_at nodes i)) (nothing i h);
       truths = λ i h some. absurd (omega arith);
     })
+    total

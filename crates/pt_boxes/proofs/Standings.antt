@@ -1,5 +1,5 @@
 -- What nodes that have taken rows, and have their table, say of the engine.
-use Rattle.std.proofs.Common.{◌≡◌, ℕ, List, length, drop, arith, refl, subst, sym, ◌∙◌, length-drop, length-take-le}
+use Rattle.std.proofs.Common.{◌≡◌, ℕ, List, length, sum, drop, arith, refl, subst, sym, ◌∙◌, length-drop, length-take-le}
 use Rattle.mltl_base.specs.declared.interval.Interval.{Interval}
 use Rattle.mltl_base.specs.declared.operators.PtOp.{PtOp}
 use Rattle.mltl_base.specs.declared.operators.PtOp.TheVariants.{True, Load, Not, And, Since}
@@ -9,14 +9,14 @@ use Rattle.pt_boxes.specs.declared.boxes.Span.{Span}
 use Rattle.pt_boxes.specs.declared.engine.Pt.{Pt}
 use Rattle.pt_boxes.specs.Nodes.{AreKept, HasBoxes, boxes_in, node_at, op_at, part}
 use Rattle.pt_boxes.specs.Spans.{Tells}
-use Rattle.pt_boxes.specs.Standing.{Stands, boxes_at, instruction_count, meaning_of, now_at, room_at, row_count}
+use Rattle.pt_boxes.specs.Standing.{Stands, boxes_at, instruction_count, meaning_of, now_at, room_at, room_total, row_count}
 use Rattle.pt_boxes.specs.Tables.{HasTable, IsTold, Table}
 use Rattle.pt_boxes.proofs.Rings.{length-kept}
 
 pub stands_with : (program : Program) (rows : List Row) (pt : Pt) → AreKept program.pt (length rows) pt.nodes.items pt.slab.items → pt.rows ≡ length rows
-    → HasTable program.pt (meaning_of program rows) (length rows) pt.nodes.items pt.slab.items → Stands program rows pt
-unfolding boxes_at instruction_count now_at room_at row_count
-stands_with program rows pt kept taken has =
+    → HasTable program.pt (meaning_of program rows) (length rows) pt.nodes.items pt.slab.items → length pt.slab.items ≡ sum program.sizes.pt → Stands program rows pt
+unfolding boxes_at instruction_count now_at room_at room_total row_count
+stands_with program rows pt kept taken has total =
     let nodes = pt.nodes.items in
     let slab = pt.slab.items in
     let same = kept.same_length in
@@ -35,6 +35,7 @@ stands_with program rows pt kept taken has =
           let k = kept.kept i (omega arith) in
           let used : length (boxes_in slab node) ≡ node.boxes.used = length-kept node.boxes (part slab node) k.belongs in
           omega (arith, k.room, k.belongs.used_in);
+      total = total;
       apart = λ i l r window h is. subst (λ (op : PtOp). HasBoxes op (length rows) (boxes_in slab (node_at nodes i))) is (kept.kept i (omega arith)).apart;
       told = λ i l r window h is. subst (λ (op : PtOp). IsTold op (meaning_of program rows) (length rows) (boxes_in slab (node_at nodes i))) is (has.told i h);
     }
@@ -53,6 +54,10 @@ table_of program rows pt s = record {
   told = λ i h. told_of (op_at program.pt i) (meaning_of program rows) (length rows) (boxes_in pt.slab.items (node_at pt.nodes.items i)) (λ l r window is. s.told i l r window h is);
   truths = λ i h some. s.now i h some;
 }
+
+pub total_of : (program : Program) (rows : List Row) (pt : Pt) → Stands program rows pt → length pt.slab.items ≡ sum program.sizes.pt
+unfolding room_total
+total_of program rows pt s = s.total
 
 pub rows_of : (program : Program) (rows : List Row) (pt : Pt) → Stands program rows pt → pt.rows ≡ length rows
 unfolding row_count

@@ -15,7 +15,7 @@ use Rattle.obs_verify.specs.Running.{RunsPast}
 use Rattle.pt_boxes.specs.Standing.{Stands, meaning_of}
 use Rattle.pt_boxes.specs.Tables.{AgreeOnLoads, HasTable, IsTable, Table}
 use Rattle.pt_boxes.proofs.Meanings.{has_same, loaded_last, loaded_of, meaning_stays, meaning_table}
-use Rattle.pt_boxes.proofs.Standings.{stands_with, table_of}
+use Rattle.pt_boxes.proofs.Standings.{stands_with, table_of, total_of}
 use Rattle.obs_verify.proofs.Truths.{truth_there}
 
 -- nodes have taken a row after n others
@@ -47,8 +47,8 @@ agree_last program rows row numbers runs given = λ i k v i_in is gives.
     ∙ sym (loaded_last program rows row k)
 
 pub row_stands : (program : Program) (rows : List Row) (row : Row) (old new : Pt) (numbers : List ℤ) → RunsPast program → numbers ≡ numbers_on row program.bz → new.rows ≡ length rows + 1
-    → TakesRow program.pt numbers (length rows) old.nodes.items old.slab.items new.nodes.items new.slab.items → Stands program rows old → Stands program (rows ++ row ∷ []) new
-row_stands program rows row old new numbers runs given taken takes stands =
+    → TakesRow program.pt numbers (length rows) old.nodes.items old.slab.items new.nodes.items new.slab.items → length new.slab.items ≡ length old.slab.items → Stands program rows old → Stands program (rows ++ row ∷ []) new
+row_stands program rows row old new numbers runs given taken takes long stands =
     let more : List Row = rows ++ row ∷ [] in
     let size : length more ≡ length rows + 1 = length_push rows row in
     let has : HasTable program.pt (meaning_of program more) (length rows) old.nodes.items old.slab.items =
@@ -60,6 +60,7 @@ row_stands program rows row old new numbers runs given taken takes stands =
     (subst (λ (k : ℕ). AreKept program.pt k new.nodes.items new.slab.items) (sym size) takes.kept)
     (taken ∙ sym size)
     (subst (λ (k : ℕ). HasTable program.pt (meaning_of program more) k new.nodes.items new.slab.items) (sym size) table)
+    (long ∙ total_of program rows old stands)
 
 -- the work of a row by the sizes that the program stores
 work_from : (start : ℕ) (ops : List PtOp) → fold (λ (n size : ℕ). n + (size + 2)) start (map boxes_of ops) ≡ fold (λ (n : ℕ) (op : PtOp). n + (boxes_of op + 2)) start ops

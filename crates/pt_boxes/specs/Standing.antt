@@ -1,6 +1,6 @@
 -- The state of the engine after some rows.
 
-use Rattle.std.specs.Prelude.{◌≡◌, ℕ, ◌-◌, ◌≤◌, ◌<◌, Bool, List, length}
+use Rattle.std.specs.Prelude.{◌≡◌, ℕ, ◌-◌, ◌≤◌, ◌<◌, Bool, List, length, sum}
 use Rattle.mltl_base.specs.declared.interval.Engine.TheVariants.{Pt as past}
 use Rattle.mltl_base.specs.declared.interval.Interval.{Interval}
 use Rattle.mltl_base.specs.declared.operators.PtOp.TheVariants.{Since}
@@ -35,6 +35,10 @@ boxes_at pt i = boxes_in pt.slab.items (node_at pt.nodes.items i)
 unfoldable pub room_at : Pt → ℕ → ℕ
 room_at pt i = (node_at pt.nodes.items i).size
 
+-- the room of all instructions together
+unfoldable pub room_total : Pt → ℕ
+room_total pt = length pt.slab.items
+
 -- the formula of instruction i on the rows, by time
 abbrev pub meaning_of : Program → List Row → ℕ → ℕ → Bool
 meaning_of program rows i t = sat rows (plain (formula_at program past i)) t
@@ -49,6 +53,8 @@ pub record Stands (program : Program) (rows : List Row) (pt : Pt) : Type 0 where
   -- the room for boxes is fixed, and no instruction has more
   pub rooms : (i : ℕ) → i < length program.pt → room_at pt i ≡ boxes_of (op_at program.pt i)
   pub few : (i : ℕ) → i < length program.pt → length (boxes_at pt i) ≤ boxes_of (op_at program.pt i)
+  -- the room of all together is as much as the program states
+  pub total : room_total pt ≡ sum program.sizes.pt
   -- the boxes of a Since are long enough, lie apart, end from n - 1 to n - 1 + hi, and tell when it holds
   pub apart : (i l r : ℕ) (window : Interval) → i < length program.pt → op_at program.pt i ≡ Since l r window → AreApart window (length rows) 0 (boxes_at pt i)
   pub told : (i l r : ℕ) (window : Interval) → i < length program.pt → op_at program.pt i ≡ Since l r window

@@ -1,6 +1,6 @@
-use Rattle.std.proofs.Common.{◌≡◌, ℕ, ◌+◌, false, List, [], ◌∷◌, ◌++◌, length, get_or, arith, refl, ap, subst, sym, ◌∙◌}
+use Rattle.std.proofs.Common.{◌≡◌, ℕ, ◌+◌, false, List, [], ◌∷◌, ◌++◌, length, get_or, sum, arith, refl, ap, subst, sym, ◌∙◌}
 use Rattle.std.proofs.lemmas.Grind.{common_steps}
-use Rattle.std.proofs.lemmas.List.{length-map}
+use Rattle.std.proofs.lemmas.List.{length-map, take_all}
 use Rattle.mltl_base.specs.declared.program.Program.{Program}
 use Rattle.mltl_base.specs.Queues.{boxes_of}
 use Rattle.pt_boxes.specs.declared.rows.Node.{Node}
@@ -43,4 +43,9 @@ returns c =
     subst (λ (ns : List ℕ). Started ns c.loop-size.nodes.items (length c.in_ok-slab.slab.items) (length program.pt)) sizes
     (subst (λ (k : ℕ). Started c.as_slice-size-items.result.now c.loop-size.nodes.items k (length program.pt)) long
     (subst (λ (k : ℕ). Started c.as_slice-size-items.result.now c.loop-size.nodes.items c.loop-size.start k) end c.loop-size.invariant.started)) in
-    record { stands = made_stands program _ c.program_of-program.ensures.runs (omega (arith, c.loop-size.invariant.count)) started refl }
+    record {
+      stands = made_stands program _ c.program_of-program.ensures.runs (omega (arith, c.loop-size.invariant.count))
+        started
+        refl
+        (sym long ∙ c.loop-size.invariant.total ∙ ap (λ (ns : List ℕ). sum ns) (take_all c.loop-size.size-index c.as_slice-size-items.result.now (omega arith) ∙ sizes));
+    }

@@ -8,6 +8,7 @@ use Rattle.mltl_base.specs.Atoms.{Row}
 use Rattle.mltl_base.specs.Programs.{expressions}
 use Rattle.mltl_base.specs.Queues.{boxes_of}
 use Rattle.booleanizer.specs.Evaluation.{number_on}
+use Rattle.pt_boxes.specs.declared.boxes.Span.{Span}
 use Rattle.pt_boxes.specs.Nodes.{op_at}
 use Rattle.obs_verify.specs.Running.{IsTruthExpression}
 use Rattle.pt_boxes.specs.Running.{row_work}
@@ -51,6 +52,7 @@ returns-clause-stands g c = λ rows row few given stands.
     row_stands program rows row old _ c.args.bz.now c.program_of-program.ensures.runs given (ap (λ (k : ℕ). k + 1) taken)
     (takes_as _ _ c.args.bz.now _ _ _ _ _ _ _ _ _ _ (sym ops) (sym taken) (sym c.deref_mut.ensures.value) (sym c.deref_mut-2.ensures.value) nodes slab
     (record { kept = c.row_of.ensures.kept; table = c.row_of.ensures.table }))
+    (ap (λ (xs : List Span). length xs) slab ∙ c.row_of.auto.slab ∙ ap (λ (xs : List Span). length xs) c.deref_mut-2.ensures.value)
     stands
 
 pub returns-clause-counted : goal.returns-clause-counted
