@@ -1,6 +1,6 @@
 -- What stays of what a monitor stands for, and what that says of its queues and places.
 
-use Rattle.std.proofs.Common.{◌≡◌, ℕ, ◌+◌, ◌<◌, ◌≤◌, ◌^◌, List, [], ◌∷◌, ◌++◌, slice_get, slice_index, length, ap, sym, subst, ◌∙◌, arith}
+use Rattle.std.proofs.Common.{◌≡◌, ℕ, ◌+◌, ◌<◌, ◌≤◌, ◌^◌, List, [], ◌∷◌, ◌++◌, slice_get, slice_index, length, sum, ap, ap₂, sym, subst, ◌∙◌, arith}
 use Rattle.std.specs.Prelude.{Some, Contains, vec_len}
 use Rattle.std.proofs.lemmas.List.{ext_get_or, get_or-map}
 use Rattle.std.proofs.lemmas.List.FromFn.{get_or-map-range_with_len, length-map-range_with_len}
@@ -8,11 +8,11 @@ use Rattle.std.proofs.lemmas.Option.{get_or_from_slice_get, slice_get_within}
 use Rattle.mltl_base.specs.declared.program.Out.{Out}
 use Rattle.mltl_base.specs.declared.program.Program.{Program}
 use Rattle.mltl_base.specs.Atoms.{Row}
-use Rattle.mltl_base.specs.Queues.{queue_lengths, reported}
+use Rattle.mltl_base.specs.Queues.{queue_lengths, reported, slot_count}
 use Rattle.mltl_base.specs.Programs.{IsFit, outputs}
 use Rattle.mltl_base.specs.Reports.{Output, delay, words}
 use Rattle.mltl_base.proofs.Words.{words_in_time}
-use Rattle.obs_verify.proofs.RunLaws.{runs_future}
+use Rattle.obs_verify.proofs.RunLaws.{runs_future, runs_past}
 use Rattle.ft_engine.specs.declared.Ft.{Ft}
 use Rattle.ft_engine.specs.Standing.{instruction_count, lowest_at, slots_at, width_of}
 use Rattle.contract_status.specs.Open.{known_counts_of}
@@ -21,7 +21,7 @@ use Rattle.mltl_monitor.specs.declared.running.Running.{Running}
 use Rattle.mltl_monitor.specs.declared.state.State.{State}
 use Rattle.mltl_monitor.specs.Running.{HasTaken}
 use Rattle.mltl_monitor.specs.Running as running
-use Rattle.mltl_monitor.specs.Monitoring.{IsDrained, IsSame, IsSound, Stands, last_of, places_of, program_of, slots_of}
+use Rattle.mltl_monitor.specs.Monitoring.{IsDrained, IsSame, IsSound, Stands, last_of, places_of, program_of, room_total_of, slot_total_of, slots_of}
 use Rattle.mltl_monitor.proofs.LastRows.{all_last, ends_with, same_last}
 use Rattle.mltl_monitor.proofs.Taking.{drained_places}
 
@@ -87,6 +87,21 @@ slots_needed monitor rows stands =
           let here : i < instruction_count ft = omega (arith, inside, length-map-range_with_len (slots_at ft) 0 (instruction_count ft)) in
           get_or-map-range_with_len (slots_at ft) 0 (instruction_count ft) i i 0 here (omega arith) ∙ future.sizes i (omega (arith, here, many))),
       runs.sizes,
+    )
+
+-- all slots together, and all boxes, are those that are stored, which are those that the program needs
+pub none_left_over : (monitor : State) (rows : List Row) → Stands monitor rows
+    → (slot_total_of monitor ≡ sum (program_of monitor).sizes.ft) × (room_total_of monitor ≡ sum (program_of monitor).sizes.pt)
+    × (slot_total_of monitor + room_total_of monitor ≡ slot_count (program_of monitor).ft (program_of monitor).pt (program_of monitor).outs)
+none_left_over monitor rows stands =
+    let program : Program = program_of monitor in
+    let slots = stands.taken.stand.future.total in
+    let boxes = stands.taken.stand.past.total in (
+      slots,
+      boxes,
+      ap₂ (λ (a b : ℕ). a + b)
+          (slots ∙ ap (λ (ns : List ℕ). sum ns) (runs_future program stands.taken.layout stands.taken.formed).sizes)
+          (boxes ∙ ap (λ (ns : List ℕ). sum ns) (runs_past program stands.taken.layout stands.taken.formed).sizes),
     )
 
 -- where all reports were given, each time that is as far behind as the output's delay was told

@@ -8,7 +8,8 @@ use Rattle.mltl_base.specs.declared.report.Style.{Style}
 use Rattle.mltl_base.specs.Atoms.{Row}
 use Rattle.mltl_base.specs.Programs.{outputs}
 use Rattle.mltl_base.specs.Reports.{of_row}
-use Rattle.ft_engine.specs.Standing.{instruction_count, slots_at}
+use Rattle.ft_engine.specs.Standing.{instruction_count, slot_total, slots_at}
+use Rattle.pt_boxes.specs.Standing.{room_total}
 use Rattle.mltl_monitor.specs.declared.state.State.{State}
 use Rattle.mltl_monitor.specs.Running as running
 
@@ -26,6 +27,13 @@ places_of monitor = monitor.running.outs
 -- the slots of each future-time instruction
 abbrev pub slots_of : State → List ℕ
 slots_of monitor = map (slots_at monitor.running.ft) (range_with_len 0 (instruction_count monitor.running.ft))
+
+-- the slots of all future-time instructions together, and the room for boxes of all past-time ones
+abbrev pub slot_total_of : State → ℕ
+slot_total_of monitor = slot_total monitor.running.ft
+
+abbrev pub room_total_of : State → ℕ
+room_total_of monitor = room_total monitor.running.pt
 
 -- the last row that it has taken, and the row that it has read
 abbrev pub last_of : State → Row

@@ -1,17 +1,17 @@
 //! What the definitions of a monitor say together: each law is the contract of a function with an empty body.
 
-ghost use Rattle.std.specs.Prelude.{◌≡◌, ◌↔◌, ℕ, ◌+◌, ◌≤◌, List, [], ◌∷◌, Some, Contains, length, slice_get, slice_index};
+ghost use Rattle.std.specs.Prelude.{◌≡◌, ◌↔◌, ℕ, ◌+◌, ◌≤◌, List, [], ◌∷◌, Some, Contains, length, slice_get, slice_index, sum};
 ghost use Rattle.mltl_base.specs.declared.program.Out.{Out as Reported};
 ghost use Rattle.mltl_base.specs.declared.report.Report.{Report as Given};
 ghost use Rattle.mltl_base.specs.declared.report.Style.{Style as Form};
 ghost use Rattle.mltl_base.specs.Atoms.{Row};
 ghost use Rattle.mltl_base.specs.Programs.{outputs};
-ghost use Rattle.mltl_base.specs.Queues.{queue_lengths, reported};
+ghost use Rattle.mltl_base.specs.Queues.{queue_lengths, reported, slot_count};
 ghost use Rattle.mltl_base.specs.Reports.{IsSettled, Output, delay};
 ghost use Rattle.ft_engine.specs.Standing.{lowest_at, width_of};
 ghost use Rattle.contract_status.specs.Open.{known_counts_of};
 ghost use Rattle.mltl_monitor.specs.declared.state.State.{State as Shown};
-ghost use Rattle.mltl_monitor.specs.Monitoring.{IsDrained, Stands, open_of, places_of, program_of, slots_of};
+ghost use Rattle.mltl_monitor.specs.Monitoring.{IsDrained, Stands, open_of, places_of, program_of, room_total_of, slot_total_of, slots_of};
 
 /// Each future-time instruction has the slots that are stored for it, which are as many as it needs.
 #[tactic(auto, using(crate::proofs::Keeping::slots_needed))]
@@ -19,6 +19,16 @@ pub fn slots_are_those_needed()
     ensures stored { (monitor : Shown) (rows : List Row) → Stands monitor rows → slots_of monitor ≡ (program_of monitor).sizes.ft }
     ensures needed { (monitor : Shown) (rows : List Row) → Stands monitor rows
         → (program_of monitor).sizes.ft ≡ queue_lengths (program_of monitor).ft (program_of monitor).outs }
+{}
+
+/// The slots of all future-time instructions together, and the boxes that all past-time ones have room for, are as many
+/// as are stored, which are as many as the program needs. None is left over.
+#[tactic(auto, using(crate::proofs::Keeping::none_left_over))]
+pub fn no_slot_is_left_over()
+    ensures slots { (monitor : Shown) (rows : List Row) → Stands monitor rows → slot_total_of monitor ≡ sum (program_of monitor).sizes.ft }
+    ensures boxes { (monitor : Shown) (rows : List Row) → Stands monitor rows → room_total_of monitor ≡ sum (program_of monitor).sizes.pt }
+    ensures needed { (monitor : Shown) (rows : List Row) → Stands monitor rows
+        → slot_total_of monitor + room_total_of monitor ≡ slot_count (program_of monitor).ft (program_of monitor).pt (program_of monitor).outs }
 {}
 
 /// A monitor has no report to give exactly where nothing is open after rows that it stands for, in either style.

@@ -45,7 +45,7 @@ returns c =
     (subst (λ (k : ℕ). Started c.as_slice-size-items.result.now c.loop-size.nodes.items c.loop-size.start k) end c.loop-size.invariant.started)) in
     record {
       stands = made_stands program _ c.program_of-program.ensures.runs (omega (arith, c.loop-size.invariant.count))
-        started
-        refl
-        (sym long ∙ c.loop-size.invariant.total ∙ ap (λ (ns : List ℕ). sum ns) (take_all c.loop-size.size-index c.as_slice-size-items.result.now (omega arith) ∙ sizes));
+          started
+          refl
+          (sym long ∙ c.loop-size.invariant.total ∙ ap (λ (ns : List ℕ). sum ns) (take_all c.loop-size.size-index c.as_slice-size-items.result.now (omega arith) ∙ sizes));
     }
