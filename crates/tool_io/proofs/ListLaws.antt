@@ -1,5 +1,5 @@
 -- Laws of the fronts of a list, and of a list that holds something.
-use Rattle.std.proofs.Common.{◌≡◌, ℕ, ◌+◌, ◌≤◌, List, ◌++◌, take, drop, sym, ◌∙◌, ap, arith, ◌<◌, false, [], ◌∷◌, length, refl}
+use Rattle.std.proofs.Common.{◌≡◌, ◌≢◌, ℕ, ◌+◌, ◌≤◌, List, ◌++◌, take, drop, sym, ◌∙◌, ap, arith, ◌<◌, false, [], ◌∷◌, length, refl}
 use Rattle.std.proofs.lemmas.List.{take-append-drop, take-take, drop-take}
 use Rattle.tool_io.specs.Log.{is_empty}
 
@@ -13,3 +13,8 @@ take-plus i n xs =
 pub is_empty-some : (xs : List ℕ) → 0 < length xs → is_empty xs ≡ false
 is_empty-some [] some = absurd (omega arith)
 is_empty-some (x ∷ xs) some = refl
+
+-- with more behind it, it still holds something
+pub some-append : (xs more : List ℕ) → xs ≢ [] → xs ++ more ≢ []
+some-append [] more some none = some refl
+some-append (x ∷ xs) more some none = cc

@@ -5,7 +5,7 @@ use Rattle.std.proofs.lemmas.List.Folds.{concat-append}
 use Rattle.std.specs.List.{concat}
 use Rattle.tool_io.specs.declared.host.Place.{Place}
 use Rattle.tool_io.specs.declared.host.Place.TheVariants.{Spec, Header, Program, Trace, Out, Err}
-use Rattle.tool_io.specs.Log.{Event, Attached, Missed, Took, Gave, same_place, taken, given, is_empty, ended_from, names_of, Appends, OnLog, Reads, meets_end, Writes, WritesFront}
+use Rattle.tool_io.specs.Log.{Event, Attached, Missed, Took, Gave, IsProperFront, same_place, taken, given, is_empty, ended_from, names_of, Appends, OnLog, Reads, meets_end, Writes, WritesFront}
 
 -- no event
 pub Appends-none : (before : Option (List Event)) → Appends before before []
@@ -107,10 +107,6 @@ Writes-then place x y a b one two =
       joined = ap (λ bytes. bytes ++ y) one.joined ∙ ap (λ bytes. concat one.pieces ++ bytes) two.joined ∙ sym (concat-append one.pieces two.pieces);
     }
 
--- all of the bytes are a front of them
-pub WritesFront-whole : (place : Place) (bytes : List ℕ) (events : List Event) → Writes place bytes events → WritesFront place bytes events
-WritesFront-whole place bytes events all = record { sent = bytes; unsent = []; split = sym (append-nil bytes); writes = all }
-
 -- a front behind whole bytes
 pub WritesFront-then : (place : Place) (x y : List ℕ) (a b : List Event) → Writes place x a → WritesFront place y b → WritesFront place (x ++ y) (a ++ b)
 WritesFront-then place x y a b one two =
@@ -118,6 +114,7 @@ WritesFront-then place x y a b one two =
       sent = x ++ two.sent;
       unsent = two.unsent;
       split = ap (λ bytes. x ++ bytes) two.split ∙ sym (append_assoc x two.sent two.unsent);
+      misses = two.misses;
       writes = Writes-then place x two.sent a b one two.writes;
     }
 
@@ -171,6 +168,14 @@ gave-given place (piece ∷ pieces) = rw (same_place-self place) (ap (λ rest. p
 
 pub Writes-given : (place : Place) (bytes : List ℕ) (events : List Event) → Writes place bytes events → given place events ≡ bytes
 Writes-given place bytes events writes = ap (given place) writes.are ∙ gave-given place writes.pieces ∙ sym writes.joined
+
+-- the front that was written of these bytes misses some of them
+pub WritesFront-misses : (place : Place) (bytes : List ℕ) (events : List Event) → WritesFront place bytes events → IsProperFront (given place events) bytes
+WritesFront-misses place bytes events front = record {
+  rest = front.unsent;
+  split = front.split ∙ ap (λ sent. sent ++ front.unsent) (sym (Writes-given place front.sent events front.writes));
+  misses = front.misses;
+}
 
 gave-elsewhere : (place p : Place) (pieces : List (List ℕ)) → same_place p place ≡ false → given p (map (Gave place) pieces) ≡ []
 gave-elsewhere place p [] other = refl

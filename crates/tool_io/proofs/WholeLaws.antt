@@ -1,6 +1,6 @@
 -- The steps of writing all of a piece, and of reading a place to its end.
-use Rattle.std.proofs.Common.{◌≡◌, ℕ, ◌+◌, ◌-◌, ◌≤◌, ◌<◌, Bool, true, false, Option, List, [], ◌∷◌, ◌++◌, length, take, drop, refl, sym, ◌∙◌, ap, subst}
-use Rattle.std.proofs.lemmas.List.{append-nil, take-append-drop, take_rest, length-take-le}
+use Rattle.std.proofs.Common.{◌≡◌, ◌≢◌, ℕ, ◌+◌, ◌-◌, ◌≤◌, ◌<◌, Bool, true, false, Option, List, [], ◌∷◌, ◌++◌, length, take, drop, arith, refl, sym, ◌∙◌, ap, subst}
+use Rattle.std.proofs.lemmas.List.{append-nil, take-append-drop, take_rest, length-drop, length-take-le}
 use Rattle.std.proofs.lemmas.List.Folds.{concat-append}
 use Rattle.std.specs.List.{concat}
 use Rattle.tool_io.specs.declared.host.Place.{Place}
@@ -21,15 +21,27 @@ Writes-more before between now place piece sent n log more =
           (Writes-then place (take sent piece) (take n (drop sent piece)) log.events (Gave place (take n (drop sent piece)) ∷ []) log.holds (Writes-one place (take n (drop sent piece))));
     }
 
--- a write that fails leaves a front of the piece sent
-pub Writes-stop : (before between now : Option (List Event)) (place : Place) (piece : List ℕ) (sent : ℕ) → OnLog before between (Writes place (take sent piece)) → Appends between now [] → OnLog before now (WritesFront place piece)
-Writes-stop before between now place piece sent log none =
+-- bytes are left behind a front that ends before the piece does
+drop-some : (piece : List ℕ) (sent : ℕ) → sent < length piece → drop sent piece ≢ []
+drop-some piece sent more none =
+    let size : length (drop sent piece) ≡ 0 = ap (λ (bytes : List ℕ). length bytes) none in
+    absurd (omega (arith, more, simp (length-drop) at size))
+
+-- a write that fails leaves a front of the piece sent, and more of it unsent
+pub Writes-stop : (before between now : Option (List Event)) (place : Place) (piece : List ℕ) (sent : ℕ) → sent < length piece → OnLog before between (Writes place (take sent piece)) → Appends between now [] → OnLog before now (WritesFront place piece)
+Writes-stop before between now place piece sent more log none =
     record {
       events = log.events ++ [];
       appended = Appends-then before between now log.events [] log.appended none;
       holds =
           rw append-nil
-          record { sent = take sent piece; unsent = drop sent piece; split = sym (take-append-drop sent piece); writes = log.holds };
+          record {
+            sent = take sent piece;
+            unsent = drop sent piece;
+            split = sym (take-append-drop sent piece);
+            misses = drop-some piece sent more;
+            writes = log.holds;
+          };
     }
 
 -- no read

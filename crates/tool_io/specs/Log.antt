@@ -1,5 +1,5 @@
 -- What a host tells of its calls: a list of events, the oldest first, and what follows from it.
-use Rattle.std.specs.Prelude.{◌≡◌, ℕ, Bool, true, false, if◌then◌else◌, Option, Some, None, List, [], ◌∷◌, ◌++◌, map}
+use Rattle.std.specs.Prelude.{◌≡◌, ◌≢◌, ℕ, Bool, true, false, if◌then◌else◌, Option, Some, None, List, [], ◌∷◌, ◌++◌, map}
 use Rattle.std.specs.List.{concat}
 use Rattle.tool_io.specs.declared.host.Place.{Place}
 use Rattle.tool_io.specs.declared.host.Place.TheVariants.{Spec, Header, Program, Trace, Out, Err}
@@ -64,6 +64,12 @@ pub record IsFront {X : Type 0} (front whole : List X) : Type 0 where
   pub rest : List X
   pub split : whole ≡ front ++ rest
 
+-- the first list is a front of the second, and isn't all of it
+pub record IsProperFront {X : Type 0} (front whole : List X) : Type 0 where
+  pub rest : List X
+  pub split : whole ≡ front ++ rest
+  pub misses : rest ≢ []
+
 -- where the host tells its log, the log has grown by these events
 abbrev pub Appends : Option (List Event) → Option (List Event) → List Event → Type 0
 Appends None now events = Unit {0}
@@ -90,11 +96,12 @@ pub record Writes (place : Place) (bytes : List ℕ) (events : List Event) : Typ
   pub are : events ≡ map (Gave place) pieces
   pub joined : bytes ≡ concat pieces
 
--- the events are writes of a front of these bytes
+-- the events are writes of a front of these bytes, and not of all of them
 pub record WritesFront (place : Place) (bytes : List ℕ) (events : List Event) : Type 0 where
   pub sent : List ℕ
   pub unsent : List ℕ
   pub split : bytes ≡ sent ++ unsent
+  pub misses : unsent ≢ []
   pub writes : Writes place sent events
 
 -- Before each read of the trace, what was given on Out is what is due for the bytes taken until then.

@@ -17,4 +17,4 @@ loop-sent-preserved g c =
     }
 
 pub returns-in-Failed-clause-log : goal.returns-in-Failed-clause-log
-returns-in-Failed-clause-log g c = Writes-stop _ _ _ c.args.place c.args.piece.now c.loop-sent.sent c.loop-sent.invariant.log c.in-Failed.ensures.log
+returns-in-Failed-clause-log g c = Writes-stop _ _ _ c.args.place c.args.piece.now c.loop-sent.sent (c.loop-sent-test.true) c.loop-sent.invariant.log c.in-Failed.ensures.log
