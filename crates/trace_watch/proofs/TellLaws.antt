@@ -16,6 +16,7 @@ use Rattle.tool_io.specs.declared.host.Place.TheVariants.{Out, Trace}
 use Rattle.tool_io.specs.declared.line_cut.Line as line_answer
 use Rattle.tool_io.specs.Cutting.{Cutting, CutsLine}
 use Rattle.tool_io.specs.Log.{Event, OnLog, Writes, WritesFront}
+use Rattle.tool_io.proofs.ListLaws.{some-append}
 use Rattle.tool_io.proofs.LogLaws.{Appends-then, Writes-none, Writes-then, WritesFront-then}
 use Rattle.mltl_monitor.specs.declared.state.State.{State}
 use Rattle.trace_watch.specs.declared.status.Watched as watched
@@ -59,6 +60,7 @@ HasSent-front due left rest piece first second a is b =
       sent = front.sent;
       unsent = front.unsent ++ rest;
       split = a.split ∙ ap (λ bytes. a.sent ++ bytes) is ∙ sym (append_assoc a.sent piece rest) ∙ ap (λ bytes. bytes ++ rest) front.split ∙ append_assoc front.sent front.unsent rest;
+      misses = some-append front.unsent rest front.misses;
       writes = front.writes;
     }
 
@@ -132,6 +134,7 @@ TellsFront-more program style rows more further monitor events a =
         sent = a.sends.sent;
         unsent = a.sends.unsent ++ behind;
         split = told_after style (output_names program) (outputs program) rows more further ∙ ap (λ bytes. bytes ++ behind) a.sends.split ∙ append_assoc a.sends.sent a.sends.unsent behind;
+        misses = some-append a.sends.unsent behind a.sends.misses;
         writes = a.sends.writes;
       };
       kept = record {

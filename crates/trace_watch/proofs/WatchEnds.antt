@@ -13,6 +13,7 @@ use Rattle.tool_io.specs.declared.host.Place.TheVariants.{Trace, Out}
 use Rattle.tool_io.specs.declared.line_cut.Line as line_answer
 use Rattle.tool_io.specs.Log.{Event, IsFront, taken, given, ended_from}
 use Rattle.tool_io.specs.Cutting.{Cutting, lines_of, next_number, CutsLine}
+use Rattle.tool_io.proofs.ListLaws.{some-append}
 use Rattle.tool_io.proofs.LogLaws.{taken-append, given-append, ended_from-append, Writes-given, Writes-taken, Writes-ended}
 use Rattle.tool_io.proofs.CutLaws.{StartsLong, lines_of-none, lines_of-long}
 use Rattle.tool_io.proofs.Prompting.{PromptBy-append, Prompt-from_by, Writes-prompt}
@@ -131,7 +132,7 @@ module _ (program : Program) (style : Style) (rows_in : List (List ℕ) → Trac
       ap told_of rows ∙ lines_append style names outs front tail ∙ ap (λ b. b ++ behind) (lines_append style names outs has.rows more ∙ ap (λ b. told_of has.rows ++ b) sends.split ∙ sym (append_assoc (told_of has.rows) sends.sent sends.unsent) ∙ ap (λ b. b ++ sends.unsent) (sym out)) ∙ append_assoc (given Out ((events ++ reads) ++ wrote)) sends.unsent behind in
       record {
         prompt = Prompt-from_by (due program style rows_in false) start.pending ((events ++ reads) ++ wrote) (PromptBy-append (due program style rows_in false) start.pending [] (events ++ reads) wrote (prompt_then program style rows_in start cut new monitor rest before Keeps events reads has line_answer.TheVariants.Row cuts) (Writes-prompt (due program style rows_in false) (start.pending ++ taken Trace (events ++ reads)) (given Out (events ++ reads)) Out sends.sent wrote sends.writes));
-        outcome = (record { rest = sends.unsent ++ behind; split = whole }, record { program_kept = tells.kept.program_kept; front = tells.kept.front; is_front = IsFront-more tells.kept.front front _ tail tells.kept.is_front rows; stands = tells.kept.stands });
+        outcome = (record { rest = sends.unsent ++ behind; split = whole; misses = some-append sends.unsent behind sends.misses }, record { program_kept = tells.kept.program_kept; front = tells.kept.front; is_front = IsFront-more tells.kept.front front _ tail tells.kept.is_front rows; stands = tells.kept.stands });
         ended = line_ended program style rows_in start cut new monitor rest before Keeps events reads has line_answer.TheVariants.Row cuts ∙ sym (ended_from-append start.ended Trace (events ++ reads) wrote ∙ Writes-ended (ended_from start.ended Trace (events ++ reads)) Out Trace sends.sent wrote sends.writes);
         no_more = λ met.
             let was = line_no_more program style rows_in start cut new monitor rest before Keeps events reads has line_answer.TheVariants.Row cuts met in

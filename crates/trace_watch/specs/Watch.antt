@@ -6,7 +6,7 @@ use Rattle.mltl_base.specs.declared.program.Program.{Program}
 use Rattle.mltl_base.specs.Atoms.{Row}
 use Rattle.tool_io.specs.declared.host.Place.{Place}
 use Rattle.tool_io.specs.declared.host.Place.TheVariants.{Trace, Out}
-use Rattle.tool_io.specs.Log.{Event, Took, Gave, taken, given, ended_from, IsFront, Prompt}
+use Rattle.tool_io.specs.Log.{Event, Took, Gave, taken, given, ended_from, IsFront, IsProperFront, Prompt}
 use Rattle.tool_io.specs.Host.{Rose, NoFault, RoseAt}
 use Rattle.tool_io.specs.Cutting.{Cutting, lines_of, next_number}
 use Rattle.mltl_monitor.specs.declared.state.State.{State}
@@ -50,7 +50,7 @@ Outcome (watched.TheVariants.BadTrace number why) program style rows_in ended by
 Outcome watched.TheVariants.ReadFault program style rows_in ended bytes out monitor =
     (ended ≡ false) × ((rows_in (lines_of false bytes)).stop ≡ Clean) × IsTold program style rows_in false bytes out monitor
 Outcome watched.TheVariants.WriteFault program style rows_in ended bytes out monitor =
-    IsFront out (due program style rows_in ended bytes) × HasFront program monitor (rows_in (lines_of ended bytes)).rows
+    IsProperFront out (due program style rows_in ended bytes) × HasFront program monitor (rows_in (lines_of ended bytes)).rows
 
 -- the number of the first line that a cut gives next
 abbrev pub first_of : Cutting → ℕ
