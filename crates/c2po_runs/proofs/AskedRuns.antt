@@ -4,7 +4,7 @@ use Rattle.std.proofs.Common.{◌≡◌, ◌≢◌, ◌↔◌, ℕ, Bool, true, 
 use Rattle.std.proofs.lemmas.List.{append-nil}
 use Rattle.tool_io.specs.declared.host.Place.TheVariants as at
 use Rattle.tool_io.specs.Log.{Event, given, names_of, Writes}
-use Rattle.tool_io.proofs.LogLaws.{Writes-given, Writes-given_elsewhere, Writes-names}
+use Rattle.tool_io.proofs.LogLaws.{WritesFront-misses, Writes-given, Writes-given_elsewhere, Writes-names}
 use Rattle.tool_words.specs.C2poWords.{CompileAsked}
 use Rattle.tool_words.specs.C2poWords as words
 use Rattle.tool_runs.specs.declared.message.Tool.TheVariants.{C2po}
@@ -33,7 +33,7 @@ pub run_help : (answer : status.Status) (events : List Event) → HelpLog C2po a
 run_help answers.Helped events writes = help_ran answers.Helped (usage C2po) events writes (Writes-given at.Out (usage C2po) events writes) tt
 run_help (answers.WriteFault at.Out) events fronts =
     help_ran (answers.WriteFault at.Out) fronts.sent events fronts.writes
-    (record { rest = fronts.unsent; split = fronts.split ∙ ap (λ b. b ++ fronts.unsent) (sym (Writes-given at.Out fronts.sent events fronts.writes)) }) tt
+    (WritesFront-misses at.Out (usage C2po) events fronts) tt
 run_help answer events is = absurd is
 
 -- nothing was done

@@ -6,7 +6,7 @@ use Rattle.tool_io.specs.declared.host.Place as place
 use Rattle.tool_io.specs.declared.host.Place.TheVariants as at
 use Rattle.tool_io.specs.Log.{Event, Attached, Missed, Gave, taken, given, ended_from, names_of}
 use Rattle.tool_io.specs.Cutting.{lines_of}
-use Rattle.tool_io.proofs.LogLaws.{taken-append, given-append, ended_from-append, names_of-append, Writes-given}
+use Rattle.tool_io.proofs.LogLaws.{taken-append, given-append, ended_from-append, names_of-append, WritesFront-misses, Writes-given}
 use Rattle.tool_runs.specs.declared.status.Status as status
 use Rattle.tool_runs.specs.declared.status.Status.TheVariants as answers
 use Rattle.tool_runs.specs.Attaching.{is_attached, OpensAsTold}
@@ -116,7 +116,7 @@ attached_writes name log is (event ∷ before) after piece split =
 give_outcome : (answer : status.Status) (bytes : List ℕ) (log : List Event) (out : Option (List ℕ)) (attached : Bool) → GivenLog answer bytes log → attached ≡ is_some out → PutOutcome answer out bytes (given at.Out log) attached
 give_outcome answers.Done bytes log out attached writes is = (Writes-given at.Out bytes log writes, is)
 give_outcome (answers.WriteFault at.Out) bytes log out attached fronts is =
-    (record { rest = fronts.unsent; split = fronts.split ∙ ap (λ b. b ++ fronts.unsent) (sym (Writes-given at.Out fronts.sent log fronts.writes)) }, is)
+    (WritesFront-misses at.Out bytes log fronts, is)
 give_outcome answer bytes log out attached writes is = absurd writes
 
 -- the pieces of what went out

@@ -3,7 +3,7 @@
 use Rattle.std.specs.Prelude.{◌≡◌, ℕ, ◌⊎◌, Bool, true, false, Option, Some, None, is_some, Result, Ok, Err, List, [], ◌∷◌, Vec}
 use Rattle.std.specs.declared.alloc.Global.{Global}
 use Rattle.tool_io.specs.declared.host.Place as place
-use Rattle.tool_io.specs.Log.{Event, Attached, Missed, Took, Gave, given, names_of, IsFront, Writes, WritesFront}
+use Rattle.tool_io.specs.Log.{Event, Attached, Missed, Took, Gave, given, names_of, IsFront, IsProperFront, Writes, WritesFront}
 use Rattle.tool_io.specs.Host.{IsSource}
 use Rattle.tool_io.specs.Whole.{Takes}
 use Rattle.tool_io.specs.Cutting.{lines_of}
@@ -131,7 +131,7 @@ OnlyOut (event ∷ events) = ⊥
 -- how bytes are written, into a file where one is named
 abbrev pub PutOutcome : status.Status → Option (List ℕ) → List ℕ → List ℕ → Bool → Type 0
 PutOutcome status.TheVariants.Done out bytes sent attached = (sent ≡ bytes) × (attached ≡ is_some out)
-PutOutcome (status.TheVariants.WriteFault place.TheVariants.Out) out bytes sent attached = IsFront sent bytes × (attached ≡ is_some out)
+PutOutcome (status.TheVariants.WriteFault place.TheVariants.Out) out bytes sent attached = IsProperFront sent bytes × (attached ≡ is_some out)
 PutOutcome (status.TheVariants.OpenFault place.TheVariants.Out) out bytes sent attached = (is_some out ≡ true) × (sent ≡ []) × (attached ≡ false)
 PutOutcome answer out bytes sent attached = ⊥
 

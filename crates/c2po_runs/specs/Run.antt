@@ -3,7 +3,7 @@
 use Rattle.std.specs.Prelude.{◌≡◌, ℕ, ◌<◌, ◌≤◌, ◌⊎◌, Bool, true, false, None, is_some, Result, Ok, Err, List, [], ◌∷◌, ◌++◌, length}
 use Rattle.std.specs.List.{list_any}
 use Rattle.tool_io.specs.declared.host.Place as place
-use Rattle.tool_io.specs.Log.{Event, Gave, same_place, taken, given, ended_from, names_of, IsFront}
+use Rattle.tool_io.specs.Log.{Event, Gave, same_place, taken, given, ended_from, names_of, IsFront, IsProperFront}
 use Rattle.tool_io.specs.Cutting.{lines_of}
 use Rattle.spec_compile.specs.Front.{first_refusal}
 use Rattle.tool_runs.specs.declared.message.Tool.TheVariants.{C2po}
@@ -70,7 +70,7 @@ pub record TriesInTurn (asked : MakeAsked) (run : Seen) : Type 0 where
   pub header : is_tried place.TheVariants.Header run.names ≡ true → IsFaultless asked run
   pub out : is_tried place.TheVariants.Out run.names ≡ true → (bytes : List ℕ) × Makes asked run (Ok bytes)
 
--- the bytes are out: all of them, a front of them, or none; Out was attached exactly where a file is named
+-- the bytes are out: all of them, a front that misses some, or none; Out was attached exactly where a file is named
 pub record IsWritten (asked : MakeAsked) (run : Seen) : Type 0 where
   pub bytes : Makes asked run (Ok run.out)
   pub attached : run.attached ≡ is_some asked.out
@@ -78,7 +78,7 @@ pub record IsWritten (asked : MakeAsked) (run : Seen) : Type 0 where
 pub record IsPartlyWritten (asked : MakeAsked) (run : Seen) : Type 0 where
   pub whole : List ℕ
   pub bytes : Makes asked run (Ok whole)
-  pub front : IsFront run.out whole
+  pub front : IsProperFront run.out whole
   pub attached : run.attached ≡ is_some asked.out
 
 pub record IsUnwritten (asked : MakeAsked) (run : Seen) : Type 0 where
@@ -117,10 +117,10 @@ MakeOutcome (status.TheVariants.BadHeader why) asked run = IsRefused (status.The
 MakeOutcome status.TheVariants.Memory asked run = (run.out ≡ []) × (is_tried place.TheVariants.Out run.names ≡ false)
 MakeOutcome answer asked run = ⊥
 
--- the usage line is out whole, or a front of it
+-- the usage line is out whole, or a front of it that misses some
 abbrev pub HelpOutcome : status.Status → List ℕ → Type 0
 HelpOutcome status.TheVariants.Helped out = out ≡ usage C2po
-HelpOutcome (status.TheVariants.WriteFault place.TheVariants.Out) out = IsFront out (usage C2po)
+HelpOutcome (status.TheVariants.WriteFault place.TheVariants.Out) out = IsProperFront out (usage C2po)
 HelpOutcome status.TheVariants.Memory out = out ≡ []
 HelpOutcome answer out = ⊥
 

@@ -6,7 +6,7 @@ use Rattle.tool_io.specs.declared.host.Place as place
 use Rattle.tool_io.specs.declared.host.Place.TheVariants.{Trace, Out}
 use Rattle.tool_io.specs.declared.host.Place.TheVariants as at
 use Rattle.tool_io.specs.Log.{Event, Took, Gave, given, names_of, Prompt, Writes, WritesFront}
-use Rattle.tool_io.proofs.LogLaws.{Writes-given, Writes-given_elsewhere, Writes-names}
+use Rattle.tool_io.proofs.LogLaws.{WritesFront-misses, Writes-given, Writes-given_elsewhere, Writes-names}
 use Rattle.tool_io.proofs.Prompting.{Prompt-from_by, Writes-prompt}
 use Rattle.tool_words.specs.R2u2Words.{RunAsked}
 use Rattle.tool_words.specs.R2u2Words as words
@@ -43,7 +43,7 @@ run_help status.TheVariants.Helped events writes =
     help_ran status.TheVariants.Helped (usage R2u2) events writes (Writes-given Out (usage R2u2) events writes, refl) tt (λ is. cc)
 run_help (status.TheVariants.WriteFault place.TheVariants.Out) events fronts =
     help_ran (status.TheVariants.WriteFault Out) fronts.sent events fronts.writes
-    (record { rest = fronts.unsent; split = fronts.split ∙ ap (λ b. b ++ fronts.unsent) (sym (Writes-given Out fronts.sent events fronts.writes)) }, refl) tt (λ is. cc)
+    (WritesFront-misses Out (usage R2u2) events fronts, refl) tt (λ is. cc)
 run_help answer events is = absurd is
 
 -- nothing was done
@@ -121,7 +121,7 @@ run_demo seed rows status.TheVariants.Done kept events told =
 run_demo seed rows (status.TheVariants.WriteFault place.TheVariants.Out) kept events told =
     let fronts = told.0 in
     demo_ran seed rows (status.TheVariants.WriteFault Out) kept fronts.sent events fronts.writes
-    (record { rest = fronts.unsent; split = fronts.split ∙ ap (λ b. b ++ fronts.unsent) (sym (Writes-given Out fronts.sent events fronts.writes)) }, told.1) tt (λ is. cc)
+    (WritesFront-misses Out (demo_summary seed rows) events fronts, told.1) tt (λ is. cc)
 run_demo seed rows status.TheVariants.Memory kept events told =
     subst (λ es. Ran (demo seed rows) status.TheVariants.Memory kept es) (sym told.0)
     (subst (λ k. Ran (demo seed rows) status.TheVariants.Memory k []) (sym told.1) (run_no_memory (demo seed rows)))

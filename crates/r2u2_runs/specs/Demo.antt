@@ -2,7 +2,7 @@
 
 use Rattle.std.specs.Prelude.{◌≡◌, ℕ, Option, Some, None, Ok, List, []}
 use Rattle.tool_io.specs.declared.host.Place as place
-use Rattle.tool_io.specs.Log.{Event, IsFront, Writes, WritesFront}
+use Rattle.tool_io.specs.Log.{Event, IsProperFront, Writes, WritesFront}
 use Rattle.mltl_monitor.specs.declared.state.State.{State}
 use Rattle.mltl_monitor.specs.Monitoring.{IsDrained, Stands, program_of}
 use Rattle.spec_compile.specs.Compiled.{image_of_text}
@@ -19,10 +19,10 @@ pub record KeepsDemo (seed rows : ℕ) (kept : Option State) : Type 0 where
   pub stands : Stands monitor (demo_rows seed rows)
   pub drained : IsDrained monitor
 
--- the summary is out whole, or a front of it; where memory is wanting nothing is
+-- the summary is out whole, or a front of it that misses some; where memory is wanting nothing is
 abbrev pub DemoOutcome : status.Status → ℕ → ℕ → List ℕ → Option State → Type 0
 DemoOutcome status.TheVariants.Done seed rows out kept = (out ≡ demo_summary seed rows) × KeepsDemo seed rows kept
-DemoOutcome (status.TheVariants.WriteFault place.TheVariants.Out) seed rows out kept = IsFront out (demo_summary seed rows) × KeepsDemo seed rows kept
+DemoOutcome (status.TheVariants.WriteFault place.TheVariants.Out) seed rows out kept = IsProperFront out (demo_summary seed rows) × KeepsDemo seed rows kept
 DemoOutcome status.TheVariants.Memory seed rows out kept = Silent out kept
 DemoOutcome answer seed rows out kept = ⊥
 

@@ -4,7 +4,7 @@ use Rattle.std.specs.Prelude.{◌≡◌, ℕ, ◌⊎◌, Bool, true, false, if�
 use Rattle.mltl_base.specs.declared.program.Program.{Program}
 use Rattle.mltl_base.specs.Atoms.{Row}
 use Rattle.tool_io.specs.declared.host.Place.TheVariants.{Trace, Out}
-use Rattle.tool_io.specs.Log.{IsFront}
+use Rattle.tool_io.specs.Log.{IsProperFront}
 use Rattle.tool_io.specs.Cutting.{lines_of}
 use Rattle.tool_words.specs.R2u2Words.{RunAsked}
 use Rattle.mltl_monitor.specs.declared.state.State.{State}
@@ -75,6 +75,6 @@ LinesOutcome (Refused line refusal) asked found ended bytes out kept = NeverRan 
 LinesOutcome (BadProgram fault) asked found ended bytes out kept = NeverRan (BadProgram fault) found out kept
 LinesOutcome (ReadFault Trace) asked found ended bytes out kept = (ended ≡ false) × ReadsOn asked found bytes × AllTold asked found false bytes out kept
 LinesOutcome (WriteFault Out) asked found ended bytes out kept =
-    IsFront out (due_by asked found ended bytes) × KeepsFront kept asked found ended bytes
+    IsProperFront out (due_by asked found ended bytes) × KeepsFront kept asked found ended bytes
 LinesOutcome Memory asked found ended bytes out kept = Silent out kept
 LinesOutcome answer asked found ended bytes out kept = ⊥

@@ -3,7 +3,7 @@
 use Rattle.std.specs.Prelude.{◌≡◌, ◌≢◌, ℕ, ◌<◌, ◌≤◌, ◌⊎◌, Bool, true, false, ◌||◌, MatchBool, Option, None, Result, List, [], ◌∷◌, ◌++◌, length}
 use Rattle.mltl_base.specs.declared.program.Program.{Program}
 use Rattle.tool_io.specs.declared.host.Place as place
-use Rattle.tool_io.specs.Log.{Event, Attached, Took, same_place, taken, given, ended_from, names_of, IsFront, Prompt}
+use Rattle.tool_io.specs.Log.{Event, Attached, Took, same_place, taken, given, ended_from, names_of, IsFront, IsProperFront, Prompt}
 use Rattle.tool_io.specs.Host.{Rose, NoFault, RoseAt}
 use Rattle.tool_io.specs.Cutting.{HasNoNewline, lines_of}
 use Rattle.tool_words.specs.R2u2Words.{RunAsked}
@@ -88,10 +88,10 @@ FileOutcome (status.TheVariants.TextTooLong p) asked file file_end bytes ended o
 FileOutcome status.TheVariants.Memory asked file file_end bytes ended out kept = (length file ≤ file_limit asked.source) × Silent out kept
 FileOutcome answer asked file file_end bytes ended out kept = ByLines answer asked file file_end bytes ended out kept
 
--- the usage line is out whole, or a front of it
+-- the usage line is out whole, or a front of it that misses some
 abbrev pub HelpOutcome : status.Status → List ℕ → Option State → Type 0
 HelpOutcome status.TheVariants.Helped out kept = (out ≡ usage R2u2) × (kept ≡ None)
-HelpOutcome (status.TheVariants.WriteFault place.TheVariants.Out) out kept = IsFront out (usage R2u2) × (kept ≡ None)
+HelpOutcome (status.TheVariants.WriteFault place.TheVariants.Out) out kept = IsProperFront out (usage R2u2) × (kept ≡ None)
 HelpOutcome status.TheVariants.Memory out kept = Silent out kept
 HelpOutcome answer out kept = ⊥
 
