@@ -10,3 +10,4 @@ pub mod Truths
 pub mod SoundOps
 pub mod UpgradeLaws
 pub mod WellRaised
+pub mod BoundOutputs

@@ -4,7 +4,7 @@ use Rattle.std.proofs.lemmas.List.{map_push, take-map}
 use Rattle.mltl_base.specs.declared.operators.BzOp.{BzOp}
 use Rattle.mltl_base.specs.declared.operators.BzOp.TheVariants.{Column, IsTrue, Const, Neg, Add, Sub, Mul, Div, Rem, Eq, Lt, Le}
 use Rattle.mltl_base.specs.declared.program.StoredSignal.{StoredSignal}
-use Rattle.mltl_base.specs.Atoms.{Term, column, constant, negative, plus, minus, times, quotient, remainder, Atom, is_true, equal, less, at_most}
+use Rattle.mltl_base.specs.Atoms.{Term, column, constant, negative, plus, minus, times, quotient, remainder, Atom, is_true, equal, less, at_most, different, greater, at_least}
 use Rattle.mltl_base.specs.Programs.{Expression, whole, truth, expression_of, expressions_after, expressions, term_at}
 use Rattle.mltl_base.specs.Ranges.{divided, left_over, lessened, multiplied, negated, over as over_one, over_both, over_divisor, range, summed}
 use Rattle.obs_verify.specs.declared.fault.VerifyFault.{VerifyFault}
@@ -59,7 +59,7 @@ whole_before_kept signals columns ops i a =
     ap (λ os. is_whole (slice_get os a)) (take-map (bound_op signals columns) i ops) ∙ kept_test is_whole (bound_op signals columns) (whole_kept signals columns) (take i ops) a
 
 -- an expression over other columns
-over : (ℕ → ℕ) → Term → Term
+unfoldable pub over : (ℕ → ℕ) → Term → Term
 over g (column c) = column (g c)
 over g (constant n) = constant n
 over g (negative a) = negative (over g a)
@@ -69,14 +69,16 @@ over g (times a b) = times (over g a) (over g b)
 over g (quotient a b) = quotient (over g a) (over g b)
 over g (remainder a b) = remainder (over g a) (over g b)
 
-atom_over : (ℕ → ℕ) → Atom → Atom
+unfoldable pub atom_over : (ℕ → ℕ) → Atom → Atom
 atom_over g (is_true c) = is_true (g c)
 atom_over g (equal a b) = equal (over g a) (over g b)
 atom_over g (less a b) = less (over g a) (over g b)
 atom_over g (at_most a b) = at_most (over g a) (over g b)
-atom_over g a = a
+atom_over g (different a b) = different (over g a) (over g b)
+atom_over g (greater a b) = greater (over g a) (over g b)
+atom_over g (at_least a b) = at_least (over g a) (over g b)
 
-both_over : (ℕ → ℕ) → Expression → Expression
+unfoldable pub both_over : (ℕ → ℕ) → Expression → Expression
 both_over g (whole e) = whole (over g e)
 both_over g (truth a) = truth (atom_over g a)
 
@@ -114,7 +116,7 @@ expression_over signals columns before (Eq a b) = let x = term_over (moved signa
 expression_over signals columns before (Lt a b) = let x = term_over (moved signals columns) before a in let y = term_over (moved signals columns) before b in cc
 expression_over signals columns before (Le a b) = let x = term_over (moved signals columns) before a in let y = term_over (moved signals columns) before b in cc
 
-expressions_over : (signals : List StoredSignal) (columns : List ℕ) (before : List Expression) (ops : List BzOp)
+pub expressions_over : (signals : List StoredSignal) (columns : List ℕ) (before : List Expression) (ops : List BzOp)
     → expressions_after (map (both_over (moved signals columns)) before) (map (bound_op signals columns) ops) ≡ map (both_over (moved signals columns)) (expressions_after before ops)
 unfolding expressions_after
 expressions_over signals columns before [] = refl
