@@ -4,3 +4,4 @@ pub mod ColumnLaws
 pub mod NameLaws
 pub mod CompiledLaws
 pub mod TellingLaws
+pub mod MovedImages

@@ -1,6 +1,6 @@
 -- What the program of a text tells.
 
-use Rattle.std.proofs.Common.{◌≡◌, ◌∙◌, ℕ, List, [], ◌∷◌, map, max, All, Option, Some, None, Result, Ok, refl, sym, ap, ap₂}
+use Rattle.std.proofs.Common.{◌≡◌, ◌∙◌, ℕ, List, [], ◌∷◌, map, max, All, Option, Some, None, Result, Ok, Err, refl, sym, ap, ap₂}
 use Rattle.std.specs.Prelude.{option_map}
 use Rattle.std.specs.Option.{option_or}
 use Rattle.mltl_base.specs.declared.program.Columns.{Columns}
@@ -14,7 +14,9 @@ use Rattle.mltl_base.proofs.CoreMeaning.{core_delay}
 use Rattle.c2po_lexer.specs.Tokens.{tokens_of}
 use Rattle.c2po_parse.specs.Specification.{spec_of}
 use Rattle.c2po_kinds.specs.declared.fault.TypeFault.{TypeFault}
+use Rattle.mltl_base.specs.declared.signal.Signal.{Signal}
 use Rattle.c2po_types.specs.FirstFault.{first_fault}
+use Rattle.trace_feed.specs.declared.header_fault.HeaderFault.{HeaderFault}
 use Rattle.set_expand.proofs.Faultless.{faultless-tensed}
 use Rattle.obs_build.proofs.Tenses.{image_unfolds, image_names, image_tells}
 use Rattle.spec_compile.specs.declared.fault.CompileFault.{CompileFault}
@@ -22,7 +24,7 @@ use Rattle.spec_compile.specs.Refusals.{token_refusal, tree_refusal, check_refus
 use Rattle.spec_compile.specs.Front.{tokens_in, items_in, refusal_in, first_refusal}
 use Rattle.spec_compile.specs.Limits.{limit_refusal}
 use Rattle.spec_compile.specs.Image.{over_columns, plain_outputs, image}
-use Rattle.spec_compile.specs.Compiled.{signals_in, outputs_in, columns_by, unless_refused, image_within, image_under, image_of_text}
+use Rattle.spec_compile.specs.Compiled.{signals_in, outputs_in, columns_by, unless_refused, image_within, image_under, image_of_text, IsImageUnder}
 use Rattle.spec_compile.proofs.ImageLaws.{image_of}
 
 -- nothing first, and nothing then
@@ -40,7 +42,7 @@ no_fault text h = map_none (first_fault (items_in text))
     (second_none (refusal_in tree_refusal (spec_of (tokens_in text))) _ (second_none (refusal_in token_refusal (tokens_of text)) _ h))
 
 -- so its outputs mix no tenses
-tensed : (text : List ℕ) → first_refusal text ≡ None → All IsTensed (outputs_in text)
+pub tensed : (text : List ℕ) → first_refusal text ≡ None → All IsTensed (outputs_in text)
 tensed text h = faultless-tensed (items_in text) (no_fault text h)
 
 not_refused : (first : Option CompileFault) (found : Result Program CompileFault) (p : Program) → unless_refused first found ≡ Ok p → (first ≡ None) × (found ≡ Ok p)
@@ -48,7 +50,7 @@ not_refused None found p h = (refl, h)
 not_refused (Some refusal) found p h = absurd (cc)
 
 -- a program that a text and a header line stand for is the image over their columns
-pub image_found : (text : List ℕ) (header : Option (List ℕ)) (columns : Columns) (p : Program) → image_of_text text header ≡ Ok p
+image_found : (text : List ℕ) (header : Option (List ℕ)) (columns : Columns) (p : Program) → image_of_text text header ≡ Ok p
     → columns_by (signals_in text) header ≡ Ok columns → (first_refusal text ≡ None) × (p ≡ image columns (signals_in text) (outputs_in text))
 unfolding image_of_text
 image_found text header columns p h k =
@@ -57,6 +59,19 @@ image_found text header columns p h k =
     let within = not_refused (limit_refusal (over_columns columns (outputs_in text))) (Ok (image columns (signals_in text) (outputs_in text))) p over in
     let is : p ≡ image columns (signals_in text) (outputs_in text) = (let e = within.1 in cc) in
     (all.0, is)
+
+columns_found : (signals : List Signal) (outs : List Asked) (found : Result Columns HeaderFault) (p : Program) → image_under signals outs found ≡ Ok p
+    → (columns : Columns) × (found ≡ Ok columns)
+columns_found signals outs (Ok columns) p h = (columns, refl)
+columns_found signals outs (Err fault) p h = absurd (cc)
+
+-- and it has such columns
+pub image_under_header : (text : List ℕ) (header : Option (List ℕ)) (p : Program) → image_of_text text header ≡ Ok p → IsImageUnder text header p
+unfolding image_of_text
+image_under_header text header p h =
+    let all = not_refused (first_refusal text) (image_under (signals_in text) (outputs_in text) (columns_by (signals_in text) header)) p h in
+    let found = columns_found (signals_in text) (outputs_in text) (columns_by (signals_in text) header) p all.1 in
+    record { columns = found.0; found = found.1; is_image = (image_found text header found.0 p h found.1).1 }
 
 pub text_reports : (style : Style) (text : List ℕ) (header : Option (List ℕ)) (columns : Columns) (p : Program) (rows : List Row)
     → image_of_text text header ≡ Ok p → columns_by (signals_in text) header ≡ Ok columns

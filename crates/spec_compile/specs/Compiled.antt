@@ -1,6 +1,6 @@
 -- The program that a text and a header line stand for, or why there is none.
 
-use Rattle.std.specs.Prelude.{ℕ, List, map, length, Option, Some, None, Result, Ok, Err}
+use Rattle.std.specs.Prelude.{◌≡◌, ℕ, List, map, length, Option, Some, None, Result, Ok, Err}
 use Rattle.mltl_base.specs.declared.program.Columns.{Columns}
 use Rattle.mltl_base.specs.declared.program.Program.{Program}
 use Rattle.mltl_base.specs.Subformulas.{Asked}
@@ -46,3 +46,9 @@ image_under signals outs (Err fault) = Err (header_refusal fault)
 unfoldable pub image_of_text : List ℕ → Option (List ℕ) → Result Program CompileFault
 image_of_text text header =
     unless_refused (first_refusal text) (image_under (signals_in text) (outputs_in text) (columns_by (signals_in text) header))
+
+-- a program is the image of a text over the columns that a header line, or the order of declaration, gives its signals
+pub record IsImageUnder (text : List ℕ) (header : Option (List ℕ)) (program : Program) : Type 0 where
+  pub columns : Columns
+  pub found : columns_by (signals_in text) header ≡ Ok columns
+  pub is_image : program ≡ image columns (signals_in text) (outputs_in text)

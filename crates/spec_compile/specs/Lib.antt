@@ -3,3 +3,4 @@ pub mod Front
 pub mod Limits
 pub mod Image
 pub mod Compiled
+pub mod ImageFiles

@@ -8,11 +8,16 @@ ghost use Rattle.mltl_base.specs.declared.program.Columns.{Columns as Places};
 ghost use Rattle.mltl_base.specs.declared.program.Program.{Program as Observer};
 ghost use Rattle.mltl_base.specs.declared.report.Style.{Style as Form};
 ghost use Rattle.spec_compile.specs.Image.{plain_outputs};
-ghost use Rattle.spec_compile.specs.Compiled.{columns_by, image_of_text, outputs_in, signals_in};
+ghost use Rattle.spec_compile.specs.ImageFiles.{CanMove, moved_image};
+ghost use Rattle.spec_compile.specs.Compiled.{IsImageUnder, columns_by, image_of_text, outputs_in, signals_in};
 
-/// The program of a text tells what the plain outputs of the text tell over the columns of its signals: the same reports
-/// of all rows in either style, with the same worst-case delays, under the same names.
+/// The program of a text and a header line is the image of the text over columns that its signals have there.
+///
+/// It tells what the plain outputs of the text tell over those columns: the same reports of all rows in either style,
+/// with the same worst-case delays, under the same names.
 pub fn programs_tell_their_texts()
+    ensures image { (text : Seq ℕ) (header : Maybe (Seq ℕ)) (program : Observer) →
+        image_of_text text header ≡ Ok program → IsImageUnder text header program }
     ensures reports { (style : Form) (text : Seq ℕ) (header : Maybe (Seq ℕ)) (columns : Places) (program : Observer) (rows : Seq Row) →
         image_of_text text header ≡ Ok program → columns_by (signals_in text) header ≡ Ok columns →
         reports style (outputs program) rows ≡ reports style (plain_outputs columns (outputs_in text)) rows }
@@ -22,4 +27,13 @@ pub fn programs_tell_their_texts()
     ensures names { (text : Seq ℕ) (header : Maybe (Seq ℕ)) (columns : Places) (program : Observer) →
         image_of_text text header ≡ Ok program → columns_by (signals_in text) header ≡ Ok columns →
         output_names program ≡ map (λ asked. asked.name) (outputs_in text) }
+{}
+
+/// An image whose signals are moved to other columns tells what the plain outputs of its text tell over those columns,
+/// under the same names.
+pub fn moved_images_tell_their_texts()
+    ensures reports { (style : Form) (text : Seq ℕ) (old new : Places) (rows : Seq Row) → CanMove text old new →
+        reports style (outputs (moved_image text old new)) rows ≡ reports style (plain_outputs new (outputs_in text)) rows }
+    ensures names { (text : Seq ℕ) (old new : Places) →
+        output_names (moved_image text old new) ≡ map (λ asked. asked.name) (outputs_in text) }
 {}

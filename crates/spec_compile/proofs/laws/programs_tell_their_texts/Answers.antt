@@ -1,5 +1,8 @@
-use Rattle.spec_compile.proofs.TellingLaws.{text_reports, text_delays, text_names}
+use Rattle.spec_compile.proofs.TellingLaws.{image_under_header, text_reports, text_delays, text_names}
 use Rattle.spec_compile.proofs.laws.programs_tell_their_texts.Goals as goal
+
+pub returns-clause-image : goal.returns-clause-image
+returns-clause-image c = image_under_header
 
 pub returns-clause-reports : goal.returns-clause-reports
 returns-clause-reports c = text_reports
