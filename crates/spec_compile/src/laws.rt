@@ -33,7 +33,8 @@ pub fn programs_tell_their_texts()
 /// under the same names.
 pub fn moved_images_tell_their_texts()
     ensures reports { (style : Form) (text : Seq ℕ) (old new : Places) (rows : Seq Row) → CanMove text old new →
-        reports style (outputs (moved_image text old new)) rows ≡ reports style (plain_outputs new (outputs_in text)) rows }
+        reports style (outputs (moved_image text old new)) rows ≡
+        reports style (plain_outputs new (outputs_in text)) rows }
     ensures names { (text : Seq ℕ) (old new : Places) →
         output_names (moved_image text old new) ≡ map (λ asked. asked.name) (outputs_in text) }
 {}
