@@ -2,3 +2,9 @@ pub mod Cases
 pub mod Forms
 pub mod Meaning
 pub mod Delays
+pub mod Reading
+pub mod Putting
+pub mod Heads
+pub mod Numbering
+pub mod Placing
+pub mod Ending

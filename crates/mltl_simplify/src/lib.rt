@@ -1,9 +1,17 @@
-//! Simplified formulas: the rules, and what they keep.
+//! Simplified formulas: the rules, what they keep, and the simplified form of a specification that is unfolded.
+//!
+//! `simp` in `specs/Simplify.antt` is the simplified formula. [`simplify`] makes nodes that unfold to it, one for each
+//! node at most, so that what is shared is simplified once.
 #![tactic(auto)]
 
 mod laws;
+mod numbers;
+mod parts;
+mod rules;
+mod simplifying;
 
 pub use laws::{
     simplified_examples, simplified_formulas_keep_their_form, simplified_formulas_mean_the_same,
     simplified_formulas_settle_among_each_class, simplified_verdicts_are_settled,
 };
+pub use simplifying::simplify;

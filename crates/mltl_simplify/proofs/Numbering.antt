@@ -1,0 +1,213 @@
+-- Numbers of whole numbers without signals and without a fault.
+
+use Rattle.std.proofs.Common.{◌≡◌, ◌≢◌, ℕ, ℤ, pos, neg_ℤ, ◌≤ℤ◌, Bool, true, false, not, ◌||◌, Option, Some, None, [], refl, sym, subst, ap₂, ◌∙◌, arith}
+use Rattle.std.specs.Prelude.{Ok, Err, if◌then◌else◌, FitsSigned}
+use Rattle.std.specs.Int.{w64}
+use Rattle.std.specs.Ordering.{int_eq}
+use Rattle.std.proofs.lemmas.Int.{ints}
+use Rattle.std.proofs.lemmas.Bool.{and_parts}
+use Rattle.std.proofs.lemmas.Bool.Decides.{Decides-int_eq}
+use Rattle.mltl_base.specs.declared.operators.ArithOp as arith
+use Rattle.mltl_base.specs.declared.operators.CompareOp as compare
+use Rattle.mltl_base.specs.Atoms.{Term, column, constant, negative, plus, minus, times, quotient, remainder, value, holds}
+use Rattle.mltl_base.specs.Formula.{Formula, atom}
+use Rattle.mltl_base.specs.Ranges.{Range, Ranged, divisor, range, negated, summed, lessened, multiplied, divided, left_over, over, over_both, over_divisor, in_word, divides, IsIn, FitsTerm}
+use Rattle.mltl_base.proofs.Ranging.{value_fits_word, value_in_range}
+use Rattle.plain_nodes.specs.Faults.{why_none, term_fault, formula_fault}
+use Rattle.plain_nodes.specs.Nodes.{arithmetic, comparison, constant_formula}
+use Rattle.plain_nodes.proofs.NoFaults.{neither}
+use Rattle.mltl_simplify.specs.Numbers.{number_of, computed, compared, compares, CanDivideBy, IsNegated, IsComputed}
+use Rattle.mltl_simplify.specs.Simplify.{reads_signal, has_signal, of_truth, simp}
+
+-- the number is known, where there is no fault
+abbrev pub IsKnown : Option ℤ → Term → Type 0
+IsKnown x a = term_fault a ≡ None → x ≡ number_of a
+
+record HasRange (r : Ranged) : Type 0 where
+  the : Range
+  is : r ≡ Ok the
+
+ranged : (r : Ranged) → why_none r ≡ None → HasRange r
+ranged (Ok r) h = record { the = r; is = refl }
+ranged (Err why) h = absurd (cc)
+
+-- no row has no signals that don't fit
+fits_none : (a : Term) → FitsTerm [] a
+unfolding FitsTerm
+fits_none (column c) = (omega (arith, ints))
+fits_none (constant n) = tt
+fits_none (negative a) = fits_none a
+fits_none (plus a b) = (fits_none a, fits_none b)
+fits_none (minus a b) = (fits_none a, fits_none b)
+fits_none (times a b) = (fits_none a, fits_none b)
+fits_none (quotient a b) = (fits_none a, fits_none b)
+fits_none (remainder a b) = (fits_none a, fits_none b)
+
+fits : (a : Term) → term_fault a ≡ None → FitsSigned w64 (value a [])
+fits a h = let r = ranged (range a) h in value_fits_word [] a r.the (fits_none a) r.is
+
+-- operands of a whole number without a fault have none
+over_none : (f : Range → Range) (r : Ranged) → why_none (over f r) ≡ None → why_none r ≡ None
+over_none f (Ok r) h = refl
+over_none f (Err why) h = absurd (cc)
+
+both_none : (f : Range → Range → Range) (r s : Ranged) → why_none (over_both f r s) ≡ None → (why_none r ≡ None) × (why_none s ≡ None)
+both_none f (Ok r) (Ok s) h = (refl, refl)
+both_none f (Ok r) (Err why) h = absurd (cc)
+both_none f (Err why) s h = absurd (cc)
+
+divisor_none : (f : Range → ℤ → Range) (r s : Ranged) → why_none (over_divisor f r s) ≡ None → (why_none r ≡ None) × (why_none s ≡ None)
+divisor_none f (Ok r) (Ok s) h = (refl, refl)
+divisor_none f (Ok r) (Err why) h = absurd (cc)
+divisor_none f (Err why) s h = absurd (cc)
+
+operands : (op : arith.ArithOp) (a b : Term) → term_fault (arithmetic op a b) ≡ None → (term_fault a ≡ None) × (term_fault b ≡ None)
+unfolding range
+operands arith.TheVariants.Add a b h = both_none summed (range a) (range b) h
+operands arith.TheVariants.Sub a b h = both_none lessened (range a) (range b) h
+operands arith.TheVariants.Mul a b h = both_none multiplied (range a) (range b) h
+operands arith.TheVariants.Div a b h = divisor_none divided (range a) (range b) h
+operands arith.TheVariants.Rem a b h = divisor_none left_over (range a) (range b) h
+
+-- a divisor isn't 0
+record Divides (r : Ranged) : Type 0 where
+  the : Range
+  is : r ≡ Ok the
+  one : divides the ≡ true
+
+divides_by : (f : Range → ℤ → Range) (r s : Ranged) → why_none (over_divisor f r s) ≡ None → Divides s
+divides_by f (Err why) s h = absurd (cc)
+divides_by f (Ok r) (Err why) h = absurd (cc)
+divides_by f (Ok r) (Ok s) h = record { the = s; is = refl; one = go (divides s) h }
+  where
+    go : (b : Bool) → why_none (if b then in_word (f r s.least) else Err divisor) ≡ None → b ≡ true
+    go true h = refl
+    go false h = absurd (cc)
+
+not_true : (b : Bool) → b ≡ true → not b ≡ true → ⊥
+not_true true e f = cc
+not_true false e f = cc
+
+not_zero : (s : Range) (z : ℤ) → divides s ≡ true → IsIn s z → z ≢ pos 0
+not_zero s z one lies e =
+    let parts = and_parts (int_eq s.least s.greatest) (not (int_eq s.least (pos 0))) one in
+    let same : s.least ≡ s.greatest = (Decides-int_eq s.least s.greatest).0 parts.0 in
+    let low : s.least ≤ℤ pos 0 = subst (λ x. s.least ≤ℤ x) e lies.0 in
+    let high : pos 0 ≤ℤ s.least = subst (λ x. pos 0 ≤ℤ x) (sym same) (subst (λ x. x ≤ℤ s.greatest) e lies.1) in
+    let zero : s.least ≡ pos 0 = omega (arith, ints) in
+    not_true (int_eq s.least (pos 0)) ((Decides-int_eq s.least (pos 0)).1 zero) parts.1
+
+by_divisor : (f : Range → ℤ → Range) (a b : Term) → why_none (over_divisor f (range a) (range b)) ≡ None → value b [] ≢ pos 0
+by_divisor f a b h =
+    let d = divides_by f (range a) (range b) h in
+    not_zero d.the (value b []) d.one (value_in_range [] b d.the (fits_none b) d.is)
+
+can_divide : (op : arith.ArithOp) (a b : Term) → term_fault (arithmetic op a b) ≡ None → CanDivideBy op (value b [])
+unfolding range
+can_divide arith.TheVariants.Add a b h = tt
+can_divide arith.TheVariants.Sub a b h = tt
+can_divide arith.TheVariants.Mul a b h = tt
+can_divide arith.TheVariants.Div a b h = by_divisor divided a b h
+can_divide arith.TheVariants.Rem a b h = by_divisor left_over a b h
+
+value_by : (op : arith.ArithOp) (a b : Term) → value (arithmetic op a b) [] ≡ computed op (value a []) (value b [])
+unfolding value
+value_by arith.TheVariants.Add a b = refl
+value_by arith.TheVariants.Sub a b = refl
+value_by arith.TheVariants.Mul a b = refl
+value_by arith.TheVariants.Div a b = refl
+value_by arith.TheVariants.Rem a b = refl
+
+reads_by : (op : arith.ArithOp) (a b : Term) → reads_signal (arithmetic op a b) ≡ (reads_signal a || reads_signal b)
+unfolding reads_signal
+reads_by arith.TheVariants.Add a b = refl
+reads_by arith.TheVariants.Sub a b = refl
+reads_by arith.TheVariants.Mul a b = refl
+reads_by arith.TheVariants.Div a b = refl
+reads_by arith.TheVariants.Rem a b = refl
+
+-- ---- numbers that are found
+
+pub constant_known : (n : ℤ) → IsKnown (Some n) (constant n)
+unfolding reads_signal value
+constant_known n h = refl
+
+pub column_known : (s : ℕ) → IsKnown None (column s)
+unfolding reads_signal
+column_known s h = refl
+
+pub negated_known : (a : Term) (x found : Option ℤ) → IsKnown x a → IsNegated x found → IsKnown found (negative a)
+unfolding range value reads_signal
+negated_known a x found known is h =
+    let none : term_fault a ≡ None = over_none negated (range a) h in
+    go (reads_signal a) (subst (λ y. IsNegated y found) (known none) is)
+  where
+    go : (b : Bool) → IsNegated (if b then None else Some (value a [])) found → found ≡ (if b then None else Some (neg_ℤ (value a [])))
+    go true n = n
+    go false n = n (fits (negative a) h)
+
+pub computed_known : (op : arith.ArithOp) (a b : Term) (x y found : Option ℤ) → IsKnown x a → IsKnown y b → IsComputed op x y found → IsKnown found (arithmetic op a b)
+computed_known op a b x y found known_x known_y is h =
+    let none = operands op a b h in
+    let word : FitsSigned w64 (computed op (value a []) (value b [])) = subst (λ z. FitsSigned w64 z) (value_by op a b) (fits (arithmetic op a b) h) in
+    go (reads_signal a) (reads_signal b) (subst (λ v. IsComputed op v (number_of b) found) (known_x none.0) (subst (λ v. IsComputed op x v found) (known_y none.1) is)) word
+    ∙ sym (ap₂ (λ t v. if t then None else Some v) (reads_by op a b) (value_by op a b))
+  where
+    go : (s t : Bool) → IsComputed op (if s then None else Some (value a [])) (if t then None else Some (value b [])) found → FitsSigned w64 (computed op (value a []) (value b [])) →
+        found ≡ (if s || t then None else Some (computed op (value a []) (value b [])))
+    go true t n w = n
+    go false true n w = n
+    go false false n w = n (can_divide op a b h, w)
+
+-- ---- comparisons
+
+has_by : (op : compare.CompareOp) (a b : Term) → has_signal (comparison op a b) ≡ (reads_signal a || reads_signal b)
+unfolding has_signal
+has_by compare.TheVariants.Eq a b = refl
+has_by compare.TheVariants.Ne a b = refl
+has_by compare.TheVariants.Lt a b = refl
+has_by compare.TheVariants.Le a b = refl
+has_by compare.TheVariants.Gt a b = refl
+has_by compare.TheVariants.Ge a b = refl
+
+holds_by : (op : compare.CompareOp) (a b : Term) → holds (comparison op a b) [] ≡ compares op (value a []) (value b [])
+unfolding holds
+holds_by compare.TheVariants.Eq a b = refl
+holds_by compare.TheVariants.Ne a b = refl
+holds_by compare.TheVariants.Lt a b = refl
+holds_by compare.TheVariants.Le a b = refl
+holds_by compare.TheVariants.Gt a b = refl
+holds_by compare.TheVariants.Ge a b = refl
+
+both_faultless : (op : compare.CompareOp) (a b : Term) → formula_fault (atom (comparison op a b)) ≡ None → (term_fault a ≡ None) × (term_fault b ≡ None)
+unfolding formula_fault
+both_faultless compare.TheVariants.Eq a b h = neither (term_fault a) (term_fault b) h
+both_faultless compare.TheVariants.Ne a b h = neither (term_fault a) (term_fault b) h
+both_faultless compare.TheVariants.Lt a b h = neither (term_fault a) (term_fault b) h
+both_faultless compare.TheVariants.Le a b h = neither (term_fault a) (term_fault b) h
+both_faultless compare.TheVariants.Gt a b h = neither (term_fault a) (term_fault b) h
+both_faultless compare.TheVariants.Ge a b h = neither (term_fault a) (term_fault b) h
+
+pub constant_is : (v : Bool) → constant_formula v ≡ of_truth v
+constant_is true = refl
+constant_is false = refl
+
+-- the formula that a comparison becomes, by what is found of its numbers
+abbrev pub by_found : Option Bool → Formula → Formula
+by_found (Some v) p = constant_formula v
+by_found None p = p
+
+pub compared_simple : (op : compare.CompareOp) (a b : Term) (x y : Option ℤ) → IsKnown x a → IsKnown y b → formula_fault (atom (comparison op a b)) ≡ None →
+    by_found (compared op x y) (atom (comparison op a b)) ≡ simp (atom (comparison op a b))
+unfolding simp
+compared_simple op a b x y known_x known_y h =
+    let none = both_faultless op a b h in
+    ap₂ (λ v w. by_found (compared op v w) (atom (comparison op a b))) (known_x none.0) (known_y none.1)
+    ∙ (go (reads_signal a) (reads_signal b)
+    ∙ sym (ap₂ (λ t v. if t then atom (comparison op a b) else of_truth v) (has_by op a b) (holds_by op a b)))
+  where
+    go : (s t : Bool) → by_found (compared op (if s then None else Some (value a [])) (if t then None else Some (value b []))) (atom (comparison op a b))
+        ≡ (if s || t then atom (comparison op a b) else of_truth (compares op (value a []) (value b [])))
+    go true t = refl
+    go false true = refl
+    go false false = constant_is (compares op (value a []) (value b []))

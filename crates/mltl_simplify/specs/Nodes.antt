@@ -1,0 +1,128 @@
+-- Nodes that stand for the simplified formulas of other nodes.
+
+use Rattle.std.specs.Prelude.{◌≡◌, ◌<◌, ℕ, ℤ, Bool, true, false, not, Option, Some, None, List, length, slice_get}
+use Rattle.mltl_base.specs.declared.interval.Interval.{Interval}
+use Rattle.mltl_base.specs.declared.operators.LogicOp as logic
+use Rattle.mltl_base.specs.declared.operators.WindowOp as window
+use Rattle.mltl_base.specs.declared.operators.BetweenOp as between
+use Rattle.mltl_base.specs.Formula as plain
+use Rattle.mltl_base.specs.Formula.{until, release, since}
+use Rattle.plain_nodes.specs.declared.nodes.Plain.{Plain}
+use Rattle.plain_nodes.specs.declared.nodes.PlainOut.{PlainOut}
+use Rattle.plain_nodes.specs.declared.nodes.PlainOut.TheVariants.{Formula, Contract}
+use Rattle.plain_nodes.specs.Faults.{formula_fault, term_fault}
+use Rattle.plain_nodes.specs.Nodes.{Tree, number, formula, Has, Grows, AreSound}
+use Rattle.mltl_simplify.specs.declared.parts.Part.{Part}
+use Rattle.mltl_simplify.specs.Numbers.{number_of}
+use Rattle.mltl_simplify.specs.Simplify.{simp, simple_and, simple_or, simple_implies, simple_equals, simple_finally, simple_globally, simple_once, simple_historically, truth_of, unless_truth, unless_false}
+
+-- operators over simplified operands, each by its rule
+abbrev pub simple_logic : logic.LogicOp → plain.Formula → plain.Formula → plain.Formula
+simple_logic logic.TheVariants.And p q = simple_and p q
+simple_logic logic.TheVariants.Or p q = simple_or p q
+simple_logic logic.TheVariants.Implies p q = simple_implies p q
+simple_logic logic.TheVariants.Iff p q = simple_equals p q
+
+abbrev pub simple_window : window.WindowOp → Interval → plain.Formula → plain.Formula
+simple_window window.TheVariants.F i p = simple_finally i p
+simple_window window.TheVariants.G i p = simple_globally i p
+simple_window window.TheVariants.O i p = simple_once i p
+simple_window window.TheVariants.H i p = simple_historically i p
+
+abbrev pub simple_between : between.BetweenOp → Interval → plain.Formula → plain.Formula → plain.Formula
+simple_between between.TheVariants.U i p q = unless_truth (truth_of q) (until i p q)
+simple_between between.TheVariants.R i p q = unless_truth (truth_of q) (release i p q)
+simple_between between.TheVariants.S i p q = unless_false (truth_of q) (since i p q)
+
+-- the operator leaves the truth as it is
+abbrev pub keeps_truth : window.WindowOp → Bool → Bool
+keeps_truth window.TheVariants.F v = true
+keeps_truth window.TheVariants.G v = true
+keeps_truth window.TheVariants.O v = not v
+keeps_truth window.TheVariants.H v = v
+
+-- there is no truth that it leaves as it is
+abbrev pub KeepsNone : window.WindowOp → Option Bool → Type 0
+KeepsNone op None = Unit {0}
+KeepsNone op (Some v) = keeps_truth op v ≡ false
+
+-- the operator is the truth on its right
+abbrev pub gives_truth : between.BetweenOp → Bool → Bool
+gives_truth between.TheVariants.U v = true
+gives_truth between.TheVariants.R v = true
+gives_truth between.TheVariants.S v = not v
+
+-- the nodes are sound over signals of some number
+pub record AreFormed (nodes : List Plain) : Type 0 where
+  pub signals : ℕ
+  pub sound : AreSound signals nodes
+
+-- node n is a formula
+pub record IsFormulaAt (nodes : List Plain) (n : ℕ) : Type 0 where
+  pub the : plain.Formula
+  pub has : Has nodes n (formula the)
+
+-- further nodes, of which node n is a formula: the older ones stay, and all are as sound as those
+pub record Puts (old new : List Plain) (n : ℕ) (p : plain.Formula) : Type 0 where
+  pub has : Has new n (formula p)
+  pub grows : Grows old new
+  pub sound : (signals : ℕ) → AreSound signals old → AreSound signals new
+
+-- node n is the simplified formula, where the formula has no fault; else some formula
+pub record IsSimplified (nodes : List Plain) (n : ℕ) (p : plain.Formula) : Type 0 where
+  pub the : plain.Formula
+  pub has : Has nodes n (formula the)
+  pub simple : formula_fault p ≡ None → the ≡ simp p
+
+-- node n stands for a whole number, which stays, or for a formula, which is simplified
+abbrev pub IsPlaced : List Plain → ℕ → Tree → Type 0
+IsPlaced nodes n (number a) = Has nodes n (number a)
+IsPlaced nodes n (formula p) = IsSimplified nodes n p
+
+-- further nodes, of which node n stands for a tree of some other nodes: the older ones stay, and where those nodes are
+-- sound all are as sound as the older ones
+pub record Places (nodes old new : List Plain) (n : ℕ) (tree : Tree) : Type 0 where
+  pub placed : IsPlaced new n tree
+  pub grows : Grows old new
+  pub sound : (signals : ℕ) → AreSound signals nodes → AreSound signals old → AreSound signals new
+
+-- the number is that of the whole number, if it is one and has no fault
+abbrev pub IsNumbered : Option ℤ → Tree → Type 0
+IsNumbered known (number a) = term_fault a ≡ None → known ≡ number_of a
+IsNumbered known (formula p) = Unit {0}
+
+-- the parts of the first nodes have the numbers of these
+pub record AreNumbered (nodes : List Plain) (parts : List Part) : Type 0 where
+  pub known : (n : ℕ) (part : Part) (tree : Tree) → slice_get parts n ≡ Some part → Has nodes n tree → IsNumbered part.number tree
+
+-- there is a part for each of so many first nodes, which stands for what the node unfolds to
+pub record AreSimplified (nodes : List Plain) (count : ℕ) (simple : List Plain) (parts : List Part) : Type 0 where
+  pub each : length parts ≡ count
+  pub placed : (n : ℕ) (part : Part) (tree : Tree) → slice_get parts n ≡ Some part → Has nodes n tree → IsPlaced simple part.place tree
+  pub numbered : AreNumbered nodes parts
+  pub sound : (signals : ℕ) → AreSound signals nodes → AreSound signals simple
+
+-- the number and the place of a part
+abbrev pub number_in : Option Part → Option ℤ
+number_in (Some part) = part.number
+number_in None = None
+
+-- the place that stands for node n, and an output over these places
+abbrev pub place_in : Option Part → ℕ
+place_in (Some part) = part.place
+place_in None = 0
+
+abbrev pub place_at : List Part → ℕ → ℕ
+place_at parts n = place_in (slice_get parts n)
+
+abbrev pub number_at : List Part → ℕ → Option ℤ
+number_at parts n = number_in (slice_get parts n)
+
+abbrev pub out_over : List Part → PlainOut → PlainOut
+out_over parts (Formula engine n name) = Formula engine (place_at parts n) name
+out_over parts (Contract engine n m name) = Contract engine (place_at parts n) (place_at parts m) name
+
+-- the output names nodes among so many
+abbrev pub NamesNodes : ℕ → PlainOut → Type 0
+NamesNodes count (Formula engine n name) = n < count
+NamesNodes count (Contract engine n m name) = (n < count) × (m < count)

@@ -1,0 +1,56 @@
+-- Numbers that whole-number expressions without signals are.
+
+use Rattle.std.specs.Prelude.{◌≡◌, ◌≢◌, ℤ, pos, neg_ℤ, ◌+ℤ◌, ◌-ℤ◌, ◌*ℤ◌, int_div, int_rem, int_lt, int_le, Bool, not, FitsSigned, if◌then◌else◌, Option, Some, None, []}
+use Rattle.std.specs.Int.{w64}
+use Rattle.std.specs.Ordering.{int_eq}
+use Rattle.mltl_base.specs.declared.operators.ArithOp as arith
+use Rattle.mltl_base.specs.declared.operators.CompareOp as compare
+use Rattle.mltl_base.specs.Atoms.{Term, value}
+use Rattle.mltl_simplify.specs.Simplify.{reads_signal}
+
+-- the number that an expression without signals is, on each row
+abbrev pub number_of : Term → Option ℤ
+number_of a = if reads_signal a then None else Some (value a [])
+
+-- what an operator makes of two numbers
+abbrev pub computed : arith.ArithOp → ℤ → ℤ → ℤ
+computed arith.TheVariants.Add x y = x +ℤ y
+computed arith.TheVariants.Sub x y = x -ℤ y
+computed arith.TheVariants.Mul x y = x *ℤ y
+computed arith.TheVariants.Div x y = int_div x y
+computed arith.TheVariants.Rem x y = int_rem x y
+
+-- the divisor, if there is one, isn't 0
+abbrev pub CanDivideBy : arith.ArithOp → ℤ → Type 0
+CanDivideBy arith.TheVariants.Div y = y ≢ pos 0
+CanDivideBy arith.TheVariants.Rem y = y ≢ pos 0
+CanDivideBy _ y = Unit {0}
+
+-- the operator can be computed in 64 bits
+abbrev pub CanCompute : arith.ArithOp → ℤ → ℤ → Type 0
+CanCompute op x y = CanDivideBy op y × FitsSigned w64 (computed op x y)
+
+-- what is found for a negation, and for an operator, is their number, where the operands' are known and 64 bits suffice
+abbrev pub IsNegated : Option ℤ → Option ℤ → Type 0
+IsNegated None found = found ≡ None
+IsNegated (Some x) found = FitsSigned w64 (neg_ℤ x) → found ≡ Some (neg_ℤ x)
+
+abbrev pub IsComputed : arith.ArithOp → Option ℤ → Option ℤ → Option ℤ → Type 0
+IsComputed op (Some x) (Some y) found = CanCompute op x y → found ≡ Some (computed op x y)
+IsComputed op None y found = found ≡ None
+IsComputed op (Some x) None found = found ≡ None
+
+-- whether two numbers compare so
+abbrev pub compares : compare.CompareOp → ℤ → ℤ → Bool
+compares compare.TheVariants.Eq x y = int_eq x y
+compares compare.TheVariants.Ne x y = not (int_eq x y)
+compares compare.TheVariants.Lt x y = int_lt x y
+compares compare.TheVariants.Le x y = int_le x y
+compares compare.TheVariants.Gt x y = int_lt y x
+compares compare.TheVariants.Ge x y = int_le y x
+
+-- the same of numbers that may be known
+abbrev pub compared : compare.CompareOp → Option ℤ → Option ℤ → Option Bool
+compared op (Some x) (Some y) = Some (compares op x y)
+compared op (Some x) None = None
+compared op None y = None

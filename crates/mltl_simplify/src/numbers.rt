@@ -1,0 +1,78 @@
+//! The numbers that whole numbers without signals are: what operators make of them.
+
+ghost use Rattle.std.specs.Prelude.{◌≡◌, ◌≢◌, pos, int_rem, Some};
+ghost use Rattle.mltl_simplify.specs.Numbers.{CanCompute, IsComputed, IsNegated, compared as compared_as, compares, computed as meant};
+
+use mltl_base::{ArithOp, CompareOp};
+
+/// The remainder, with the sign of the left operand. That by -1 is 0, also where the quotient has no 64 bits.
+fn remainder(x: i64, y: i64) -> i64
+    requires { y ≢ pos 0 }
+    ensures { result ≡ int_rem x y }
+{
+    if y == -1 { 0 } else { x % y }
+}
+
+/// What an operator makes of two numbers, where it can be computed in 64 bits.
+fn applied(op: ArithOp, x: i64, y: i64) -> Option<i64>
+    ensures { CanCompute op x y → result ≡ Some (meant op x y) }
+{
+    match op {
+        ArithOp::Add => x.checked_add(y),
+        ArithOp::Sub => x.checked_sub(y),
+        ArithOp::Mul => x.checked_mul(y),
+        ArithOp::Div => x.checked_div(y),
+        ArithOp::Rem if y == 0 => None,
+        ArithOp::Rem => Some(remainder(x, y)),
+    }
+}
+
+/// The number of a negation, where that of its operand is known.
+pub fn negated(x: Option<i64>) -> Option<i64>
+    ensures { IsNegated x result }
+{
+    match x {
+        Some(x) => x.checked_neg(),
+        None => None,
+    }
+}
+
+/// The number of two operands under an operator, where both are known.
+pub fn computed(op: ArithOp, x: Option<i64>, y: Option<i64>) -> Option<i64>
+    ensures { IsComputed op x y result }
+{
+    match x {
+        Some(x) => match y {
+            Some(y) => applied(op, x, y),
+            None => None,
+        },
+        None => None,
+    }
+}
+
+/// Whether two numbers compare so.
+fn compare(op: CompareOp, x: i64, y: i64) -> bool
+    ensures { result ≡ compares op x y }
+{
+    match op {
+        CompareOp::Eq => x == y,
+        CompareOp::Ne => x != y,
+        CompareOp::Lt => x < y,
+        CompareOp::Le => x <= y,
+        CompareOp::Gt => x > y,
+        CompareOp::Ge => x >= y,
+    }
+}
+
+/// Whether two numbers compare so, where both are known.
+pub fn compared(op: CompareOp, x: Option<i64>, y: Option<i64>) -> Option<bool>
+    ensures { result ≡ compared_as op x y }
+{
+    match x {
+        Some(x) => match y {
+            Some(y) => Some(compare(op, x, y)),
+            None => None,
+        },
+        None => None,
+    }
+}

@@ -1,0 +1,226 @@
+//! The rules of simplification over nodes: each operator over operands that are simplified.
+
+ghost use Rattle.std.specs.Prelude.{◌≡◌, ◌↔◌, ◌+◌, IsTrue, if◌then◌else◌, nat_le, None, Some, IfOk, slice_get};
+ghost use Rattle.mltl_base.specs.Formula.{Formula};
+ghost use Rattle.mltl_base.specs.declared.limits.TheConstants.{MAX_BOUND};
+ghost use Rattle.plain_nodes.specs.Nodes.{Has, IsBounded, formula};
+ghost use Rattle.mltl_simplify.specs.Nodes.{AreFormed, IsFormulaAt, KeepsNone, Puts, gives_truth, keeps_truth, simple_between, simple_logic, simple_window};
+ghost use Rattle.mltl_simplify.specs.Simplify.{joined as summed, simple_and, simple_equals, simple_implies, simple_not, simple_or, truth_of};
+
+use mltl_base::limits::MAX_BOUND;
+use mltl_base::{BetweenOp, Interval, LogicOp, WindowOp};
+use plain_nodes::{Nodes, Plain};
+use std::alloc::AllocError;
+
+/// The truth that formula `n` is, if it is one.
+fn truth_at(nodes: &Nodes, n: u32) -> Option<bool>
+    requires { IsFormulaAt nodes.now n }
+    ensures { (p : Formula) → Has nodes.now n (formula p) → result ≡ truth_of p }
+{
+    match nodes.as_slice()[n as usize] {
+        Plain::Truth(value) => Some(value),
+        _ => None,
+    }
+}
+
+/// The negation of `a`.
+pub fn negation(nodes: &mut Nodes, a: u32) -> Result<u32, AllocError>
+    requires formed { AreFormed nodes.old }
+    requires there { IsFormulaAt nodes.old a }
+    ensures { (p : Formula) → Has nodes.old a (formula p)
+        → IfOk result (λ n. Puts nodes.old nodes.new n (simple_not p)) }
+{
+    match nodes.as_slice()[a as usize] {
+        Plain::Truth(value) => nodes.push(Plain::Truth(!value)),
+        Plain::Not(z) => Ok(z),
+        _ => nodes.push(Plain::Not(a)),
+    }
+}
+
+/// `a && b`.
+fn conjunction(nodes: &mut Nodes, a: u32, b: u32) -> Result<u32, AllocError>
+    requires formed { AreFormed nodes.old }
+    requires left { IsFormulaAt nodes.old a }
+    requires right { IsFormulaAt nodes.old b }
+    ensures { (p q : Formula) → Has nodes.old a (formula p) → Has nodes.old b (formula q)
+        → IfOk result (λ n. Puts nodes.old nodes.new n (simple_and p q)) }
+{
+    match truth_at(nodes, a) {
+        Some(value) => { if value { Ok(b) } else { Ok(a) } }
+        None => match truth_at(nodes, b) {
+            Some(value) => { if value { Ok(a) } else { Ok(b) } }
+            None => nodes.push(Plain::Logic(LogicOp::And, a, b)),
+        },
+    }
+}
+
+/// `a || b`.
+fn disjunction(nodes: &mut Nodes, a: u32, b: u32) -> Result<u32, AllocError>
+    requires formed { AreFormed nodes.old }
+    requires left { IsFormulaAt nodes.old a }
+    requires right { IsFormulaAt nodes.old b }
+    ensures { (p q : Formula) → Has nodes.old a (formula p) → Has nodes.old b (formula q)
+        → IfOk result (λ n. Puts nodes.old nodes.new n (simple_or p q)) }
+{
+    match truth_at(nodes, a) {
+        Some(value) => { if value { Ok(a) } else { Ok(b) } }
+        None => match truth_at(nodes, b) {
+            Some(value) => { if value { Ok(b) } else { Ok(a) } }
+            None => nodes.push(Plain::Logic(LogicOp::Or, a, b)),
+        },
+    }
+}
+
+/// `a -> b`.
+fn implication(nodes: &mut Nodes, a: u32, b: u32) -> Result<u32, AllocError>
+    requires formed { AreFormed nodes.old }
+    requires left { IsFormulaAt nodes.old a }
+    requires right { IsFormulaAt nodes.old b }
+    ensures { (p q : Formula) → Has nodes.old a (formula p) → Has nodes.old b (formula q)
+        → IfOk result (λ n. Puts nodes.old nodes.new n (simple_implies p q)) }
+{
+    match truth_at(nodes, a) {
+        Some(value) => {
+            if value {
+                Ok(b)
+            } else {
+                nodes.push(Plain::Truth(true))
+            }
+        }
+        None => match truth_at(nodes, b) {
+            Some(value) => { if value { Ok(b) } else { negation(nodes, a) } }
+            None => nodes.push(Plain::Logic(LogicOp::Implies, a, b)),
+        },
+    }
+}
+
+/// `a <-> b`.
+fn equivalence(nodes: &mut Nodes, a: u32, b: u32) -> Result<u32, AllocError>
+    requires formed { AreFormed nodes.old }
+    requires left { IsFormulaAt nodes.old a }
+    requires right { IsFormulaAt nodes.old b }
+    ensures { (p q : Formula) → Has nodes.old a (formula p) → Has nodes.old b (formula q)
+        → IfOk result (λ n. Puts nodes.old nodes.new n (simple_equals p q)) }
+{
+    match truth_at(nodes, a) {
+        Some(value) => { if value { Ok(b) } else { negation(nodes, b) } }
+        None => match truth_at(nodes, b) {
+            Some(value) => { if value { Ok(a) } else { negation(nodes, a) } }
+            None => nodes.push(Plain::Logic(LogicOp::Iff, a, b)),
+        },
+    }
+}
+
+/// An operator that looks at one time.
+pub fn connective(nodes: &mut Nodes, op: LogicOp, a: u32, b: u32) -> Result<u32, AllocError>
+    requires formed { AreFormed nodes.old }
+    requires left { IsFormulaAt nodes.old a }
+    requires right { IsFormulaAt nodes.old b }
+    ensures { (p q : Formula) → Has nodes.old a (formula p) → Has nodes.old b (formula q)
+        → IfOk result (λ n. Puts nodes.old nodes.new n (simple_logic op p q)) }
+{
+    match op {
+        LogicOp::And => conjunction(nodes, a, b),
+        LogicOp::Or => disjunction(nodes, a, b),
+        LogicOp::Implies => implication(nodes, a, b),
+        LogicOp::Iff => equivalence(nodes, a, b),
+    }
+}
+
+/// Whether the temporal operator of one formula leaves a truth as it is: once of true isn't true at the first times, nor
+/// is historically of false false there.
+fn keeps(op: WindowOp, value: bool) -> bool
+    ensures { result ≡ keeps_truth op value }
+{
+    match op {
+        WindowOp::F | WindowOp::G => true,
+        WindowOp::O => !value,
+        WindowOp::H => value,
+    }
+}
+
+/// The interval of an operator over the same operator, where its upper end is within the limit.
+fn joined(i: Interval, j: Interval) -> Option<Interval>
+    requires outer { IsBounded i }
+    requires inner { IsBounded j }
+    ensures { result ≡ (if nat_le (i.hi + j.hi) MAX_BOUND then Some (summed i j) else None) }
+{
+    if i.hi + j.hi <= MAX_BOUND {
+        Some(Interval {
+            lo: i.lo + j.lo,
+            hi: i.hi + j.hi,
+        })
+    } else {
+        None
+    }
+}
+
+/// Whether two operators are one.
+fn is_same(outer: WindowOp, inner: WindowOp) -> bool
+    ensures { IsTrue result ↔ (inner ≡ outer) }
+{
+    inner == outer
+}
+
+/// A temporal operator of one formula, where it can't be left out: two of them in a row are one.
+fn stacked(nodes: &mut Nodes, op: WindowOp, i: Interval, a: u32) -> Result<u32, AllocError>
+    requires formed { AreFormed nodes.old }
+    requires bounded { IsBounded i }
+    requires there { IsFormulaAt nodes.old a }
+    ensures { (p : Formula) → Has nodes.old a (formula p) → KeepsNone op (truth_of p)
+        → IfOk result (λ n. Puts nodes.old nodes.new n (simple_window op i p)) }
+{
+    let node = nodes.as_slice()[a as usize];
+    match node {
+        Plain::Window(inner, j, z) if is_same(op, inner) => match joined(i, j) {
+            Some(whole) => nodes.push(Plain::Window(op, whole, z)),
+            None => nodes.push(Plain::Window(op, i, a)),
+        },
+        _ => nodes.push(Plain::Window(op, i, a)),
+    }
+}
+
+/// A temporal operator of one formula.
+pub fn window(nodes: &mut Nodes, op: WindowOp, i: Interval, a: u32) -> Result<u32, AllocError>
+    requires formed { AreFormed nodes.old }
+    requires bounded { IsBounded i }
+    requires there { IsFormulaAt nodes.old a }
+    ensures { (p : Formula) → Has nodes.old a (formula p)
+        → IfOk result (λ n. Puts nodes.old nodes.new n (simple_window op i p)) }
+{
+    match truth_at(nodes, a) {
+        Some(value) if keeps(op, value) => Ok(a),
+        _ => stacked(nodes, op, i, a),
+    }
+}
+
+/// Whether the temporal operator is a truth that stands on its right: since true isn't true at the first times.
+fn gives(op: BetweenOp, value: bool) -> bool
+    ensures { result ≡ gives_truth op value }
+{
+    match op {
+        BetweenOp::U | BetweenOp::R => true,
+        BetweenOp::S => !value,
+    }
+}
+
+/// A temporal operator between formulas.
+pub fn between(
+    nodes: &mut Nodes,
+    op: BetweenOp,
+    i: Interval,
+    a: u32,
+    b: u32,
+) -> Result<u32, AllocError>
+    requires formed { AreFormed nodes.old }
+    requires bounded { IsBounded i }
+    requires left { IsFormulaAt nodes.old a }
+    requires right { IsFormulaAt nodes.old b }
+    ensures { (p q : Formula) → Has nodes.old a (formula p) → Has nodes.old b (formula q)
+        → IfOk result (λ n. Puts nodes.old nodes.new n (simple_between op i p q)) }
+{
+    match truth_at(nodes, b) {
+        Some(value) if gives(op, value) => Ok(b),
+        _ => nodes.push(Plain::Between(op, i, a, b)),
+    }
+}

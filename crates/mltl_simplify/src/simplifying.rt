@@ -1,0 +1,75 @@
+//! The simplified form of a specification that is unfolded.
+
+ghost use Rattle.std.specs.Prelude.{◌≡◌, ◌+◌, ◌≤◌, ◌<◌, ◌^◌, ℕ, Bool, List as Seq, All, length, map, IfOk};
+ghost use Rattle.mltl_base.specs.Atoms.{Row};
+ghost use Rattle.mltl_base.specs.Formula.{Formula, wpd};
+ghost use Rattle.mltl_base.specs.Meaning.{sat};
+ghost use Rattle.mltl_base.specs.Settled.{IsOrdered, Settled};
+ghost use Rattle.plain_nodes.specs.Outputs.{IsSound, asked};
+ghost use Rattle.mltl_simplify.specs.Nodes.{NamesNodes, out_over};
+ghost use Rattle.mltl_simplify.specs.Outputs.{HasRanges, simple_outputs};
+ghost use Rattle.mltl_simplify.specs.Simplify.{simp};
+
+use crate::laws::simplified_formulas_mean_the_same;
+use crate::parts::{Part, place_at, read};
+use mltl_base::List;
+use plain_nodes::{Expanded, Nodes, PlainOut};
+use std::alloc::{AllocError, Global};
+
+/// An output over the places of the nodes that stand for its nodes.
+fn out_of(parts: &[Part], out: &PlainOut) -> PlainOut
+    requires { NamesNodes (length parts.now) out.now }
+    ensures { result ≡ out_over parts.now out.now }
+{
+    match out {
+        PlainOut::Formula(engine, n, name) => {
+            PlainOut::Formula(*engine, place_at(parts, *n), name.copy())
+        }
+        PlainOut::Contract(engine, n, m, name) => PlainOut::Contract(
+            *engine,
+            place_at(parts, *n),
+            place_at(parts, *m),
+            name.copy(),
+        ),
+    }
+}
+
+/// All outputs over the places of the nodes that stand for their nodes.
+fn outs_of(alloc: Global, parts: &[Part], outs: &[PlainOut]) -> Result<List<PlainOut>, AllocError>
+    requires { All (NamesNodes (length parts.now)) outs.now }
+    ensures { IfOk result (λ list. list ≡ map (out_over parts.now) outs.now) }
+{
+    let mut list = List::new(alloc);
+    for out in outs {
+        list.push(out_of(parts, out))?;
+    }
+    Ok(list)
+}
+
+/// The outputs of a specification over the simplified forms of their formulas, under the same names and numbers. Each
+/// node is simplified once, so that the time is linear in the nodes, the shared ones among them.
+///
+/// Errors: memory is wanting.
+pub fn simplify(alloc: Global, spec: &Expanded) -> Result<Expanded, AllocError>
+    requires sound { (signals : ℕ) × IsSound spec.now signals }
+    requires ranged { All HasRanges (asked spec.now) }
+    ensures outputs { IfOk result (λ simple. asked simple ≡ simple_outputs (asked spec.now)) }
+    ensures sound { (signals : ℕ) → IsSound spec.now signals → IfOk result (λ simple. IsSound simple signals) }
+    ensures ranged { IfOk result (λ simple. All HasRanges (asked simple)) }
+
+    // A simplified formula means what its formula does, no later; what is settled for it is settled for the formula.
+    ensures meaning { (rows : Seq Row) (p : Formula) (t : ℕ) →
+        IsOrdered p → sat rows (simp p) t ≡ sat rows p t }
+    ensures delay { (p : Formula) → wpd (simp p) ≤ wpd p }
+    ensures settled { (rows : Seq Row) (p : Formula) (t : ℕ) (v : Bool) →
+        IsOrdered p → Settled rows (simp p) t v → Settled rows p t v }
+{
+    simplified_formulas_mean_the_same();
+    let mut simple = Nodes::new(alloc);
+    let parts = read(alloc, &mut simple, spec.nodes.as_slice())?;
+    let outs = outs_of(alloc, &parts, spec.outs.as_slice())?;
+    Ok(Expanded {
+        nodes: simple.into_list(),
+        outs,
+    })
+}
