@@ -1,38 +1,8 @@
 -- Signals in other columns.
-use Rattle.std.proofs.Common.{◌≡◌, ℕ, ◌+◌, ◌<◌, ◌≤◌, suc, Some, List, [], ◌∷◌, ◌++◌, length, take, drop, map, slice_get, slice_set, slice_index, slice_index_or, refl, ap, sym, ◌∙◌, arith, inl, inr, eq-eqb, append_assoc}
-use Rattle.std.proofs.lemmas.Bool.Decides.{eqb_tells}
-use Rattle.std.proofs.lemmas.List.{drop_more, drop_all, take_more, map_more, set_at, length-map, length-take-le}
+use Rattle.std.proofs.Common.{◌≡◌, ℕ, ◌+◌, ◌<◌, ◌≤◌, suc, Some, List, [], ◌∷◌, ◌++◌, length, take, drop, map, slice_get, slice_set, slice_index, slice_index_or, refl, ap, sym, ◌∙◌, arith, append_assoc}
+use Rattle.std.proofs.lemmas.List.{append-nil, take_all, drop_more, drop_all, take_more, map_more, set_at, length-append, length-drop, length-map, length-take-le}
 use Rattle.mltl_base.specs.declared.program.StoredSignal.{StoredSignal}
-use Rattle.obs_verify.specs.Bound.{bound_signals, moved}
-
-pub moved_here : (signals : List StoredSignal) (columns : List ℕ) (c k : ℕ) (s : StoredSignal) → k < length signals → k < length columns → s ≡ slice_index_or signals k s → s.column ≡ c
-    → moved (drop k signals) (drop k columns) c ≡ slice_index columns k
-unfolding moved
-moved_here signals columns c k s inside wide is at =
-    ap (λ ss. moved ss (drop k columns) c) (drop_more signals k s inside) ∙ ap (λ ns. moved (slice_index_or signals k s ∷ drop (k + 1) signals) ns c) (drop_more columns k 0 wide)
-    ∙ rw (eq-eqb _ _ (ap (λ (x : StoredSignal). x.column) (sym is) ∙ at)) refl
-
-pub moved_more : (signals : List StoredSignal) (columns : List ℕ) (c k : ℕ) (s : StoredSignal) → k < length signals → k < length columns → s ≡ slice_index_or signals k s → (s.column ≡ c → ⊥)
-    → moved (drop k signals) (drop k columns) c ≡ moved (drop (k + 1) signals) (drop (k + 1) columns) c
-unfolding moved
-moved_more signals columns c k s inside wide is other =
-    ap (λ ss. moved ss (drop k columns) c) (drop_more signals k s inside) ∙ ap (λ ns. moved (slice_index_or signals k s ∷ drop (k + 1) signals) ns c) (drop_more columns k 0 wide)
-    ∙ elim (eqb_tells (slice_index_or signals k s).column c) [
-      | inl p ↦ absurd (other (ap (λ (x : StoredSignal). x.column) is ∙ p.1))
-      | inr p ↦ rw p.0 refl
-    ]
-
-no_columns : (signals : List StoredSignal) (c : ℕ) → moved signals [] c ≡ c
-unfolding moved
-no_columns [] c = refl
-no_columns (s ∷ signals) c = refl
-
-pub moved_past : (signals : List StoredSignal) (columns : List ℕ) (c k : ℕ) → length columns ≤ k → moved (drop k signals) (drop k columns) c ≡ c
-moved_past signals columns c k past = ap (λ ns. moved (drop k signals) ns c) (drop_all k columns past) ∙ no_columns (drop k signals) c
-
-pub moved_none : (signals : List StoredSignal) (columns : List ℕ) (c k : ℕ) → length signals ≤ k → moved (drop k signals) (drop k columns) c ≡ c
-unfolding moved
-moved_none signals columns c k past = ap (λ ss. moved ss (drop k columns) c) (drop_all k signals past)
+use Rattle.obs_verify.specs.Bound.{bound_signals}
 
 -- one member is changed at its place
 pub change_at : {X : Type 0} (front rest ys : List X) (x y : X) (i : ℕ) → length front ≡ i → ys ≡ front ++ x ∷ rest → slice_set ys i y ≡ front ++ y ∷ rest
@@ -52,6 +22,29 @@ mapped_more f xs ys i x inside done got =
     change_at (map f (take i xs)) (drop (i + 1) xs) ys (slice_index_or xs i x) (f x) i front split
     ∙ ap (λ z. map f (take i xs) ++ f z ∷ drop (i + 1) xs) same
     ∙ sym (append_assoc (map f (take i xs)) (f (slice_index_or xs i x) ∷ []) (drop (i + 1) xs)) ∙ ap (λ zs. zs ++ drop (i + 1) xs) (sym (map_more f xs i x inside))
+
+-- the members that aren't changed yet are those of the old list
+pub still_there : {X : Type 0} (f : X → X) (xs ys : List X) (i : ℕ) (x d : X) → i < length xs → ys ≡ map f (take i xs) ++ drop i xs → slice_get ys i ≡ Some x
+    → x ≡ slice_index_or xs i d
+still_there f xs ys i x d inside done got =
+    let front : length (map f (take i xs)) ≡ i = length-map (take i xs) f ∙ length-take-le i xs (omega arith) in
+    let split : ys ≡ map f (take i xs) ++ slice_index_or xs i d ∷ drop (i + 1) xs = done ∙ ap (λ zs. map f (take i xs) ++ zs) (drop_more xs i d inside) in
+    let there : slice_get ys i ≡ Some (slice_index_or xs i d) = ap (λ zs. slice_get zs i) split ∙ ap (slice_get (map f (take i xs) ++ slice_index_or xs i d ∷ drop (i + 1) xs)) (sym front) ∙ read_at (map f (take i xs)) (drop (i + 1) xs) (slice_index_or xs i d) in
+    cc
+
+-- one member more, where the change leaves it as it is
+pub mapped_kept : {X : Type 0} (f : X → X) (xs : List X) (i : ℕ) (x : X) → i < length xs → f (slice_index_or xs i x) ≡ slice_index_or xs i x
+    → map f (take i xs) ++ drop i xs ≡ map f (take (i + 1) xs) ++ drop (i + 1) xs
+mapped_kept f xs i x inside stays =
+    ap (λ zs. map f (take i xs) ++ zs) (drop_more xs i x inside)
+    ∙ ap (λ z. map f (take i xs) ++ z ∷ drop (i + 1) xs) (sym stays)
+    ∙ sym (append_assoc (map f (take i xs)) (f (slice_index_or xs i x) ∷ []) (drop (i + 1) xs)) ∙ ap (λ zs. zs ++ drop (i + 1) xs) (sym (map_more f xs i x inside))
+
+pub mapped_all : {X : Type 0} (f : X → X) (xs : List X) (i : ℕ) → length xs ≤ i → map f (take i xs) ++ drop i xs ≡ map f xs
+mapped_all f xs i all = ap (λ zs. map f (take i xs) ++ zs) (drop_all i xs all) ∙ append-nil _ ∙ ap (map f) (take_all i xs all)
+
+pub length-mapped : {X : Type 0} (f : X → X) (xs : List X) (i : ℕ) → i ≤ length xs → length (map f (take i xs) ++ drop i xs) ≡ length xs
+length-mapped f xs i inside = omega (arith, length-append (map f (take i xs)) (drop i xs), length-map (take i xs) f, length-take-le i xs inside, length-drop i xs)
 
 pub length-bound_signals : (signals : List StoredSignal) (columns : List ℕ) → length (bound_signals signals columns) ≡ length signals
 unfolding bound_signals

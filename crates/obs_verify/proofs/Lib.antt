@@ -3,6 +3,7 @@ pub mod SignalLaws
 pub mod ExpressionLaws
 pub mod SoundLaws
 pub mod BoundLaws
+pub mod ReaderLaws
 pub mod MovedLaws
 pub mod WellBound
 pub mod RunLaws

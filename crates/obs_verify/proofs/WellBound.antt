@@ -22,6 +22,7 @@ use Rattle.obs_verify.specs.WellFormed.{IsWellFormed, bz_fault, first_in, ft_fau
 use Rattle.obs_verify.proofs.BoundLaws.{length-bound_signals}
 use Rattle.obs_verify.proofs.ExpressionLaws.{bz_range}
 use Rattle.obs_verify.proofs.MovedLaws.{all_none, first_same, range_kept, truth_at_kept, whole_before_kept}
+use Rattle.obs_verify.proofs.ReaderLaws.{readers_stay}
 use Rattle.obs_verify.proofs.RuleLaws.{and_left, and_right, or_none, unless_true}
 use Rattle.obs_verify.proofs.SignalLaws.{unless_both}
 use Rattle.obs_verify.proofs.SoundLaws.{each}
@@ -182,9 +183,9 @@ well_bound program width columns two same below different narrow good =
     (both_none _ _ (first_same (pt_fault (bound program width columns)) (pt_fault program) (pt_kept program width columns) program.pt 0 ∙ h6.0) h6.1)))))
 
 -- what a checked program keeps
-pub kept_bound : (program : Program) (bests worsts : List ℕ) (width : ℕ) (columns : List ℕ) → program.version ≡ 2 → length columns ≡ length program.signals → All (λ c. c < width) columns → AreDifferent columns → width ≤ 65536
-    → IsKept program bests worsts → IsKept (bound program width columns) bests worsts
-kept_bound program bests worsts width columns two same below different narrow kept = record {
+pub kept_bound : (program : Program) (bests worsts : List ℕ) (readers : List (Option ℕ)) (width : ℕ) (columns : List ℕ) → program.version ≡ 2 → length columns ≡ length program.signals → All (λ c. c < width) columns → AreDifferent columns → width ≤ 65536
+    → IsKept program bests worsts readers → IsKept (bound program width columns) bests worsts readers
+kept_bound program bests worsts readers width columns two same below different narrow kept = record {
   layout = record {
     ft_sizes = kept.layout.ft_sizes;
     pt_sizes = kept.layout.pt_sizes;
@@ -199,4 +200,5 @@ kept_bound program bests worsts width columns two same below different narrow ke
   best = kept.best;
   worst = kept.worst;
   in_time = kept.in_time;
+  read_by = kept.read_by ∙ sym (readers_stay program width columns two same different kept.well_formed);
 }

@@ -16,6 +16,7 @@ use Rattle.mltl_base.specs.declared.program.Program.{Program}
 use Rattle.mltl_base.specs.declared.program.StoredSignal.{StoredSignal}
 use Rattle.mltl_base.specs.Programs.{output_names, outputs}
 use Rattle.obs_verify.specs.Kept.{IsKept}
+use Rattle.obs_verify.specs.Readers.{signals_read}
 use Rattle.obs_verify.specs.Reading.{ReadsWithin}
 use Rattle.obs_verify.specs.Upgrade.{clashes, column_name, first_clash, raised, read_of, reads, signal_in, signal_of, signals_below, up}
 use Rattle.obs_verify.specs.WellFormed.{IsWellFormed, bz_fault, first_in, has_kind, has_operands, is_column_of, signal_fault}
@@ -261,8 +262,9 @@ well_raised program one good =
     both_none _ _ h1.0 (both_none _ _ (signals_new program narrow) (both_none _ _ (bz_raised program (all_one_way program.bz one) h3.0) h3.1))
 
 -- what a checked program keeps
-pub kept_raised : (program : Program) (bests worsts : List ℕ) → first_clash [] program.bz ≡ None → IsKept program bests worsts → IsKept (raised program) bests worsts
-kept_raised program bests worsts one kept = record {
+pub kept_raised : (program : Program) (bests worsts : List ℕ) (before readers : List (Option ℕ)) → first_clash [] program.bz ≡ None → IsKept program bests worsts before
+    → readers ≡ signals_read (raised program) → IsKept (raised program) bests worsts readers
+kept_raised program bests worsts before readers one kept read = record {
   layout = record {
     ft_sizes = kept.layout.ft_sizes;
     pt_sizes = kept.layout.pt_sizes;
@@ -279,6 +281,7 @@ kept_raised program bests worsts one kept = record {
   best = kept.best;
   worst = kept.worst;
   in_time = kept.in_time;
+  read_by = read;
 }
 
 -- instructions of a well-formed program read columns of its rows
@@ -302,6 +305,13 @@ all_within program good i d inside =
     let h2 = or_none _ _ h1.1 in
     let h3 = or_none _ _ h2.1 in
     op_within program i (slice_index_or program.bz i d) (unless_true _ _ (or_none _ _ (each (bz_fault program) program.bz h3.0 i d inside)).0)
+
+-- so do its stored signals
+pub signals_within : (program : Program) → IsWellFormed program → All (λ signal. signal.column < program.width) program.signals
+signals_within program good i d inside =
+    let h1 = or_none _ _ good in
+    let h2 = or_none _ _ h1.1 in
+    ltb-true _ _ (and_left _ _ (and_left _ _ (unless_true _ _ (each (signal_fault program) program.signals h2.0 i d inside))))
 
 -- signals and versions have no part in what a program tells
 pub outputs_raised : (program : Program) → outputs (up program) ≡ outputs program

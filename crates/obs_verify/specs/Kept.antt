@@ -1,15 +1,17 @@
 -- What a checked program keeps.
 
-use Rattle.std.specs.Prelude.{ℕ, ◌≡◌, ◌≤◌, List, All}
+use Rattle.std.specs.Prelude.{ℕ, ◌≡◌, ◌≤◌, List, All, Option}
 use Rattle.mltl_base.specs.declared.program.Program.{Program}
 use Rattle.mltl_base.specs.Queues.{best_delays, worst_delays}
 use Rattle.obs_verify.specs.Layout.{HasLayout}
+use Rattle.obs_verify.specs.Readers.{signals_read}
 use Rattle.obs_verify.specs.WellFormed.{IsWellFormed}
 
--- a well-formed program beside its delays
-pub record IsKept (program : Program) (bests worsts : List ℕ) : Type 0 where
+-- a well-formed program beside its delays and the signals that its instructions read
+pub record IsKept (program : Program) (bests worsts : List ℕ) (readers : List (Option ℕ)) : Type 0 where
   pub layout : HasLayout program
   pub well_formed : IsWellFormed program
   pub best : bests ≡ best_delays program.ft
   pub worst : worsts ≡ worst_delays program.ft
   pub in_time : All (λ rows. rows ≤ 16777216) worsts
+  pub read_by : readers ≡ signals_read program

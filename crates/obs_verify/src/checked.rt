@@ -9,19 +9,22 @@ ghost use Rattle.obs_verify.specs.WellFormed.{IsAnswer, IsWellFormed, first_faul
 
 use crate::columns::{move_reads, move_signals};
 use crate::fault::{UpgradeFault, VerifyFault};
+use crate::readers::readers_of;
 use crate::reads::read_signals;
 use crate::rules::check_rules;
 use delay_sizes::Delays;
 use mltl_base::limits::{MAX_DELAY, MAX_SIGNALS};
 use mltl_base::{Columns, List, Program, StoredSignal};
-use std::alloc::Global;
+use std::alloc::{AllocError, Global};
 use std::marker::Model;
 
-/// A well-formed program with its delays, which contracts see as the program.
+/// A well-formed program with its delays and, for each instruction of the Booleanizer, the number of the stored signal
+/// that it reads. Contracts see it as the program.
 #[derive(Drop)]
 pub struct Checked {
     program: Program,
     delays: Delays,
+    readers: List<Option<u32>>,
 }
 
 impl Model for Checked {
@@ -34,7 +37,7 @@ impl Model for Checked {
 
     ghost view = { λ checked. checked.program };
 
-    ghost invariant = { λ checked. IsKept checked.program checked.delays.best checked.delays.worst };
+    ghost invariant = { λ checked. IsKept checked.program checked.delays.best checked.delays.worst checked.readers };
 }
 
 impl Checked {
@@ -64,11 +67,16 @@ pub fn verify(alloc: Global, program: Program) -> Result<Checked, VerifyFault>
     ensures kept { IfOk result (λ checked. checked ≡ program) }
 {
     let delays = check_rules(alloc, &program)?;
-    Ok(Checked { program, delays })
+    let readers = readers_of(alloc, &program)?;
+    Ok(Checked {
+        program,
+        delays,
+        readers,
+    })
 }
 
 /// The program over other rows: signal k moves to column k of the list, in its entry and in the instructions that read
-/// it. It takes no memory.
+/// it, in one pass over both. It takes no memory.
 pub fn rebind(checked: Checked, columns: &Columns) -> Checked
     requires version { checked.version ≡ 2 }
     requires one_each { length columns.now.of_signal ≡ length checked.signals }
@@ -80,15 +88,17 @@ pub fn rebind(checked: Checked, columns: &Columns) -> Checked
     let Checked {
         mut program,
         delays,
+        readers,
     } = checked;
-    move_reads(
-        &mut program.bz,
-        program.signals.as_slice(),
-        columns.of_signal.as_slice(),
-    );
-    move_signals(&mut program.signals, columns.of_signal.as_slice());
+    let places = columns.of_signal.as_slice();
+    move_reads(&mut program, readers.as_slice(), places);
+    move_signals(&mut program.signals, places);
     program.width = columns.width;
-    Checked { program, delays }
+    Checked {
+        program,
+        delays,
+        readers,
+    }
 }
 
 /// The program in version 2: one of version 1 gets a stored signal for each column that an instruction reads. Where one
@@ -103,20 +113,31 @@ pub fn upgrade(alloc: Global, checked: Checked) -> Result<Checked, UpgradeFault>
     }
     let program = checked.program();
     let signals = read_signals(alloc, program.bz.as_slice(), program.width)?;
-    Ok(with_signals(checked, signals))
+    let upgraded = with_signals(alloc, checked, signals)?;
+    Ok(upgraded)
 }
 
 /// The program in version 2, with these signals.
-fn with_signals(checked: Checked, signals: List<StoredSignal>) -> Checked
+fn with_signals(
+    alloc: Global,
+    checked: Checked,
+    signals: List<StoredSignal>,
+) -> Result<Checked, AllocError>
     requires signals { signals ≡ signals_below checked.width (reads checked.bz) }
     requires one_way { first_clash [] checked.bz ≡ None }
-    ensures { result ≡ raised checked }
+    ensures { IfOk result (λ upgraded. upgraded ≡ raised checked) }
 {
     let Checked {
         mut program,
         delays,
+        ..
     } = checked;
     program.version = 2;
     program.signals = signals;
-    Checked { program, delays }
+    let readers = readers_of(alloc, &program)?;
+    Ok(Checked {
+        program,
+        delays,
+        readers,
+    })
 }

@@ -1,17 +1,35 @@
 //! Programs whose stored signals are moved to other columns.
 
-ghost use Rattle.std.specs.Prelude.{◌≡◌, length, map};
-ghost use Rattle.obs_verify.specs.Bound.{bound_op as op_in, bound_signals, moved as column_of};
+ghost use Rattle.std.specs.Prelude.{◌≡◌, ℕ, length, map};
+ghost use Rattle.mltl_base.specs.declared.operators.BzOp.TheVariants as bz;
+ghost use Rattle.obs_verify.specs.Bound.{bound_op as op_in, bound_signals};
+ghost use Rattle.obs_verify.specs.Readers.{signals_read};
 
-use mltl_base::{BzOp, List, StoredSignal};
+use mltl_base::{BzOp, List, Program, StoredSignal};
 
-/// Moves the columns that instructions read.
-pub fn move_reads(bz: &mut List<BzOp>, signals: &[StoredSignal], columns: &[u32])
-    ensures { bz.new ≡ map (op_in signals.now columns.now) bz.old }
+/// Moves the columns that instructions read, of each the number of the signal there.
+pub fn move_reads(program: &mut Program, readers: &[Option<u32>], columns: &[u32])
+    requires one_each { length columns.now ≡ length program.old.signals }
+    requires readers { readers.now ≡ signals_read program.old }
+    ensures { program.new ≡ record program.old { bz = map (op_in program.old.signals columns.now) program.old.bz } }
 {
-    for i in 0..bz.len() {
-        let op = bound_op(signals, columns, *bz.get(i));
-        let _ = bz.put(i, op);
+    for (i, reader) in readers.iter().enumerate() {
+        if let Some(k) = *reader {
+            let op = moved_to(*program.bz.get(i), columns[k as usize]);
+            let _ = program.bz.put(i, op);
+        }
+    }
+}
+
+/// An instruction that reads this column in the place of its own.
+fn moved_to(op: BzOp, column: u32) -> BzOp
+    ensures whole { (c : ℕ) → op ≡ bz.Column c → result ≡ bz.Column column }
+    ensures truth { (c : ℕ) → op ≡ bz.IsTrue c → result ≡ bz.IsTrue column }
+{
+    match op {
+        BzOp::Column(_) => BzOp::Column(column),
+        BzOp::IsTrue(_) => BzOp::IsTrue(column),
+        _ => op,
     }
 }
 
@@ -29,29 +47,4 @@ pub fn move_signals(signals: &mut List<StoredSignal>, columns: &[u32])
         };
         let _ = signals.put(k, moved);
     }
-}
-
-fn bound_op(signals: &[StoredSignal], columns: &[u32], op: BzOp) -> BzOp
-    ensures { result ≡ op_in signals.now columns.now op }
-{
-    match op {
-        BzOp::Column(c) => BzOp::Column(moved(signals, columns, c)),
-        BzOp::IsTrue(c) => BzOp::IsTrue(moved(signals, columns, c)),
-        _ => op,
-    }
-}
-
-/// The new column of the signal in a column; the column itself where no signal stands there.
-fn moved(signals: &[StoredSignal], columns: &[u32], c: u32) -> u32
-    ensures { result ≡ column_of signals.now columns.now c }
-{
-    for (k, signal) in signals.iter().enumerate() {
-        if k >= columns.len() {
-            return c;
-        }
-        if signal.column == c {
-            return columns[k];
-        }
-    }
-    c
 }

@@ -10,6 +10,7 @@ mod columns;
 mod fault;
 mod laws;
 mod layout;
+mod readers;
 mod reads;
 mod rules;
 mod signals;

@@ -1,5 +1,4 @@
-use Rattle.std.proofs.Common.{◌≡◌, ◌∙◌, ap, sym, subst, List, ℕ, map, length}
-use Rattle.mltl_base.specs.declared.operators.BzOp.{BzOp}
+use Rattle.std.proofs.Common.{◌≡◌, ◌∙◌, ap, sym, subst, List, Option, ℕ, map, length}
 use Rattle.mltl_base.specs.declared.program.Program.{Program}
 use Rattle.mltl_base.specs.declared.program.StoredSignal.{StoredSignal}
 use Rattle.obs_verify.specs.Bound.{bound, bound_op, bound_signals}
@@ -14,11 +13,13 @@ invariant_of-result c =
     let width : ℕ = c.args.columns.now.width in
     let bests : List ℕ = c.checked.inside.delays.best in
     let worsts : List ℕ = c.checked.inside.delays.worst in
+    let readers : List (Option ℕ) = c.checked.inside.readers in
     let is : old ≡ c.args.checked = c.checked.view_is in
-    let bz : c.move_reads.new.bz ≡ map (bound_op old.signals columns) old.bz = c.move_reads.ensures
-    ∙ ap (λ signals. map (bound_op signals c.as_slice-2.result.now) old.bz) c.as_slice.ensures ∙ ap (λ ns. map (bound_op old.signals ns) old.bz) c.as_slice-2.ensures in
-    let signals : c.move_signals.new.signals ≡ bound_signals old.signals columns = c.move_signals.ensures ∙ ap (bound_signals old.signals) c.as_slice-3.ensures in
-    let kept : IsKept (bound old width columns) bests worsts = kept_bound old bests worsts width columns (ap (λ (p : Program). p.version) is ∙ c.requires.version)
+    let moved : Program = record old { bz = map (bound_op old.signals columns) old.bz } in
+    let reads : c.move_reads.new.program ≡ moved = c.move_reads.ensures ∙ ap (λ (ns : List ℕ). record old { bz = map (bound_op old.signals ns) old.bz }) c.as_slice-places.ensures in
+    let signals : c.move_signals.new.signals ≡ bound_signals old.signals columns =
+    c.move_signals.ensures ∙ ap (λ (p : Program). bound_signals p.signals c.as_slice-places.result.now) reads ∙ ap (bound_signals old.signals) c.as_slice-places.ensures in
+    let kept : IsKept (bound old width columns) bests worsts readers = kept_bound old bests worsts readers width columns (ap (λ (p : Program). p.version) is ∙ c.requires.version)
     (c.requires.one_each ∙ ap (λ (p : Program). length p.signals) (sym is)) c.requires.below c.requires.different c.requires.narrow c.checked.invariant in
-    subst (λ (ss : List StoredSignal). IsKept (record old { width = width; bz = c.move_reads.new.bz; signals = ss }) bests worsts) (sym signals)
-    (subst (λ (ops : List BzOp). IsKept (record old { width = width; bz = ops; signals = bound_signals old.signals columns }) bests worsts) (sym bz) kept)
+    subst (λ (ss : List StoredSignal). IsKept (record c.move_reads.new.program { width = width; signals = ss }) bests worsts readers) (sym signals)
+    (subst (λ (p : Program). IsKept (record p { width = width; signals = bound_signals old.signals columns }) bests worsts readers) (sym reads) kept)

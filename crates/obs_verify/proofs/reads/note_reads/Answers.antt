@@ -1,4 +1,4 @@
-use Rattle.std.proofs.Common.{◌∙◌, sym, refl, false, true, take, subst, List}
+use Rattle.std.proofs.Common.{◌∙◌, sym, refl, take, subst, List}
 use Rattle.std.proofs.lemmas.List.{take_all, take_more}
 use Rattle.mltl_base.specs.declared.operators.BzOp.{BzOp}
 use Rattle.mltl_base.specs.declared.operators.BzOp.TheVariants.{Column}

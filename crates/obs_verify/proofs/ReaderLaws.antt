@@ -1,0 +1,254 @@
+-- Which signals instructions read: as a table of them is filled, and where signals are moved.
+use Rattle.std.proofs.Common.{◌≡◌, ℕ, ◌<◌, ◌==◌, zero, suc, Bool, true, false, Option, Some, None, List, [], ◌∷◌, ◌++◌, length, map, slice_index, slice_index_or, slice_set, refl, ap, sym, ◌∙◌, arith, inl, inr, eq-eqb}
+use Rattle.std.specs.Prelude.{◌&&◌, ◌||◌, option_map}
+use Rattle.std.proofs.lemmas.Bool.Decides.{eqb_tells}
+use Rattle.std.proofs.lemmas.List.{get_or-map, get_or-set_other, get_or-set_same, length-map}
+use Rattle.mltl_base.specs.declared.operators.BzOp.{BzOp}
+use Rattle.mltl_base.specs.declared.operators.BzOp.TheVariants.{Column, IsTrue, Const, Neg, Add, Sub, Mul, Div, Rem, Eq, Lt, Le}
+use Rattle.mltl_base.specs.declared.program.Program.{Program}
+use Rattle.mltl_base.specs.declared.program.StoredSignal.{StoredSignal}
+use Rattle.obs_verify.specs.Bound.{AreDifferent, bound, bound_op, bound_signals, moved}
+use Rattle.obs_verify.specs.Readers.{number_in, signal_read, signals_read}
+use Rattle.obs_verify.specs.WellFormed.{IsWellFormed, bz_fault, has_kind, has_operands, is_column_of}
+use Rattle.obs_verify.proofs.RuleLaws.{and_right, or_none, unless_true}
+use Rattle.obs_verify.proofs.SoundLaws.{each}
+
+-- ---- the first signal in a column
+
+number_here : (s : StoredSignal) (signals : List StoredSignal) (c : ℕ) → s.column ≡ c → number_in (s ∷ signals) c ≡ Some 0
+unfolding number_in
+number_here s signals c at = rw (eq-eqb s.column c at) refl
+
+number_behind : (s : StoredSignal) (signals : List StoredSignal) (c : ℕ) → (s.column ≡ c → ⊥) → number_in (s ∷ signals) c ≡ option_map suc (number_in signals c)
+unfolding number_in
+number_behind s signals c other = elim (eqb_tells s.column c) [ inl p ↦ absurd (other p.1) | inr p ↦ rw p.0 refl ]
+
+pub nowhere : (c : ℕ) → number_in [] c ≡ None
+unfolding number_in
+nowhere c = refl
+
+one_less : (o : Option ℕ) (k : ℕ) → option_map suc o ≡ Some k → (j : ℕ) × (o ≡ Some j) × (k ≡ suc j)
+one_less None k h = absurd (cc)
+one_less (Some j) k h = (j, refl, cc)
+
+none_less : (o : Option ℕ) → option_map suc o ≡ None → o ≡ None
+none_less None h = refl
+none_less (Some j) h = absurd (cc)
+
+same_number : (j k : ℕ) → Some j ≡ Some k → j ≡ k
+same_number j k h = cc
+
+not_none : (k : ℕ) → Some k ≡ None → ⊥
+not_none k h = cc
+
+pub number_inside : (signals : List StoredSignal) (c k : ℕ) → number_in signals c ≡ Some k → k < length signals
+number_inside [] c k h = absurd (not_none k (sym h ∙ nowhere c))
+number_inside (s ∷ signals) c k h = elim (eqb_tells s.column c) [
+  | inl p ↦ let first : k ≡ 0 = same_number k 0 (sym h ∙ number_here s signals c p.1) in omega arith
+  | inr p ↦
+      let less = one_less (number_in signals c) k (sym (number_behind s signals c p.1) ∙ h) in
+      let inside : less.0 < length signals = number_inside signals c less.0 less.1 in
+      let next : k ≡ suc less.0 = less.2 in
+      omega arith
+]
+
+-- ---- a table of columns as it is filled
+
+pub number_known : (signals more : List StoredSignal) (c k : ℕ) → number_in signals c ≡ Some k → number_in (signals ++ more) c ≡ Some k
+number_known [] more c k h = absurd (not_none k (sym h ∙ nowhere c))
+number_known (s ∷ signals) more c k h = elim (eqb_tells s.column c) [
+  | inl p ↦ number_here s (signals ++ more) c p.1 ∙ sym (number_here s signals c p.1) ∙ h
+  | inr p ↦
+      let less = one_less (number_in signals c) k (sym (number_behind s signals c p.1) ∙ h) in
+      number_behind s (signals ++ more) c p.1 ∙ ap (option_map suc) (number_known signals more c less.0 less.1) ∙ ap Some (sym less.2)
+]
+
+pub number_new : (signals : List StoredSignal) (s : StoredSignal) (c : ℕ) → number_in signals c ≡ None → s.column ≡ c → number_in (signals ++ s ∷ []) c ≡ Some (length signals)
+number_new [] s c none at = number_here s [] c at
+number_new (t ∷ signals) s c none at = elim (eqb_tells t.column c) [
+  | inl p ↦ absurd (not_none 0 (sym (number_here t signals c p.1) ∙ none))
+  | inr p ↦ number_behind t (signals ++ s ∷ []) c p.1
+      ∙ ap (option_map suc) (number_new signals s c (none_less (number_in signals c) (sym (number_behind t signals c p.1) ∙ none)) at)
+]
+
+pub number_other : (signals : List StoredSignal) (s : StoredSignal) (c : ℕ) → (s.column ≡ c → ⊥) → number_in (signals ++ s ∷ []) c ≡ number_in signals c
+number_other [] s c other = number_behind s [] c other ∙ ap (option_map suc) (nowhere c) ∙ sym (nowhere c)
+number_other (t ∷ signals) s c other = elim (eqb_tells t.column c) [
+  | inl p ↦ number_here t (signals ++ s ∷ []) c p.1 ∙ sym (number_here t signals c p.1)
+  | inr p ↦ number_behind t (signals ++ s ∷ []) c p.1 ∙ ap (option_map suc) (number_other signals s c other) ∙ sym (number_behind t signals c p.1)
+]
+
+-- a column that has no signal yet gets this one
+pub filled_free : (numbers : List (Option ℕ)) (signals : List StoredSignal) (s : StoredSignal) (n : ℕ) → s.column < length numbers → n < length numbers
+    → ((c : ℕ) → c < length numbers → slice_index_or numbers c None ≡ number_in signals c) → number_in signals s.column ≡ None
+    → slice_index_or (slice_set numbers s.column (Some (length signals))) n None ≡ number_in (signals ++ s ∷ []) n
+filled_free numbers signals s n inside below told free = elim (eqb_tells s.column n) [
+  | inl p ↦ ap (λ m. slice_index_or (slice_set numbers s.column (Some (length signals))) m None) (sym p.1) ∙ get_or-set_same numbers s.column (Some (length signals)) None inside
+      ∙ sym (number_new signals s n (ap (number_in signals) (sym p.1) ∙ free) p.1)
+  | inr p ↦ get_or-set_other numbers s.column n (Some (length signals)) None (λ (h : n ≡ s.column). p.1 (sym h)) ∙ told n below ∙ sym (number_other signals s n p.1)
+]
+
+-- a column that has one keeps it
+pub filled_known : (numbers : List (Option ℕ)) (signals : List StoredSignal) (s : StoredSignal) (n k : ℕ) → n < length numbers
+    → ((c : ℕ) → c < length numbers → slice_index_or numbers c None ≡ number_in signals c) → number_in signals s.column ≡ Some k
+    → slice_index_or numbers n None ≡ number_in (signals ++ s ∷ []) n
+filled_known numbers signals s n k below told there = elim (eqb_tells s.column n) [
+  | inl p ↦
+      let here : number_in signals n ≡ Some k = ap (number_in signals) (sym p.1) ∙ there in
+      told n below ∙ here ∙ sym (number_known signals (s ∷ []) n k here)
+  | inr p ↦ told n below ∙ sym (number_other signals s n p.1)
+]
+
+-- ---- signals that are moved
+
+pub moved_read : (signals : List StoredSignal) (columns : List ℕ) (c k : ℕ) → length columns ≡ length signals → number_in signals c ≡ Some k → moved signals columns c ≡ slice_index columns k
+unfolding moved
+moved_read [] columns c k same h = absurd (not_none k (sym h ∙ nowhere c))
+moved_read (s ∷ signals) [] c k same h = absurd (omega arith)
+moved_read (s ∷ signals) (n ∷ columns) c k same h = elim (eqb_tells s.column c) [
+  | inl p ↦
+      let first : k ≡ 0 = same_number k 0 (sym h ∙ number_here s signals c p.1) in
+      rw p.0 (ap (slice_index (n ∷ columns)) (sym first))
+  | inr p ↦
+      let less = one_less (number_in signals c) k (sym (number_behind s signals c p.1) ∙ h) in
+      rw p.0 (moved_read signals columns c less.0 (omega arith) less.1 ∙ ap (slice_index (n ∷ columns)) (sym less.2))
+]
+
+moved_unread : (signals : List StoredSignal) (columns : List ℕ) (c : ℕ) → number_in signals c ≡ None → moved signals columns c ≡ c
+unfolding moved
+moved_unread [] columns c none = refl
+moved_unread (s ∷ signals) [] c none = refl
+moved_unread (s ∷ signals) (n ∷ columns) c none = elim (eqb_tells s.column c) [
+  | inl p ↦ absurd (not_none 0 (sym (number_here s signals c p.1) ∙ none))
+  | inr p ↦ rw p.0 (moved_unread signals columns c (none_less (number_in signals c) (sym (number_behind s signals c p.1) ∙ none)))
+]
+
+-- an instruction that reads no signal stays
+pub unread_stays : (signals : List StoredSignal) (columns : List ℕ) (op : BzOp) → signal_read signals op ≡ None → bound_op signals columns op ≡ op
+unread_stays signals columns (Column c) none = ap Column (moved_unread signals columns c none)
+unread_stays signals columns (IsTrue c) none = ap IsTrue (moved_unread signals columns c none)
+unread_stays signals columns (Const n) none = refl
+unread_stays signals columns (Neg a) none = refl
+unread_stays signals columns (Add a b) none = refl
+unread_stays signals columns (Sub a b) none = refl
+unread_stays signals columns (Mul a b) none = refl
+unread_stays signals columns (Div a b) none = refl
+unread_stays signals columns (Rem a b) none = refl
+unread_stays signals columns (Eq a b) none = refl
+unread_stays signals columns (Lt a b) none = refl
+unread_stays signals columns (Le a b) none = refl
+
+-- the signal that an instruction reads is one of those stored
+pub read_inside : (signals : List StoredSignal) (op : BzOp) (k : ℕ) → signal_read signals op ≡ Some k → k < length signals
+read_inside signals (Column c) k h = number_inside signals c k h
+read_inside signals (IsTrue c) k h = number_inside signals c k h
+read_inside signals (Const n) k h = absurd (cc)
+read_inside signals (Neg a) k h = absurd (cc)
+read_inside signals (Add a b) k h = absurd (cc)
+read_inside signals (Sub a b) k h = absurd (cc)
+read_inside signals (Mul a b) k h = absurd (cc)
+read_inside signals (Div a b) k h = absurd (cc)
+read_inside signals (Rem a b) k h = absurd (cc)
+read_inside signals (Eq a b) k h = absurd (cc)
+read_inside signals (Lt a b) k h = absurd (cc)
+read_inside signals (Le a b) k h = absurd (cc)
+
+-- an instruction that reads a signal reads it where it stands now
+pub read_moves : (signals : List StoredSignal) (columns : List ℕ) (op new : BzOp) (k : ℕ) → length columns ≡ length signals → signal_read signals op ≡ Some k
+    → ((c : ℕ) → op ≡ Column c → new ≡ Column (slice_index columns k)) → ((c : ℕ) → op ≡ IsTrue c → new ≡ IsTrue (slice_index columns k)) → bound_op signals columns op ≡ new
+read_moves signals columns (Column c) new k same h whole truth = ap Column (moved_read signals columns c k same h) ∙ sym (whole c refl)
+read_moves signals columns (IsTrue c) new k same h whole truth = ap IsTrue (moved_read signals columns c k same h) ∙ sym (truth c refl)
+read_moves signals columns (Const n) new k same h whole truth = absurd (cc)
+read_moves signals columns (Neg a) new k same h whole truth = absurd (cc)
+read_moves signals columns (Add a b) new k same h whole truth = absurd (cc)
+read_moves signals columns (Sub a b) new k same h whole truth = absurd (cc)
+read_moves signals columns (Mul a b) new k same h whole truth = absurd (cc)
+read_moves signals columns (Div a b) new k same h whole truth = absurd (cc)
+read_moves signals columns (Rem a b) new k same h whole truth = absurd (cc)
+read_moves signals columns (Eq a b) new k same h whole truth = absurd (cc)
+read_moves signals columns (Lt a b) new k same h whole truth = absurd (cc)
+read_moves signals columns (Le a b) new k same h whole truth = absurd (cc)
+
+-- what a table of readers says of an instruction
+pub readers_long : (program : Program) (readers : List (Option ℕ)) → readers ≡ signals_read program → length readers ≡ length program.bz
+readers_long program readers is = ap length is ∙ length-map program.bz (signal_read program.signals)
+
+pub reader_at : (program : Program) (readers : List (Option ℕ)) (i : ℕ) (op : BzOp) → readers ≡ signals_read program → i < length readers
+    → slice_index_or readers i None ≡ signal_read program.signals (slice_index_or program.bz i op)
+reader_at program readers i op is inside =
+    ap (λ rs. slice_index_or rs i None) is
+    ∙ get_or-map (signal_read program.signals) program.bz i op None (omega (arith, readers_long program readers is))
+
+different_behind : (n : ℕ) (columns : List ℕ) → AreDifferent (n ∷ columns) → AreDifferent columns
+different_behind n columns different i j before inside = different (suc i) (suc j) (omega arith) (omega arith)
+
+-- a signal keeps its number where it stands now
+number_stays : (signals : List StoredSignal) (columns : List ℕ) (k : ℕ) → length columns ≡ length signals → AreDifferent columns → k < length signals → number_in (bound_signals signals columns) (slice_index columns k) ≡ Some k
+unfolding bound_signals
+number_stays [] columns k same different inside = absurd (omega arith)
+number_stays (s ∷ signals) [] k same different inside = absurd (omega arith)
+number_stays (s ∷ signals) (n ∷ columns) zero same different inside = number_here (record s { column = n }) (bound_signals signals columns) n refl
+number_stays (s ∷ signals) (n ∷ columns) (suc k) same different inside =
+    number_behind (record s { column = n }) (bound_signals signals columns) (slice_index columns k) (different 0 (suc k) (omega arith) (omega arith))
+    ∙ ap (option_map suc) (number_stays signals columns k (omega arith) (different_behind n columns different) (omega arith))
+
+-- a column that has a signal of some kind has a first one
+or_first : (a b : Bool) → a ≡ false → (a || b) ≡ true → b ≡ true
+or_first true b h k = absurd (cc)
+or_first false b h k = k
+
+and_first : (a b : Bool) → a ≡ false → (a && b) ≡ false
+and_first true b h = absurd (cc)
+and_first false b h = refl
+
+has_number : (signals : List StoredSignal) (c : ℕ) (t : Bool) → has_kind signals c t ≡ true → (k : ℕ) × (number_in signals c ≡ Some k)
+has_number [] c t h = absurd (cc)
+has_number (s ∷ signals) c t h = elim (eqb_tells s.column c) [
+  | inl p ↦ (0, number_here s signals c p.1)
+  | inr p ↦
+      let rest = has_number signals c t (or_first _ _ (and_first _ _ p.0) h) in
+      (suc rest.0, number_behind s signals c p.1 ∙ ap (option_map suc) rest.1)
+]
+
+stored_number : (program : Program) (c : ℕ) (t : Bool) → program.version ≡ 2 → is_column_of program c t ≡ true → (k : ℕ) × (number_in program.signals c ≡ Some k)
+stored_number program c t two h =
+    let second : (program.version == 1) ≡ false = ap (λ v. v == 1) two in
+    has_number program.signals c t (or_first (program.version == 1) (has_kind program.signals c t) second (and_right _ _ h))
+
+column_stays : (program : Program) (columns : List ℕ) (c : ℕ) (t : Bool) → program.version ≡ 2 → length columns ≡ length program.signals → AreDifferent columns → is_column_of program c t ≡ true
+    → number_in (bound_signals program.signals columns) (moved program.signals columns c) ≡ number_in program.signals c
+column_stays program columns c t two same different h =
+    let read = stored_number program c t two h in
+    ap (number_in (bound_signals program.signals columns)) (moved_read program.signals columns c read.0 same read.1)
+    ∙ number_stays program.signals columns read.0 same different (number_inside program.signals c read.0 read.1)
+    ∙ sym read.1
+
+reader_stays : (program : Program) (columns : List ℕ) (i : ℕ) (op : BzOp) → program.version ≡ 2 → length columns ≡ length program.signals → AreDifferent columns → has_operands program i op ≡ true
+    → signal_read (bound_signals program.signals columns) (bound_op program.signals columns op) ≡ signal_read program.signals op
+reader_stays program columns i (Column c) two same different h = column_stays program columns c false two same different h
+reader_stays program columns i (IsTrue c) two same different h = column_stays program columns c true two same different h
+reader_stays program columns i (Const n) two same different h = refl
+reader_stays program columns i (Neg a) two same different h = refl
+reader_stays program columns i (Add a b) two same different h = refl
+reader_stays program columns i (Sub a b) two same different h = refl
+reader_stays program columns i (Mul a b) two same different h = refl
+reader_stays program columns i (Div a b) two same different h = refl
+reader_stays program columns i (Rem a b) two same different h = refl
+reader_stays program columns i (Eq a b) two same different h = refl
+reader_stays program columns i (Lt a b) two same different h = refl
+reader_stays program columns i (Le a b) two same different h = refl
+
+mapped_same : {X Y Z : Type 0} (f : Y → Z) (g : X → Y) (h : X → Z) (xs : List X) → ((i : ℕ) (d : X) → i < length xs → f (g (slice_index_or xs i d)) ≡ h (slice_index_or xs i d)) → map f (map g xs) ≡ map h xs
+mapped_same f g h [] all = refl
+mapped_same f g h (x ∷ xs) all =
+    ap (λ z. z ∷ map f (map g xs)) (all 0 x (omega arith)) ∙ ap (λ zs. h x ∷ zs) (mapped_same f g h xs (λ i d inside. all (suc i) d (omega arith)))
+
+-- the instructions of a program that is moved read the same signals
+pub readers_stay : (program : Program) (width : ℕ) (columns : List ℕ) → program.version ≡ 2 → length columns ≡ length program.signals → AreDifferent columns → IsWellFormed program
+    → signals_read (bound program width columns) ≡ signals_read program
+readers_stay program width columns two same different good =
+    let h1 = or_none _ _ good in
+    let h2 = or_none _ _ h1.1 in
+    let h3 = or_none _ _ h2.1 in
+    mapped_same (signal_read (bound_signals program.signals columns)) (bound_op program.signals columns) (signal_read program.signals) program.bz (λ i d inside.
+    reader_stays program columns i (slice_index_or program.bz i d) two same different (unless_true _ _ (or_none _ _ (each (bz_fault program) program.bz h3.0 i d inside)).0))
