@@ -1,6 +1,7 @@
 -- What a checked program keeps.
 
 use Rattle.std.specs.Prelude.{ℕ, ◌≡◌, ◌≤◌, List, All, Option}
+use Rattle.mltl_base.specs.declared.limits.TheConstants.{MAX_DELAY}
 use Rattle.mltl_base.specs.declared.program.Program.{Program}
 use Rattle.mltl_base.specs.Queues.{best_delays, worst_delays}
 use Rattle.obs_verify.specs.Layout.{HasLayout}
@@ -13,5 +14,5 @@ pub record IsKept (program : Program) (bests worsts : List ℕ) (readers : List 
   pub well_formed : IsWellFormed program
   pub best : bests ≡ best_delays program.ft
   pub worst : worsts ≡ worst_delays program.ft
-  pub in_time : All (λ rows. rows ≤ 16777216) worsts
+  pub in_time : All (λ rows. rows ≤ MAX_DELAY) worsts
   pub read_by : readers ≡ signals_read program

@@ -7,6 +7,7 @@ use Rattle.mltl_base.specs.declared.interval.Engine.TheVariants as engine
 use Rattle.mltl_base.specs.declared.interval.Interval.{Interval}
 use Rattle.mltl_base.specs.declared.interval.Part.{Part}
 use Rattle.mltl_base.specs.declared.interval.Part.TheVariants.{Bz, Ft, Pt}
+use Rattle.mltl_base.specs.declared.limits.TheConstants.{MAX_BOUND, MAX_DELAY, MAX_SIGNALS, MAX_SLOTS}
 use Rattle.mltl_base.specs.declared.operators.BzOp as bz
 use Rattle.mltl_base.specs.declared.operators.FtOp as ft
 use Rattle.mltl_base.specs.declared.operators.PtOp as pt
@@ -35,7 +36,7 @@ first_in rule k (x ∷ xs) = or_else (rule k x) (first_in rule (suc k) xs)
 
 -- 1. The width is within its limit.
 abbrev pub width_fault : Program → Option VerifyFault
-width_fault program = unless (nat_le program.width 65536) Width
+width_fault program = unless (nat_le program.width MAX_SIGNALS) Width
 
 -- 2. Stored signals have columns of a row, and no column or name twice.
 abbrev pub is_new_signal : ℕ → List StoredSignal → StoredSignal → Bool
@@ -107,7 +108,7 @@ bz_fault program i op = or_else (unless (has_operands program i op) (Operand Bz 
 -- none is too late.
 
 abbrev pub is_window : Interval → Bool
-is_window i = nat_le i.lo i.hi && nat_le i.hi 1048576
+is_window i = nat_le i.lo i.hi && nat_le i.hi MAX_BOUND
 
 abbrev pub has_future_operands : Program → ℕ → ft.FtOp → Bool
 has_future_operands program i ft.TheVariants.True = true
@@ -127,7 +128,7 @@ abbrev pub ft_fault : Program → ℕ → ft.FtOp → Option VerifyFault
 ft_fault program i op = or_else (unless (has_future_operands program i op) (Operand Ft i)) (unless (has_future_window op) (BadInterval Ft i))
 
 abbrev pub late_fault : ℕ → ℕ → Option VerifyFault
-late_fault i delay = unless (nat_le delay 16777216) (TooLate i)
+late_fault i delay = unless (nat_le delay MAX_DELAY) (TooLate i)
 
 -- 5. So do instructions of the past-time engine.
 abbrev pub has_past_operands : Program → ℕ → pt.PtOp → Bool
@@ -159,7 +160,7 @@ output_fault program k output = unless (reports_within (length program.ft) (leng
 
 -- 7. The slots and boxes that the instructions need are within their limit.
 abbrev pub slots_fault : Program → Option VerifyFault
-slots_fault program = unless (nat_le (slot_count program.ft program.pt program.outs) 16777216) TooManySlots
+slots_fault program = unless (nat_le (slot_count program.ft program.pt program.outs) MAX_SLOTS) TooManySlots
 
 -- 8. The stored sizes are those that the instructions need.
 abbrev pub size_fault : Part → List ℕ → ℕ → ℕ → Option VerifyFault
