@@ -1,61 +1,21 @@
 -- Sound instructions can be computed on every row that fits them.
-use Rattle.std.proofs.Common.{◌≡◌, ◌≢◌, ℕ, zero, suc, Bool, true, false, cond, not, List, [], ◌∷◌, ◌++◌, length, Option, Some, None, Ok, Err, refl, sym, subst, arith}
-use Rattle.std.specs.Prelude.{ℤ, pos, ◌≤ℤ◌, IsOk, FitsSigned, slice_get}
-use Rattle.std.specs.Ordering.{int_eq}
+
+use Rattle.std.proofs.Common.{◌≢◌, ℕ, zero, suc, List, [], ◌∷◌, ◌++◌, length, Option, Some, None, sym, subst}
+use Rattle.std.specs.Prelude.{ℤ, pos, IsOk, FitsSigned, slice_get}
 use Rattle.std.specs.Int.{w64}
 use Rattle.std.specs.List.{AllByRecursion}
 use Rattle.std.proofs.lemmas.List.Elements.{recursion_from_All}
-use Rattle.std.proofs.lemmas.Int.{ints}
-use Rattle.std.proofs.lemmas.Bool.Decides.{Decides-int_eq}
-use Rattle.std.proofs.lemmas.Bool.{and_parts}
 use Rattle.mltl_base.specs.declared.operators.BzOp.{BzOp}
 use Rattle.mltl_base.specs.declared.operators.BzOp.TheVariants.{Column, IsTrue, Const, Neg, Add, Sub, Mul, Div, Rem, Eq, Lt, Le}
 use Rattle.mltl_base.specs.Atoms.{Row, Term, negative, plus, minus, times, quotient, value}
 use Rattle.mltl_base.specs.Programs.{Expression, whole, truth, expression_of, term_at, term_of, FitsRow, IsFit}
-use Rattle.mltl_base.specs.Ranges.{Range, Ranged, divisor, in_word, range, divides, over_divisor, divided, left_over, IsIn, FitsTerm}
+use Rattle.mltl_base.specs.Ranges.{Range, range, over_divisor, divided, left_over, FitsTerm}
 use Rattle.booleanizer.specs.Evaluation.{CanCompute, AllCompute}
 use Rattle.mltl_base.specs.declared.program.Program.{Program}
-use Rattle.mltl_base.proofs.Ranging.{value_in_range, value_fits_word}
+use Rattle.mltl_base.proofs.Ranging.{value_fits_word, divisor_not_zero, has_range}
 use Rattle.obs_verify.specs.Soundness.{IsSound, AreSound}
 use Rattle.obs_verify.specs.WellFormed.{IsWellFormed}
 use Rattle.obs_verify.proofs.SoundOps.{all_sound}
-
--- ---- ranges
-
-record HasRange (r : Ranged) : Type 0 where
-  the : Range
-  is : r ≡ Ok the
-
-has-range : (r : Ranged) → IsOk r → HasRange r
-has-range (Ok x) h = record { the = x; is = refl }
-has-range (Err why) h = absurd cc
-
-record Divides (r : Ranged) : Type 0 where
-  the : Range
-  is : r ≡ Ok the
-  one : divides the ≡ true
-
-taken : (b : Bool) (r : Ranged) → IsOk (cond b r (Err divisor)) → b ≡ true
-taken true r h = refl
-taken false r h = absurd cc
-
-divides-of : (f : Range → ℤ → Range) (r s : Ranged) → IsOk (over_divisor f r s) → Divides s
-divides-of f (Err why) s h = absurd cc
-divides-of f (Ok r) (Err why) h = absurd cc
-divides-of f (Ok r) (Ok s) h = record { the = s; is = refl; one = taken (divides s) (in_word (f r s.least)) h }
-
-not-true : (b : Bool) → b ≡ true → not b ≡ true → ⊥
-not-true true e f = cc
-not-true false e f = cc
-
-not-zero : (s : Range) (z : ℤ) → divides s ≡ true → IsIn s z → z ≢ pos 0
-not-zero s z one lies e =
-    let parts = and_parts (int_eq s.least s.greatest) (not (int_eq s.least (pos 0))) one in
-    let same : s.least ≡ s.greatest = (Decides-int_eq s.least s.greatest).0 parts.0 in
-    let low : s.least ≤ℤ pos 0 = subst (λ x. s.least ≤ℤ x) e lies.0 in
-    let high : pos 0 ≤ℤ s.least = subst (λ x. pos 0 ≤ℤ x) (sym same) (subst (λ x. x ≤ℤ s.greatest) e lies.1) in
-    let zero : s.least ≡ pos 0 = omega (arith, ints) in
-    not-true (int_eq s.least (pos 0)) ((Decides-int_eq s.least (pos 0)).1 zero) parts.1
 
 -- ---- what expressions ask of a row
 
@@ -102,20 +62,14 @@ expression-fits row before (Le a b) all h = tt
 
 -- ---- sound instructions
 
-abbrev pub Lies : Type 0
-Lies = (row : Row) (e : Term) (r : Range) → FitsTerm row e → range e ≡ Ok r → IsIn r (value e row)
-
-abbrev pub FitsWord : Type 0
-FitsWord = (row : Row) (e : Term) (r : Range) → FitsTerm row e → range e ≡ Ok r → FitsSigned w64 (value e row)
-
-module _ (lies : Lies) (fits : FitsWord) (row : Row) where
+module _ (row : Row) where
   word : (e : Term) → FitsTerm row e → IsOk (range e) → FitsSigned w64 (value e row)
-  word e f h = let r = has-range (range e) h in fits row e r.the f r.is
+  word e f h = let r = has_range (range e) h in value_fits_word row e r.the f r.is
 
   divisor-is : (g : Range → ℤ → Range) (a b : Term) → FitsTerm row b → IsOk (over_divisor g (range a) (range b)) → value b row ≢ pos 0
   divisor-is g a b f h =
-      let d = divides-of g (range a) (range b) h in
-      not-zero d.the (value b row) d.one (lies row b d.the f d.is)
+      let r = has_range (over_divisor g (range a) (range b)) h in
+      divisor_not_zero g row (range a) b r.the f r.is
 
   both : (before : List Expression) (a b : ℕ) → AllFitting row before → FitsTerm row (term_at before a) × FitsTerm row (term_at before b)
   both before a b all = (term-fits row before a all, term-fits row before b all)
@@ -148,5 +102,5 @@ module _ (lies : Lies) (fits : FitsWord) (row : Row) where
 -- so can those of a well-formed program
 pub fit-computes : (program : Program) (row : Row) → IsWellFormed program → IsFit program row → AllCompute row [] program.bz
 fit-computes program row good fit =
-    sound-computes value_in_range value_fits_word row program.bz (recursion_from_All (FitsRow row) program.bz fit.kinds)
+    sound-computes row program.bz (recursion_from_All (FitsRow row) program.bz fit.kinds)
     (subst (λ (n : ℕ). AreSound n [] program.bz) (sym fit.width) (all_sound program good))

@@ -1,4 +1,6 @@
 -- What the Booleanizer computes on a row, in numbers of 64 bits.
+-- A reader of the contracts needs this file.
+
 use Rattle.std.specs.Prelude.{◌≢◌, ◌<◌, ℕ, ℤ, pos, neg_ℤ, ◌+ℤ◌, ◌-ℤ◌, ◌*ℤ◌, int_div, int_rem, int_lt, int_le, Bool, if◌then◌else◌, List, [], ◌∷◌, ◌++◌, length, map, slice_index_or, FitsSigned}
 use Rattle.std.specs.Int.{w64}
 use Rattle.std.specs.Ordering.{int_eq}
@@ -48,6 +50,7 @@ AllCompute row before (op ∷ ops) = CanCompute row before op × AllCompute row 
 
 -- ---- one instruction over numbers
 
+-- the number of an earlier instruction; 0 where there is none
 abbrev pub number_at : List ℤ → ℕ → ℤ
 number_at numbers a = slice_index_or numbers a (pos 0)
 
@@ -66,6 +69,7 @@ result_of row numbers (Eq a b) = truth_number (int_eq (number_at numbers a) (num
 result_of row numbers (Lt a b) = truth_number (int_lt (number_at numbers a) (number_at numbers b))
 result_of row numbers (Le a b) = truth_number (int_le (number_at numbers a) (number_at numbers b))
 
+-- two instructions are among those before
 abbrev pub AreIn : List ℤ → ℕ → ℕ → Type 0
 AreIn numbers a b = (a < length numbers) × (b < length numbers)
 

@@ -11,7 +11,7 @@ use Rattle.mltl_base.specs.declared.operators.PtOp.TheVariants as pt_op
 use Rattle.mltl_base.specs.Atoms.{Term, column, constant, negative, plus, minus, times, quotient, remainder, Atom, is_true, equal, less, at_most, different, greater, at_least}
 use Rattle.mltl_base.specs.Formula.{Core, ctrue, catom, cnot, cand, cuntil, csince}
 use Rattle.mltl_base.specs.Programs.{Expression, whole, truth}
-use Rattle.mltl_base.specs.Subformulas.{same_expression, same, listed, place_of, at, bz_instruction, ft_instruction, pt_instruction}
+use Rattle.mltl_base.specs.Subformulas.{same_expression, same, listed, place_of, instruction_of, bz_instruction, ft_instruction, pt_instruction}
 use Rattle.mltl_base.proofs.Listing.{place_get}
 use Rattle.mltl_base.proofs.Sameness.{same_sound, same_self, same_expression_sound, same_expression_self}
 use Rattle.core_graph.specs.declared.item.Item.{Item}
@@ -134,7 +134,7 @@ module _ (items : List Item) (done : List Tree) (es : List Expression) (ids plac
   pub expression_place : (e : Expression) (n : ℕ) → listed same_expression e es ≡ true → Has items n (of_expression e) → slice_index places n ≡ place_of same_expression e es
   expression_place e n h g = place_is same_expression same_expression_sound same_expression_self of_expression items ids places es b.forest b.listing e n h g
 
-  term_place : (a : Term) (n : ℕ) → listed same_tree (of_term a) done ≡ true → Has items n (of_term a) → slice_index places n ≡ at es a
+  term_place : (a : Term) (n : ℕ) → listed same_tree (of_term a) done ≡ true → Has items n (of_term a) → slice_index places n ≡ instruction_of es a
   term_place a n h g = expression_place (whole a) n (listed_expression (whole a) h) g
 
   pub bz_is : (n : ℕ) (e : Expression) → Has items n (of_expression e) → listed same_expression e es ≡ true → bz_op_of places (item_at items n) ≡ bz_instruction es e

@@ -10,6 +10,8 @@ use mltl_base::FtOp;
 
 /// The delays of instructions are those of the formulas that they unfold to, whatever atoms they load.
 pub fn delays_of_formulas()
-    ensures best { (loaded : List Atom) (ops : List FtOp) → best_delays ops ≡ map bpd (formulas loaded ops) }
-    ensures worst { (loaded : List Atom) (ops : List FtOp) → worst_delays ops ≡ map core_wpd (formulas loaded ops) }
+    ensures best { (loaded : List Atom) (ops : List FtOp) →
+        best_delays ops ≡ map bpd (formulas loaded ops) }
+    ensures worst { (loaded : List Atom) (ops : List FtOp) →
+        worst_delays ops ≡ map core_wpd (formulas loaded ops) }
 {}

@@ -37,7 +37,8 @@ pub fn delays(alloc: Global, ft: &List<FtOp>) -> Result<Delays, DelayFault>
     ensures best { IfOk result (λ d. d.best ≡ best_delays ft.now) }
     ensures worst { IfOk result (λ d. d.worst ≡ worst_delays ft.now) }
     ensures in_time { IfOk result (λ d. All (λ rows. rows ≤ MAX_DELAY) d.worst) }
-    ensures too_late { (i : ℕ) → result ≡ Err (DelayFault.TooLate i) → IsFirstLate MAX_DELAY (worst_delays ft.now) i }
+    ensures too_late { (i : ℕ) →
+        result ≡ Err (DelayFault.TooLate i) → IsFirstLate MAX_DELAY (worst_delays ft.now) i }
 {
     let mut best = List::new(alloc);
     let mut worst = List::new(alloc);

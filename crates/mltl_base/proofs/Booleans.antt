@@ -5,7 +5,7 @@ use Rattle.std.proofs.lemmas.Option.{get_or_from_slice_get, slice_get-map}
 use Rattle.mltl_base.specs.Atoms.{Term, column, constant, negative, plus, minus, times, quotient, remainder, Atom, is_true, equal, less, at_most, different, greater, at_least}
 use Rattle.mltl_base.specs.Formula.{Core, ctrue, catom, cnot, cand, cuntil, csince, IsCoreAtom}
 use Rattle.mltl_base.specs.Programs.{Expression, whole, truth, term_at, atom_of, expression_of, expressions_after, expressions}
-use Rattle.mltl_base.specs.Subformulas.{same_expression, listed, place_of, add_new, add_terms, add_operands, add_expressions, at, bz_instruction}
+use Rattle.mltl_base.specs.Subformulas.{same_expression, listed, place_of, add_new, add_terms, add_operands, add_expressions, instruction_of, bz_instruction}
 use Rattle.mltl_base.proofs.Sameness.{same_expression_sound, same_expression_self}
 use Rattle.mltl_base.proofs.Listing.{added_has, added_keeps, place_append, place_get}
 use Rattle.mltl_base.proofs.Unfolding.{HasExpression, Deep, Each}
@@ -140,7 +140,7 @@ HasAtom es (catom a) = HasExpression es (truth a)
 HasAtom es _ = Unit {0}
 
 -- a list of expressions is what its instructions unfold to
-term_at_place : (a : Term) (before rest : List Expression) → HasExpression before (whole a) → term_at before (at (before ++ rest) a) ≡ a
+term_at_place : (a : Term) (before rest : List Expression) → HasExpression before (whole a) → term_at before (instruction_of (before ++ rest) a) ≡ a
 term_at_place a before rest h =
     rw (
       place_append same_expression same_expression_sound same_expression_self (whole a) before rest h,

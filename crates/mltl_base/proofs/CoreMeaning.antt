@@ -2,6 +2,7 @@
 
 use Rattle.std.proofs.Common.{◌≡◌, ℕ, zero, suc, ◌+◌, ◌-◌, max, Bool, true, false, not, ◌&&◌, ◌||◌, List, refl, sym, ap, ap₂, ◌∙◌, arith}
 use mathlib.Core.Path.{fun_ext}
+use Rattle.std.proofs.Math.Bool.{and-true}
 use Rattle.mltl_base.specs.declared.interval.Interval.{Interval}
 use Rattle.mltl_base.specs.Atoms.{Row, Atom, is_true, equal, less, at_most, different, greater, at_least, holds}
 use Rattle.mltl_base.specs.Formula.{Formula, truth, falsity, atom, negation, conjunction, disjunction, implication, equivalence, finally, globally, until, release, once, historically, since, Core, ctrue, catom, cnot, cand, cuntil, csince, plain, neg, core, core_atom, wpd}
@@ -23,10 +24,6 @@ implies_core true true = refl
 implies_core true false = refl
 implies_core false true = refl
 implies_core false false = refl
-
-and_true : (v : Bool) → (v && true) ≡ v
-and_true true = refl
-and_true false = refl
 
 every_true : (n : ℕ) → every_below n (λ k. true) ≡ true
 unfolding every_below
@@ -71,10 +68,10 @@ atom_sat rows (greater a b) t = refl
 atom_sat rows (at_least a b) t = refl
 
 until_true : (i : Interval) (f : ℕ → Bool) (t : ℕ) → until_at i (λ s. true) f t ≡ some_in i.lo (suc i.hi) (λ k. f (t + k))
-until_true i f t = ap (some_below (suc i.hi - i.lo)) (fun_ext (λ k. ap (λ v. f (t + (i.lo + k)) && v) (every_true (i.lo + k - i.lo)) ∙ and_true (f (t + (i.lo + k)))))
+until_true i f t = ap (some_below (suc i.hi - i.lo)) (fun_ext (λ k. ap (λ v. f (t + (i.lo + k)) && v) (every_true (i.lo + k - i.lo)) ∙ and-true (f (t + (i.lo + k)))))
 
 since_true : (i : Interval) (f : ℕ → Bool) (t : ℕ) → since_at i (λ s. true) f t ≡ some_below (suc t) (λ m. within i (t - m) && f m)
-since_true i f t = ap (some_below (suc t)) (fun_ext (λ m. ap (λ v. within i (t - m) && (f m && v)) (every_true (suc t - suc m)) ∙ ap (λ v. within i (t - m) && v) (and_true (f m))))
+since_true i f t = ap (some_below (suc t)) (fun_ext (λ m. ap (λ v. within i (t - m) && (f m && v)) (every_true (suc t - suc m)) ∙ ap (λ v. within i (t - m) && v) (and-true (f m))))
 
 negated : (rows : List Row) (p : Core) (t : ℕ) (v : Bool) → sat rows (plain p) t ≡ v → sat rows (plain (neg p)) t ≡ not v
 negated rows p t v h = neg_sat rows p t ∙ ap not h

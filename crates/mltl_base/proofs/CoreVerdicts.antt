@@ -140,7 +140,7 @@ unfolding k_every_below
 every_not_false zero f h = tt
 every_not_false (suc n) f h = and_not_false (k_every_below n f) (f n) (every_not_false n f h) (h n)
 
-every_known : (n : ℕ) (f : ℕ → Option Bool) → ((k : ℕ) → k < n → f k ≡ Some true) → k_every_below n f ≡ Some true
+pub every_known : (n : ℕ) (f : ℕ → Option Bool) → ((k : ℕ) → k < n → f k ≡ Some true) → k_every_below n f ≡ Some true
 unfolding k_every_below k_and
 every_known zero f h = refl
 every_known (suc n) f h = rw (every_known n f (λ k l. h k (omega arith)), h n (omega arith)) refl

@@ -1,6 +1,6 @@
--- What each member of a list has.
+-- What each member of a list has, and where members stand.
 
-use Rattle.std.proofs.Common.{ℕ, zero, suc, List, [], ◌∷◌, ◌++◌, All, arith}
+use Rattle.std.proofs.Common.{◌≡◌, ℕ, zero, suc, Some, List, [], ◌∷◌, ◌++◌, All, length, slice_get, refl, arith}
 use Rattle.mltl_base.proofs.Unfolding.{Each}
 
 pub all_from_each : {X : Type 0} (P : X → Type 0) (xs : List X) → Each P xs → All P xs
@@ -19,3 +19,8 @@ each_left P (x ∷ xs) ys h = (h.0, each_left P xs ys h.1)
 pub each_right : {X : Type 0} (P : X → Type 0) (xs ys : List X) → Each P (xs ++ ys) → Each P ys
 each_right P [] ys h = h
 each_right P (x ∷ xs) ys h = each_right P xs ys h.1
+
+-- the member behind some others
+pub get_behind : {X : Type 0} (before rest : List X) (x : X) → slice_get (before ++ x ∷ rest) (length before) ≡ Some x
+get_behind [] rest x = refl
+get_behind (y ∷ before) rest x = get_behind before rest x

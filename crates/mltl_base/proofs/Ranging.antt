@@ -1,6 +1,7 @@
 -- The value of an expression lies in its range, where its signals have 32 bits.
 
-use Rattle.std.proofs.Common.{◌≡◌, ℕ, zero, suc, ◌-◌, ◌*◌, ◌/◌, ◌%◌, ◌<◌, ◌≤◌, ℤ, pos, negsuc, neg_ℤ, ◌+ℤ◌, ◌-ℤ◌, ◌*ℤ◌, ◌≤ℤ◌, int_div, int_rem, int_le, int_eq, unsigned_abs, Bool, true, false, not, ◌&&◌, if◌then◌else◌, Ok, Err, FitsSigned, T, refl, sym, subst, le_trans, mul-le-mul_right, div-mul-le_self, mod-lt, mod-eq_of_lt, arith}
+use Rattle.std.proofs.Common.{◌≡◌, ℕ, zero, suc, ◌-◌, ◌*◌, ◌/◌, ◌%◌, ◌<◌, ◌≤◌, ℤ, pos, negsuc, neg_ℤ, ◌+ℤ◌, ◌-ℤ◌, ◌*ℤ◌, ◌≤ℤ◌, int_div, int_rem, int_le, int_eq, unsigned_abs, Bool, true, false, not, ◌&&◌, if◌then◌else◌, Ok, Err, FitsSigned, T, refl, sym, subst, ◌∙◌, le_trans, mul-le-mul_right, div-mul-le_self, mod-lt, mod-eq_of_lt, arith}
+use Rattle.std.specs.Prelude.{IsOk}
 use Rattle.std.specs.Int.Signed.{le_z_yes}
 use Rattle.std.proofs.Math.IntN.{*ℤ_comm}
 use Rattle.std.proofs.lemmas.Nat.{le-div}
@@ -201,6 +202,12 @@ value_in_range row (remainder a b) r h q =
     let e : value b row ≡ k.1.least = the_divisor k.1 (value b row) k.4 (value_in_range row b k.1 h.1 k.3) in
     rw e (subst (λ (s : Range). IsIn s (int_rem (value a row) k.1.least)) k.5 (left_over_in k.0 (value a row) k.1.least (value_in_range row a k.0 h.0 k.2) k.4.some))
 
+-- a divisor is another number than 0
+pub divisor_not_zero : (f : Range → ℤ → Range) (row : Row) (x : Ranged) (e : Term) (r : Range) → FitsTerm row e → over_divisor f x (range e) ≡ Ok r → value e row ≡ pos 0 → ⊥
+divisor_not_zero f row x e r h q z =
+    let k = divisor_ok f x (range e) r q in
+    k.4.some (sym (the_divisor k.1 (value e row) k.4 (value_in_range row e k.1 h k.3)) ∙ z)
+
 -- a range that is given stays within 64 bits
 abbrev pub IsWithinWord : Range → Type 0
 IsWithinWord r = (least_word ≤ℤ r.least) × (r.greatest ≤ℤ greatest_word)
@@ -255,3 +262,12 @@ value_fits_word row e r h q =
     let w = range_within e r q in
     let v = value_in_range row e r h q in
     word_fits r.least r.greatest (value e row) w.0 w.1 v.0 v.1
+
+-- the range that there is
+pub record HasRange (r : Ranged) : Type 0 where
+  pub the : Range
+  pub is : r ≡ Ok the
+
+pub has_range : (r : Ranged) → IsOk r → HasRange r
+has_range (Ok x) h = record { the = x; is = refl }
+has_range (Err why) h = absurd (cc)

@@ -12,7 +12,7 @@ use Rattle.mltl_base.specs.Subformulas.{same_interval, same_term, same_atom, sam
 two : {A B C : Type 0} (f : A → B → C) (x y : Bool) (a c : A) (b d : B) → (x ≡ true → a ≡ c) → (y ≡ true → b ≡ d) → (x && y) ≡ true → f a b ≡ f c d
 two f x y a c b d g h e = let p = and_parts x y e in ap₂ f (g p.0) (h p.1)
 
-same_interval_sound : (i j : Interval) → same_interval i j ≡ true → i ≡ j
+pub same_interval_sound : (i j : Interval) → same_interval i j ≡ true → i ≡ j
 same_interval_sound i j e =
     let p = and_parts (i.lo == j.lo) (i.hi == j.hi) e in
     let l : i.lo ≡ j.lo = eqb-true i.lo j.lo p.0 in

@@ -157,7 +157,7 @@ Deep H (cand p q) = H (cand p q) × Deep H p × Deep H q
 Deep H (cuntil i p q) = H (cuntil i p q) × Deep H p × Deep H q
 Deep H (csince i p q) = H (csince i p q) × Deep H p × Deep H q
 
-all_push : {X : Type 0} (H : X → Type 0) (xs : List X) (x : X) → Each H xs → H x → Each H (xs ++ x ∷ [])
+pub all_push : {X : Type 0} (H : X → Type 0) (xs : List X) (x : X) → Each H xs → H x → Each H (xs ++ x ∷ [])
 all_push H [] x h g = (g, h)
 all_push H (y ∷ xs) x h g = (h.0, all_push H xs x h.1 g)
 

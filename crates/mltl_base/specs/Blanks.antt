@@ -1,4 +1,5 @@
 -- Blanks are spaces and tabs.
+-- A reader of the contracts needs this file.
 
 use Rattle.std.specs.Prelude.{ℕ, Bool, ◌==◌, ◌||◌, List}
 use Rattle.std.specs.List.{list_all}

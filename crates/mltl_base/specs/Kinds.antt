@@ -1,4 +1,5 @@
 -- Which formulas read each signal by its kind, and which signals are told apart by their names.
+-- A reader of the contracts needs this file.
 
 use Rattle.std.specs.Prelude.{◌≡◌, ◌≢◌, ◌<◌, ℕ, Bool, true, false, Some, List, map, slice_get, All}
 use Rattle.mltl_base.specs.Atoms.{Term, column, constant, negative, plus, minus, times, quotient, remainder, Atom, is_true, equal, different, less, at_most, greater, at_least}

@@ -1,4 +1,6 @@
--- What the instructions of an observer program unfold to, and the rows that fit it.
+-- What the instructions of an observer program unfold to, and the rows that fit it. Every list of instructions unfolds to
+-- something: an operand that names nothing stands for 0, for the truth of column 0, or for true. A well-formed program has
+-- no such operand, which `well_formed_programs_are_sound` and `well_formed_programs_run` of `obs_verify` say.
 -- A reader of the contracts needs this file.
 
 use Rattle.std.specs.Prelude.{ℕ, ◌≡◌, ◌⊎◌, pos, Option, Some, None, List, [], ◌∷◌, ◌++◌, length, map, slice_get, slice_index_or, All, FitsSigned}
@@ -19,15 +21,13 @@ pub data Expression : Type 0 where
   whole : Term → Expression
   truth : Atom → Expression
 
--- the whole number that stands at a place. An operand of a well-formed program always names one; 0 is for the other
--- cases, which a definition has to cover and no well-formed program meets
+-- the whole number that stands at a place, else 0
 abbrev pub term_of : Option Expression → Term
 term_of (Some (whole e)) = e
 term_of (Some (truth a)) = constant (pos 0)
 term_of None = constant (pos 0)
 
--- the truth that stands at a place. A Load of a well-formed program always names one; the truth of column 0 is for the
--- other cases, which no well-formed program meets
+-- the truth that stands at a place, else that of column 0
 abbrev pub atom_of : Option Expression → Atom
 atom_of (Some (truth a)) = a
 atom_of (Some (whole e)) = is_true 0
@@ -65,7 +65,7 @@ expressions ops = expressions_after [] ops
 abbrev pub atoms : List bz.BzOp → List Atom
 atoms ops = map (λ e. atom_of (Some e)) (expressions ops)
 
--- the core formula of instruction n, over those before; true, which no well-formed program meets, where n is none of them
+-- the core formula of instruction n, over those before, else true
 abbrev pub core_at : List Core → ℕ → Core
 core_at before n = slice_index_or before n ctrue
 

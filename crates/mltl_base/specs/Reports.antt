@@ -97,11 +97,12 @@ reports_after style outs rows (r ∷ more) = of_row style 0 outs rows r ++ repor
 abbrev pub reports : Style → List Output → List Row → List Report
 reports style outs rows = reports_after style outs [] rows
 
--- what a report tells, where the words of the times below t were told before: its word for each time from t to its own
+-- what a report tells where the times below t are told: its word, once for each time from t up to its own
 abbrev pub told_by : ℕ → Report → List Word
 told_by t r = replicate (suc r.time - t) r.word
 
--- what the reports of output k tell from time t on: the first its words up to its time, the next the words after that
+-- the words that the reports of output k tell, one for each time from t on: each report tells its word for the times that
+-- none before it has told, up to its own
 unfoldable pub told : ℕ → ℕ → List Report → List Word
 told k t [] = []
 told k t (r ∷ rs) = if r.out == k then told_by t r ++ told k (suc r.time) rs else told k t rs

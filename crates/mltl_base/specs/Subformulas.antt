@@ -158,29 +158,29 @@ subformulas engine outs = fold (λ ps p. add_subformulas p ps) [] (cores_for eng
 abbrev pub bz_expressions : List Asked → List Expression
 bz_expressions outs = fold (λ es p. add_expressions p es) [] (all_cores outs)
 
--- the number of the instruction of a whole number: its place in the list
-abbrev pub at : List Expression → Term → ℕ
-at es a = place_of same_expression (whole a) es
+-- the number of the instruction that computes a whole number: its place among the expressions
+abbrev pub instruction_of : List Expression → Term → ℕ
+instruction_of es a = place_of same_expression (whole a) es
 
--- the instruction of an expression, its operands by their numbers; a comparison that core formulas do not have is never
--- asked for
+-- the instruction of an expression, its operands by the numbers of their instructions. Core formulas have the first three
+-- comparisons alone, so the last line is for none of theirs
 abbrev pub bz_instruction : List Expression → Expression → bz.BzOp
 bz_instruction es (whole (column c)) = bz.TheVariants.Column c
 bz_instruction es (whole (constant n)) = bz.TheVariants.Const n
-bz_instruction es (whole (negative a)) = bz.TheVariants.Neg (at es a)
-bz_instruction es (whole (plus a b)) = bz.TheVariants.Add (at es a) (at es b)
-bz_instruction es (whole (minus a b)) = bz.TheVariants.Sub (at es a) (at es b)
-bz_instruction es (whole (times a b)) = bz.TheVariants.Mul (at es a) (at es b)
-bz_instruction es (whole (quotient a b)) = bz.TheVariants.Div (at es a) (at es b)
-bz_instruction es (whole (remainder a b)) = bz.TheVariants.Rem (at es a) (at es b)
+bz_instruction es (whole (negative a)) = bz.TheVariants.Neg (instruction_of es a)
+bz_instruction es (whole (plus a b)) = bz.TheVariants.Add (instruction_of es a) (instruction_of es b)
+bz_instruction es (whole (minus a b)) = bz.TheVariants.Sub (instruction_of es a) (instruction_of es b)
+bz_instruction es (whole (times a b)) = bz.TheVariants.Mul (instruction_of es a) (instruction_of es b)
+bz_instruction es (whole (quotient a b)) = bz.TheVariants.Div (instruction_of es a) (instruction_of es b)
+bz_instruction es (whole (remainder a b)) = bz.TheVariants.Rem (instruction_of es a) (instruction_of es b)
 bz_instruction es (truth (is_true c)) = bz.TheVariants.IsTrue c
-bz_instruction es (truth (equal a b)) = bz.TheVariants.Eq (at es a) (at es b)
-bz_instruction es (truth (less a b)) = bz.TheVariants.Lt (at es a) (at es b)
-bz_instruction es (truth (at_most a b)) = bz.TheVariants.Le (at es a) (at es b)
+bz_instruction es (truth (equal a b)) = bz.TheVariants.Eq (instruction_of es a) (instruction_of es b)
+bz_instruction es (truth (less a b)) = bz.TheVariants.Lt (instruction_of es a) (instruction_of es b)
+bz_instruction es (truth (at_most a b)) = bz.TheVariants.Le (instruction_of es a) (instruction_of es b)
 bz_instruction es (truth a) = bz.TheVariants.IsTrue 0
 
--- the instruction of a core formula of the future, over the expressions and the listed formulas; a formula of the past is
--- never asked for
+-- the instruction of a core formula of the future, over the expressions and the listed formulas. The last line is for
+-- formulas of the past, which the future-time engine has none of
 abbrev pub ft_instruction : List Expression → List Core → Core → ft.FtOp
 ft_instruction es ps ctrue = ft.TheVariants.True
 ft_instruction es ps (catom a) = ft.TheVariants.Load (place_of same_expression (truth a) es)
@@ -189,7 +189,8 @@ ft_instruction es ps (cand p q) = ft.TheVariants.And (place_of same p ps) (place
 ft_instruction es ps (cuntil i p q) = ft.TheVariants.Until (place_of same p ps) (place_of same q ps) i
 ft_instruction es ps (csince i p q) = ft.TheVariants.True
 
--- the instruction of a core formula of the past; a formula of the future is never asked for
+-- the instruction of a core formula of the past. The last line is for formulas of the future, which the past-time engine
+-- has none of
 abbrev pub pt_instruction : List Expression → List Core → Core → pt.PtOp
 pt_instruction es ps ctrue = pt.TheVariants.True
 pt_instruction es ps (catom a) = pt.TheVariants.Load (place_of same_expression (truth a) es)

@@ -1,4 +1,5 @@
 -- The answer of a range, or why there is none.
+-- A reader of the contracts needs this file.
 
 use Rattle.std.specs.Prelude.{◌≡◌, Result, Ok, Err}
 use Rattle.mltl_base.specs.Ranges.{Range, Ranged, divisor, wide, NoRange}

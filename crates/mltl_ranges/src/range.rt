@@ -158,7 +158,8 @@ fn divisor_of(b: Range) -> Result<i64, NoRange>
 /// The range with these ends, where they have 64 bits.
 fn in_word(least: i128, greatest: i128) -> Result<Range, NoRange>
     requires { least ≤ℤ greatest }
-    ensures { (range : Values) → range.least ≡ least → range.greatest ≡ greatest → Tells result (within_word range) }
+    ensures { (range : Values) →
+        range.least ≡ least → range.greatest ≡ greatest → Tells result (within_word range) }
 {
     if LEAST <= least && greatest <= GREATEST {
         Ok(Range {

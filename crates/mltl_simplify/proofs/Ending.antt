@@ -13,13 +13,13 @@ use Rattle.plain_nodes.specs.declared.nodes.Plain.{Plain}
 use Rattle.plain_nodes.specs.declared.nodes.PlainOut.{PlainOut}
 use Rattle.plain_nodes.specs.declared.nodes.PlainOut.TheVariants as out
 use Rattle.plain_nodes.specs.declared.nodes.Expanded.{Expanded}
-use Rattle.plain_nodes.specs.Faults.{formula_fault}
+use Rattle.plain_nodes.specs.Faults.{HasRanges, formula_fault}
 use Rattle.plain_nodes.specs.Nodes.{formula_at, trees, AreSound}
 use Rattle.plain_nodes.specs.Outputs.{IsSound, NamesFormulas, asked, asked_by}
 use Rattle.plain_nodes.proofs.NoFaults.{neither}
 use Rattle.mltl_simplify.specs.declared.parts.Part.{Part}
 use Rattle.mltl_simplify.specs.Nodes.{AreSimplified, NamesNodes, out_over}
-use Rattle.mltl_simplify.specs.Outputs.{HasRanges, simple_asked, simple_output, simple_outputs}
+use Rattle.mltl_simplify.specs.Outputs.{simple_asked, simple_output, simple_outputs}
 use Rattle.mltl_simplify.specs.Simplify.{simp, truth_of}
 use Rattle.mltl_simplify.proofs.Cases.{finally_cases, globally_cases, historically_cases, once_cases}
 use Rattle.mltl_simplify.proofs.Forms.{IsPlain, and_has, atom_has, equals_has, implies_has, not_has, or_has, simp_future, simp_past, unless_false_has, unless_truth_has}

@@ -3,6 +3,7 @@ use Rattle.std.proofs.Common.{◌≡◌, ℕ, suc, ◌+◌, ◌-◌, ◌<◌, �
 use Rattle.std.specs.Prelude.{if◌then◌else◌}
 use Rattle.std.proofs.lemmas.Bool.{cases_lt, or_parts}
 use mathlib.Core.Path.{fun_ext}
+use Rattle.std.proofs.Math.Bool.{and-false, and-true, or-false, or-true}
 use Rattle.mltl_base.specs.declared.interval.Interval.{Interval}
 use Rattle.mltl_base.specs.Atoms.{Row, Term, column, constant, negative, plus, minus, times, quotient, remainder, Atom, is_true, equal, less, at_most, different, greater, at_least, holds, value}
 use Rattle.mltl_base.specs.Formula.{Formula, truth, falsity, atom, negation, conjunction, disjunction, implication, equivalence, finally, globally, until, release, once, historically, since}
@@ -71,22 +72,6 @@ not_means : (rows : List Row) (x : Formula) (t : ℕ) → sat rows (simple_not x
 unfolding sat
 not_means rows x t = not_cases (λ x y. sat rows y t ≡ not (sat rows x t)) refl refl (λ z. sym (not_not (sat rows z t))) (λ x. refl) x
 
-and_false : (a : Bool) → false ≡ (a && false)
-and_false true = refl
-and_false false = refl
-
-and_true : (a : Bool) → a ≡ (a && true)
-and_true true = refl
-and_true false = refl
-
-or_true : (a : Bool) → true ≡ (a || true)
-or_true true = refl
-or_true false = refl
-
-or_false : (a : Bool) → a ≡ (a || false)
-or_false true = refl
-or_false false = refl
-
 true_equals : (b : Bool) → b ≡ ((not true || b) && (not b || true))
 true_equals true = refl
 true_equals false = refl
@@ -118,8 +103,8 @@ module _ (rows : List Row) (x y : Formula) (t : ℕ) where
       go : (u w : Option Bool) → truth_of x ≡ u → truth_of y ≡ w → sat rows (both u w x y) t ≡ (sat rows x t && sat rows y t)
       go (Some false) w h k = left (λ a b. a && b) false h
       go (Some true) w h k = left (λ a b. a && b) true h
-      go None (Some false) h k = and_false (sat rows x t) ∙ right (λ a b. a && b) false k
-      go None (Some true) h k = and_true (sat rows x t) ∙ right (λ a b. a && b) true k
+      go None (Some false) h k = sym (and-false (sat rows x t)) ∙ right (λ a b. a && b) false k
+      go None (Some true) h k = sym (and-true (sat rows x t)) ∙ right (λ a b. a && b) true k
       go None None h k = refl
 
   or_means : sat rows (simple_or x y) t ≡ (sat rows x t || sat rows y t)
@@ -129,8 +114,8 @@ module _ (rows : List Row) (x y : Formula) (t : ℕ) where
       go : (u w : Option Bool) → truth_of x ≡ u → truth_of y ≡ w → sat rows (either u w x y) t ≡ (sat rows x t || sat rows y t)
       go (Some true) w h k = left (λ a b. a || b) true h
       go (Some false) w h k = left (λ a b. a || b) false h
-      go None (Some true) h k = or_true (sat rows x t) ∙ right (λ a b. a || b) true k
-      go None (Some false) h k = or_false (sat rows x t) ∙ right (λ a b. a || b) false k
+      go None (Some true) h k = sym (or-true (sat rows x t)) ∙ right (λ a b. a || b) true k
+      go None (Some false) h k = sym (or-false (sat rows x t)) ∙ right (λ a b. a || b) false k
       go None None h k = refl
 
   implies_means : sat rows (simple_implies x y) t ≡ (not (sat rows x t) || sat rows y t)
@@ -140,8 +125,8 @@ module _ (rows : List Row) (x y : Formula) (t : ℕ) where
       go : (u w : Option Bool) → truth_of x ≡ u → truth_of y ≡ w → sat rows (implies u w x y) t ≡ (not (sat rows x t) || sat rows y t)
       go (Some false) w h k = left (λ a b. not a || b) false h
       go (Some true) w h k = left (λ a b. not a || b) true h
-      go None (Some true) h k = or_true (not (sat rows x t)) ∙ right (λ a b. not a || b) true k
-      go None (Some false) h k = not_means rows x t ∙ or_false (not (sat rows x t)) ∙ right (λ a b. not a || b) false k
+      go None (Some true) h k = sym (or-true (not (sat rows x t))) ∙ right (λ a b. not a || b) true k
+      go None (Some false) h k = not_means rows x t ∙ sym (or-false (not (sat rows x t))) ∙ right (λ a b. not a || b) false k
       go None None h k = refl
 
   equals_means : sat rows (simple_equals x y) t ≡ ((not (sat rows x t) || sat rows y t) && (not (sat rows y t) || sat rows x t))

@@ -12,20 +12,16 @@ use Rattle.mltl_base.specs.declared.operators.CompareOp as compare
 use Rattle.mltl_base.specs.Atoms.{Term, column, constant, negative, plus, minus, times, quotient, remainder, value, holds}
 use Rattle.mltl_base.specs.Formula.{Formula, atom}
 use Rattle.mltl_base.specs.Ranges.{Range, Ranged, divisor, range, negated, summed, lessened, multiplied, divided, left_over, over, over_both, over_divisor, in_word, divides, IsIn, FitsTerm}
-use Rattle.mltl_base.proofs.Ranging.{value_fits_word, value_in_range}
+use Rattle.mltl_base.proofs.Ranging.{HasRange, value_fits_word, divisor_not_zero}
 use Rattle.plain_nodes.specs.Faults.{why_none, term_fault, formula_fault}
 use Rattle.plain_nodes.specs.Nodes.{arithmetic, comparison, constant_formula}
-use Rattle.plain_nodes.proofs.NoFaults.{neither}
+use Rattle.plain_nodes.proofs.NoFaults.{neither, over_none, both_none, divisor_none}
 use Rattle.mltl_simplify.specs.Numbers.{number_of, computed, compared, compares, CanDivideBy, IsNegated, IsComputed}
 use Rattle.mltl_simplify.specs.Simplify.{reads_signal, has_signal, of_truth, simp}
 
 -- the number is known, where there is no fault
 abbrev pub IsKnown : Option ℤ → Term → Type 0
 IsKnown x a = term_fault a ≡ None → x ≡ number_of a
-
-record HasRange (r : Ranged) : Type 0 where
-  the : Range
-  is : r ≡ Ok the
 
 ranged : (r : Ranged) → why_none r ≡ None → HasRange r
 ranged (Ok r) h = record { the = r; is = refl }
@@ -47,20 +43,6 @@ fits : (a : Term) → term_fault a ≡ None → FitsSigned w64 (value a [])
 fits a h = let r = ranged (range a) h in value_fits_word [] a r.the (fits_none a) r.is
 
 -- operands of a whole number without a fault have none
-over_none : (f : Range → Range) (r : Ranged) → why_none (over f r) ≡ None → why_none r ≡ None
-over_none f (Ok r) h = refl
-over_none f (Err why) h = absurd (cc)
-
-both_none : (f : Range → Range → Range) (r s : Ranged) → why_none (over_both f r s) ≡ None → (why_none r ≡ None) × (why_none s ≡ None)
-both_none f (Ok r) (Ok s) h = (refl, refl)
-both_none f (Ok r) (Err why) h = absurd (cc)
-both_none f (Err why) s h = absurd (cc)
-
-divisor_none : (f : Range → ℤ → Range) (r s : Ranged) → why_none (over_divisor f r s) ≡ None → (why_none r ≡ None) × (why_none s ≡ None)
-divisor_none f (Ok r) (Ok s) h = (refl, refl)
-divisor_none f (Ok r) (Err why) h = absurd (cc)
-divisor_none f (Err why) s h = absurd (cc)
-
 operands : (op : arith.ArithOp) (a b : Term) → term_fault (arithmetic op a b) ≡ None → (term_fault a ≡ None) × (term_fault b ≡ None)
 unfolding range
 operands arith.TheVariants.Add a b h = both_none summed (range a) (range b) h
@@ -70,37 +52,10 @@ operands arith.TheVariants.Div a b h = divisor_none divided (range a) (range b) 
 operands arith.TheVariants.Rem a b h = divisor_none left_over (range a) (range b) h
 
 -- a divisor isn't 0
-record Divides (r : Ranged) : Type 0 where
-  the : Range
-  is : r ≡ Ok the
-  one : divides the ≡ true
-
-divides_by : (f : Range → ℤ → Range) (r s : Ranged) → why_none (over_divisor f r s) ≡ None → Divides s
-divides_by f (Err why) s h = absurd (cc)
-divides_by f (Ok r) (Err why) h = absurd (cc)
-divides_by f (Ok r) (Ok s) h = record { the = s; is = refl; one = go (divides s) h }
-  where
-    go : (b : Bool) → why_none (if b then in_word (f r s.least) else Err divisor) ≡ None → b ≡ true
-    go true h = refl
-    go false h = absurd (cc)
-
-not_true : (b : Bool) → b ≡ true → not b ≡ true → ⊥
-not_true true e f = cc
-not_true false e f = cc
-
-not_zero : (s : Range) (z : ℤ) → divides s ≡ true → IsIn s z → z ≢ pos 0
-not_zero s z one lies e =
-    let parts = and_parts (int_eq s.least s.greatest) (not (int_eq s.least (pos 0))) one in
-    let same : s.least ≡ s.greatest = (Decides-int_eq s.least s.greatest).0 parts.0 in
-    let low : s.least ≤ℤ pos 0 = subst (λ x. s.least ≤ℤ x) e lies.0 in
-    let high : pos 0 ≤ℤ s.least = subst (λ x. pos 0 ≤ℤ x) (sym same) (subst (λ x. x ≤ℤ s.greatest) e lies.1) in
-    let zero : s.least ≡ pos 0 = omega (arith, ints) in
-    not_true (int_eq s.least (pos 0)) ((Decides-int_eq s.least (pos 0)).1 zero) parts.1
-
 by_divisor : (f : Range → ℤ → Range) (a b : Term) → why_none (over_divisor f (range a) (range b)) ≡ None → value b [] ≢ pos 0
 by_divisor f a b h =
-    let d = divides_by f (range a) (range b) h in
-    not_zero d.the (value b []) d.one (value_in_range [] b d.the (fits_none b) d.is)
+    let r = ranged (over_divisor f (range a) (range b)) h in
+    divisor_not_zero f [] (range a) b r.the (fits_none b) r.is
 
 can_divide : (op : arith.ArithOp) (a b : Term) → term_fault (arithmetic op a b) ≡ None → CanDivideBy op (value b [])
 unfolding range

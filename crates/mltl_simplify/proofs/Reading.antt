@@ -2,17 +2,13 @@
 
 use Rattle.std.proofs.Common.{◌≡◌, ℕ, ◌+◌, ◌<◌, false, Option, Some, None, List, [], ◌∷◌, ◌++◌, length, take, drop, get_or, slice_get, refl, sym, subst, ap, ◌∙◌, arith}
 use Rattle.std.proofs.lemmas.List.{take-append-drop, length-take-le}
-use Rattle.std.proofs.lemmas.Option.{slice_get-get_or, slice_get_within, same_Some}
+use Rattle.std.proofs.lemmas.Option.{slice_get_within, same_Some}
 use Rattle.plain_nodes.specs.declared.nodes.Plain.{Plain}
 use Rattle.plain_nodes.specs.declared.nodes.Plain.TheVariants.{Truth}
 use Rattle.plain_nodes.specs.Nodes.{Tree, number, formula, term_in, formula_in, term_at, formula_at, tree_of, trees, Has, IsNumber, IsFormula, IsFormed}
-use Rattle.plain_nodes.proofs.Places.{get_last}
+use Rattle.plain_nodes.proofs.Places.{get_last, node_there}
 use Rattle.plain_nodes.proofs.Pushing.{trees_more, length-trees, grows_append}
 use Rattle.mltl_simplify.specs.Nodes.{AreFormed}
-
--- the node that an arm has found
-pub node_there : (nodes : List Plain) (i : ℕ) (node : Plain) → i < length nodes → get_or nodes i (Truth false) ≡ node → slice_get nodes i ≡ Some node
-node_there nodes i node l e = slice_get-get_or nodes i (Truth false) l ∙ ap Some e
 
 -- what the first nodes unfold to stays
 pub has_later : (nodes : List Plain) (k n : ℕ) (tree : Tree) → slice_get (trees (take k nodes)) n ≡ Some tree → Has nodes n tree

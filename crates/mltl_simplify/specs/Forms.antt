@@ -1,11 +1,11 @@
 -- What stands in a formula.
 -- A reader of the contracts needs this file.
 
-use Rattle.std.specs.Prelude.{ℕ, ◌≡◌, ◌≤◌, ◌⊎◌}
+use Rattle.std.specs.Prelude.{ℕ, ◌≡◌, ◌⊎◌}
 use Rattle.mltl_base.specs.declared.interval.Interval.{Interval}
-use Rattle.mltl_base.specs.declared.limits.TheConstants.{MAX_BOUND}
 use Rattle.mltl_base.specs.Atoms.{Atom, is_true}
 use Rattle.mltl_base.specs.Formula.{Formula, truth, falsity, atom, negation, conjunction, disjunction, implication, equivalence, finally, globally, until, release, once, historically, since}
+use Rattle.plain_nodes.specs.Nodes.{IsBounded}
 
 -- the interval from lo to hi
 abbrev pub from_to : ℕ → ℕ → Interval
@@ -14,10 +14,6 @@ from_to lo hi = record { lo = lo; hi = hi }
 -- the formula that a signal is
 abbrev pub signal : ℕ → Formula
 signal s = atom (is_true s)
-
--- the interval runs upward, and no further than the limit
-abbrev pub IsBounded : Interval → Type 0
-IsBounded i = (i.lo ≤ i.hi) × (i.hi ≤ MAX_BOUND)
 
 -- each interval of the formula runs upward, and no further than the limit
 abbrev pub AreBounded : Formula → Type 0

@@ -1,4 +1,5 @@
 -- Nodes that stand for the simplified formulas of other nodes.
+-- It is the proof's own: `simplify` promises the simplified outputs, and only inner functions speak of nodes.
 
 use Rattle.std.specs.Prelude.{◌≡◌, ◌<◌, ℕ, ℤ, Bool, true, false, not, Option, Some, None, List, length, slice_get}
 use Rattle.mltl_base.specs.declared.interval.Interval.{Interval}
@@ -23,12 +24,14 @@ simple_logic logic.TheVariants.Or p q = simple_or p q
 simple_logic logic.TheVariants.Implies p q = simple_implies p q
 simple_logic logic.TheVariants.Iff p q = simple_equals p q
 
+-- the simplified formula of an operator over a window, of one simplified formula
 abbrev pub simple_window : window.WindowOp → Interval → plain.Formula → plain.Formula
 simple_window window.TheVariants.F i p = simple_finally i p
 simple_window window.TheVariants.G i p = simple_globally i p
 simple_window window.TheVariants.O i p = simple_once i p
 simple_window window.TheVariants.H i p = simple_historically i p
 
+-- the simplified formula of an operator over a window, of two simplified formulas
 abbrev pub simple_between : between.BetweenOp → Interval → plain.Formula → plain.Formula → plain.Formula
 simple_between between.TheVariants.U i p q = unless_truth (truth_of q) (until i p q)
 simple_between between.TheVariants.R i p q = unless_truth (truth_of q) (release i p q)
@@ -102,22 +105,25 @@ pub record AreSimplified (nodes : List Plain) (count : ℕ) (simple : List Plain
   pub numbered : AreNumbered nodes parts
   pub sound : (signals : ℕ) → AreSound signals nodes → AreSound signals simple
 
--- the number and the place of a part
+-- the number of a part, where there is one
 abbrev pub number_in : Option Part → Option ℤ
 number_in (Some part) = part.number
 number_in None = None
 
--- the place that stands for node n, and an output over these places
+-- the place of a part, where there is one
 abbrev pub place_in : Option Part → ℕ
 place_in (Some part) = part.place
 place_in None = 0
 
+-- the place that stands for node n
 abbrev pub place_at : List Part → ℕ → ℕ
 place_at parts n = place_in (slice_get parts n)
 
+-- the number of node n, if it is known
 abbrev pub number_at : List Part → ℕ → Option ℤ
 number_at parts n = number_in (slice_get parts n)
 
+-- an output over the places that stand for its nodes
 abbrev pub out_over : List Part → PlainOut → PlainOut
 out_over parts (Formula engine n name) = Formula engine (place_at parts n) name
 out_over parts (Contract engine n m name) = Contract engine (place_at parts n) (place_at parts m) name

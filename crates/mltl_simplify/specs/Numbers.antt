@@ -1,4 +1,5 @@
 -- Numbers that whole-number expressions without signals are.
+-- A reader of the contracts needs this file.
 
 use Rattle.std.specs.Prelude.{◌≡◌, ◌≢◌, ℤ, pos, neg_ℤ, ◌+ℤ◌, ◌-ℤ◌, ◌*ℤ◌, int_div, int_rem, int_lt, int_le, Bool, not, FitsSigned, if◌then◌else◌, Option, Some, None, []}
 use Rattle.std.specs.Int.{w64}
@@ -30,11 +31,12 @@ CanDivideBy _ y = Unit {0}
 abbrev pub CanCompute : arith.ArithOp → ℤ → ℤ → Type 0
 CanCompute op x y = CanDivideBy op y × FitsSigned w64 (computed op x y)
 
--- what is found for a negation, and for an operator, is their number, where the operands' are known and 64 bits suffice
+-- what is found for a negation is its number, where the operand's is known and 64 bits suffice
 abbrev pub IsNegated : Option ℤ → Option ℤ → Type 0
 IsNegated None found = found ≡ None
 IsNegated (Some x) found = FitsSigned w64 (neg_ℤ x) → found ≡ Some (neg_ℤ x)
 
+-- what is found for an operation is its number, where the operands' are known and 64 bits suffice
 abbrev pub IsComputed : arith.ArithOp → Option ℤ → Option ℤ → Option ℤ → Type 0
 IsComputed op (Some x) (Some y) found = CanCompute op x y → found ≡ Some (computed op x y)
 IsComputed op None y found = found ≡ None

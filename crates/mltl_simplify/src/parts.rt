@@ -89,7 +89,8 @@ fn place_of(
 pub fn read(alloc: Global, simple: &mut Nodes, nodes: &[Plain]) -> Result<Vec<Part>, AllocError>
     requires empty { simple.old ≡ [] }
     requires formed { AreFormed nodes.now }
-    ensures { IfOk result (λ parts. AreSimplified nodes.now (length nodes.now) simple.new parts.items) }
+    ensures { IfOk result (λ parts.
+        AreSimplified nodes.now (length nodes.now) simple.new parts.items) }
 {
     let mut parts = Vec::new(alloc);
     for i in 0..nodes.len() {

@@ -5,9 +5,10 @@ ghost use Rattle.mltl_base.specs.Atoms.{Row};
 ghost use Rattle.mltl_base.specs.Formula.{Formula, wpd};
 ghost use Rattle.mltl_base.specs.Meaning.{sat};
 ghost use Rattle.mltl_base.specs.Settled.{IsOrdered, Settled};
+ghost use Rattle.plain_nodes.specs.Faults.{HasRanges};
 ghost use Rattle.plain_nodes.specs.Outputs.{IsSound, asked};
 ghost use Rattle.mltl_simplify.specs.Nodes.{NamesNodes, out_over};
-ghost use Rattle.mltl_simplify.specs.Outputs.{HasRanges, simple_outputs};
+ghost use Rattle.mltl_simplify.specs.Outputs.{simple_outputs};
 ghost use Rattle.mltl_simplify.specs.Simplify.{simp};
 
 use crate::laws::simplified_formulas_mean_the_same;
@@ -54,7 +55,8 @@ pub fn simplify(alloc: Global, spec: &Expanded) -> Result<Expanded, AllocError>
     requires sound { (signals : ℕ) × IsSound spec.now signals }
     requires ranged { All HasRanges (asked spec.now) }
     ensures outputs { IfOk result (λ simple. asked simple ≡ simple_outputs (asked spec.now)) }
-    ensures sound { (signals : ℕ) → IsSound spec.now signals → IfOk result (λ simple. IsSound simple signals) }
+    ensures sound { (signals : ℕ) → IsSound spec.now signals →
+        IfOk result (λ simple. IsSound simple signals) }
     ensures ranged { IfOk result (λ simple. All HasRanges (asked simple)) }
 
     // A simplified formula means what its formula does, no later; what is settled for it is settled for the formula.

@@ -4,7 +4,7 @@ use Rattle.std.proofs.Math.Seq.{drop-cons}
 use Rattle.std.specs.Prelude.{◌||◌, codes, nat_eq, ◌==◌}
 use Rattle.std.specs.Int.{w16, w32, from_le_bytes, to_le_bytes}
 use Rattle.std.specs.List.{flat_map, starts_with}
-use Rattle.std.proofs.lemmas.Bool.{eqb-true, ltb-false, le-ltb, or_cases}
+use Rattle.std.proofs.lemmas.Bool.{eqb-true, ltb-false, le-ltb, or_cases, not-false}
 use Rattle.std.proofs.lemmas.List.{take-append-drop, length-take, length-drop}
 use Rattle.std.proofs.lemmas.Nat.{le_bytes_2, le_bytes_4, from_le_bytes-to_le_bytes_4}
 use Rattle.std.proofs.lemmas.Grind.{common_steps}
@@ -51,10 +51,6 @@ numbers-back (suc n) bytes k fits room =
 guard : {A : Type 0} (b : Bool) (fault : ReadFault) (r : Result A ReadFault) (y : A) → cond b (Err fault) r ≡ Ok y → (b ≡ false) × (r ≡ Ok y)
 guard true fault r y e = absurd cc
 guard false fault r y e = (refl, e)
-
-not-false : (b : Bool) → not b ≡ false → b ≡ true
-not-false true e = refl
-not-false false e = absurd cc
 
 -- what the header at the front of the bytes was found to be
 record Found (bytes : List ℕ) (h : Header) : Type 0 where

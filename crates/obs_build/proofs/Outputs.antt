@@ -8,12 +8,11 @@ use Rattle.mltl_base.specs.Subformulas.{Asked, cores_of_output, formulas_of, all
 use Rattle.mltl_base.specs.Kinds.{ReadsKinds, ReadsSignals}
 use Rattle.mltl_base.proofs.Unfolding.{Deep, Each, each_from_all}
 use Rattle.mltl_base.proofs.Members.{each_append}
-use Rattle.plain_nodes.specs.Faults.{formula_fault}
+use Rattle.plain_nodes.specs.Faults.{HasRanges, formula_fault}
 use Rattle.plain_nodes.specs.declared.nodes.PlainOut.{PlainOut}
 use Rattle.plain_nodes.specs.declared.nodes.PlainOut.TheVariants as out
 use Rattle.plain_nodes.specs.Nodes.{Tree, IsBounded}
 use Rattle.plain_nodes.specs.Outputs.{asked_by, asked_over, output_over}
-use Rattle.obs_build.specs.Conditions.{IsFaultless}
 use Rattle.obs_build.proofs.Parts.{InAtom}
 use Rattle.obs_build.proofs.Cores.{AtHead, core_deep}
 use Rattle.obs_build.proofs.Reading.{IsReadable, AreOfKinds, formula_reads, atom_turns}
@@ -33,7 +32,7 @@ module _ (program : Program) (kinds : List Bool) (columns : List ℕ) (fits : Ar
   output_fit (formula p) k h w = (formula_fit p k.0 h.0 w.0, tt)
   output_fit (contract p q) k h w = (formula_fit p k.0 h.0 w.0, (formula_fit q k.1.0 h.1.0 w.1.0, tt))
 
-  pub cores_fit : (outs : List Asked) → All (ReadsSignals kinds) outs → All IsFaultless outs → Each (λ a. Each IsWindowed (formulas_of a.output)) outs
+  pub cores_fit : (outs : List Asked) → All (ReadsSignals kinds) outs → All HasRanges outs → Each (λ a. Each IsWindowed (formulas_of a.output)) outs
       → Each (Deep (IsFit program)) (all_cores (map (asked_over columns) outs))
   cores_fit [] k h w = tt
   cores_fit (a ∷ outs) k h w =

@@ -5,7 +5,7 @@ use Rattle.mltl_base.specs.Atoms.{Term, column, constant, negative, plus, minus,
 use Rattle.mltl_base.specs.Formula.{Core, ctrue, catom, cnot, cand, cuntil, csince}
 use Rattle.mltl_base.specs.Programs.{Expression, whole, truth}
 use Rattle.mltl_base.specs.Subformulas.{same_expression, listed, add_new, add_terms, add_operands, add_expressions}
-use Rattle.mltl_base.proofs.Unfolding.{Deep, Each}
+use Rattle.mltl_base.proofs.Unfolding.{Deep, Each, all_push}
 
 -- P holds of a whole number and of all its operands
 abbrev pub InTerm : (Expression → Type 0) → Term → Type 0
@@ -36,16 +36,12 @@ abbrev pub AtCore : (Expression → Type 0) → Core → Type 0
 AtCore P (catom a) = InAtom P a
 AtCore P _ = Unit {0}
 
-pub each_push : {X : Type 0} (P : X → Type 0) (xs : List X) (x : X) → Each P xs → P x → Each P (xs ++ x ∷ [])
-each_push P [] x h g = (g, h)
-each_push P (y ∷ xs) x h g = (h.0, each_push P xs x h.1 g)
-
 each_new : (P : Expression → Type 0) (e : Expression) (es : List Expression) → Each P es → P e → Each P (add_new same_expression e es)
 each_new P e es h g = go (listed same_expression e es)
   where
     go : (b : Bool) → Each P (if b then es else es ++ e ∷ [])
     go true = h
-    go false = each_push P es e h g
+    go false = all_push P es e h g
 
 terms_all : (P : Expression → Type 0) (a : Term) (es : List Expression) → InTerm P a → Each P es → Each P (add_terms a es)
 unfolding add_terms

@@ -12,7 +12,7 @@ use Rattle.mltl_base.proofs.Unfolding.{Deep}
 use Rattle.plain_nodes.specs.Faults.{why_none, or_later, term_fault, atom_fault, formula_fault}
 use Rattle.obs_verify.specs.WellFormed.{is_column_of}
 use Rattle.mltl_base.specs.Kinds.{ReadsWholes, AtomReadsKinds, ReadsKinds}
-use Rattle.plain_nodes.proofs.NoFaults.{neither}
+use Rattle.plain_nodes.proofs.NoFaults.{neither, over_none, both_none, divisor_none}
 use Rattle.obs_build.proofs.Parts.{InTerm, InAtom}
 use Rattle.obs_build.proofs.Cores.{Throughout, AtHead}
 
@@ -48,41 +48,26 @@ range_over columns (remainder a b) = ap₂ (over_divisor left_over) (range_over 
 fault_over : (columns : List ℕ) (a : Term) → term_fault a ≡ None → term_fault (term_over columns a) ≡ None
 fault_over columns a h = ap why_none (range_over columns a) ∙ h
 
--- operands of what has a range have ranges
-one_ranged : (f : Range → Range) (r : Ranged) → why_none (over f r) ≡ None → why_none r ≡ None
-one_ranged f (Ok r) h = refl
-one_ranged f (Err why) h = h
-
-both_ranged : (f : Range → Range → Range) (r s : Ranged) → why_none (over_both f r s) ≡ None → (why_none r ≡ None) × (why_none s ≡ None)
-both_ranged f (Ok r) (Ok s) h = (refl, refl)
-both_ranged f (Ok r) (Err why) h = (refl, h)
-both_ranged f (Err why) s h = absurd (cc)
-
-divisor_ranged : (f : Range → ℤ → Range) (r s : Ranged) → why_none (over_divisor f r s) ≡ None → (why_none r ≡ None) × (why_none s ≡ None)
-divisor_ranged f (Ok r) (Ok s) h = (refl, refl)
-divisor_ranged f (Ok r) (Err why) h = (refl, h)
-divisor_ranged f (Err why) s h = absurd (cc)
-
 module _ (program : Program) (kinds : List Bool) (columns : List ℕ) (fits : AreOfKinds program kinds columns) where
   term_reads : (a : Term) → ReadsWholes kinds a → term_fault a ≡ None → InTerm (IsReadable program) (term_over columns a)
   unfolding range term_over
   term_reads (column s) k h = (refl, fits.serves s false k)
   term_reads (constant n) k h = (h, tt)
-  term_reads (negative a) k h = ((fault_over columns (negative a) h, tt), term_reads a k (one_ranged negated (range a) h))
+  term_reads (negative a) k h = ((fault_over columns (negative a) h, tt), term_reads a k (over_none negated (range a) h))
   term_reads (plus a b) k h =
-      let both = both_ranged summed (range a) (range b) h in
+      let both = both_none summed (range a) (range b) h in
       ((fault_over columns (plus a b) h, tt), term_reads a k.0 both.0, term_reads b k.1 both.1)
   term_reads (minus a b) k h =
-      let both = both_ranged lessened (range a) (range b) h in
+      let both = both_none lessened (range a) (range b) h in
       ((fault_over columns (minus a b) h, tt), term_reads a k.0 both.0, term_reads b k.1 both.1)
   term_reads (times a b) k h =
-      let both = both_ranged multiplied (range a) (range b) h in
+      let both = both_none multiplied (range a) (range b) h in
       ((fault_over columns (times a b) h, tt), term_reads a k.0 both.0, term_reads b k.1 both.1)
   term_reads (quotient a b) k h =
-      let both = divisor_ranged divided (range a) (range b) h in
+      let both = divisor_none divided (range a) (range b) h in
       ((fault_over columns (quotient a b) h, tt), term_reads a k.0 both.0, term_reads b k.1 both.1)
   term_reads (remainder a b) k h =
-      let both = divisor_ranged left_over (range a) (range b) h in
+      let both = divisor_none left_over (range a) (range b) h in
       ((fault_over columns (remainder a b) h, tt), term_reads a k.0 both.0, term_reads b k.1 both.1)
 
   both_read : (a b : Term) → ReadsWholes kinds a × ReadsWholes kinds b → or_later (term_fault a) (term_fault b) ≡ None

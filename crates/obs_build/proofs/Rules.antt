@@ -18,7 +18,8 @@ use Rattle.mltl_base.specs.Formula.{Core, ctrue, catom, cnot, cand, cuntil, csin
 use Rattle.mltl_base.specs.Programs.{Expression, whole, truth, term_of, term_at, expressions}
 use Rattle.mltl_base.specs.Ranges.{Ranged, divisor, wide, range}
 use Rattle.mltl_base.specs.Reports.{Output, formula, contract}
-use Rattle.mltl_base.specs.Subformulas.{Asked, cores_of_output, subformulas, same_expression, same, place_of, at, bz_instruction, ft_instruction, pt_instruction, out_by}
+use Rattle.mltl_base.specs.Subformulas.{Asked, cores_of_output, subformulas, same_expression, same, place_of, instruction_of, bz_instruction, ft_instruction, pt_instruction, out_by}
+use Rattle.mltl_base.proofs.Members.{get_behind}
 use Rattle.mltl_base.proofs.Sameness.{same_sound, same_self, same_expression_sound, same_expression_self}
 use Rattle.mltl_base.proofs.Listing.{place_append, place_get}
 use Rattle.mltl_base.proofs.Unfolding.{Each, Has, HasExpression, IsClosedAfter}
@@ -38,10 +39,6 @@ use Rattle.obs_build.proofs.Columns.{passes}
 taken : {X Y : Type 0} (f : X → Y) (before rest : List X) → take (length before) (map f (before ++ rest)) ≡ map f before
 taken f [] rest = refl
 taken f (x ∷ before) rest = ap (◌∷◌ (f x)) (taken f before rest)
-
-get_here : {X : Type 0} (before rest : List X) (x : X) → slice_get (before ++ x ∷ rest) (length before) ≡ Some x
-get_here [] rest x = refl
-get_here (y ∷ before) rest x = get_here before rest x
 
 -- a rule that the next member keeps, and those after it
 rule_more : {X Y : Type 0} (rule : ℕ → Y → _) (before : List X) (x : X) (y : Y) (ys : List Y) → rule (length before) y ≡ None → first_in rule (length (before ++ x ∷ [])) ys ≡ None → first_in rule (length before) (y ∷ ys) ≡ None
@@ -83,19 +80,19 @@ module _ (program : Program) (all : List Expression) (kept : program.bz ≡ map 
       ap is_truth here ∙ gives_truth all a
 
   module _ (before rest : List Expression) (cut : all ≡ before ++ rest) where
-    whole_before : (a : Term) → HasExpression before (whole a) → is_whole_before program (length before) (at all a) ≡ true
+    whole_before : (a : Term) → HasExpression before (whole a) → is_whole_before program (length before) (instruction_of all a) ≡ true
     whole_before a h =
         let k : ℕ = place_of same_expression (whole a) before in
-        let place : at all a ≡ k = ap (place_of same_expression (whole a)) cut ∙ place_append same_expression same_expression_sound same_expression_self (whole a) before rest h in
+        let place : instruction_of all a ≡ k = ap (place_of same_expression (whole a)) cut ∙ place_append same_expression same_expression_sound same_expression_self (whole a) before rest h in
         let ops : take (length before) program.bz ≡ map (bz_instruction all) before =
         ap (take (length before)) (kept ∙ ap (map (bz_instruction all)) cut) ∙ taken (bz_instruction all) before rest in
-        let here : slice_get (take (length before) program.bz) (at all a) ≡ Some (bz_instruction all (whole a)) =
+        let here : slice_get (take (length before) program.bz) (instruction_of all a) ≡ Some (bz_instruction all (whole a)) =
         ap₂ (λ (os : List BzOp) (n : ℕ). slice_get os n) ops place
         ∙ (slice_get-map (bz_instruction all) before k ∙ ap (option_map (bz_instruction all)) (place_get same_expression same_expression_sound same_expression_self (whole a) before h)) in
         ap is_whole here ∙ gives_whole all a
 
-    both_before : (a b : Term) → HasExpression before (whole a) × HasExpression before (whole b) → (is_whole_before program (length before) (at all a) && is_whole_before program (length before) (at all b)) ≡ true
-    both_before a b h = and_from (is_whole_before program (length before) (at all a)) (is_whole_before program (length before) (at all b)) (whole_before a h.0) (whole_before b h.1)
+    both_before : (a b : Term) → HasExpression before (whole a) × HasExpression before (whole b) → (is_whole_before program (length before) (instruction_of all a) && is_whole_before program (length before) (instruction_of all b)) ≡ true
+    both_before a b h = and_from (is_whole_before program (length before) (instruction_of all a)) (is_whole_before program (length before) (instruction_of all b)) (whole_before a h.0) (whole_before b h.1)
 
     operands_hold : (e : Expression) → HasParts before e → IsReadable program e → has_operands program (length before) (bz_instruction all e) ≡ true
     operands_hold (whole (column c)) h r = r.1
@@ -128,7 +125,7 @@ module _ (program : Program) (all : List Expression) (kept : program.bz ≡ map 
   bz_here : (before rest : List Expression) (e : Expression) → all ≡ before ++ e ∷ rest → HasParts before e → IsReadable program e → bz_fault program (length before) (bz_instruction all e) ≡ None
   bz_here before rest e cut h r =
       let stands : term_at (expressions program.bz) (length before) ≡ term_of (Some e) =
-      ap (λ (es : List Expression). term_at es (length before)) (unfolds ∙ cut) ∙ ap term_of (get_here before rest e) in
+      ap (λ (es : List Expression). term_at es (length before)) (unfolds ∙ cut) ∙ ap term_of (get_behind before rest e) in
       both_none _ _
       (passes _ (Operand Bz (length before)) (operands_hold program all kept before (e ∷ rest) cut e h r))
       (ap (λ (a : Term). range_fault (length before) (range a)) stands ∙ range_holds program (length before) e r)

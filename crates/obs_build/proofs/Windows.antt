@@ -7,12 +7,11 @@ use Rattle.mltl_base.specs.declared.operators.LogicOp.TheVariants as logic
 use Rattle.mltl_base.specs.declared.operators.WindowOp.TheVariants as window
 use Rattle.mltl_base.specs.declared.operators.BetweenOp.TheVariants as between
 use Rattle.mltl_base.specs.Formula.{Formula}
-use Rattle.mltl_base.proofs.Unfolding.{Each}
+use Rattle.mltl_base.proofs.Unfolding.{Each, all_push}
 use Rattle.plain_nodes.specs.declared.nodes.Plain.{Plain}
 use Rattle.plain_nodes.specs.declared.nodes.Plain.TheVariants.{Truth, Flag, Number, Signal, Minus, Arith, Compare, Not, Logic, Window, Between}
 use Rattle.plain_nodes.specs.Nodes.{Tree, number, formula, formula_at, tree_of, trees, IsBounded, IsFormed, AreSound}
 use Rattle.plain_nodes.proofs.Pushing.{trees_more}
-use Rattle.obs_build.proofs.Parts.{each_push}
 use Rattle.obs_build.proofs.Cores.{Throughout}
 
 -- all intervals of a formula are in bounds
@@ -63,7 +62,7 @@ first_windowed signals nodes (suc n) s l =
     let there : slice_get nodes n ≡ Some node = slice_get-get_or nodes n (Truth false) (omega arith) in
     let earlier : AreWindowed (trees (take n nodes)) = first_windowed signals nodes n s (omega arith) in
     let longer : AreWindowed (trees (take n nodes) ++ tree_of (trees (take n nodes)) node ∷ []) =
-    each_push TreeWindowed (trees (take n nodes)) (tree_of (trees (take n nodes)) node) earlier (tree_windowed signals (trees (take n nodes)) node earlier (s.formed n node there)) in
+    all_push TreeWindowed (trees (take n nodes)) (tree_of (trees (take n nodes)) node) earlier (tree_windowed signals (trees (take n nodes)) node earlier (s.formed n node there)) in
     subst (λ (k : ℕ). AreWindowed (trees (take k nodes))) (add-one n) (subst AreWindowed (sym (trees_more nodes n node there)) longer)
 
 pub trees_windowed : (signals : ℕ) (nodes : List Plain) → AreSound signals nodes → AreWindowed (trees nodes)

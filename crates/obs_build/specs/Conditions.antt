@@ -1,26 +1,21 @@
 -- What checking and unfolding give: outputs without faults over signals of their kinds, and signals with names and
 -- columns of their own.
 
-use Rattle.std.specs.Prelude.{◌≡◌, ◌<◌, ◌≤◌, None, List, length, All}
+use Rattle.std.specs.Prelude.{◌≡◌, ◌<◌, ◌≤◌, List, length, All}
 use Rattle.mltl_base.specs.declared.limits.TheConstants.{MAX_SIGNALS}
 use Rattle.mltl_base.specs.declared.program.Columns.{Columns}
-use Rattle.mltl_base.specs.Subformulas.{Asked, formulas_of}
-use Rattle.plain_nodes.specs.Faults.{formula_fault}
+use Rattle.plain_nodes.specs.Faults.{HasRanges}
 use Rattle.plain_nodes.specs.declared.nodes.Expanded.{Expanded}
 use Rattle.plain_nodes.specs.Outputs.{IsSound, asked}
 use Rattle.mltl_base.specs.declared.signal.Signal.{Signal}
 use Rattle.obs_verify.specs.Bound.{AreDifferent}
 use Rattle.mltl_base.specs.Kinds.{HaveOwnNames, ReadsSignals, kinds_of}
 
--- each whole number of an output has a range: it divides by one number other than 0, and stays within 64 bits
-abbrev pub IsFaultless : Asked → Type 0
-IsFaultless asked = All (λ p. formula_fault p ≡ None) (formulas_of asked.output)
-
 -- a specification that is unfolded can be built over columns: it is sound and without faults, and each signal has a name
 -- and a column of its own
 pub record IsBuildable (spec : Expanded) (signals : List Signal) (columns : Columns) : Type 0 where
   pub sound : IsSound spec (length signals)
-  pub faultless : All IsFaultless (asked spec)
+  pub faultless : All HasRanges (asked spec)
   pub kinds : All (ReadsSignals (kinds_of signals)) (asked spec)
   pub named : HaveOwnNames signals
   pub one_each : length columns.of_signal ≡ length signals

@@ -3,6 +3,7 @@
 ghost use Rattle.std.specs.Prelude.{◌≡◌, ◌≢◌, ◌≤◌, ◌<◌, ◌^◌, All, Any, Err, IfErr, IfOk, OnOk, length};
 ghost use Rattle.mltl_base.specs.Queues.{AreInOrder, HasBounds, HasPastBounds, NamesInstructions, box_counts, queue_lengths, slot_count, worst_delays};
 ghost use Rattle.mltl_base.specs.Subformulas.{IsGraphOf};
+ghost use Rattle.plain_nodes.specs.Faults.{HasRanges};
 ghost use Rattle.plain_nodes.specs.Nodes.{AreSound, trees};
 ghost use Rattle.plain_nodes.specs.Outputs.{IsSound, NamesFormulas, asked, asked_in};
 ghost use Rattle.core_graph.specs.Limits.{AreFew};
@@ -10,7 +11,6 @@ ghost use Rattle.obs_verify.specs.Bound.{AreDifferent};
 ghost use Rattle.obs_verify.specs.Layout.{HasLayout};
 ghost use Rattle.obs_verify.specs.WellFormed.{IsWellFormed};
 ghost use Rattle.mltl_base.specs.Kinds.{HaveOwnNames, ReadsSignals, kinds_of};
-ghost use Rattle.obs_build.specs.Conditions.{IsFaultless};
 ghost use Rattle.obs_build.specs.Image.{IsImageOf};
 ghost use Rattle.obs_build.specs.Limits.{IsReason, IsWithinLimits};
 
@@ -35,7 +35,7 @@ pub fn build(
     columns: &Columns,
 ) -> Result<Checked, BuildFault>
     requires sound { IsSound spec.now (length signals.now) }
-    requires faultless { All IsFaultless (asked spec.now) }
+    requires faultless { All HasRanges (asked spec.now) }
     requires kinds { All (ReadsSignals (kinds_of signals.now)) (asked spec.now) }
     requires named { HaveOwnNames signals.now }
     requires one_each { length columns.now.of_signal ≡ length signals.now }

@@ -2,6 +2,7 @@
 use Rattle.std.proofs.Common.{◌≡◌, ℕ, Bool, true, false, List, [], ◌∷◌, ◌++◌, refl, ap, sym, ◌∙◌, ◌==◌, take, Option, Some, None}
 use Rattle.std.specs.Prelude.{◌||◌, ◌&&◌, not}
 use Rattle.std.specs.List.{list_any}
+use Rattle.std.proofs.Math.Bool.{or-false, or_assoc}
 use Rattle.mltl_base.specs.declared.program.StoredSignal.{StoredSignal}
 use Rattle.mltl_base.specs.declared.program.Program.{Program}
 use Rattle.obs_verify.specs.declared.fault.VerifyFault.{VerifyFault}
@@ -33,16 +34,8 @@ either_test p q (x ∷ xs) = ap (λ b. (p x || q x) || b) (either_test p q xs) �
     mixed false false c d = refl
 
 pub any-push : {X : Type 0} (p : X → Bool) (xs : List X) (x : X) → list_any p (xs ++ x ∷ []) ≡ (list_any p xs || p x)
-any-push p [] x = last (p x)
-  where
-    last : (b : Bool) → (b || false) ≡ b
-    last true = refl
-    last false = refl
-any-push p (y ∷ xs) x = ap (λ b. p y || b) (any-push p xs x) ∙ grouped (p y) (list_any p xs) (p x)
-  where
-    grouped : (a b c : Bool) → (a || (b || c)) ≡ ((a || b) || c)
-    grouped true b c = refl
-    grouped false b c = refl
+any-push p [] x = or-false (p x)
+any-push p (y ∷ xs) x = ap (λ b. p y || b) (any-push p xs x) ∙ sym (or_assoc (p y) (list_any p xs) (p x))
 
 pub true_and : (a b : Bool) → a ≡ true → (a && b) ≡ b
 true_and true b h = refl

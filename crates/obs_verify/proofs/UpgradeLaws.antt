@@ -55,14 +55,6 @@ pub clash_none : (ops : List BzOp) (i : ℕ) → length ops ≤ i → first_clas
 unfolding first_clash
 clash_none ops i past = ap (first_clash (take i ops)) (drop_all i ops past)
 
-pub not_false : (b : Bool) → not b ≡ false → b ≡ true
-not_false true h = refl
-not_false false h = absurd (cc)
-
-pub not_true : (b : Bool) → not b ≡ true → b ≡ false
-not_true true h = absurd (cc)
-not_true false h = refl
-
 -- one column more
 range_push : (a n j : ℕ) → a + n ≡ j → range_with_len a (suc n) ≡ range_with_len a n ++ j ∷ []
 range_push a zero j e = let same : a ≡ j = omega arith in ap (λ x. x ∷ []) same

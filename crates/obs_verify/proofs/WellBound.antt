@@ -3,7 +3,7 @@ use Rattle.std.proofs.Common.{◌≡◌, ℕ, ◌<◌, ◌≤◌, ◌==◌, zero
 use Rattle.std.specs.Prelude.{◌&&◌, ◌||◌, not, nat_lt, if◌then◌else◌}
 use Rattle.std.specs.List.{list_any}
 use Rattle.std.specs.Str.{bytes_eq}
-use Rattle.std.proofs.lemmas.Bool.{eqb-true, lt-ltb, le-leb, and_from, or_parts, or_right}
+use Rattle.std.proofs.lemmas.Bool.{eqb-true, lt-ltb, le-leb, and_from, or_parts, or_right, not-true}
 use Rattle.std.proofs.lemmas.Bool.Decides.{eqb_tells}
 use Rattle.std.proofs.lemmas.List.{get_or-map, get_or-take, get_or_default, length-take, length-map}
 use Rattle.std.proofs.lemmas.List.Folds.{Any-from_list_any, list_any-from_Any, list_any_none}
@@ -33,10 +33,6 @@ both_none a b h k = ap (λ o. or_else o b) h ∙ k
 or_rest : (a b : Bool) → a ≡ false → (a || b) ≡ true → b ≡ true
 or_rest true b h k = absurd (cc)
 or_rest false b h k = k
-
-not_true : (a : Bool) → not a ≡ true → a ≡ false
-not_true true h = absurd (cc)
-not_true false h = refl
 
 -- no member is at fault, where none is at its place in the list
 pub from_each : {X : Type 0} (rule : ℕ → X → Option VerifyFault) (xs : List X) → ((i : ℕ) (d : X) → i < length xs → rule i (slice_index_or xs i d) ≡ None) → first_in rule 0 xs ≡ None
@@ -117,7 +113,7 @@ column_kept program width columns two same below none c t h =
     let kind : (if t then s.truth else not s.truth) ≡ true = ap (λ (x : StoredSignal). if t then x.truth else not x.truth) found.3 ∙ and_right _ _ found.4 in
     let was : is_new_signal program.width (take j program.signals) s ≡ true = unless_true _ _ (each (signal_fault program) program.signals none j found.1 inside) in
     let earlier : list_any (λ before. before.column == c) (take j program.signals) ≡ false =
-    subst (λ (m : ℕ). list_any (λ (before : StoredSignal). before.column == m) (take j program.signals) ≡ false) at (not_true _ (and_right _ _ (and_left _ _ was))) in
+    subst (λ (m : ℕ). list_any (λ (before : StoredSignal). before.column == m) (take j program.signals) ≡ false) at (not-true _ (and_right _ _ (and_left _ _ was))) in
     let new : moved program.signals columns c ≡ n = moved_at program.signals columns c j found.1 same inside earlier at in
     let here : StoredSignal = record s { column = n } in
     let stands : slice_index_or (bound_signals program.signals columns) j here ≡ here = bound_at program.signals columns j here same inside ∙ ap (λ (x : StoredSignal). record x { column = n }) (get_or_default program.signals j here found.1 inside) in

@@ -1,4 +1,5 @@
 -- Nodes of plain formulas: what they unfold to, and which are sound.
+-- A reader of the contracts needs this file.
 
 use Rattle.std.specs.Prelude.{◌≡◌, ℕ, ◌<◌, ◌≤◌, pos, Bool, true, false, Option, Some, None, List, [], ◌∷◌, ◌++◌, take, fold, slice_get}
 use Rattle.mltl_base.specs.declared.limits.TheConstants.{MAX_BOUND}
@@ -18,29 +19,32 @@ pub data Tree : Type 0 where
   number : Term → Tree
   formula : Formula → Tree
 
--- the whole number, and the formula, that a node unfolds to: of a node of another kind nothing is asked
+-- the whole number that a node unfolds to; a formula, of which nothing is asked here, counts as 0
 abbrev pub term_in : Option Tree → Term
 term_in (Some (number a)) = a
 term_in (Some (formula p)) = constant (pos 0)
 term_in None = constant (pos 0)
 
+-- the formula that a node unfolds to; a whole number, of which nothing is asked here, counts as false
 abbrev pub formula_in : Option Tree → Formula
 formula_in (Some (formula p)) = p
 formula_in (Some (number a)) = falsity
 formula_in None = falsity
 
--- the whole number, and the formula, of node n
+-- the whole number of node n
 abbrev pub term_at : List Tree → ℕ → Term
 term_at earlier n = term_in (slice_get earlier n)
 
+-- the formula of node n
 abbrev pub formula_at : List Tree → ℕ → Formula
 formula_at earlier n = formula_in (slice_get earlier n)
 
--- what each operator makes of its operands
+-- the formula of a truth
 abbrev pub constant_formula : Bool → Formula
 constant_formula true = truth
 constant_formula false = falsity
 
+-- an operation on two whole numbers
 abbrev pub arithmetic : arith.ArithOp → Term → Term → Term
 arithmetic arith.TheVariants.Add a b = plus a b
 arithmetic arith.TheVariants.Sub a b = minus a b
@@ -48,6 +52,7 @@ arithmetic arith.TheVariants.Mul a b = times a b
 arithmetic arith.TheVariants.Div a b = quotient a b
 arithmetic arith.TheVariants.Rem a b = remainder a b
 
+-- a comparison of two whole numbers
 abbrev pub comparison : compare.CompareOp → Term → Term → Atom
 comparison compare.TheVariants.Eq a b = equal a b
 comparison compare.TheVariants.Ne a b = different a b
@@ -56,18 +61,21 @@ comparison compare.TheVariants.Le a b = at_most a b
 comparison compare.TheVariants.Gt a b = greater a b
 comparison compare.TheVariants.Ge a b = at_least a b
 
+-- a connective over two formulas
 abbrev pub connected : logic.LogicOp → Formula → Formula → Formula
 connected logic.TheVariants.And p q = conjunction p q
 connected logic.TheVariants.Or p q = disjunction p q
 connected logic.TheVariants.Implies p q = implication p q
 connected logic.TheVariants.Iff p q = equivalence p q
 
+-- an operator over a window, of one formula
 abbrev pub windowed : window.WindowOp → Interval → Formula → Formula
 windowed window.TheVariants.F i p = finally i p
 windowed window.TheVariants.G i p = globally i p
 windowed window.TheVariants.O i p = once i p
 windowed window.TheVariants.H i p = historically i p
 
+-- an operator over a window, of two formulas
 abbrev pub ranged : between.BetweenOp → Interval → Formula → Formula → Formula
 ranged between.TheVariants.U i p q = until i p q
 ranged between.TheVariants.R i p q = release i p q
@@ -99,12 +107,13 @@ pub record Has (nodes : List Plain) (n : ℕ) (tree : Tree) : Type 0 where
 pub record Grows (old new : List Plain) : Type 0 where
   pub kept : (n : ℕ) (tree : Tree) → Has old n tree → Has new n tree
 
--- there is a whole number, or a formula
+-- there is a whole number
 abbrev pub IsNumber : Option Tree → Type 0
 IsNumber (Some (number a)) = Unit {0}
 IsNumber (Some (formula p)) = ⊥
 IsNumber None = ⊥
 
+-- there is a formula
 abbrev pub IsFormula : Option Tree → Type 0
 IsFormula (Some (formula p)) = Unit {0}
 IsFormula (Some (number a)) = ⊥

@@ -1,4 +1,5 @@
 -- The outputs of a specification that is unfolded, and which such specifications are sound.
+-- A reader of the contracts needs this file.
 
 use Rattle.std.specs.Prelude.{ℕ, ◌<◌, ◌^◌, List, length, map, slice_get, All}
 use Rattle.mltl_base.specs.Formula.{formula_over}
@@ -25,6 +26,7 @@ abbrev pub output_over : List ℕ → Output → Output
 output_over columns (formula p) = formula (formula_over columns p)
 output_over columns (contract p q) = contract (formula_over columns p) (formula_over columns q)
 
+-- what an output asks for, over columns
 abbrev pub asked_over : List ℕ → Asked → Asked
 asked_over columns a = record { engine = a.engine; name = a.name; output = output_over columns a.output }
 

@@ -1,4 +1,5 @@
 -- The tenses of a formula.
+-- A reader of the contracts needs this file.
 
 use Rattle.std.specs.Prelude.{Bool, true, false, ◌||◌}
 use Rattle.mltl_base.specs.Formula.{Formula, truth, falsity, atom, negation, conjunction, disjunction, implication, equivalence, finally, globally, until, release, once, historically, since}

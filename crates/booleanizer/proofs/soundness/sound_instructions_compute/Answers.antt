@@ -4,4 +4,4 @@ use Rattle.booleanizer.proofs.Sound.{sound-computes}
 use Rattle.booleanizer.proofs.soundness.sound_instructions_compute.Goals as goal
 
 pub returns : goal.returns
-returns c = λ row ops fit sound. sound-computes c.values_lie_in_ranges.ensures.lies c.values_lie_in_ranges.ensures.fits row ops (recursion_from_All (FitsRow row) ops fit) sound
+returns c = λ row ops fit sound. sound-computes row ops (recursion_from_All (FitsRow row) ops fit) sound

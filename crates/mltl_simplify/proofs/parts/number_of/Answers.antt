@@ -7,7 +7,8 @@ use Rattle.plain_nodes.specs.declared.nodes.Plain.TheVariants.{Number, Minus, Ar
 use Rattle.plain_nodes.specs.Nodes.{arithmetic, term_at, trees}
 use Rattle.mltl_simplify.specs.Nodes.{IsNumbered, number_at}
 use Rattle.mltl_simplify.specs.Numbers.{IsComputed, IsNegated}
-use Rattle.mltl_simplify.proofs.Reading.{formed_here, head, node_there, number_below}
+use Rattle.mltl_simplify.proofs.Reading.{formed_here, head, number_below}
+use Rattle.plain_nodes.proofs.Places.{node_there}
 use Rattle.mltl_simplify.proofs.Numbering.{computed_known, constant_known, negated_known}
 use Rattle.mltl_simplify.proofs.Placing.{known_operand, numbered_as, other_numbered}
 use Rattle.mltl_simplify.proofs.parts.number_of.Goals as goal

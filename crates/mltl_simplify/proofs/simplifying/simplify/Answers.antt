@@ -5,7 +5,7 @@ use Rattle.plain_nodes.specs.declared.nodes.PlainOut.{PlainOut}
 use Rattle.plain_nodes.specs.Outputs.{asked}
 use Rattle.mltl_simplify.specs.declared.parts.Part.{Part}
 use Rattle.mltl_simplify.specs.Nodes.{AreSimplified, NamesNodes, out_over}
-use Rattle.mltl_simplify.specs.Outputs.{HasRanges}
+use Rattle.plain_nodes.specs.Faults.{HasRanges}
 use Rattle.mltl_simplify.proofs.Ending.{outs_below, simple_asks, simple_ranged, simple_sound}
 use Rattle.mltl_simplify.proofs.simplifying.simplify.Goals as goal
 
