@@ -113,7 +113,11 @@ ComputesAll rows (once i p) = ComputesAll rows p
 ComputesAll rows (historically i p) = ComputesAll rows p
 ComputesAll rows (since i p q) = ComputesAll rows p × ComputesAll rows q
 
--- the same of an output's formulas
+-- each atom of an output's formulas can be computed on each row
 abbrev pub ComputesOutput : List Row → Output → Type 0
 ComputesOutput rows (formula p) = ComputesAll rows p
 ComputesOutput rows (contract p q) = ComputesAll rows p × ComputesAll rows q
+
+-- the same on the rows before, and on all rows
+abbrev pub ComputesBoth : List Row → List Row → Output → Type 0
+ComputesBoth before now o = ComputesOutput before o × ComputesOutput now o

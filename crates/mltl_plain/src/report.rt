@@ -2,7 +2,7 @@
 
 ghost use Rattle.mltl_base.specs.Reports.{goes_on, of_words, reports as reports_of, status, same_word, word_of, words as words_of};
 ghost use Rattle.mltl_base.specs.Verdicts.{known_front};
-ghost use Rattle.mltl_plain.specs.Computing.{ComputesOutput};
+ghost use Rattle.mltl_plain.specs.Computing.{ComputesBoth, ComputesOutput};
 ghost use Rattle.mltl_plain.specs.Shapes.{output_of};
 ghost use Rattle.mltl_base.specs.declared.report.Word.{Word as Said};
 ghost use Rattle.mltl_plain.specs.declared.verdict.Fault.TheVariants.{Memory as NoMemory};
@@ -65,7 +65,7 @@ fn report_row(
     requires few { length outs.now ≤ 2 ^ 32 }
     ensures told { OnOk result
         (told.new ≡ told.old ++ of_outputs style 0 (map output_of outs.now) before.now now.now) }
-    ensures cause { All (λ o. ComputesOutput before.now (output_of o) × ComputesOutput now.now (output_of o)) outs.now →
+    ensures cause { All (λ o. ComputesBoth before.now now.now (output_of o)) outs.now →
         IfErr result (λ why. why ≡ NoMemory) }
 {
     for k in 0..outs.len() {
