@@ -193,7 +193,7 @@ number_stays (s ∷ signals) (n ∷ columns) (suc k) same different inside =
     ∙ ap (option_map suc) (number_stays signals columns k (omega arith) (different_behind n columns different) (omega arith))
 
 -- a column that has a signal of some kind has a first one
-or_first : (a b : Bool) → a ≡ false → (a || b) ≡ true → b ≡ true
+pub or_first : (a b : Bool) → a ≡ false → (a || b) ≡ true → b ≡ true
 or_first true b h k = absurd (cc)
 or_first false b h k = k
 

@@ -22,17 +22,13 @@ use Rattle.obs_verify.specs.WellFormed.{IsWellFormed, bz_fault, first_in, ft_fau
 use Rattle.obs_verify.proofs.BoundLaws.{length-bound_signals}
 use Rattle.obs_verify.proofs.ExpressionLaws.{bz_range}
 use Rattle.obs_verify.proofs.MovedLaws.{all_none, first_same, range_kept, truth_at_kept, whole_before_kept}
-use Rattle.obs_verify.proofs.ReaderLaws.{readers_stay}
+use Rattle.obs_verify.proofs.ReaderLaws.{or_first, readers_stay}
 use Rattle.obs_verify.proofs.RuleLaws.{and_left, and_right, or_none, unless_true}
 use Rattle.obs_verify.proofs.SignalLaws.{unless_both}
 use Rattle.obs_verify.proofs.SoundLaws.{each}
 
 pub both_none : (a b : Option VerifyFault) → a ≡ None → b ≡ None → or_else a b ≡ None
 both_none a b h k = ap (λ o. or_else o b) h ∙ k
-
-or_rest : (a b : Bool) → a ≡ false → (a || b) ≡ true → b ≡ true
-or_rest true b h k = absurd (cc)
-or_rest false b h k = k
 
 -- no member is at fault, where none is at its place in the list
 pub from_each : {X : Type 0} (rule : ℕ → X → Option VerifyFault) (xs : List X) → ((i : ℕ) (d : X) → i < length xs → rule i (slice_index_or xs i d) ≡ None) → first_in rule 0 xs ≡ None
@@ -103,7 +99,7 @@ column_kept : (program : Program) (width : ℕ) (columns : List ℕ) → program
     → first_in (signal_fault program) 0 program.signals ≡ None → (c : ℕ) (t : Bool) → is_column_of program c t ≡ true → is_column_of (bound program width columns) (moved program.signals columns c) t ≡ true
 column_kept program width columns two same below none c t h =
     let second : (program.version == 1) ≡ false = ap (λ v. v == 1) two in
-    let stored : has_kind program.signals c t ≡ true = or_rest (program.version == 1) (has_kind program.signals c t) second (and_right (nat_lt c program.width) ((program.version == 1) || has_kind program.signals c t) h) in
+    let stored : has_kind program.signals c t ≡ true = or_first (program.version == 1) (has_kind program.signals c t) second (and_right (nat_lt c program.width) ((program.version == 1) || has_kind program.signals c t) h) in
     let found = Any-from_list_any (λ (signal : StoredSignal). (signal.column == c) && (if t then signal.truth else not signal.truth)) program.signals stored in
     let j : ℕ = found.0 in
     let s : StoredSignal = slice_index_or program.signals j found.1 in
