@@ -14,6 +14,3 @@ pub use formula::{Atom, Formula, Output, Term};
 pub use report::{reports, words};
 pub use values::{holds, value};
 pub use verdict::{Fault, meaning, verdicts};
-
-#[cfg(test)]
-mod tests;

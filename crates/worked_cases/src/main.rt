@@ -1,4 +1,5 @@
-//! Worked cases of both programs: a script on the standard input says what runs over files in memory are to give.
+//! Worked cases of both programs, and of the plain program that computes the definitions: a script on the standard input
+//! says what runs over files in memory are to give.
 //!
 //! The script explains its form at its head. Each difference is printed with the name and the line of its case, and at
 //! the end how many cases and runs agreed.
@@ -7,6 +8,7 @@
 mod files;
 mod outcome;
 mod piece;
+mod plain;
 mod print;
 mod run;
 mod scene;

@@ -5,6 +5,7 @@ ghost use Rattle.tool_io.specs.MemFiles.{no_files};
 
 use crate::files::NamedBytes;
 use crate::outcome::{Outcome, Parts};
+use crate::plain;
 use crate::scene::Scenes;
 use anyhow::{Context, Result, bail};
 use mltl_tools::{Words, c2po_main, r2u2_main};
@@ -75,10 +76,27 @@ fn status_of(alloc: Global, tool: &str, words: &Words, host: &mut MemHost) -> Re
     }
 }
 
+/// What the plain program gives: its answer is the output; without one the reason is the error output.
+fn plain_outcome(alloc: Global, text: &str) -> Result<Outcome> {
+    let mut outcome = Outcome::new(alloc);
+    match plain::shown(alloc, text) {
+        Ok(answer) => outcome.output.extend_from_slice(answer.as_bytes())?,
+        Err(error) => {
+            outcome.status = 1;
+            let reason = format!(in alloc; "{error}\n")?;
+            outcome.errors.extend_from_slice(reason.as_bytes())?;
+        }
+    }
+    Ok(outcome)
+}
+
 /// What a run gives where a read gives at most so many bytes.
 pub fn outcome_of(alloc: Global, scenes: &Scenes, asked: &Asked, block: usize) -> Result<Outcome> {
     let text = asked.words.as_str();
     let (tool, rest) = text.split_once(' ').unwrap_or((text, ""));
+    if tool == "plain" {
+        return plain_outcome(alloc, rest);
+    }
     let words = words_of(alloc, rest)?;
     let mut host = host_of(alloc, scenes, asked, block)?;
     let status = status_of(alloc, tool, &words, &mut host)?;
