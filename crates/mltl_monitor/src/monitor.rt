@@ -10,13 +10,15 @@ use std::alloc::{AllocError, Global};
 use std::marker::Model;
 use std::mem;
 use std::sync::ledger::Ledger;
-use trace_feed::{RowAnswer, row_fields};
+use trace_feed::{Readings, RowAnswer, row_fields};
 
 /// A monitor of a checked program. It takes rows one by one, and gives the reports that each row brings before it takes
 /// the next. All its memory is taken by `load`. Contracts see its state.
 #[derive(Drop)]
 pub struct Monitor {
     state: State,
+    /// How the program reads each column.
+    readings: Readings,
     /// Where the search for the next report of the last row goes on.
     cursor: Cursor,
 }
@@ -24,8 +26,10 @@ pub struct Monitor {
 impl Model for Monitor {
     ghost use Rattle.mltl_monitor.specs.declared.state.State.{State as Shown};
     ghost use Rattle.mltl_monitor.specs.contracts.state.State.{the_row};
-    ghost use Rattle.mltl_monitor.specs.Monitoring.{IsSound};
+    ghost use Rattle.std.specs.Prelude.{◌≡◌};
+    ghost use Rattle.mltl_monitor.specs.Monitoring.{IsSound, program_of};
     ghost use Rattle.mltl_monitor.specs.Running.{Fits};
+    ghost use Rattle.trace_feed.specs.Readings.{readings_of};
 
     ghost Value = { Shown };
 
@@ -33,7 +37,9 @@ impl Model for Monitor {
 
     ghost view = { λ monitor. monitor.state };
 
-    ghost invariant = { λ monitor. IsSound monitor.state × Fits monitor.state.running monitor.cursor };
+    ghost invariant = { λ monitor. IsSound monitor.state
+        × Fits monitor.state.running monitor.cursor
+        × (monitor.readings ≡ readings_of (program_of monitor.state)) };
 }
 
 impl Monitor {
@@ -57,6 +63,7 @@ impl Monitor {
         let width = checked.program().width as usize;
         let last = vec![in alloc; 0; width]?;
         let read = vec![in alloc; 0; width]?;
+        let readings = Readings::of(alloc, &checked)?;
         let running = Running::load(alloc, checked)?;
         Ok(Monitor {
             state: State {
@@ -64,6 +71,7 @@ impl Monitor {
                 last,
                 read,
             },
+            readings,
             cursor: Cursor::start(),
         })
     }
@@ -117,7 +125,13 @@ impl Monitor {
         ensures fit { result ≡ RowAnswer.Good → IsFit (program_of self.old) (read_of self.new) }
         ensures same { IsSame self.old self.new }
     {
-        row_fields(line, &self.state.running.checked, &mut self.state.read)
+        let state = &mut self.state;
+        row_fields(
+            line,
+            &state.running.checked,
+            &self.readings,
+            &mut state.read,
+        )
     }
 
     /// Takes the last row once more. A row that was read stays.

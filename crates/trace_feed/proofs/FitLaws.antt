@@ -1,10 +1,10 @@
 -- The row of a line fits the program.
-use Rattle.std.proofs.Common.{◌≡◌, ◌<◌, ◌≤◌, ◌+◌, ◌⊎◌, inl, inr, ℕ, ℤ, pos, zero, suc, Bool, true, false, cond, List, [], ◌∷◌, length, take, get_or, Result, Ok, Err, refl, arith, sym, ◌∙◌, ap, eq-eqb, subst}
+use Rattle.std.proofs.Common.{◌≡◌, ◌<◌, ◌+◌, ◌⊎◌, inl, inr, ℕ, ℤ, pos, zero, suc, Bool, true, false, cond, List, [], ◌∷◌, length, take, get_or, Result, Ok, Err, refl, arith, sym, ◌∙◌, ap, eq-eqb, subst}
 use Rattle.std.specs.Prelude.{FitsSigned, nat_lt}
 use Rattle.std.specs.Int.{w32}
 use Rattle.std.specs.List.{list_any}
 use Rattle.std.specs.Str.Parse.{signed_digits_value}
-use Rattle.std.proofs.lemmas.Bool.{cases_lt, lt-ltb, le-ltb, ltb-false}
+use Rattle.std.proofs.lemmas.Bool.{cases_lt, ltb-false}
 use Rattle.std.proofs.lemmas.Int.{ints}
 use Rattle.std.proofs.lemmas.List.{get_or_past, length-take-le}
 use Rattle.std.proofs.lemmas.List.Folds.{list_any_at}
@@ -15,6 +15,7 @@ use Rattle.mltl_base.specs.declared.operators.BzOp.TheVariants.{Column, IsTrue, 
 use Rattle.mltl_base.specs.declared.program.Program.{Program}
 use Rattle.mltl_base.specs.Blanks.{is_blank_line}
 use Rattle.trace_feed.specs.Blanks.{trimmed}
+use Rattle.trace_feed.specs.Readings.{fields_meaning}
 use Rattle.trace_feed.specs.Rows.{Tells, LineMeaning, row, blank, too_few, not_whole, out_of_range, fields_of, has_32_bits, is_bit, is_numeral, joined, line_meaning, number_in, reading_of, reads_truth, reads_whole, row_from, value_of}
 use Rattle.trace_feed.specs.declared.fields.FieldFault.{FieldFault}
 use Rattle.trace_feed.specs.declared.fields.FieldFault.TheVariants.{NotWhole, OutOfRange}
@@ -23,17 +24,9 @@ use Rattle.trace_feed.specs.declared.fields.Reading.TheVariants.{Whole, Truth}
 use Rattle.trace_feed.specs.declared.rows.RowAnswer as answer
 use Rattle.trace_feed.proofs.FieldLaws.{bits_have, fits_from_has}
 
--- a line with fields enough that isn't blank, and one with too few
-pub meaning_few : (program : Program) (line : List ℕ) → is_blank_line line ≡ false → length (fields_of line) < program.width → line_meaning program line ≡ too_few
-meaning_few program line some few =
-    let less : nat_lt (length (fields_of line)) program.width ≡ true = lt-ltb (length (fields_of line)) program.width few in
-    rw (some, less) refl
-
-pub meaning_row : (program : Program) (line : List ℕ) → is_blank_line line ≡ false → program.width ≤ length (fields_of line)
-    → line_meaning program line ≡ row_from (reading_of program.bz) 0 (take program.width (fields_of line))
-meaning_row program line some enough =
-    let more : nat_lt (length (fields_of line)) program.width ≡ false = le-ltb (length (fields_of line)) program.width enough in
-    rw (some, more) refl
+-- a line that isn't blank
+meaning_fields : (program : Program) (line : List ℕ) → is_blank_line line ≡ false → line_meaning program line ≡ fields_meaning (reading_of program.bz) 0 program.width (fields_of line)
+meaning_fields program line some = rw some refl
 
 -- the values of fields that make a row
 pub record HaveValues (reading : ℕ → Reading) (c : ℕ) (fields : List (List ℕ)) (values : Row) : Type 0 where
@@ -137,11 +130,10 @@ pub row_fits : (program : Program) (line : List ℕ) (values : Row) → line_mea
 row_fits program line values e = fit_step program line values (is_blank_line line) (nat_lt (length (fields_of line)) program.width) refl e
 
 -- what is told of the fields is told of the line
-pub told_row : (program : Program) (line : List ℕ) (n : ℕ) (result : answer.RowAnswer) (values : Row) → is_blank_line line ≡ false → n ≤ length (fields_of line) → n ≡ program.width
-    → Tells result values (row_from (reading_of program.bz) 0 (take n (fields_of line))) → Tells result values (line_meaning program line)
-told_row program line n result values some enough wide told =
-    let is : line_meaning program line ≡ row_from (reading_of program.bz) 0 (take program.width (fields_of line)) = meaning_row program line some (omega arith) in
-    subst (Tells result values) (sym is) (subst (λ (w : ℕ). Tells result values (row_from (reading_of program.bz) 0 (take w (fields_of line)))) wide told)
+pub told_line : (program : Program) (line : List ℕ) (width : ℕ) (result : answer.RowAnswer) (values : Row) → is_blank_line line ≡ false → width ≡ program.width
+    → Tells result values (fields_meaning (reading_of program.bz) 0 width (fields_of line)) → Tells result values (line_meaning program line)
+told_line program line width result values some wide told =
+    subst (Tells result values) (sym (meaning_fields program line some)) (subst (λ (w : ℕ). Tells result values (fields_meaning (reading_of program.bz) 0 w (fields_of line))) wide told)
 
 -- an answer Good is a row
 pub told_good : (result : answer.RowAnswer) (values : Row) (m : LineMeaning) → Tells result values m → result ≡ answer.TheVariants.Good → m ≡ row values

@@ -1,5 +1,5 @@
 pub mod Blanks
 pub mod Rows
-pub mod Marks
+pub mod Readings
 pub mod Header
 pub mod Places

@@ -1,10 +1,12 @@
 //! Fields of a row.
 
-ghost use Rattle.std.specs.Prelude.{◌≡◌};
+ghost use Rattle.std.specs.Prelude.{◌≡◌, ◌<◌, ◌≤◌, ◌^◌, IfSome, IsTrue, if◌then◌else◌, length, neg_ℤ, pos, slice_index, take};
 ghost use Rattle.std.specs.Char.{is_ascii_digit};
-ghost use Rattle.std.specs.List.{list_all};
-ghost use Rattle.std.specs.Str.Parse.{without_leading_sign};
-ghost use Rattle.trace_feed.specs.Rows.{has_32_bits, is_bit, is_numeral as writes_number, number_in, value_of as value_in};
+ghost use Rattle.std.specs.List.{before_first, list_all, position_or_len};
+ghost use Rattle.std.specs.Str.Parse.{AllDigits, digits_value, signed_digits_value, without_leading_sign};
+ghost use Rattle.trace_feed.specs.declared.fields.Reading.{Reading as Way};
+ghost use Rattle.trace_feed.specs.Readings.{value_at as value_with};
+ghost use Rattle.trace_feed.specs.Rows.{has_32_bits, in_range, is_bit, is_comma, is_numeral as writes_number, number_in, value_of as value_in};
 
 use crate::blanks::trimmed;
 use std::str;
@@ -65,11 +67,10 @@ fn whole_number(field: &[u8]) -> Result<i64, FieldFault>
     }
 }
 
-/// The truth that a field writes, 0 or 1.
-fn truth_number(field: &[u8]) -> Result<i64, FieldFault>
-    ensures { result ≡ number_in is_bit field.now }
+/// The number, if it is a truth, 0 or 1.
+fn truth(number: i64) -> Result<i64, FieldFault>
+    ensures { result ≡ in_range is_bit number }
 {
-    let number = whole_number(field)?;
     if number == 0 || number == 1 {
         Ok(number)
     } else {
@@ -77,13 +78,162 @@ fn truth_number(field: &[u8]) -> Result<i64, FieldFault>
     }
 }
 
+/// The truth that a field writes.
+fn truth_number(field: &[u8]) -> Result<i64, FieldFault>
+    ensures { result ≡ number_in is_bit field.now }
+{
+    truth(whole_number(field)?)
+}
+
 /// The value of a field in a column that is read so; 0 where it isn't read.
-pub fn value_of(reading: Reading, field: &[u8]) -> Result<i64, FieldFault>
+fn value_of(reading: Reading, field: &[u8]) -> Result<i64, FieldFault>
     ensures { result ≡ value_in reading field.now }
 {
     match reading {
         Reading::Unread => Ok(0),
         Reading::Whole => whole_number(trimmed(field)),
         Reading::Truth => truth_number(trimmed(field)),
+    }
+}
+
+/// The number, if it has 32 bits with its sign.
+fn whole(number: i64) -> Result<i64, FieldFault>
+    ensures { result ≡ in_range has_32_bits number }
+{
+    if -2_147_483_648 <= number && number <= 2_147_483_647 {
+        Ok(number)
+    } else {
+        Err(FieldFault::OutOfRange)
+    }
+}
+
+/// The value of a number in a column that is read so.
+fn value_at(reading: Reading, number: i64) -> Result<i64, FieldFault>
+    ensures { result ≡ value_with reading number }
+{
+    match reading {
+        Reading::Unread => Ok(0),
+        Reading::Whole => whole(number),
+        Reading::Truth => truth(number),
+    }
+}
+
+/// How many digits are gathered at most, so that their number stays small.
+const MOST_DIGITS: usize = 18;
+
+/// Digits at the front of bytes: the number that they write, and how many they are.
+#[derive(Clone, Copy)]
+struct Digits {
+    number: u64,
+    size: usize,
+}
+
+/// Gathers the digits at the front, up to 18.
+fn leading_digits(bytes: &[u8]) -> Digits
+    ensures within { result.size ≤ length bytes.now }
+    ensures digits { AllDigits 10 (take result.size bytes.now) }
+    ensures number { result.number ≡ digits_value 10 (take result.size bytes.now) }
+    ensures small { result.number < 10 ^ 18 }
+{
+    let most = bytes.len().min(MOST_DIGITS);
+    let mut number = 0;
+    for i in 0..most {
+        let byte = bytes[i];
+        if !byte.is_ascii_digit() {
+            return Digits { number, size: i };
+        }
+        number = number * 10 + u64::from(byte - b'0');
+    }
+    Digits { number, size: most }
+}
+
+/// A whole number at the front of a line, and how many bytes write it.
+#[derive(Clone, Copy)]
+struct Numeral {
+    number: i64,
+    size: usize,
+}
+
+/// The number with its sign.
+fn signed(minus: bool, number: u64) -> i64
+    requires { number < 2 ^ 63 }
+    ensures { result ≡ if minus then neg_ℤ (pos number) else pos number }
+{
+    let number = number as i64;
+    if minus { -number } else { number }
+}
+
+/// The whole number that a line begins with, one sign or none and up to 18 digits.
+fn leading_numeral(line: &[u8]) -> Option<Numeral>
+    ensures within { IfSome result (λ n. n.size ≤ length line.now) }
+    ensures numeral { IfSome result (λ n. IsTrue (writes_number (take n.size line.now))) }
+    ensures number { IfSome result (λ n.
+        n.number ≡ signed_digits_value 10 (take n.size line.now)) }
+{
+    let rest = without_sign(line);
+    let digits = leading_digits(rest);
+    if digits.size == 0 {
+        return None;
+    }
+    Some(Numeral {
+        number: signed(line[0] == b'-', digits.number),
+        size: line.len() - rest.len() + digits.size,
+    })
+}
+
+/// Whether the first field may end there: a comma stands there, or no byte does.
+fn may_end(line: &[u8], size: usize) -> bool
+    requires { size ≤ length line.now }
+    ensures { IsTrue result → size < length line.now → IsTrue (is_comma (slice_index line.now size)) }
+{
+    size == line.len() || line[size] == b','
+}
+
+/// The whole number that is the first field of a line, where no blank stands around it.
+fn plain_field(line: &[u8]) -> Option<Numeral>
+    ensures size { IfSome result (λ n. n.size ≡ position_or_len is_comma line.now) }
+    ensures within { IfSome result (λ n. n.size ≤ length line.now) }
+    ensures value { IfSome result (λ n. (reading : Way) →
+        value_in reading (before_first is_comma line.now) ≡ value_with reading n.number) }
+{
+    let numeral = leading_numeral(line)?;
+    if may_end(line, numeral.size) {
+        Some(numeral)
+    } else {
+        None
+    }
+}
+
+/// How many bytes stand before the first comma.
+fn field_size(line: &[u8]) -> usize
+    ensures first { result ≡ position_or_len is_comma line.now }
+    ensures within { result ≤ length line.now }
+{
+    line.iter().take_while(|byte| **byte != b',').count()
+}
+
+/// A field at the front of a line: its value, and how many bytes it has.
+#[derive(Clone, Copy)]
+pub struct Field {
+    pub value: Result<i64, FieldFault>,
+    pub size: usize,
+}
+
+/// The first field of a line, which ends at its first comma, in a column that is read so.
+pub fn first_field(reading: Reading, line: &[u8]) -> Field
+    ensures value { result.value ≡ value_in reading (before_first is_comma line.now) }
+    ensures size { result.size ≡ position_or_len is_comma line.now }
+    ensures within { result.size ≤ length line.now }
+{
+    if let Some(plain) = plain_field(line) {
+        return Field {
+            value: value_at(reading, plain.number),
+            size: plain.size,
+        };
+    }
+    let size = field_size(line);
+    Field {
+        value: value_of(reading, &line[..size]),
+        size,
     }
 }

@@ -9,12 +9,13 @@ mod columns;
 mod fields;
 mod header_fault;
 mod laws;
-mod marks;
 mod names;
+mod readings;
 mod rows;
 
 pub use columns::{header, header_of, in_order};
 pub use fields::{FieldFault, Reading};
 pub use header_fault::HeaderFault;
 pub use laws::rows_are_fit;
+pub use readings::Readings;
 pub use rows::{RowAnswer, row_fields};

@@ -1,15 +1,16 @@
 //! Rows of a trace.
 
-ghost use Rattle.std.specs.Prelude.{◌≡◌, ◌<◌, ◌≤◌, ◌^◌, ℕ, count_by, length, take};
-ghost use Rattle.std.specs.List.{after_first, before_first, position_or_len};
+ghost use Rattle.std.specs.Prelude.{◌≡◌, ◌<◌, ℕ, Err, count_by, length};
+ghost use Rattle.std.specs.List.{before_first};
+ghost use Rattle.mltl_base.specs.Atoms.{Row};
 ghost use Rattle.mltl_base.specs.Programs.{IsFit};
 ghost use Rattle.trace_feed.specs.declared.fields.Reading.{Reading as Way};
-ghost use Rattle.trace_feed.specs.Marks.{AreMarksFrom};
-ghost use Rattle.trace_feed.specs.Rows.{Tells, fields_of, is_comma, line_meaning, row_from};
+ghost use Rattle.trace_feed.specs.Readings.{AreReadings, fields_meaning, readings_of};
+ghost use Rattle.trace_feed.specs.Rows.{Tells, fields_of, is_comma, line_meaning, value_of};
 
 use crate::blanks::is_blank_line;
-use crate::fields::{FieldFault, value_of};
-use crate::marks::{mark_columns, reading_at};
+use crate::fields::{FieldFault, Reading, first_field};
+use crate::readings::Readings;
 use obs_verify::Checked;
 
 /// What a line is to a program. Columns count from 0.
@@ -27,24 +28,6 @@ pub enum RowAnswer {
     OutOfRange(u32),
 }
 
-/// How many bytes stand before the first comma.
-fn field_size(line: &[u8]) -> usize
-    ensures first { result ≡ position_or_len is_comma line.now }
-    ensures inside { result ≤ length line.now }
-{
-    line.iter().take_while(|byte| **byte != b',').count()
-}
-
-/// The bytes before the first comma, and those behind it.
-fn cut_field(line: &[u8]) -> (&[u8], &[u8])
-    ensures field { result.0.now ≡ before_first is_comma line.now }
-    ensures rest { result.1.now ≡ after_first is_comma line.now }
-{
-    let end = field_size(line);
-    let rest = line.len().min(end + 1);
-    (&line[..end], &line[rest..])
-}
-
 /// How many commas there are. Each turn adds without a branch, so that several bytes are compared at once.
 fn commas(line: &[u8]) -> usize
     ensures { result ≡ count_by is_comma line.now }
@@ -56,22 +39,41 @@ fn commas(line: &[u8]) -> usize
     count
 }
 
-/// Reads the fields of a line from left to right, each into the place of its mark.
-fn read_marked(line: &[u8], fields: &mut [i64]) -> RowAnswer
-    requires narrow { length fields.old < 2 ^ 32 }
-    requires enough { length fields.old ≤ length (fields_of line.now) }
-    ensures { (reading : ℕ → Way) → AreMarksFrom 0 reading fields.old
-        → Tells result fields.new (row_from reading 0 (take (length fields.old) (fields_of line.now))) }
+/// What a fault of the field at column c makes of a line, where this field and those behind it should be so many.
+fn fault_at(c: u32, fault: FieldFault, rest: &[u8], left: u32) -> RowAnswer
+    requires some { 0 < left }
+    ensures { (reading : ℕ → Way) (values : Row) →
+        value_of (reading c) (before_first is_comma rest.now) ≡ Err fault
+        → Tells result values (fields_meaning reading c left (fields_of rest.now)) }
 {
-    let mut rest = line;
-    for c in 0..fields.len() {
-        let (field, behind) = cut_field(rest);
-        match value_of(reading_at(fields[c]), field) {
-            Ok(value) => fields[c] = value,
-            Err(FieldFault::NotWhole) => return RowAnswer::NotWhole(c as u32),
-            Err(FieldFault::OutOfRange) => return RowAnswer::OutOfRange(c as u32),
+    if commas(rest) + 1 < left as usize {
+        return RowAnswer::Width;
+    }
+    match fault {
+        FieldFault::NotWhole => RowAnswer::NotWhole(c),
+        FieldFault::OutOfRange => RowAnswer::OutOfRange(c),
+    }
+}
+
+/// Reads the fields of a line from left to right, once. Commas are counted only behind a fault.
+fn read_fields(line: &[u8], width: u32, readings: &[Reading], fields: &mut [i64]) -> RowAnswer
+    requires wide { length fields.old ≡ width }
+    requires one_each { length readings.now ≡ width }
+    ensures { (reading : ℕ → Way) → AreReadings reading readings.now
+        → Tells result fields.new (fields_meaning reading 0 width (fields_of line.now)) }
+{
+    let mut at = 0;
+    for c in 0..width {
+        if line.len() < at {
+            return RowAnswer::Width;
         }
-        rest = behind;
+        let rest = &line[at..];
+        let field = first_field(readings[c as usize], rest);
+        match field.value {
+            Ok(value) => fields[c as usize] = value,
+            Err(fault) => return fault_at(c, fault, rest, width - c),
+        }
+        at += field.size + 1;
     }
     RowAnswer::Good
 }
@@ -83,17 +85,20 @@ fn read_marked(line: &[u8], fields: &mut [i64]) -> RowAnswer
 /// that is read is one or more decimal digits, which one sign may lead: 0 or 1 where some instruction reads its column as
 /// a truth, else from -2,147,483,648 to 2,147,483,647. Of several faults the first is told: too few fields, then the
 /// columns from left to right.
-pub fn row_fields(line: &[u8], checked: &Checked, fields: &mut [i64]) -> RowAnswer
-    requires { length fields.old ≡ checked.now.width }
+pub fn row_fields(
+    line: &[u8],
+    checked: &Checked,
+    readings: &Readings,
+    fields: &mut [i64],
+) -> RowAnswer
+    requires wide { length fields.old ≡ checked.now.width }
+    requires readings { readings.now ≡ readings_of checked.now }
     ensures told { Tells result fields.new (line_meaning checked.now line.now) }
     ensures fit { result ≡ RowAnswer.Good → IsFit checked.now fields.new }
 {
     if is_blank_line(line) {
         return RowAnswer::Blank;
     }
-    if commas(line) + 1 < fields.len() {
-        return RowAnswer::Width;
-    }
-    mark_columns(checked.program().bz.as_slice(), fields);
-    read_marked(line, fields)
+    let width = checked.program().width;
+    read_fields(line, width, readings.as_slice(), fields)
 }

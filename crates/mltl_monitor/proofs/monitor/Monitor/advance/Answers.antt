@@ -1,4 +1,5 @@
-use Rattle.std.proofs.Common.{◌<◌, ◌^◌, subst, sym, ◌∙◌}
+use Rattle.std.proofs.Common.{◌<◌, ◌^◌, subst, sym, ◌∙◌, ap}
+use Rattle.trace_feed.specs.Readings.{readings_of}
 use Rattle.mltl_monitor.specs.declared.state.State.{State}
 use Rattle.mltl_monitor.proofs.Keeping.{sound_after}
 use Rattle.mltl_monitor.proofs.monitor.Monitor.advance.Goals as goal
@@ -10,4 +11,5 @@ invariant_of-self g c =
     let sound = c.self.invariant.0 in (
       sound_after monitor (record { running = c.take.new.self; last = c.copy_from_slice.new.self; read = c.self.inside.state.read }) (c.args.fields.now) sound c.take.ensures.takes early c.copy_from_slice.ensures.items c.take.ensures.numbers (c.copy_from_slice.ensures.len ∙ sound.last_wide) sound.read_wide,
       λ rows future past count known. c.start-self-inside.ensures c.take.new.self.checked rows c.take.new.self.outs,
+      c.self.invariant.2 ∙ ap readings_of (sym c.take.ensures.takes.program),
     )

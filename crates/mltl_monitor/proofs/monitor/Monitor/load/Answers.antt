@@ -1,5 +1,6 @@
 use Rattle.std.proofs.Common.{◌≡◌, ap, sym, ◌∙◌, arith, [], length}
 use Rattle.mltl_base.specs.declared.program.Program.{Program}
+use Rattle.trace_feed.specs.Readings.{readings_of}
 use Rattle.mltl_monitor.proofs.LastRows.{none_before}
 use Rattle.mltl_monitor.proofs.monitor.Monitor.load.Goals as goal
 
@@ -18,4 +19,5 @@ invariant_of-result c =
         read_wide = c.in_ok-read.ensures.len ∙ width;
       },
       λ rows future past count known. c.start.ensures c.in_ok-running.running.checked rows c.in_ok-running.running.outs,
+      c.in_ok-readings.ensures ∙ ap readings_of (sym same),
     )

@@ -1,5 +1,6 @@
-use Rattle.std.proofs.Common.{◌<◌, ◌^◌, refl, subst, sym}
+use Rattle.std.proofs.Common.{◌<◌, ◌^◌, refl, subst, sym, ap, ◌∙◌}
 use Rattle.mltl_base.specs.Programs.{IsFit}
+use Rattle.trace_feed.specs.Readings.{readings_of}
 use Rattle.mltl_monitor.specs.declared.state.State.{State}
 use Rattle.mltl_monitor.proofs.Keeping.{last_fits, sound_after}
 use Rattle.mltl_monitor.proofs.monitor.Monitor.repeat_last.Goals as goal
@@ -17,4 +18,5 @@ invariant_of-self g c =
     let sound = c.self.invariant.0 in (
       sound_after monitor (record { running = c.take.new.self; last = c.self.inside.state.last; read = c.self.inside.state.read }) (c.self.inside.state.last.items) sound (rw c.deref.ensures.value at c.take.ensures.takes) early refl c.take.ensures.numbers sound.last_wide sound.read_wide,
       λ rows future past count known. c.start-self-inside.ensures c.take.new.self.checked rows c.take.new.self.outs,
+      c.self.invariant.2 ∙ ap readings_of (sym c.take.ensures.takes.program),
     )

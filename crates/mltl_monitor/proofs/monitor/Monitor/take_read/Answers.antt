@@ -1,5 +1,6 @@
 use Rattle.std.proofs.Common.{◌<◌, ◌^◌, ap, refl, subst, sym, ◌∙◌}
 use Rattle.std.specs.Prelude.{vec_len}
+use Rattle.trace_feed.specs.Readings.{readings_of}
 use Rattle.mltl_monitor.specs.declared.state.State.{State}
 use Rattle.mltl_monitor.proofs.Keeping.{sound_after}
 use Rattle.mltl_monitor.proofs.monitor.Monitor.take_read.Goals as goal
@@ -11,4 +12,5 @@ invariant_of-self g c =
     let sound = c.self.invariant.0 in (
       sound_after monitor (record { running = c.take.new.self; last = c.swap.new.x; read = c.swap.new.y }) c.swap.new.x.items sound (rw c.deref.ensures.value at c.take.ensures.takes) early refl c.take.ensures.numbers (ap vec_len c.swap.ensures.x_after ∙ sound.read_wide) (ap vec_len c.swap.ensures.y_after ∙ sound.last_wide),
       λ rows future past count known. c.start-self-inside.ensures c.take.new.self.checked rows c.take.new.self.outs,
+      c.self.invariant.2 ∙ ap readings_of (sym c.take.ensures.takes.program),
     )

@@ -1,0 +1,35 @@
+-- How a program reads the columns of a row.
+
+use Rattle.std.specs.Prelude.{ℕ, ◌≡◌, ◌<◌, ℤ, pos, List, length, map, slice_index_or, take, nat_lt, if◌then◌else◌, Result, Ok}
+use Rattle.std.specs.List.{range_with_len}
+use Rattle.mltl_base.specs.declared.program.Program.{Program}
+use Rattle.trace_feed.specs.declared.fields.FieldFault.{FieldFault}
+use Rattle.trace_feed.specs.declared.fields.Reading.{Reading}
+use Rattle.trace_feed.specs.declared.fields.Reading.TheVariants.{Unread, Whole, Truth}
+use Rattle.trace_feed.specs.Rows.{LineMeaning, has_32_bits, in_range, is_bit, reading_of, row_from, too_few}
+
+-- how the program reads each of its columns
+abbrev pub readings_of : Program → List Reading
+readings_of program = map (reading_of program.bz) (range_with_len 0 program.width)
+
+-- each member says how its column is read
+abbrev pub AreReadings : (ℕ → Reading) → List Reading → Type 0
+AreReadings reading readings = (k : ℕ) (d : Reading) → k < length readings → slice_index_or readings k d ≡ reading k
+
+-- the stronger of two readings: a truth, then a whole number
+abbrev pub stronger : Reading → Reading → Reading
+stronger Truth second = Truth
+stronger Whole Truth = Truth
+stronger Whole Whole = Whole
+stronger Whole Unread = Whole
+stronger Unread second = second
+
+-- the value of a number in a column that is read so
+abbrev pub value_at : Reading → ℤ → Result ℤ FieldFault
+value_at Unread n = Ok (pos 0)
+value_at Whole n = in_range has_32_bits n
+value_at Truth n = in_range is_bit n
+
+-- what the fields say of column c and those behind it, of which there are n: too few, or the row or its first fault
+abbrev pub fields_meaning : (ℕ → Reading) → ℕ → ℕ → List (List ℕ) → LineMeaning
+fields_meaning reading c n fields = if nat_lt (length fields) n then too_few else row_from reading c (take n fields)

@@ -1,0 +1,94 @@
+//! How a program reads each column of a row. This is found once, so that no row looks for its columns among the
+//! instructions.
+
+ghost use Rattle.std.specs.Prelude.{◌≡◌, ◌++◌, ◌∷◌, [], IfOk, length, slice_index_or, slice_set, List as Items};
+ghost use Rattle.mltl_base.specs.declared.operators.BzOp.{BzOp as Op};
+ghost use Rattle.trace_feed.specs.declared.fields.Reading.TheVariants.{Unread};
+ghost use Rattle.trace_feed.specs.Readings.{AreReadings, readings_of, stronger as stronger_of};
+ghost use Rattle.trace_feed.specs.Rows.{reading_of};
+
+use crate::fields::Reading;
+use mltl_base::BzOp;
+use obs_verify::Checked;
+use std::alloc::{AllocError, Global};
+use std::marker::Model;
+
+/// How a program reads each of its columns, which contracts see as that list.
+#[derive(Drop)]
+pub struct Readings {
+    columns: Vec<Reading>,
+}
+
+impl Model for Readings {
+    ghost use Rattle.std.specs.Prelude.{List};
+    ghost use Rattle.trace_feed.specs.declared.fields.Reading.{Reading as Way};
+
+    ghost Value = { List Way };
+
+    ghost view = { λ readings. readings.columns.items };
+}
+
+/// The stronger of two readings: a truth, then a whole number.
+fn stronger(first: Reading, second: Reading) -> Reading
+    ensures { result ≡ stronger_of first second }
+{
+    match (first, second) {
+        (Reading::Truth, _) | (_, Reading::Truth) => Reading::Truth,
+        (Reading::Whole, _) | (_, Reading::Whole) => Reading::Whole,
+        _ => Reading::Unread,
+    }
+}
+
+/// Raises the reading of a column, where it isn't as strong.
+fn raise(readings: &mut [Reading], c: u32, reading: Reading)
+    ensures { readings.new ≡ slice_set readings.old c
+        (stronger_of (slice_index_or readings.old c Unread) reading) }
+{
+    let c = c as usize;
+    if c < readings.len() {
+        readings[c] = stronger(readings[c], reading);
+    }
+}
+
+/// Raises the reading of the column that an instruction reads, if it reads one.
+fn note(readings: &mut [Reading], op: &BzOp)
+    ensures many { length readings.new ≡ length readings.old }
+    ensures noted { (earlier : Items Op) → AreReadings (reading_of earlier) readings.old
+        → AreReadings (reading_of (earlier ++ op.now ∷ [])) readings.new }
+{
+    match *op {
+        BzOp::Column(c) => raise(readings, c, Reading::Whole),
+        BzOp::IsTrue(c) => raise(readings, c, Reading::Truth),
+        _ => {}
+    }
+}
+
+/// Notes how each instruction reads its column.
+fn note_all(readings: &mut [Reading], ops: &[BzOp])
+    requires { AreReadings (reading_of []) readings.old }
+    ensures many { length readings.new ≡ length readings.old }
+    ensures noted { AreReadings (reading_of ops.now) readings.new }
+{
+    for op in ops {
+        note(readings, op);
+    }
+}
+
+impl Readings {
+    /// The readings of a program. All memory is taken here.
+    pub fn of(alloc: Global, checked: &Checked) -> Result<Readings, AllocError>
+        ensures { IfOk result (λ readings. readings ≡ readings_of checked.now) }
+    {
+        let program = checked.program();
+        let mut columns = vec![in alloc; Reading::Unread; program.width as usize]?;
+        note_all(&mut columns, program.bz.as_slice());
+        Ok(Readings { columns })
+    }
+
+    /// All readings, in the order of the columns.
+    pub fn as_slice(&self) -> &[Reading]
+        ensures { result.now ≡ self.now }
+    {
+        self.columns.as_slice()
+    }
+}
