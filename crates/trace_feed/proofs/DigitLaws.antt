@@ -1,20 +1,20 @@
 -- Digits that are gathered one by one, and the field that they are with a sign.
 use Rattle.std.proofs.Common.{◌≡◌, ◌<◌, ◌≤◌, ◌+◌, ◌-◌, ◌*◌, ◌^◌, ◌==◌, ℕ, ℤ, pos, zero, suc, Bool, true, false, cond, List, [], ◌∷◌, length, take, drop, get_or, refl, arith, ◌∙◌, ap, subst}
-use Rattle.std.specs.Prelude.{nat_lt, neg_ℤ, ◌&&◌}
+use Rattle.std.specs.Prelude.{nat_lt, neg_ℤ, slice_index, ◌&&◌}
 use Rattle.std.specs.Char.{digit_value, is_ascii_digit}
 use Rattle.std.specs.List.{list_all, position_or_len, prefix_len, suffix_len}
 use Rattle.std.specs.Str.Parse.{AllDigits, digits_value, signed_digits_value, starts_with_minus, without_leading_sign}
 use Rattle.std.proofs.lemmas.Bool.{and_parts, lt-ltb}
 use Rattle.std.proofs.lemmas.Bool.Decides.{nat_tests}
 use Rattle.std.proofs.lemmas.Int.Digits.{digits_more, digits_value_more}
-use Rattle.std.proofs.lemmas.List.{get_or-take, length-take-le, take_all}
+use Rattle.std.proofs.lemmas.List.{get_or-take, length-drop, length-take-le, take_all}
 use Rattle.std.proofs.lemmas.List.Sums.{position_or_len_is, prefix_len_is, suffix_len_is, AllPass-from_list_all}
 use Rattle.std.proofs.lemmas.List.Elements.{All-get_or}
 use Rattle.std.proofs.lemmas.Str.Parse.{IsNumeralModel, digits_value_short, numerals_by_value, tells_digits}
 use Rattle.mltl_base.proofs.Digits.{numerals}
 use Rattle.mltl_base.specs.Blanks.{is_blank}
 use Rattle.trace_feed.specs.Blanks.{trimmed}
-use Rattle.trace_feed.specs.Readings.{value_at}
+use Rattle.trace_feed.specs.Readings.{sign_length, value_at}
 use Rattle.trace_feed.specs.Rows.{is_comma, is_numeral, value_of}
 use Rattle.trace_feed.specs.declared.fields.Reading.{Reading}
 use Rattle.trace_feed.specs.declared.fields.Reading.TheVariants.{Unread, Whole, Truth}
@@ -131,3 +131,14 @@ pub numeral_value : (reading : Reading) (field : List ℕ) (n : ℤ) → is_nume
 numeral_value Unread field n is value = refl
 numeral_value Whole field n is value = rw (numeral_trimmed field is, is, value) refl
 numeral_value Truth field n is value = rw (numeral_trimmed field is, is, value) refl
+
+-- what stands behind the sign
+pub behind_sign : (field : List ℕ) (n : ℕ) → n ≡ sign_length field → take (length field - n) (drop n field) ≡ without_leading_sign field
+behind_sign field n is =
+    take_all (length field - n) (drop n field) (omega (arith, length-drop n field))
+    ∙ ap (λ k. drop k field) is
+    ∙ go (starts_with_minus field) (slice_index field 0 == 43)
+  where
+    go : (minus plus : Bool) → drop (cond minus 1 (cond plus 1 0)) field ≡ cond minus (drop 1 field) (drop (cond plus 1 0) field)
+    go true plus = refl
+    go false plus = refl

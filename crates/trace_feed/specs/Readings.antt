@@ -1,7 +1,8 @@
 -- How a program reads the columns of a row.
 
-use Rattle.std.specs.Prelude.{ℕ, ◌≡◌, ◌<◌, ℤ, pos, List, length, map, slice_index_or, take, nat_lt, if◌then◌else◌, Result, Ok}
+use Rattle.std.specs.Prelude.{ℕ, ◌≡◌, ◌<◌, ℤ, pos, List, length, map, slice_index, slice_index_or, take, cond, ◌==◌, nat_lt, if◌then◌else◌, Result, Ok}
 use Rattle.std.specs.List.{range_with_len}
+use Rattle.std.specs.Str.Parse.{starts_with_minus}
 use Rattle.mltl_base.specs.declared.program.Program.{Program}
 use Rattle.trace_feed.specs.declared.fields.FieldFault.{FieldFault}
 use Rattle.trace_feed.specs.declared.fields.Reading.{Reading}
@@ -23,6 +24,10 @@ stronger Whole Truth = Truth
 stronger Whole Whole = Whole
 stronger Whole Unread = Whole
 stronger Unread second = second
+
+-- how many bytes a leading sign takes
+abbrev pub sign_length : List ℕ → ℕ
+sign_length field = cond (starts_with_minus field) 1 (cond (slice_index field 0 == 43) 1 0)
 
 -- the value of a number in a column that is read so
 abbrev pub value_at : Reading → ℤ → Result ℤ FieldFault

@@ -5,7 +5,7 @@ ghost use Rattle.std.specs.Char.{is_ascii_digit};
 ghost use Rattle.std.specs.List.{before_first, list_all, position_or_len};
 ghost use Rattle.std.specs.Str.Parse.{AllDigits, digits_value, signed_digits_value, without_leading_sign};
 ghost use Rattle.trace_feed.specs.declared.fields.Reading.{Reading as Way};
-ghost use Rattle.trace_feed.specs.Readings.{value_at as value_with};
+ghost use Rattle.trace_feed.specs.Readings.{sign_length, value_at as value_with};
 ghost use Rattle.trace_feed.specs.Rows.{has_32_bits, in_range, is_bit, is_comma, is_numeral as writes_number, number_in, value_of as value_in};
 
 use crate::blanks::trimmed;
@@ -28,13 +28,22 @@ pub enum Reading {
     Truth,
 }
 
+/// How many bytes the sign of a field takes. It is found without a branch, since signs come in no order.
+fn sign_size(field: &[u8]) -> usize
+    ensures size { result ≡ sign_length field.now }
+    ensures within { result ≤ length field.now }
+{
+    match field {
+        [first, ..] => usize::from((*first == b'-') | (*first == b'+')),
+        [] => 0,
+    }
+}
+
+/// The bytes behind the sign of a field, if it has one.
 fn without_sign(field: &[u8]) -> &[u8]
     ensures { result.now ≡ without_leading_sign field.now }
 {
-    match field {
-        [b'+' | b'-', digits @ ..] => digits,
-        _ => field,
-    }
+    &field[sign_size(field)..]
 }
 
 fn are_digits(bytes: &[u8]) -> bool
@@ -184,7 +193,8 @@ fn leading_numeral(line: &[u8]) -> Option<Numeral>
 /// Whether the first field may end there: a comma stands there, or no byte does.
 fn may_end(line: &[u8], size: usize) -> bool
     requires { size ≤ length line.now }
-    ensures { IsTrue result → size < length line.now → IsTrue (is_comma (slice_index line.now size)) }
+    ensures { IsTrue result → size < length line.now
+        → IsTrue (is_comma (slice_index line.now size)) }
 {
     size == line.len() || line[size] == b','
 }
