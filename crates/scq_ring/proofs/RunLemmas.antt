@@ -1,9 +1,10 @@
 -- Runs that follow one another.
-use Rattle.std.proofs.Common.{◌≡◌, ℕ, ◌+◌, ◌-◌, ◌<◌, ◌≤◌, List, [], ◌∷◌, ◌++◌, length, get_or, arith, refl, false, subst, sym, ap, ◌∙◌, inl, inr, zero, suc}
+use Rattle.std.proofs.Common.{◌≡◌, ℕ, ◌+◌, ◌-◌, ◌<◌, ◌≤◌, List, [], ◌∷◌, ◌++◌, length, get_or, arith, refl, subst, sym, ap, ◌∙◌, inl, inr, zero, suc}
 use Rattle.std.proofs.lemmas.Bool.Decides.{nat_tests}
 use Rattle.std.proofs.lemmas.Bool.{cases_lt}
 use Rattle.scq_ring.specs.declared.runs.Slot.{Slot}
-use Rattle.scq_ring.specs.Runs.{Belongs, Spans, frontier_of, low_of, runs_of, value_in}
+use Rattle.scq_ring.specs.Runs.{Belongs, Spans, frontier_of, low_of, no_slot, place_of, runs_of, upto_at, value_in}
+use Rattle.scq_ring.proofs.Windows.{get_or-window, length-window}
 use Rattle.scq_ring.specs.declared.runs.Ring.{Ring}
 
 -- each run takes at least one time
@@ -101,10 +102,6 @@ shortened low first rest end s = record {
   kept = λ t from. let past : first.upto < t = omega arith in grind (arith, nat_tests);
 }
 
--- past the end of a list of runs
-abbrev pub no_slot : Slot
-no_slot = record { upto = 0; value = false }
-
 -- each run ends at or after the low place, and before the end
 pub Spans-from : (low : ℕ) (runs : List Slot) (end : ℕ) → Spans low runs end → (k : ℕ) → k < length runs → low ≤ (get_or runs k no_slot).upto
 Spans-from low [] end s k k_in = absurd (omega arith)
@@ -161,3 +158,25 @@ value_in_last low front last end s =
 pub low_below_frontier : (ring : Ring) (slots : List Slot) → Belongs ring slots → low_of ring ≤ frontier_of ring
 unfolding low_of frontier_of
 low_below_frontier ring slots b = omega (arith, Spans-room ring.low (runs_of ring slots) ring.frontier b.spans)
+
+-- run k stands at its place
+pub run_at_place : (ring : Ring) (slots : List Slot) (k place : ℕ) → Belongs ring slots → k < ring.used → place ≡ place_of ring.oldest k (length slots)
+    → get_or (runs_of ring slots) k no_slot ≡ get_or slots place no_slot
+run_at_place ring slots k place b k_in place_is =
+    get_or-window ring.oldest ring.used slots b.oldest_in b.used_in k no_slot k_in ∙ ap (λ (j : ℕ). get_or slots j no_slot) (sym place_is)
+
+-- the kept runs are as many as are used
+pub length-runs : (ring : Ring) (slots : List Slot) → Belongs ring slots → length (runs_of ring slots) ≡ ring.used
+length-runs ring slots b = length-window ring.oldest ring.used slots b.oldest_in b.used_in
+
+-- the newest run ends with the frontier, where one is kept
+pub record HasNewest (ring : Ring) (slots : List Slot) : Type 0 where
+  pub some_run : 0 < ring.used
+  pub ends : upto_at (runs_of ring slots) (ring.used - 1) + 1 ≡ frontier_of ring
+
+pub has_newest : (ring : Ring) (slots : List Slot) → Belongs ring slots → low_of ring < frontier_of ring → HasNewest ring slots
+unfolding low_of frontier_of
+has_newest ring slots b covered =
+    let size = length-runs ring slots b in
+    let some = some_run ring.low (runs_of ring slots) ring.frontier b.spans covered in
+    record { some_run = omega arith; ends = Spans-last ring.low (runs_of ring slots) ring.frontier b.spans (ring.used - 1) (omega arith) }

@@ -1,5 +1,5 @@
 -- What a ring and its slots stand for: a frontier, a low place, and a verdict for each time from the low place to the frontier - 1.
-use Rattle.std.specs.Prelude.{◌≡◌, ℕ, ◌+◌, ◌-◌, ◌<◌, ◌≤◌, Bool, false, List, [], ◌∷◌, ◌++◌, length, take, drop, if◌then◌else◌, nat_le, nat_lt}
+use Rattle.std.specs.Prelude.{◌≡◌, ℕ, ◌+◌, ◌-◌, ◌<◌, ◌≤◌, Bool, false, List, [], ◌∷◌, ◌++◌, length, slice_index_or, take, drop, if◌then◌else◌, nat_le, nat_lt}
 use Rattle.scq_ring.specs.declared.runs.Ring.{Ring}
 use Rattle.scq_ring.specs.declared.runs.Slot.{Slot}
 use Rattle.scq_ring.specs.declared.runs.Seen.{Seen}
@@ -18,6 +18,10 @@ abbrev pub value_in : List Slot → ℕ → Bool
 value_in [] t = false
 value_in (run ∷ runs) t = if nat_le t run.upto then run.value else value_in runs t
 
+-- past the end of a list of runs
+abbrev pub no_slot : Slot
+no_slot = record { upto = 0; value = false }
+
 -- the runs cover the times from `low` to `end` - 1, one after another, and none is empty
 abbrev pub Spans : ℕ → List Slot → ℕ → Type 0
 Spans low [] end = low ≡ end
@@ -26,6 +30,10 @@ Spans low (run ∷ runs) end = (low ≤ run.upto) × Spans (run.upto + 1) runs e
 -- the runs that are kept, oldest first
 abbrev pub runs_of : Ring → List Slot → List Slot
 runs_of ring slots = window ring.oldest ring.used slots
+
+-- the last time of run k, of those that are kept
+abbrev pub upto_at : List Slot → ℕ → ℕ
+upto_at runs k = (slice_index_or runs k no_slot).upto
 
 -- the first time that has no verdict yet
 unfoldable pub frontier_of : Ring → ℕ
@@ -44,6 +52,18 @@ pub record Belongs (ring : Ring) (slots : List Slot) : Type 0 where
   pub oldest_in : ring.oldest < length slots
   pub used_in : ring.used ≤ length slots
   pub spans : Spans ring.low (runs_of ring slots) ring.frontier
+
+-- this is the place of the newest run
+pub record IsNewest (ring : Ring) (slots : List Slot) (newest : ℕ) : Type 0 where
+  pub some_run : 0 < ring.used
+  pub place : newest ≡ place_of ring.oldest (ring.used - 1) (length slots)
+
+-- the run that holds a time is one of those from `first` to `last`: those before end earlier, and the last one doesn't
+pub record IsAround (ring : Ring) (slots : List Slot) (from first last : ℕ) : Type 0 where
+  pub ordered : first ≤ last
+  pub within : last < ring.used
+  pub below : (k : ℕ) → k < first → upto_at (runs_of ring slots) k < from
+  pub reached : from ≤ upto_at (runs_of ring slots) last
 
 -- what a read from time `from` on shows: all times up to `end` have the value; nothing exactly at or past the frontier
 abbrev pub Shows : Ring → List Slot → ℕ → Seen → Type 0

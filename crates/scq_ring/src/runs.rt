@@ -1,5 +1,5 @@
-ghost use Rattle.std.specs.Prelude.{◌≡◌, ℕ, ◌+◌, ◌-◌, ◌^◌, ◌<◌, ◌≤◌, ◌↔◌, max, length, IsTrue, List, nat_lt, if◌then◌else◌, slice_index_or};
-ghost use Rattle.scq_ring.specs.Runs.{Belongs, IsClear, Shows, frontier_of, low_of, place_of, runs_of, verdict_at};
+ghost use Rattle.std.specs.Prelude.{◌≡◌, ℕ, ◌+◌, ◌-◌, ◌^◌, ◌<◌, ◌≤◌, ◌↔◌, max, length, IfSome, IsSome, List, nat_lt, if◌then◌else◌};
+ghost use Rattle.scq_ring.specs.Runs.{Belongs, IsAround, IsClear, IsNewest, Shows, frontier_of, low_of, place_of, verdict_at};
 ghost use Rattle.scq_ring.specs.declared.runs.Slot.{Slot};
 
 use crate::steps::Steps;
@@ -114,8 +114,8 @@ impl Ring {
         ensures step { steps.new ≡ steps.old + 1 }
     {
         steps.tick();
-        if self.continues(slots, value) {
-            self.extend(slots, upto);
+        if let Some(newest) = self.newest_with(slots, value) {
+            self.extend(slots, newest, upto);
             return;
         }
         if self.used == slots.len() {
@@ -140,18 +140,27 @@ impl Ring {
         Seen::Run(run.upto, run.value)
     }
 
-    /// Whether the newest run has this verdict.
-    fn continues(&self, slots: &[Slot], value: bool) -> bool
+    /// The place of the newest run, where it has this verdict.
+    fn newest_with(&self, slots: &[Slot], value: bool) -> Option<usize>
         requires belongs { Belongs self.now slots.now }
-        ensures same { IsTrue result ↔ ((0 < self.now.used) × (value ≡ verdict_at self.now slots.now (frontier_of self.now - 1))) }
+        ensures place { IfSome result (IsNewest self.now slots.now) }
+        ensures same { IsSome result ↔ ((0 < self.now.used) × (value ≡ verdict_at self.now slots.now (frontier_of self.now - 1))) }
     {
-        self.used > 0 && slots[place(self.oldest, self.used - 1, slots.len())].value == value
+        if self.used == 0 {
+            return None;
+        }
+        let newest = place(self.oldest, self.used - 1, slots.len());
+        if slots[newest].value == value {
+            Some(newest)
+        } else {
+            None
+        }
     }
 
-    /// Moves the end of the newest run.
-    fn extend(&mut self, slots: &mut [Slot], upto: u64)
+    /// Moves the end of the newest run, which has this place.
+    fn extend(&mut self, slots: &mut [Slot], newest: usize, upto: u64)
         requires belongs { Belongs self.old slots.old }
-        requires some_run { 0 < self.old.used }
+        requires newest { IsNewest self.old slots.old newest }
         requires ahead { frontier_of self.old ≤ upto }
         requires in_time { upto < 2 ^ 41 }
         ensures belongs { Belongs self.new slots.new }
@@ -160,7 +169,6 @@ impl Ring {
         ensures kept { (t : ℕ) → low_of self.old ≤ t → t < frontier_of self.old → verdict_at self.new slots.new t ≡ verdict_at self.old slots.old t }
         ensures written { (t : ℕ) → frontier_of self.old ≤ t → t ≤ upto → verdict_at self.new slots.new t ≡ verdict_at self.old slots.old (frontier_of self.old - 1) }
     {
-        let newest = place(self.oldest, self.used - 1, slots.len());
         slots[newest].upto = upto;
         self.frontier = upto + 1;
     }
@@ -198,7 +206,7 @@ impl Ring {
         self.frontier = upto + 1;
     }
 
-    /// The run that holds time `from`, found by halving the runs that are left.
+    /// The run that holds time `from`, found by halving the runs that may.
     fn run_at(&self, slots: &[Slot], from: u64) -> Slot
         requires belongs { Belongs self.now slots.now }
         requires kept { low_of self.now ≤ from }
@@ -207,8 +215,7 @@ impl Ring {
         ensures known { result.upto < frontier_of self.now }
         ensures verdict { (t : ℕ) → from ≤ t → t ≤ result.upto → verdict_at self.now slots.now t ≡ result.value }
     {
-        let mut first = 0;
-        let mut last = self.used - 1;
+        let (mut first, mut last) = self.newest_around(slots, from);
         'halving: while first < last {
             let middle = first + (last - first) / 2;
             if slots[place(self.oldest, middle, slots.len())].upto < from {
@@ -218,5 +225,26 @@ impl Ring {
             }
         }
         slots[place(self.oldest, first, slots.len())]
+    }
+
+    /// The first and the last of the runs that may hold time `from`. Nearly every reader wants a new one, so it looks
+    /// from the newest run back, in steps that grow.
+    fn newest_around(&self, slots: &[Slot], from: u64) -> (usize, usize)
+        requires belongs { Belongs self.now slots.now }
+        requires kept { low_of self.now ≤ from }
+        requires known { from < frontier_of self.now }
+        ensures around { IsAround self.now slots.now from result.0 result.1 }
+    {
+        let mut last = self.used - 1;
+        let mut step = 1;
+        'back: while step <= last {
+            let before = last - step;
+            if slots[place(self.oldest, before, slots.len())].upto < from {
+                return (before + 1, last);
+            }
+            last = before;
+            step += step;
+        }
+        (0, last)
     }
 }

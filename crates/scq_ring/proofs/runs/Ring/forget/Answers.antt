@@ -1,8 +1,8 @@
 use Rattle.std.proofs.Common.{◌≡◌, ℕ, ◌-◌, ◌<◌, ◌≤◌, List, ◌∷◌, length, get_or, arith, refl, ap, subst, sym, ◌∙◌}
-use Rattle.scq_ring.specs.Runs.{frontier_of, low_of, verdict_at, window, Spans, value_in}
+use Rattle.scq_ring.specs.Runs.{frontier_of, low_of, no_slot, verdict_at, window, Spans, value_in}
 use Rattle.scq_ring.specs.declared.runs.Slot.{Slot}
 use Rattle.scq_ring.proofs.Windows.{window_before_pop, next_within, length-window}
-use Rattle.scq_ring.proofs.RunLemmas.{shortened, Shortened, no_slot, Spans-upto}
+use Rattle.scq_ring.proofs.RunLemmas.{shortened, Shortened, Spans-upto}
 use Rattle.scq_ring.proofs.runs.Ring.forget.Goals as goal
 
 pub overflow_add-self : goal.overflow_add-self
