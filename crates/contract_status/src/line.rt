@@ -37,11 +37,11 @@ pub fn put_line(text: &mut ArrayVec<u8, 128>, report: &Report, checked: &Checked
         text,
         name_of(checked.program().outs.get(report.out as usize)),
     );
-    add(text, b":");
+    text.push(b':');
     add_number(text, report.time);
-    add(text, b",");
+    text.push(b',');
     add(text, text_of(report.word).as_bytes());
-    add(text, b"\n");
+    text.push(b'\n');
 }
 
 fn name_of(out: &Out) -> &[u8]
