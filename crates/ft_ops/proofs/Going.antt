@@ -6,11 +6,12 @@ use Rattle.mltl_base.specs.Verdicts.{Known}
 use Rattle.scq_ring.specs.declared.Ring.{Ring}
 use Rattle.scq_ring.specs.declared.Slot.{Slot}
 use Rattle.scq_ring.specs.declared.Seen.TheVariants.{Run}
-use Rattle.scq_ring.specs.Runs.{Shows, frontier_of, low_of, verdict_at}
+use Rattle.scq_ring.specs.Runs.{Belongs, Shows, frontier_of, low_of, verdict_at}
 use Rattle.ft_ops.specs.Queues.{Shown, GoesOn}
 
 -- what a write leaves
 pub record Written (old : Ring) (old_slots : List Slot) (upto : ℕ) (value : Bool) (new : Ring) (new_slots : List Slot) : Type 0 where
+  pub belongs : Belongs new new_slots
   pub frontier : frontier_of new ≡ upto + 1
   pub rises : low_of old ≤ low_of new
   pub bounded : low_of new ≤ max (low_of old) (upto + 1 - length old_slots)
@@ -22,8 +23,8 @@ pub record Told (value : Known) (ring : Ring) (slots : List Slot) (start : ℕ) 
   pub known : (t : ℕ) → start ≤ t → t < frontier_of ring → IsSome (value t)
   pub verdicts : (t : ℕ) → start ≤ t → low_of ring ≤ t → t < frontier_of ring → value t ≡ Some (verdict_at ring slots t)
 
-pub stays : (ring : Ring) (slots : List Slot) → GoesOn ring slots ring slots
-stays ring slots = record { onward = omega arith; rises = omega arith; bounded = omega arith; kept = λ t from to. refl }
+pub stays : (ring : Ring) (slots : List Slot) → Belongs ring slots → GoesOn ring slots ring slots
+stays ring slots belongs = record { belongs = belongs; onward = omega arith; rises = omega arith; bounded = omega arith; kept = λ t from to. refl }
 
 pub told_nothing : (value : Known) (ring : Ring) (slots : List Slot) → Told value ring slots (frontier_of ring)
 told_nothing value ring slots = record { known = λ t from to. absurd (omega arith); verdicts = λ t from kept to. absurd (omega arith) }
@@ -31,6 +32,7 @@ told_nothing value ring slots = record { known = λ t from to. absurd (omega ari
 pub goes_further : (a : Ring) (xs : List Slot) (b : Ring) (ys : List Slot) (upto : ℕ) (v : Bool) (c : Ring) (zs : List Slot)
     → GoesOn a xs b ys → Written b ys upto v c zs → frontier_of b ≤ upto → length ys ≡ length xs → GoesOn a xs c zs
 goes_further a xs b ys upto v c zs g w ahead same = record {
+  belongs = w.belongs;
   onward = omega (arith, g.onward, w.frontier);
   rises = omega (arith, g.rises, w.rises);
   bounded = omega (arith, g.bounded, w.bounded, w.frontier, g.onward);

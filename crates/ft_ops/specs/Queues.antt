@@ -1,23 +1,43 @@
 -- What the queue of a future-time operator says of the verdicts that are known.
-use Rattle.std.specs.Prelude.{◌≡◌, ℕ, ◌-◌, ◌<◌, ◌≤◌, max, List, length, Some, None, IsSome}
+use Rattle.std.specs.Prelude.{◌≡◌, ℕ, ◌-◌, ◌<◌, ◌≤◌, max, min, List, length, Some, None, IsSome}
 use Rattle.mltl_base.specs.Verdicts.{Known}
 use Rattle.scq_ring.specs.declared.Ring.{Ring}
 use Rattle.scq_ring.specs.declared.Slot.{Slot}
 use Rattle.scq_ring.specs.declared.Seen.{Seen}
 use Rattle.scq_ring.specs.declared.Seen.TheVariants.{Run, Nothing}
-use Rattle.scq_ring.specs.Runs.{frontier_of, low_of, verdict_at}
+use Rattle.scq_ring.specs.Runs.{Belongs, frontier_of, low_of, verdict_at}
+use Rattle.ft_ops.specs.declared.operand.Operand.{Operand}
 
 -- what is known ends at the ring's frontier, and from the low place on the ring has it
 pub record Shown (ring : Ring) (slots : List Slot) (known : Known) : Type 0 where
   pub kept : (t : ℕ) → low_of ring ≤ t → t < frontier_of ring → known t ≡ Some (verdict_at ring slots t)
   pub ends : (t : ℕ) → frontier_of ring ≤ t → known t ≡ None
 
--- the ring goes on: no verdict that is kept changes, and the low place rises no further than the slots force it
+-- the first time that an operand has no verdict for
+abbrev pub front_of : Operand → ℕ
+front_of operand = frontier_of operand.ring.now
+
+-- an operand can be read from a time on
+pub record IsReadable (operand : Operand) (from : ℕ) : Type 0 where
+  pub belongs : Belongs operand.ring.now operand.slots.now
+  pub kept : low_of operand.ring.now ≤ from
+
+-- the operand's queue shows what is known
+abbrev pub ShownBy : Operand → Known → Type 0
+ShownBy operand known = Shown operand.ring.now operand.slots.now known
+
+-- the ring goes on over its slots: no verdict that is kept changes, and the low place rises no further than they force it
 pub record GoesOn (old : Ring) (old_slots : List Slot) (new : Ring) (new_slots : List Slot) : Type 0 where
+  pub belongs : Belongs new new_slots
   pub onward : frontier_of old ≤ frontier_of new
   pub rises : low_of old ≤ low_of new
   pub bounded : low_of new ≤ max (low_of old) (frontier_of new - length old_slots)
   pub kept : (t : ℕ) → low_of new ≤ t → t < frontier_of old → verdict_at new new_slots t ≡ verdict_at old old_slots t
+
+-- the ring goes as far as both operands do, and no further than one of them
+pub record GoesAsFar (left right : Operand) (old new : Ring) : Type 0 where
+  pub enough : min (front_of left) (front_of right) ≤ frontier_of new
+  pub no_further : frontier_of new ≤ max (frontier_of old) (max (front_of left) (front_of right))
 
 -- from time `start` on the ring has the values, and there is none at its frontier: it has decided as much as can be known
 pub record Decides (value : Known) (ring : Ring) (slots : List Slot) (start : ℕ) : Type 0 where

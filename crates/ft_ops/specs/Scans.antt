@@ -1,13 +1,15 @@
 -- What an until knows of its operands between two decisions.
-use Rattle.std.specs.Prelude.{◌≡◌, ℕ, ◌+◌, ◌*◌, ◌-◌, ◌<◌, ◌≤◌, ◌⊎◌, max, min, true, false, List, Some, None}
+use Rattle.std.specs.Prelude.{◌≡◌, ℕ, ◌+◌, ◌*◌, ◌^◌, ◌-◌, ◌<◌, ◌≤◌, ◌⊎◌, max, min, true, false, List, Some, None}
 use Rattle.mltl_base.specs.declared.interval.Interval.{Interval}
 use Rattle.mltl_base.specs.Verdicts.{Known, k_until}
 use Rattle.scq_ring.specs.declared.Ring.{Ring}
 use Rattle.scq_ring.specs.declared.Slot.{Slot}
 use Rattle.scq_ring.specs.Runs.{frontier_of}
+use Rattle.ft_ops.specs.declared.until.Reading.{Reading}
 use Rattle.ft_ops.specs.declared.until.Turn.{Turn}
 use Rattle.ft_ops.specs.declared.until.Turn.TheVariants.{Look, Decide, Stop}
-use Rattle.ft_ops.specs.Queues.{Decides}
+use Rattle.ft_ops.specs.declared.until.Until.{Until}
+use Rattle.ft_ops.specs.Queues.{Decides, IsReadable, ShownBy, front_of}
 
 -- from the lower end of the window of time t on, the right operand is false before `seen`, and the left one true before `place`
 pub record Scan (i : Interval) (p q : Known) (t place seen : ℕ) : Type 0 where
@@ -16,33 +18,76 @@ pub record Scan (i : Interval) (p q : Known) (t place seen : ℕ) : Type 0 where
   pub left : (k : ℕ) → t + i.lo ≤ k → k < place → p k ≡ Some true
   pub right : (k : ℕ) → t + i.lo ≤ k → k < seen → q k ≡ Some false
 
+-- an until whose queue ends at time t can be taken on from its place
+pub record CanScan (until : Until) (t place : ℕ) : Type 0 where
+  pub left : IsReadable until.left place
+  pub right : IsReadable until.right place
+  pub right_in_time : front_of until.right ≤ 2 ^ 41
+  pub ordered : until.window.lo ≤ until.window.hi
+  pub reach : t + until.window.lo ≤ place
+  pub in_time : place ≤ 2 ^ 41
+
+-- what is seen of the right operand goes ahead of the place, no further than that operand does
+pub record IsReadingOf (until : Until) (at : Reading) : Type 0 where
+  pub order : at.place ≤ at.seen
+  pub in_time : at.seen ≤ 2 ^ 41
+
+-- with a queue up to time t, as much is decided as the operand that ends first allows
+abbrev pub HasEnough : Until → ℕ → Type 0
+HasEnough until t = min (front_of until.left) (front_of until.right) ≤ t + until.window.hi
+
+-- The place at which an until reads next, with a queue up to time t: it moved on from its old one, to where one operand
+-- ends at least, and not past the right one's end.
+pub record IsNextPlace (until : Until) (t place place' : ℕ) : Type 0 where
+  pub reach : t + until.window.lo ≤ place'
+  pub onward : place ≤ place'
+  pub ahead : min (front_of until.left) (front_of until.right) ≤ place'
+  pub in_time : place' ≤ max place (front_of until.right)
+
+-- the most steps of a row: three for each time of the right operand from the place on, one for each decided time, and two
+abbrev pub row_steps : Until → ℕ → Ring → Ring → ℕ
+row_steps until place old new = 3 * (max place (front_of until.right) - place) + (frontier_of new - frontier_of old) + 2
+
 -- the until is decided as far as it can be: at its place one operand is unknown, and up to there it is scanned
 pub record DecidesUntil (i : Interval) (p q : Known) (ring : Ring) (slots : List Slot) (start place : ℕ) : Type 0 where
   pub decides : Decides (k_until i p q) ring slots start
   pub scanned : Scan i p q (frontier_of ring) place place
   pub reached : (p place ≡ None) ⊎ (q place ≡ None)
 
--- the places move on, and a place that moves on was read
-pub record MovesOn (place seen end place' seen' : ℕ) : Type 0 where
-  pub onward : place ≤ place'
-  pub sees_on : seen ≤ seen'
-  pub order : place' ≤ seen'
-  pub in_time : seen' ≤ max seen end
+-- an until that was scanned up to its place is decided from the old frontier on, over what its operands show
+abbrev pub DecidesFrom : Until → Ring → ℕ → Ring → List Slot → ℕ → Type 0
+DecidesFrom until old place new slots place' =
+    (p q : Known) → ShownBy until.left p → ShownBy until.right q → Scan until.window p q (frontier_of old) place place
+    → DecidesUntil until.window p q new slots (frontier_of old) place'
 
--- how far a turn leads, where the left operand ends at time l and the right one at time r
-abbrev pub Leads : Interval → ℕ → ℕ → ℕ → ℕ → ℕ → Turn → Type 0
-Leads i t place seen l r (Look place' seen') = MovesOn place seen r place' seen' × (t + i.lo ≤ place') × (place + seen < place' + seen')
-Leads i t place seen l r (Decide upto value place' seen') = MovesOn place seen r place' seen' × (t ≤ upto) × (upto + 1 + i.lo ≤ place')
-Leads i t place seen l r Stop = (min l r ≤ place) × (seen ≤ t + i.hi)
+-- the reading moves on, up to the end of the right operand
+pub record MovesOn (at next : Reading) (end : ℕ) : Type 0 where
+  pub onward : at.place ≤ next.place
+  pub sees_on : at.seen ≤ next.seen
+  pub order : next.place ≤ next.seen
+  pub in_time : next.seen ≤ max at.seen end
 
--- the steps that a turn may take: two where it stops, else as many as the places move on, the second one counted twice
-abbrev pub reads_of : ℕ → ℕ → Turn → ℕ
-reads_of place seen (Look place' seen') = (place' - place) + 2 * (seen' - seen)
-reads_of place seen (Decide upto value place' seen') = (place' - place) + 2 * (seen' - seen)
-reads_of place seen Stop = 2
+-- how far a turn leads
+abbrev pub Leads : Until → ℕ → Reading → Turn → Type 0
+Leads until t at (Look next) = MovesOn at next (front_of until.right) × (t + until.window.lo ≤ next.place) × (at.place + at.seen < next.place + next.seen)
+Leads until t at (Decide upto value next) = MovesOn at next (front_of until.right) × (t ≤ upto) × (upto + 1 + until.window.lo ≤ next.place)
+Leads until t at Stop = (min (front_of until.left) (front_of until.right) ≤ at.place) × (at.seen ≤ t + until.window.hi)
+
+-- the steps that a turn may take: two where it stops, else as many as the reading moves on, what is seen counted twice
+abbrev pub reads_of : Reading → Turn → ℕ
+reads_of at (Look next) = (next.place - at.place) + 2 * (next.seen - at.seen)
+reads_of at (Decide upto value next) = (next.place - at.place) + 2 * (next.seen - at.seen)
+reads_of at Stop = 2
 
 -- what a turn finds out about the until at time t
 abbrev pub Finds : Interval → Known → Known → ℕ → ℕ → Turn → Type 0
-Finds i p q t place (Look place' seen') = Scan i p q t place' seen'
-Finds i p q t place (Decide upto value place' seen') = ((x : ℕ) → t ≤ x → x ≤ upto → k_until i p q x ≡ Some value) × Scan i p q (upto + 1) place' seen'
+Finds i p q t place (Look next) = Scan i p q t next.place next.seen
+Finds i p q t place (Decide upto value next) =
+    ((x : ℕ) → t ≤ x → x ≤ upto → k_until i p q x ≡ Some value) × Scan i p q (upto + 1) next.place next.seen
 Finds i p q t place Stop = (k_until i p q t ≡ None) × ((p place ≡ None) ⊎ (q place ≡ None))
+
+-- where it was scanned up to what is read, over what the operands show
+abbrev pub TurnFinds : Until → ℕ → Reading → Turn → Type 0
+TurnFinds until t at turn =
+    (p q : Known) → ShownBy until.left p → ShownBy until.right q → Scan until.window p q t at.place at.seen
+    → Finds until.window p q t at.place turn

@@ -1,7 +1,9 @@
+//! One row of a conjunction.
+
 ghost use Rattle.std.specs.Prelude.{◌≡◌, ℕ, ◌+◌, ◌-◌, ◌*◌, ◌^◌, ◌<◌, ◌≤◌, max, min};
 ghost use Rattle.mltl_base.specs.Verdicts.{Known, k_conjunction};
-ghost use Rattle.scq_ring.specs.Runs.{Belongs, frontier_of, low_of};
-ghost use Rattle.ft_ops.specs.Queues.{Decides, GoesOn, IsStoppedAfter, IsStretch, IsWithin, Shown};
+ghost use Rattle.scq_ring.specs.Runs.{Belongs, frontier_of};
+ghost use Rattle.ft_ops.specs.Queues.{Decides, GoesAsFar, GoesOn, IsReadable, IsStoppedAfter, IsStretch, IsWithin, ShownBy, front_of};
 
 use crate::operand::Operand;
 use scq_ring::steps::Steps;
@@ -17,18 +19,14 @@ pub fn and_row<L: Ledger>(
     steps: &mut Steps<L>,
 )
     requires belongs { Belongs own.old own_slots.old }
-    requires left_belongs { Belongs left.ring.now left.slots.now }
-    requires left_kept { low_of left.ring.now ≤ frontier_of own.old }
-    requires left_in_time { frontier_of left.ring.now ≤ 2 ^ 41 }
-    requires right_belongs { Belongs right.ring.now right.slots.now }
-    requires right_kept { low_of right.ring.now ≤ frontier_of own.old }
-    requires right_in_time { frontier_of right.ring.now ≤ 2 ^ 41 }
-    ensures belongs { Belongs own.new own_slots.new }
+    requires left { IsReadable left (frontier_of own.old) }
+    requires right { IsReadable right (frontier_of own.old) }
+    requires in_time { max (front_of left) (front_of right) ≤ 2 ^ 41 }
     ensures goes_on { GoesOn own.old own_slots.old own.new own_slots.new }
-    ensures enough { min (frontier_of left.entry.ring.now) (frontier_of right.entry.ring.now) ≤ frontier_of own.new }
-    ensures no_further { frontier_of own.new ≤ max (frontier_of own.old) (max (frontier_of left.entry.ring.now) (frontier_of right.entry.ring.now)) }
+    ensures as_far { GoesAsFar left.entry right.entry own.old own.new }
     ensures counted { steps.new ≤ steps.old + 3 * (frontier_of own.new - frontier_of own.old) + 2 }
-    ensures decided { (p q : Known) → Shown left.entry.ring.now left.entry.slots.now p → Shown right.entry.ring.now right.entry.slots.now q → Decides (k_conjunction p q) own.new own_slots.new (frontier_of own.old) }
+    ensures decided { (p q : Known) → ShownBy left.entry p → ShownBy right.entry q
+        → Decides (k_conjunction p q) own.new own_slots.new (frontier_of own.old) }
 {
     'turns: loop {
         match conjunction_from(own.frontier(), left, right, steps) {
@@ -45,14 +43,13 @@ fn conjunction_from<L: Ledger>(
     right: Operand,
     steps: &mut Steps<L>,
 ) -> Seen
-    requires left_belongs { Belongs left.ring.now left.slots.now }
-    requires left_kept { low_of left.ring.now ≤ from }
-    requires right_belongs { Belongs right.ring.now right.slots.now }
-    requires right_kept { low_of right.ring.now ≤ from }
+    requires left { IsReadable left from }
+    requires right { IsReadable right from }
     ensures counted { steps.new ≤ steps.old + 2 }
-    ensures within { IsWithin from (max (frontier_of left.entry.ring.now) (frontier_of right.entry.ring.now)) result }
-    ensures enough { IsStoppedAfter (min (frontier_of left.entry.ring.now) (frontier_of right.entry.ring.now)) from result }
-    ensures decided { (p q : Known) → Shown left.entry.ring.now left.entry.slots.now p → Shown right.entry.ring.now right.entry.slots.now q → IsStretch (k_conjunction p q) from result }
+    ensures within { IsWithin from (max (front_of left.entry) (front_of right.entry)) result }
+    ensures enough { IsStoppedAfter (min (front_of left.entry) (front_of right.entry)) from result }
+    ensures decided { (p q : Known) → ShownBy left.entry p → ShownBy right.entry q
+        → IsStretch (k_conjunction p q) from result }
 {
     match left.ring.read(left.slots, from, steps) {
         Seen::Nothing => match right.ring.read(right.slots, from, steps) {

@@ -12,4 +12,4 @@ mod until;
 pub use conjunction::and_row;
 pub use negation::not_row;
 pub use operand::Operand;
-pub use until::until_row;
+pub use until::{Until, until_row};

@@ -1,7 +1,9 @@
+//! One row of a negation.
+
 ghost use Rattle.std.specs.Prelude.{◌≡◌, ℕ, ◌+◌, ◌-◌, ◌*◌, ◌^◌, ◌<◌, ◌≤◌, max};
 ghost use Rattle.mltl_base.specs.Verdicts.{Known, k_negation};
-ghost use Rattle.scq_ring.specs.Runs.{Belongs, frontier_of, low_of};
-ghost use Rattle.ft_ops.specs.Queues.{Decides, GoesOn, Shown};
+ghost use Rattle.scq_ring.specs.Runs.{Belongs, frontier_of};
+ghost use Rattle.ft_ops.specs.Queues.{Decides, GoesOn, IsReadable, ShownBy, front_of};
 
 use crate::operand::Operand;
 use scq_ring::steps::Steps;
@@ -16,14 +18,13 @@ pub fn not_row<L: Ledger>(
     steps: &mut Steps<L>,
 )
     requires belongs { Belongs own.old own_slots.old }
-    requires operand_belongs { Belongs operand.ring.now operand.slots.now }
-    requires operand_kept { low_of operand.ring.now ≤ frontier_of own.old }
-    requires in_time { frontier_of operand.ring.now ≤ 2 ^ 41 }
-    ensures belongs { Belongs own.new own_slots.new }
+    requires operand { IsReadable operand (frontier_of own.old) }
+    requires in_time { front_of operand ≤ 2 ^ 41 }
     ensures goes_on { GoesOn own.old own_slots.old own.new own_slots.new }
-    ensures frontier { frontier_of own.new ≡ max (frontier_of own.old) (frontier_of operand.entry.ring.now) }
+    ensures frontier { frontier_of own.new ≡ max (frontier_of own.old) (front_of operand.entry) }
     ensures counted { steps.new ≤ steps.old + 2 * (frontier_of own.new - frontier_of own.old) + 1 }
-    ensures decided { (p : Known) → Shown operand.entry.ring.now operand.entry.slots.now p → Decides (k_negation p) own.new own_slots.new (frontier_of own.old) }
+    ensures decided { (p : Known) → ShownBy operand.entry p
+        → Decides (k_negation p) own.new own_slots.new (frontier_of own.old) }
 {
     'turns: loop {
         match operand.ring.read(operand.slots, own.frontier(), steps) {

@@ -1,3 +1,5 @@
+//! The operand of an operator.
+
 use scq_ring::{Ring, Slot};
 
 /// The queue of an operand: a ring and the slots that belong to it.

@@ -1,8 +1,9 @@
-ghost use Rattle.std.specs.Prelude.{◌≡◌, ℕ, ◌+◌, ◌-◌, ◌*◌, ◌^◌, ◌<◌, ◌≤◌, max, min};
-ghost use Rattle.mltl_base.specs.Verdicts.{Known};
-ghost use Rattle.scq_ring.specs.Runs.{Belongs, frontier_of, low_of};
-ghost use Rattle.ft_ops.specs.Queues.{GoesOn, Shown};
-ghost use Rattle.ft_ops.specs.Scans.{DecidesUntil, Finds, Leads, Scan, reads_of};
+//! One row of an until.
+
+ghost use Rattle.std.specs.Prelude.{◌≡◌, ℕ, ◌+◌, ◌^◌, ◌<◌, ◌≤◌};
+ghost use Rattle.scq_ring.specs.Runs.{Belongs, frontier_of};
+ghost use Rattle.ft_ops.specs.Queues.{GoesOn, front_of};
+ghost use Rattle.ft_ops.specs.Scans.{CanScan, DecidesFrom, HasEnough, IsNextPlace, IsReadingOf, Leads, TurnFinds, reads_of, row_steps};
 
 use crate::operand::Operand;
 use mltl_base::Interval;
@@ -10,14 +11,29 @@ use scq_ring::steps::Steps;
 use scq_ring::{Ring, Seen, Slot};
 use std::sync::ledger::Ledger;
 
-/// What comes next of an until. Each has last the two places from which it goes on: where it reads its operands, and
-/// up to where the right one is seen to be false.
+/// The operands of an until, and its window.
+#[derive(Clone, Copy, Debug)]
+pub struct Until<'a> {
+    pub left: Operand<'a>,
+    pub right: Operand<'a>,
+    pub window: Interval,
+}
+
+/// Where an until reads on: its place, before which the left operand is true, and a time before which the right one is
+/// seen to be false. The second goes ahead of the first within a row.
+#[derive(Clone, Copy)]
+struct Reading {
+    place: u64,
+    seen: u64,
+}
+
+/// What comes next of an until, and where it reads on then.
 #[derive(Clone, Copy)]
 enum Turn {
     /// Nothing is decided yet.
-    Look(u64, u64),
-    /// All times up to the first number have this value.
-    Decide(u64, bool, u64, u64),
+    Look(Reading),
+    /// All times up to the number have this value.
+    Decide(u64, bool, Reading),
     /// No more is known.
     Stop,
 }
@@ -25,113 +41,127 @@ enum Turn {
 /// Decides an until of the operands from the own frontier on, as far as it is known, and answers its place.
 ///
 /// The place is where it reads its operands next. From the lower end of its window up to there the left operand is
-/// true and the right one false, so what stands before the place is not read again. Within the call a second place
-/// goes ahead of it, up to which the right operand is seen to be false.
+/// true and the right one false, so what stands before the place is not read again.
 pub fn until_row<L: Ledger>(
     own: &mut Ring,
     own_slots: &mut [Slot],
     place: u64,
-    left: Operand,
-    right: Operand,
-    window: Interval,
+    until: Until,
     steps: &mut Steps<L>,
 ) -> u64
     requires belongs { Belongs own.old own_slots.old }
-    requires left_belongs { Belongs left.ring.now left.slots.now }
-    requires left_kept { low_of left.ring.now ≤ place }
-    requires right_belongs { Belongs right.ring.now right.slots.now }
-    requires right_kept { low_of right.ring.now ≤ place }
-    requires right_in_time { frontier_of right.ring.now ≤ 2 ^ 41 }
-    requires ordered { window.lo ≤ window.hi }
-    requires reach { frontier_of own.old + window.lo ≤ place }
-    requires in_time { place ≤ 2 ^ 41 }
-    ensures belongs { Belongs own.new own_slots.new }
+    requires can_scan { CanScan until (frontier_of own.old) place }
     ensures goes_on { GoesOn own.old own_slots.old own.new own_slots.new }
-    ensures enough { min (frontier_of left.entry.ring.now) (frontier_of right.entry.ring.now) ≤ frontier_of own.new + window.hi }
-    ensures counted { steps.new ≤ steps.old + 3 * (max place (frontier_of right.entry.ring.now) - place) + (frontier_of own.new - frontier_of own.old) + 2 }
-
-    // Where it reads next.
-    ensures reach { frontier_of own.new + window.lo ≤ result }
-    ensures onward { place ≤ result }
-    ensures ahead { min (frontier_of left.entry.ring.now) (frontier_of right.entry.ring.now) ≤ result }
-    ensures place_in_time { result ≤ max place (frontier_of right.entry.ring.now) }
-
-    ensures decided { (p q : Known) → Shown left.entry.ring.now left.entry.slots.now p → Shown right.entry.ring.now right.entry.slots.now q → Scan window p q (frontier_of own.old) place place → DecidesUntil window p q own.new own_slots.new (frontier_of own.old) result }
+    ensures enough { HasEnough until.entry (frontier_of own.new) }
+    ensures counted { steps.new ≤ steps.old + row_steps until.entry place own.old own.new }
+    ensures place { IsNextPlace until.entry (frontier_of own.new) place result }
+    ensures decided { DecidesFrom until.entry own.old place own.new own_slots.new result }
 {
-    let mut place = place;
-    let mut seen = place;
+    let mut at = Reading { place, seen: place };
     'turns: loop {
-        match next_turn(own.frontier(), place, seen, left, right, window, steps) {
-            Turn::Stop => return place,
-            Turn::Look(next_place, next_seen) => {
-                place = next_place;
-                seen = next_seen;
-            }
-            Turn::Decide(upto, value, next_place, next_seen) => {
+        match next_turn(own.frontier(), at, until, steps) {
+            Turn::Stop => return at.place,
+            Turn::Look(next) => at = next,
+            Turn::Decide(upto, value, next) => {
                 own.write(own_slots, upto, value, steps);
-                place = next_place;
-                seen = next_seen;
+                at = next;
             }
         }
     }
 }
 
-/// What comes next where time `from` isn't decided: up to `place` the left operand is true, and up to `seen` the right one false.
-fn next_turn<L: Ledger>(
-    from: u64,
-    place: u64,
-    seen: u64,
-    left: Operand,
-    right: Operand,
-    window: Interval,
-    steps: &mut Steps<L>,
-) -> Turn
-    requires left_belongs { Belongs left.ring.now left.slots.now }
-    requires left_kept { low_of left.ring.now ≤ place }
-    requires right_belongs { Belongs right.ring.now right.slots.now }
-    requires right_kept { low_of right.ring.now ≤ place }
-    requires right_in_time { frontier_of right.ring.now ≤ 2 ^ 41 }
-    requires ordered { window.lo ≤ window.hi }
-    requires reach { from + window.lo ≤ place }
-    requires order { place ≤ seen }
-    requires in_time { seen ≤ 2 ^ 41 }
-    ensures leads { Leads window from place seen (frontier_of left.entry.ring.now) (frontier_of right.entry.ring.now) result }
-    ensures counted { steps.new ≤ steps.old + reads_of place seen result }
-    ensures finds { (p q : Known) → Shown left.entry.ring.now left.entry.slots.now p → Shown right.entry.ring.now right.entry.slots.now q → Scan window p q from place seen → Finds window p q from place result }
+/// What comes next where time `from` isn't decided.
+fn next_turn<L: Ledger>(from: u64, at: Reading, until: Until, steps: &mut Steps<L>) -> Turn
+    requires can_scan { CanScan until from at.place }
+    requires reading { IsReadingOf until at }
+    ensures leads { Leads until.entry from at result }
+    ensures counted { steps.new ≤ steps.old + reads_of at result }
+    ensures finds { TurnFinds until.entry from at result }
 {
-    let lo = u64::from(window.lo);
-    let hi = u64::from(window.hi);
-    if from + hi < seen {
+    let lo = u64::from(until.window.lo);
+    let hi = u64::from(until.window.hi);
+    if from + hi < at.seen {
         // The right operand is false all over the window of each time up to here.
-        return Turn::Decide(seen - 1 - hi, false, place.max(seen - (hi - lo)), seen);
+        let place = at.place.max(at.seen - (hi - lo));
+        return Turn::Decide(at.seen - 1 - hi, false, Reading { place, ..at });
     }
-    if place == seen {
-        return match right.ring.read(right.slots, place, steps) {
-            Seen::Nothing => Turn::Stop,
-            Seen::Run(end, value) => if value {
-                Turn::Decide(end - lo, true, end + 1, end + 1)
-            } else {
-                Turn::Look(place, end + 1)
-            }
-        };
+    if at.place == at.seen {
+        read_right(from, at, until, steps)
+    } else {
+        read_left(from, at, until, steps)
     }
-    match left.ring.read(left.slots, place, steps) {
+}
+
+/// What the right operand brings, where the left one is true up to where it was seen.
+fn read_right<L: Ledger>(from: u64, at: Reading, until: Until, steps: &mut Steps<L>) -> Turn
+    requires can_scan { CanScan until from at.place }
+    requires reading { IsReadingOf until at }
+    requires within { at.seen ≤ from + until.window.hi }
+    requires level { at.place ≡ at.seen }
+    ensures leads { Leads until.entry from at result }
+    ensures counted { steps.new ≤ steps.old + reads_of at result }
+    ensures finds { TurnFinds until.entry from at result }
+{
+    match until.right.ring.read(until.right.slots, at.place, steps) {
+        Seen::Nothing => Turn::Stop,
         Seen::Run(end, value) => {
-            let last = end.min(seen - 1);
+            let seen = end + 1;
             if value {
-                Turn::Look(last + 1, seen)
+                let lo = u64::from(until.window.lo);
+                Turn::Decide(end - lo, true, Reading { place: seen, seen })
             } else {
-                Turn::Decide(last - lo, false, last + 1, seen)
+                Turn::Look(Reading { seen, ..at })
             }
         }
-        // Past the left operand's end the right one may still be false to the end of the window.
-        Seen::Nothing => match right.ring.read(right.slots, seen, steps) {
-            Seen::Nothing => Turn::Stop,
-            Seen::Run(end, value) => if value {
-                Turn::Stop
+    }
+}
+
+/// What the left operand brings, where the right one is seen to be false ahead of the place.
+fn read_left<L: Ledger>(from: u64, at: Reading, until: Until, steps: &mut Steps<L>) -> Turn
+    requires can_scan { CanScan until from at.place }
+    requires reading { IsReadingOf until at }
+    requires within { at.seen ≤ from + until.window.hi }
+    requires behind { at.place < at.seen }
+    ensures leads { Leads until.entry from at result }
+    ensures counted { steps.new ≤ steps.old + reads_of at result }
+    ensures finds { TurnFinds until.entry from at result }
+{
+    match until.left.ring.read(until.left.slots, at.place, steps) {
+        Seen::Nothing => read_ahead(from, at, until, steps),
+        Seen::Run(end, value) => {
+            let last = end.min(at.seen - 1);
+            let next = Reading {
+                place: last + 1,
+                ..at
+            };
+            if value {
+                Turn::Look(next)
             } else {
-                Turn::Look(place, end + 1)
+                let lo = u64::from(until.window.lo);
+                Turn::Decide(last - lo, false, next)
             }
-        },
+        }
+    }
+}
+
+/// What the right operand brings past the left one's end: it may still be false to the end of the window.
+fn read_ahead<L: Ledger>(from: u64, at: Reading, until: Until, steps: &mut Steps<L>) -> Turn
+    requires can_scan { CanScan until from at.place }
+    requires reading { IsReadingOf until at }
+    requires within { at.seen ≤ from + until.window.hi }
+    requires behind { at.place < at.seen }
+    requires ended { front_of until.left ≤ at.place }
+    ensures leads { Leads until.entry from at result }
+    ensures counted { steps.new + 1 ≤ steps.old + reads_of at result }
+    ensures finds { TurnFinds until.entry from at result }
+{
+    match until.right.ring.read(until.right.slots, at.seen, steps) {
+        Seen::Nothing => Turn::Stop,
+        Seen::Run(end, value) => if value {
+            Turn::Stop
+        } else {
+            let seen = end + 1;
+            Turn::Look(Reading { seen, ..at })
+        }
     }
 }

@@ -1,3 +1,5 @@
+//! One row of all future-time instructions.
+
 ghost use Rattle.std.specs.Prelude.{◌≡◌, ℕ, Bool, ◌+◌, ◌-◌, ◌*◌, ◌^◌, ◌<◌, ◌≤◌, length};
 ghost use Rattle.mltl_base.specs.declared.operators.FtOp.TheVariants.{Load as loads};
 ghost use Rattle.scq_ring.specs.Runs.{Belongs};
@@ -6,7 +8,7 @@ ghost use Rattle.ft_slab.specs.Tables.{AgreeOnLoads, HasVerdicts, HaveVerdicts, 
 ghost use Rattle.ft_slab.specs.Plans.{IsPaced, IsPlaced, IsReady, Paced, Plan};
 
 use crate::truths::Truths;
-use ft_ops::{Operand, and_row, not_row, until_row};
+use ft_ops::{Operand, Until, and_row, not_row, until_row};
 use mltl_base::FtOp;
 use scq_ring::steps::Steps;
 use scq_ring::{Ring, Slot};
@@ -73,15 +75,12 @@ fn step<T: Truths, L: Ledger>(
             steps,
         ),
         FtOp::Until(l, r, window) => {
-            node.place = until_row(
-                &mut node.ring,
-                own,
-                node.place,
-                operand(before, low, l),
-                operand(before, low, r),
+            let until = Until {
+                left: operand(before, low, l),
+                right: operand(before, low, r),
                 window,
-                steps,
-            );
+            };
+            node.place = until_row(&mut node.ring, own, node.place, until, steps);
         }
     }
 }

@@ -9,11 +9,10 @@ turns-preserved g c =
     let e = c.write.ensures in
     let onward = c.turns.invariant.goes_on.onward in
     let w : Written c.turns.own c.turns.own_slots c.in-Run.end c.in-Run.value c.write.new.self c.write.new.slots =
-    record { frontier = e.frontier; rises = e.rises; bounded = e.bounded; kept = e.kept; written = e.written } in
+    record { belongs = e.belongs; frontier = e.frontier; rises = e.rises; bounded = e.bounded; kept = e.kept; written = e.written } in
     let from : c.frontier.result ≡ frontier_of c.turns.own = c.frontier.ensures.frontier in
     let ahead : frontier_of c.turns.own ≤ c.in-Run.end = omega (arith, c.in-Run.ensures.within.0) in
     record {
-      belongs = e.belongs;
       goes_on = goes_further c.args.own.now c.args.own_slots.now c.turns.own c.turns.own_slots c.in-Run.end c.in-Run.value c.write.new.self c.write.new.slots c.turns.invariant.goes_on w ahead c.turns.auto.own_slots;
       within = omega (arith, c.in-Run.ensures.within.1, e.frontier);
       counted = omega (arith, e.frontier, e.step, c.in-Run.ensures.counted, c.turns.invariant.counted);

@@ -1,13 +1,12 @@
 use Rattle.std.proofs.Common.{◌+◌, ◌-◌, ◌*◌, ◌≤◌, max}
 use Rattle.mltl_base.specs.Verdicts.{Known, k_conjunction}
-use Rattle.scq_ring.specs.Runs.{Belongs, frontier_of}
+use Rattle.scq_ring.specs.Runs.{frontier_of}
 use Rattle.ft_ops.specs.Queues.{Shown, GoesOn}
 use Rattle.ft_ops.proofs.Going.{Told}
 use Rattle.ft_ops.proofs.conjunction.and_row.Given as goal
 
 abbrev pub invariant-turns : goal.invariant-turns
 invariant-turns g l = record {
-  belongs : Belongs l.own l.own_slots;
   goes_on : GoesOn l.initial.own l.initial.own_slots l.own l.own_slots;
   within : frontier_of l.own ≤ max (frontier_of l.initial.own) (max (frontier_of l.left.ring.now) (frontier_of l.right.ring.now));
   counted : l.steps + 3 * frontier_of l.initial.own ≤ l.initial.steps + 3 * frontier_of l.own;

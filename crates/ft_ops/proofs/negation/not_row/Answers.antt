@@ -11,11 +11,10 @@ turns-preserved g c =
     let e = c.write.ensures in
     let onward = c.turns.invariant.goes_on.onward in
     let w : Written c.turns.own c.turns.own_slots c.in-Run.end (not c.in-Run.value) c.write.new.self c.write.new.slots =
-    record { frontier = e.frontier; rises = e.rises; bounded = e.bounded; kept = e.kept; written = e.written } in
+    record { belongs = e.belongs; frontier = e.frontier; rises = e.rises; bounded = e.bounded; kept = e.kept; written = e.written } in
     let from : c.frontier.result ≡ frontier_of c.turns.own = c.frontier.ensures.frontier in
     let ahead : frontier_of c.turns.own ≤ c.in-Run.end = omega (arith, c.in-Run.ensures.seen.0) in
     record {
-      belongs = e.belongs;
       goes_on = goes_further c.args.own.now c.args.own_slots.now c.turns.own c.turns.own_slots c.in-Run.end (not c.in-Run.value) c.write.new.self c.write.new.slots c.turns.invariant.goes_on w ahead c.turns.auto.own_slots;
       within = omega (arith, c.in-Run.ensures.seen.1, e.frontier);
       counted = omega (arith, e.frontier, e.step, c.read.ensures.step, c.turns.invariant.counted);

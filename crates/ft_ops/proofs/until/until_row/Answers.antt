@@ -12,7 +12,6 @@ turns-preserved-in-Look g c =
     let moves = c.in-Look.ensures.leads.0 in
     let from : c.frontier.result ≡ frontier_of c.turns.own = c.frontier.ensures.frontier in
     record {
-      belongs = i.belongs;
       goes_on = i.goes_on;
       reach = omega (arith, c.in-Look.ensures.leads.1);
       onward = omega (arith, moves.onward);
@@ -21,8 +20,8 @@ turns-preserved-in-Look g c =
       counted = omega (arith, moves.onward, moves.sees_on, c.in-Look.ensures.counted);
       told = λ p q left right start. (
         (i.told p q left right start).0,
-        subst (λ (t : ℕ). Scan c.args.window p q t c.in-Look.next_place c.in-Look.next_seen) from
-            (c.in-Look.ensures.finds p q left right (subst (λ (t : ℕ). Scan c.args.window p q t c.turns.place c.turns.seen) (sym from) (i.told p q left right start).1)),
+        subst (λ (t : ℕ). Scan c.args.until.window p q t c.in-Look.next.place c.in-Look.next.seen) from
+            (c.in-Look.ensures.finds p q left right (subst (λ (t : ℕ). Scan c.args.until.window p q t c.turns.at.place c.turns.at.seen) (sym from) (i.told p q left right start).1)),
       );
     }
 
@@ -36,10 +35,9 @@ turns-preserved g c =
     let from : c.frontier.result ≡ frontier_of c.turns.own = c.frontier.ensures.frontier in
     let onward = i.goes_on.onward in
     let w : Written c.turns.own c.turns.own_slots c.in-Decide.upto c.in-Decide.value c.write.new.self c.write.new.slots =
-    record { frontier = e.frontier; rises = e.rises; bounded = e.bounded; kept = e.kept; written = e.written } in
+    record { belongs = e.belongs; frontier = e.frontier; rises = e.rises; bounded = e.bounded; kept = e.kept; written = e.written } in
     let ahead : frontier_of c.turns.own ≤ c.in-Decide.upto = omega arith in
     record {
-      belongs = e.belongs;
       goes_on = goes_further c.args.own.now c.args.own_slots.now c.turns.own c.turns.own_slots c.in-Decide.upto c.in-Decide.value c.write.new.self c.write.new.slots i.goes_on w ahead c.turns.auto.own_slots;
       reach = omega (arith, e.frontier);
       onward = omega (arith, moves.onward);
@@ -47,10 +45,10 @@ turns-preserved g c =
       in_time = omega (arith, moves.in_time);
       counted = omega (arith, moves.onward, moves.sees_on, c.in-Decide.ensures.counted, e.step, e.frontier);
       told = λ p q left right start.
-          let found = c.in-Decide.ensures.finds p q left right (subst (λ (t : ℕ). Scan c.args.window p q t c.turns.place c.turns.seen) (sym from) (i.told p q left right start).1) in (
-            tells_more (k_until c.args.window p q) (frontier_of c.args.own.now) c.turns.own c.turns.own_slots c.in-Decide.upto c.in-Decide.value c.write.new.self c.write.new.slots (i.told p q left right start).0 w
+          let found = c.in-Decide.ensures.finds p q left right (subst (λ (t : ℕ). Scan c.args.until.window p q t c.turns.at.place c.turns.at.seen) (sym from) (i.told p q left right start).1) in (
+            tells_more (k_until c.args.until.window p q) (frontier_of c.args.own.now) c.turns.own c.turns.own_slots c.in-Decide.upto c.in-Decide.value c.write.new.self c.write.new.slots (i.told p q left right start).0 w
                 (λ t t_from t_to. found.0 t (omega arith) t_to),
-            subst (λ (t : ℕ). Scan c.args.window p q t c.in-Decide.next_place c.in-Decide.next_seen) (sym e.frontier) found.1,
+            subst (λ (t : ℕ). Scan c.args.until.window p q t c.in-Decide.next.place c.in-Decide.next.seen) (sym e.frontier) found.1,
           );
     }
 
@@ -59,9 +57,9 @@ returns-in-Stop-clause-decided g c =
     λ p q left right start.
     let from : c.frontier.result ≡ frontier_of c.turns.own = c.frontier.ensures.frontier in
     let known = c.turns.invariant.told p q left right start in
-    let found = c.in-Stop.ensures.finds p q left right (subst (λ (t : ℕ). Scan c.args.window p q t c.turns.place c.turns.seen) (sym from) known.1) in
+    let found = c.in-Stop.ensures.finds p q left right (subst (λ (t : ℕ). Scan c.args.until.window p q t c.turns.at.place c.turns.at.seen) (sym from) known.1) in
     record {
-      decides = record { known = known.0.known; verdicts = known.0.verdicts; stuck = subst (λ (t : ℕ). k_until c.args.window p q t ≡ None) from found.0 };
-      scanned = nearer_scan c.args.window p q (frontier_of c.turns.own) c.turns.place c.turns.seen known.1;
+      decides = record { known = known.0.known; verdicts = known.0.verdicts; stuck = subst (λ (t : ℕ). k_until c.args.until.window p q t ≡ None) from found.0 };
+      scanned = nearer_scan c.args.until.window p q (frontier_of c.turns.own) c.turns.at.place c.turns.at.seen known.1;
       reached = found.1;
     }

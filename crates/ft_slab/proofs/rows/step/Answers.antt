@@ -39,7 +39,7 @@ returns-in-And-clause-verdicts g c = λ plan truth n old new told loads.
     let right_front : frontier_of c.operand-in-And-2.result.ring.now ≡ frontier_of (node_at c.args.before.now c.in-And.r).ring = ap (λ (r : Ring). frontier_of r) c.operand-in-And-2.ensures.ring in
     settled c.args.node.now.ring c.args.own.now (old (length c.args.before.now)) c.and_row.new.own c.and_row.new.own_slots (new (length c.args.before.now)) (value_of op truth (n + 1) new) (n + 1)
     t.longest (t.extends.each (length c.args.before.now)) t.verdicts c.and_row.ensures.goes_on (c.and_row.ensures.decided (slice_get (new c.in-And.l)) (slice_get (new c.in-And.r)) left right)
-    (omega (arith, left_front, right_front, (t.ready.operands.each c.in-And.l seat.0).at_most, (t.ready.operands.each c.in-And.r seat.1).at_most, t.ready.paced.at_most, c.and_row.ensures.no_further))
+    (omega (arith, left_front, right_front, (t.ready.operands.each c.in-And.l seat.0).at_most, (t.ready.operands.each c.in-And.r seat.1).at_most, t.ready.paced.at_most, c.and_row.ensures.as_far.no_further))
 
 pub returns-in-Until-clause-verdicts : goal.returns-in-Until-clause-verdicts
 returns-in-Until-clause-verdicts g c = λ plan truth n old new told loads.
@@ -58,7 +58,7 @@ returns-in-Until-clause-verdicts g c = λ plan truth n old new told loads.
     let right_front : frontier_of c.operand-in-Until-2.result.ring.now ≡ frontier_of (node_at c.args.before.now c.in-Until.r).ring = ap (λ (r : Ring). frontier_of r) c.operand-in-Until-2.ensures.ring in
     settled c.args.node.now.ring c.args.own.now (old (length c.args.before.now)) c.until_row-node.new.own c.until_row-node.new.own_slots (new (length c.args.before.now)) (value_of op truth (n + 1) new) (n + 1)
     t.longest (t.extends.each (length c.args.before.now)) t.verdicts c.until_row-node.ensures.goes_on decided.decides
-    (omega (arith, right_front, (t.ready.operands.each c.in-Until.r seat.1).at_most, t.ready.placed.2, c.until_row-node.ensures.reach, c.until_row-node.ensures.place_in_time))
+    (omega (arith, right_front, (t.ready.operands.each c.in-Until.r seat.1).at_most, t.ready.placed.2, c.until_row-node.ensures.place.reach, c.until_row-node.ensures.place.in_time))
 
 pub returns-in-Until-clause-scanned : goal.returns-in-Until-clause-scanned
 returns-in-Until-clause-scanned g c = λ plan truth n old new told loads.
