@@ -1,3 +1,5 @@
+//! The future-time engine of a checked program.
+
 ghost use Rattle.ft_slab.specs.State.{AreSound};
 ghost use Rattle.ft_engine.specs.Sound.{AreSound-prop};
 
@@ -36,8 +38,11 @@ impl Ft {
     /// Takes the row that the Booleanizer took last. It takes no memory.
     pub fn row<L: Ledger>(&mut self, checked: &Checked, bz: &Bz, steps: &mut Steps<L>)
         requires given { (row : Row) × (bz.now ≡ numbers_on row checked.now.bz) }
-        requires stands { (rows : List Row) × Stands checked.now rows self.old × (length rows < 2 ^ 40) }
-        ensures stands { (rows : List Row) (row : Row) → length rows < 2 ^ 40 → bz.now ≡ numbers_on row checked.now.bz → Stands checked.now rows self.old → Stands checked.now (rows ++ row ∷ []) self.new }
+        requires stands { (rows : List Row) × Stands checked.now rows self.old
+            × (length rows < 2 ^ 40) }
+        ensures stands { (rows : List Row) (row : Row) → length rows < 2 ^ 40
+            → bz.now ≡ numbers_on row checked.now.bz → Stands checked.now rows self.old
+            → Stands checked.now (rows ++ row ∷ []) self.new }
         ensures counted { steps.new ≤ steps.old + row_work checked.now }
     {
         let program = checked.program();

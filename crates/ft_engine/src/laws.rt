@@ -18,14 +18,20 @@ ghost use Rattle.ft_engine.specs.KnownTable.{known_table, truth_at};
 /// The known verdicts of the formulas of a program's instructions are what queues of these instructions are to show.
 #[tactic(auto, using(crate::proofs::Tabled::extends, crate::proofs::Tabled::nothing, crate::proofs::Tabled::truth_of_last))]
 pub fn known_verdicts_are_a_table()
-    ensures table { (plan : Plan) (rows : List Row) (loaded : List Atom) (ops : List FtOp) → ((i : ℕ) → i < length ops → IsPlanned plan i (op_at ops i))
+    ensures table { (plan : Plan) (rows : List Row) (loaded : List Atom) (ops : List FtOp)
+        → ((i : ℕ) → i < length ops → IsPlanned plan i (op_at ops i))
         → IsTable ops (truth_at rows loaded) (length rows) (known_table rows loaded ops) }
-    ensures stay { (rows more : List Row) (loaded : List Atom) (ops : List FtOp) → Extends (known_table rows loaded ops) (known_table (rows ++ more) loaded ops) }
-    ensures first { (loaded : List Atom) (ops : List FtOp) (i : ℕ) → known_table [] loaded ops i ≡ [] }
-    ensures last { (rows : List Row) (row : Row) (loaded : List Atom) (k : ℕ) → truth_at (rows ++ row ∷ []) loaded (length rows) k ≡ holds (slice_index_or loaded k (is_true 0)) row }
+    ensures stay { (rows more : List Row) (loaded : List Atom) (ops : List FtOp)
+        → Extends (known_table rows loaded ops) (known_table (rows ++ more) loaded ops) }
+    ensures first { (loaded : List Atom) (ops : List FtOp) (i : ℕ)
+        → known_table [] loaded ops i ≡ [] }
+    ensures last { (rows : List Row) (row : Row) (loaded : List Atom) (k : ℕ)
+        → truth_at (rows ++ row ∷ []) loaded (length rows) k ≡ holds (slice_index_or loaded k (is_true 0)) row }
 {}
 
 /// The delays of a program are a plan of queues of the program's sizes.
 pub fn delays_are_a_plan()
-    ensures plan { (ops : List FtOp) (outs : List Out) → AreInOrder ops → All (HasBounds MAX_BOUND) ops → IsPlannedFor (plan_of ops outs) ops (slice_index (queue_lengths ops outs)) }
+    ensures plan { (ops : List FtOp) (outs : List Out) → AreInOrder ops
+        → All (HasBounds MAX_BOUND) ops
+        → IsPlannedFor (plan_of ops outs) ops (slice_index (queue_lengths ops outs)) }
 {}

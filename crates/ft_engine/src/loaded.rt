@@ -1,3 +1,5 @@
+//! The truths of a row, as the queues load them.
+
 ghost use Rattle.std.specs.Prelude.{◌≡◌, ◌<◌, List, Some, length, slice_get};
 ghost use Rattle.mltl_base.specs.declared.operators.BzOp.{BzOp};
 ghost use Rattle.mltl_base.specs.Atoms.{Row, Atom, holds};

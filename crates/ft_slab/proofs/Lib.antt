@@ -1,5 +1,6 @@
 pub mod Making
 pub mod Pieces
+pub mod Seats
 pub mod StateLaws
 pub mod Turning
 pub mod Telling

@@ -1,7 +1,5 @@
 -- Queues that are new.
-use Rattle.std.proofs.Common.{◌≡◌, ℕ, ◌+◌, ◌<◌, ◌≤◌, Bool, List, [], ◌∷◌, ◌++◌, inl, inr, subst, length, get_or, drop, arith, ap, sym, ◌∙◌, length-drop, length-take-le}
-use Rattle.std.proofs.lemmas.Bool.{cases_eq}
-use Rattle.std.proofs.lemmas.List.{get_or_append_left, get_or_push}
+use Rattle.std.proofs.Common.{◌≡◌, ℕ, ◌+◌, ◌<◌, ◌≤◌, Bool, List, [], ◌∷◌, ◌++◌, subst, length, get_or, drop, arith, ap, sym, ◌∙◌, length-drop, length-take-le}
 use Rattle.mltl_base.specs.declared.operators.FtOp.{FtOp}
 use Rattle.mltl_base.specs.declared.operators.FtOp.TheVariants.{True, Load, Not, And, Until}
 use Rattle.scq_ring.specs.declared.Slot.{Slot}
@@ -9,8 +7,10 @@ use Rattle.scq_ring.specs.Runs.{Belongs, frontier_of, low_of}
 use Rattle.ft_slab.specs.declared.rows.Node.{Node}
 use Rattle.ft_slab.specs.Nodes.{no_node, front_in, reads_from, ReadsAhead, node_at, op_at, part}
 use Rattle.ft_slab.specs.Plans.{Plan, IsPaced, IsPlaced, IsSeated}
+use Rattle.ft_slab.specs.Seats.{AreSeated}
 use Rattle.ft_slab.specs.State.{IsPlannedFor, first_place_of}
 use Rattle.ft_slab.specs.Tables.{HaveVerdicts, IsScanned, Table}
+use Rattle.ft_slab.proofs.Seats.{each_more, seated_more}
 
 -- a node without verdicts
 pub record IsFresh (op : FtOp) (slots : ℕ) (node : Node) : Type 0 where
@@ -94,38 +94,13 @@ module _ (ops : List FtOp) (sizes : List ℕ) (nodes : List Node) (slab : List S
 -- the first i nodes, whose parts end at `start`
 pub record Started (ops : List FtOp) (sizes : List ℕ) (nodes : List Node) (start i : ℕ) : Type 0 where
   pub fresh : (j : ℕ) → j < i → IsFresh (op_at ops j) (get_or sizes j 0) (node_at nodes j)
-  pub within : (j : ℕ) → j < i → (node_at nodes j).start + (node_at nodes j).size ≤ start
-  pub apart : (j k : ℕ) → j < k → k < i → (node_at nodes j).start + (node_at nodes j).size ≤ (node_at nodes k).start
+  pub seated : AreSeated no_node (λ node. node.start) (λ node. node.size) nodes start i
 
-module _ (ops : List FtOp) (sizes : List ℕ) (nodes : List Node) (start i : ℕ) (new : Node) (count : length nodes ≡ i) where
-  earlier : (j : ℕ) → j < i → node_at (nodes ++ new ∷ []) j ≡ node_at nodes j
-  earlier j h = get_or_append_left nodes (new ∷ []) no_node j (omega arith)
-
-  latest : node_at (nodes ++ new ∷ []) i ≡ new
-  latest = get_or_push nodes new no_node i count
-
-  -- one more node, whose part begins where those before end
-  pub started_more : Started ops sizes nodes start i → IsFresh (op_at ops i) (get_or sizes i 0) new → new.start ≡ start → Started ops sizes (nodes ++ new ∷ []) (start + get_or sizes i 0) (i + 1)
-  started_more s fresh begins = record {
-    fresh = λ j h. elim (cases_eq j i) [
-      | inl same ↦ subst (λ (k : ℕ). IsFresh (op_at ops k) (get_or sizes k 0) (node_at (nodes ++ new ∷ []) k)) (sym same) (subst (λ (m : Node). IsFresh (op_at ops i) (get_or sizes i 0) m) (sym latest) fresh)
-      | inr other ↦ subst (λ (m : Node). IsFresh (op_at ops j) (get_or sizes j 0) m) (sym (earlier j (omega arith))) (s.fresh j (omega arith))
-    ];
-    within = λ j h. elim (cases_eq j i) [
-      | inl same ↦
-          let P : Node → Type 0 = λ m. m.start + m.size ≤ start + get_or sizes i 0 in
-          subst (λ (k : ℕ). P (node_at (nodes ++ new ∷ []) k)) (sym same) (subst P (sym latest) (omega (arith, begins, fresh.size)))
-      | inr other ↦
-          let P : Node → Type 0 = λ m. m.start + m.size ≤ start + get_or sizes i 0 in
-          subst P (sym (earlier j (omega arith))) (omega (arith, s.within j (omega arith)))
-    ];
-    apart = λ j k jk h. elim (cases_eq k i) [
-      | inl same ↦
-          let P : Node → Node → Type 0 = λ m q. m.start + m.size ≤ q.start in
-          subst (λ (k' : ℕ). P (node_at (nodes ++ new ∷ []) j) (node_at (nodes ++ new ∷ []) k')) (sym same)
-          (subst (λ (q : Node). P (node_at (nodes ++ new ∷ []) j) q) (sym latest) (subst (λ (m : Node). P m new) (sym (earlier j (omega arith))) (omega (arith, begins, s.within j (omega arith)))))
-      | inr other ↦
-          let P : Node → Node → Type 0 = λ m q. m.start + m.size ≤ q.start in
-          subst (λ (m : Node). P m (node_at (nodes ++ new ∷ []) k)) (sym (earlier j (omega arith))) (subst (λ (q : Node). P (node_at nodes j) q) (sym (earlier k (omega arith))) (s.apart j k jk (omega arith)))
-    ];
-  }
+-- one more node, whose part begins where those before end
+pub started_more : (ops : List FtOp) (sizes : List ℕ) (nodes : List Node) (start i : ℕ) (new : Node) → length nodes ≡ i
+    → Started ops sizes nodes start i → IsFresh (op_at ops i) (get_or sizes i 0) new → new.start ≡ start → Started ops sizes (nodes ++ new ∷ []) (start + get_or sizes i 0) (i + 1)
+started_more ops sizes nodes start i new count s fresh begins = record {
+  fresh = each_more no_node nodes i new count (λ j m. IsFresh (op_at ops j) (get_or sizes j 0) m) s.fresh fresh;
+  seated = subst (λ (size : ℕ). AreSeated no_node (λ (node : Node). node.start) (λ (node : Node). node.size) (nodes ++ new ∷ []) (start + size) (i + 1)) fresh.size
+      (seated_more no_node nodes i new count (λ node. node.start) (λ node. node.size) start s.seated begins);
+}

@@ -1,3 +1,4 @@
+pub mod Seats
 pub mod Nodes
 pub mod Plans
 pub mod State

@@ -1,10 +1,11 @@
 -- Instructions and their parts of the slab.
-use Rattle.std.specs.Prelude.{◌≡◌, ℕ, zero, suc, ◌+◌, ◌*◌, ◌≤◌, ◌<◌, List, length, max, min, take, drop, slice_index_or}
+use Rattle.std.specs.Prelude.{◌≡◌, ℕ, zero, suc, ◌+◌, ◌*◌, ◌≤◌, List, length, max, min, take, drop, slice_index_or}
 use Rattle.mltl_base.specs.declared.operators.FtOp.{FtOp}
 use Rattle.mltl_base.specs.declared.operators.FtOp.TheVariants.{True, Load, Not, And, Until}
 use Rattle.scq_ring.specs.declared.Slot.{Slot}
 use Rattle.scq_ring.specs.Runs.{frontier_of, no_ring}
 use Rattle.ft_slab.specs.declared.rows.Node.{Node}
+use Rattle.ft_slab.specs.Seats.{AreSeated}
 
 -- instruction i, True past the last one
 abbrev pub op_at : List FtOp → ℕ → FtOp
@@ -23,9 +24,8 @@ abbrev pub part : List Slot → Node → List Slot
 part slab node = take node.size (drop node.start slab)
 
 -- the parts of the slab follow one another and end within it
-pub record AreLaid (nodes : List Node) (slab : List Slot) : Type 0 where
-  pub within : (j : ℕ) → j < length nodes → (node_at nodes j).start + (node_at nodes j).size ≤ length slab
-  pub apart : (j k : ℕ) → j < k → k < length nodes → (node_at nodes j).start + (node_at nodes j).size ≤ (node_at nodes k).start
+abbrev pub AreLaid : List Node → List Slot → Type 0
+AreLaid nodes slab = AreSeated no_node (λ node. node.start) (λ node. node.size) nodes (length slab) (length nodes)
 
 -- the slots of a node
 abbrev pub size_in : List Node → ℕ → ℕ

@@ -49,16 +49,21 @@ fn step<T: Truths, L: Ledger>(
     steps: &mut Steps<L>,
 )
     requires loaded { (k : ℕ) → op ≡ loads k → T.has truths.now k }
-    requires ready { (plan : Plan) × (n : ℕ) × IsReady plan n op before.now low.now node.old own.old }
+    requires ready { (plan : Plan) × (n : ℕ)
+        × IsReady plan n op before.now low.now node.old own.old }
     ensures start { node.new.start ≡ node.old.start }
     ensures size { node.new.size ≡ node.old.size }
-    ensures paced { (plan : Plan) (n : ℕ) → IsReady plan n op before.now low.now node.old own.old → Paced plan (length before.now) node.new own.new (n + 1) }
-    ensures placed { (plan : Plan) (n : ℕ) → IsReady plan n op before.now low.now node.old own.old → IsPlaced plan (length before.now) op node.new (n + 1) }
+    ensures paced { (plan : Plan) (n : ℕ) → IsReady plan n op before.now low.now node.old own.old
+        → Paced plan (length before.now) node.new own.new (n + 1) }
+    ensures placed { (plan : Plan) (n : ℕ) → IsReady plan n op before.now low.now node.old own.old
+        → IsPlaced plan (length before.now) op node.new (n + 1) }
     ensures ahead { ReadsAhead op (front_in before.now) (reads_from op node.new) }
     ensures counted { steps.new ≤ steps.old + work_of (size_in before.now) op (length own.old) }
-    ensures verdicts { (plan : Plan) (truth : Loads) (n : ℕ) (old new : Table) → IsTold plan truth n op before.now low.now node.old own.old old new
+    ensures verdicts { (plan : Plan) (truth : Loads) (n : ℕ) (old new : Table)
+        → IsTold plan truth n op before.now low.now node.old own.old old new
         → ((k : ℕ) (v : Bool) → op ≡ loads k → T.gives truths.now k v → truth n k ≡ v) → HasVerdicts node.new.ring own.new (new (length before.now)) }
-    ensures scanned { (plan : Plan) (truth : Loads) (n : ℕ) (old new : Table) → IsTold plan truth n op before.now low.now node.old own.old old new
+    ensures scanned { (plan : Plan) (truth : Loads) (n : ℕ) (old new : Table)
+        → IsTold plan truth n op before.now low.now node.old own.old old new
         → ((k : ℕ) (v : Bool) → op ≡ loads k → T.gives truths.now k v → truth n k ≡ v) → IsScanned op new node.new }
 {
     match op {
@@ -93,12 +98,16 @@ pub fn row_of<T: Truths, L: Ledger>(
     slab: &mut [Slot],
     steps: &mut Steps<L>,
 )
-    requires loaded { (i k : ℕ) → i < length ops.now → op_at ops.now i ≡ loads k → T.has truths.now k }
-    requires ready { (plan : Plan) × (n : ℕ) × (n < 2 ^ 40) × IsPaced plan ops.now nodes.old slab.old n }
+    requires loaded { (i k : ℕ) → i < length ops.now → op_at ops.now i ≡ loads k
+        → T.has truths.now k }
+    requires ready { (plan : Plan) × (n : ℕ) × (n < 2 ^ 40)
+        × IsPaced plan ops.now nodes.old slab.old n }
     ensures seats { KeepsSeats nodes.old nodes.new }
-    ensures paced { (plan : Plan) (n : ℕ) → n < 2 ^ 40 → IsPaced plan ops.now nodes.old slab.old n → IsPaced plan ops.now nodes.new slab.new (n + 1) }
+    ensures paced { (plan : Plan) (n : ℕ) → n < 2 ^ 40 → IsPaced plan ops.now nodes.old slab.old n
+        → IsPaced plan ops.now nodes.new slab.new (n + 1) }
     ensures counted { steps.new ≤ steps.old + work_before ops.now (size_in nodes.old) (length ops.now) }
-    ensures verdicts { (plan : Plan) (truth : Loads) (n : ℕ) (old new : Table) → TakesRow plan truth n ops.now nodes.old slab.old old new
+    ensures verdicts { (plan : Plan) (truth : Loads) (n : ℕ) (old new : Table)
+        → TakesRow plan truth n ops.now nodes.old slab.old old new
         → AgreeOnLoads ops.now (truth n) (T.gives truths.now) → HaveVerdicts ops.now new nodes.new slab.new }
 {
     for i in 0..ops.len() {

@@ -1,3 +1,5 @@
+//! All queues of a program, over one slab of slots.
+
 ghost use Rattle.std.specs.Prelude.{◌≡◌, ℕ, ◌+◌, ◌-◌, ◌*◌, ◌^◌, ◌<◌, ◌≤◌, [], length, slice_index, sum, take, replicate, vec_len, IfOk, MatchOption};
 ghost use Rattle.mltl_base.specs.declared.operators.FtOp.TheVariants.{Load as loads};
 ghost use Rattle.ft_slab.specs.Nodes.{op_at, work_before};
@@ -50,14 +52,18 @@ impl Queues {
 
     /// Takes a row for all instructions, of which it loads the truths.
     pub fn row<T: Truths, L: Ledger>(&mut self, ops: &[FtOp], truths: &T, steps: &mut Steps<L>)
-        requires loaded { (i k : ℕ) → i < length ops.now → op_at ops.now i ≡ loads k → T.has truths.now k }
-        requires ready { (plan : Plan) × (n : ℕ) × (n < 2 ^ 40) × IsPacedAfter plan ops.now self.old n }
+        requires loaded { (i k : ℕ) → i < length ops.now → op_at ops.now i ≡ loads k
+            → T.has truths.now k }
+        requires ready { (plan : Plan) × (n : ℕ) × (n < 2 ^ 40)
+            × IsPacedAfter plan ops.now self.old n }
         ensures count { queue_count self.new ≡ queue_count self.old }
         ensures sizes { (i : ℕ) → size_at self.new i ≡ size_at self.old i }
         ensures slots { slab_length self.new ≡ slab_length self.old }
-        ensures paced { (plan : Plan) (n : ℕ) → n < 2 ^ 40 → IsPacedAfter plan ops.now self.old n → IsPacedAfter plan ops.now self.new (n + 1) }
+        ensures paced { (plan : Plan) (n : ℕ) → n < 2 ^ 40 → IsPacedAfter plan ops.now self.old n
+            → IsPacedAfter plan ops.now self.new (n + 1) }
         ensures counted { steps.new ≤ steps.old + work_before ops.now (size_at self.old) (length ops.now) }
-        ensures verdicts { (plan : Plan) (truth : Loads) (n : ℕ) (old new : Table) → n < 2 ^ 40 → IsPacedAfter plan ops.now self.old n
+        ensures verdicts { (plan : Plan) (truth : Loads) (n : ℕ) (old new : Table) → n < 2 ^ 40
+            → IsPacedAfter plan ops.now self.old n
             → IsTable ops.now truth (n + 1) new → Extends old new → AgreeOnLoads ops.now (truth n) (T.gives truths.now)
             → HasTable ops.now old self.old → HasTable ops.now new self.new }
     {

@@ -1,3 +1,5 @@
+//! The truths that instructions load.
+
 ghost use Rattle.std.specs.Prelude.{ℕ, Bool};
 
 /// The truths of one row, by number.

@@ -1,12 +1,13 @@
 -- Nodes that are new.
-use Rattle.std.proofs.Common.{◌≡◌, ℕ, ◌+◌, ◌<◌, ◌≤◌, List, [], ◌∷◌, ◌++◌, inl, inr, subst, length, get_or, sum, drop, arith, refl, ap, sym, ◌∙◌, length-drop, length-take-le}
-use Rattle.std.proofs.lemmas.Bool.{cases_eq}
-use Rattle.std.proofs.lemmas.List.{get_or-map, get_or_append_left, get_or_push}
+use Rattle.std.proofs.Common.{◌≡◌, ℕ, ◌+◌, ◌<◌, List, [], ◌∷◌, ◌++◌, subst, length, get_or, sum, drop, arith, refl, ap, sym, ◌∙◌, length-drop, length-take-le}
+use Rattle.std.proofs.lemmas.List.{get_or-map}
 use Rattle.mltl_base.specs.declared.operators.PtOp.{PtOp}
 use Rattle.mltl_base.specs.declared.operators.PtOp.TheVariants.{True, Load, Not, And, Since}
 use Rattle.mltl_base.specs.declared.program.Program.{Program}
 use Rattle.mltl_base.specs.Kleene.{some_below}
 use Rattle.mltl_base.specs.Queues.{boxes_of}
+use Rattle.ft_slab.specs.Seats.{AreSeated}
+use Rattle.ft_slab.proofs.Seats.{each_more, none_seated, seated_more}
 use Rattle.pt_boxes.specs.declared.boxes.Boxes.{Boxes}
 use Rattle.pt_boxes.specs.declared.boxes.Span.{Span}
 use Rattle.pt_boxes.specs.declared.engine.Pt.{Pt}
@@ -29,44 +30,19 @@ pub record IsFresh (spans : ℕ) (node : Node) : Type 0 where
 -- the first i nodes, whose parts end at `start`
 pub record Started (sizes : List ℕ) (nodes : List Node) (start i : ℕ) : Type 0 where
   pub fresh : (j : ℕ) → j < i → IsFresh (get_or sizes j 0) (node_at nodes j)
-  pub within : (j : ℕ) → j < i → (node_at nodes j).start + (node_at nodes j).size ≤ start
-  pub apart : (j k : ℕ) → j < k → k < i → (node_at nodes j).start + (node_at nodes j).size ≤ (node_at nodes k).start
+  pub seated : AreSeated no_node (λ node. node.start) (λ node. node.size) nodes start i
 
 pub started_none : (sizes : List ℕ) (nodes : List Node) → Started sizes nodes 0 0
-started_none sizes nodes = record { fresh = λ j h. absurd (omega arith); within = λ j h. absurd (omega arith); apart = λ j k jk h. absurd (omega arith) }
+started_none sizes nodes = record { fresh = λ j h. absurd (omega arith); seated = none_seated no_node (λ node. node.start) (λ node. node.size) nodes }
 
-module _ (sizes : List ℕ) (nodes : List Node) (start i : ℕ) (new : Node) (count : length nodes ≡ i) where
-  earlier : (j : ℕ) → j < i → node_at (nodes ++ new ∷ []) j ≡ node_at nodes j
-  earlier j h = get_or_append_left nodes (new ∷ []) no_node j (omega arith)
-
-  latest : node_at (nodes ++ new ∷ []) i ≡ new
-  latest = get_or_push nodes new no_node i count
-
-  -- one more node, whose part begins where those before end
-  pub started_more : Started sizes nodes start i → IsFresh (get_or sizes i 0) new → new.start ≡ start → Started sizes (nodes ++ new ∷ []) (start + get_or sizes i 0) (i + 1)
-  started_more s fresh begins = record {
-    fresh = λ j h. elim (cases_eq j i) [
-      | inl same ↦ subst (λ (k : ℕ). IsFresh (get_or sizes k 0) (node_at (nodes ++ new ∷ []) k)) (sym same) (subst (λ (m : Node). IsFresh (get_or sizes i 0) m) (sym latest) fresh)
-      | inr other ↦ subst (λ (m : Node). IsFresh (get_or sizes j 0) m) (sym (earlier j (omega arith))) (s.fresh j (omega arith))
-    ];
-    within = λ j h. elim (cases_eq j i) [
-      | inl same ↦
-          let P : Node → Type 0 = λ m. m.start + m.size ≤ start + get_or sizes i 0 in
-          subst (λ (k : ℕ). P (node_at (nodes ++ new ∷ []) k)) (sym same) (subst P (sym latest) (omega (arith, begins, fresh.size)))
-      | inr other ↦
-          let P : Node → Type 0 = λ m. m.start + m.size ≤ start + get_or sizes i 0 in
-          subst P (sym (earlier j (omega arith))) (omega (arith, s.within j (omega arith)))
-    ];
-    apart = λ j k jk h. elim (cases_eq k i) [
-      | inl same ↦
-          let P : Node → Node → Type 0 = λ m q. m.start + m.size ≤ q.start in
-          subst (λ (k' : ℕ). P (node_at (nodes ++ new ∷ []) j) (node_at (nodes ++ new ∷ []) k')) (sym same)
-          (subst (λ (q : Node). P (node_at (nodes ++ new ∷ []) j) q) (sym latest) (subst (λ (m : Node). P m new) (sym (earlier j (omega arith))) (omega (arith, begins, s.within j (omega arith)))))
-      | inr other ↦
-          let P : Node → Node → Type 0 = λ m q. m.start + m.size ≤ q.start in
-          subst (λ (m : Node). P m (node_at (nodes ++ new ∷ []) k)) (sym (earlier j (omega arith))) (subst (λ (q : Node). P (node_at nodes j) q) (sym (earlier k (omega arith))) (s.apart j k jk (omega arith)))
-    ];
-  }
+-- one more node, whose part begins where those before end
+pub started_more : (sizes : List ℕ) (nodes : List Node) (start i : ℕ) (new : Node) → length nodes ≡ i
+    → Started sizes nodes start i → IsFresh (get_or sizes i 0) new → new.start ≡ start → Started sizes (nodes ++ new ∷ []) (start + get_or sizes i 0) (i + 1)
+started_more sizes nodes start i new count s fresh begins = record {
+  fresh = each_more no_node nodes i new count (λ j m. IsFresh (get_or sizes j 0) m) s.fresh fresh;
+  seated = subst (λ (size : ℕ). AreSeated no_node (λ (node : Node). node.start) (λ (node : Node). node.size) (nodes ++ new ∷ []) (start + size) (i + 1)) fresh.size
+      (seated_more no_node nodes i new count (λ node. node.start) (λ node. node.size) start s.seated begins);
+}
 
 -- no boxes are apart, belong to any spans, and tell what no rows tell
 first_apart : (op : PtOp) (boxes : List Span) → boxes ≡ [] → HasBoxes op 0 boxes
@@ -98,12 +74,12 @@ made_stands program pt runs same_length started none total =
     stands_with program [] pt
     (record {
       same_length = same_length;
-      laid = record { within = λ j h. started.within j (omega arith); apart = λ j k jk h. started.apart j k jk (omega arith) };
+      laid = record { within = λ j h. started.seated.within j (omega arith); apart = λ j k jk h. started.seated.apart j k jk (omega arith) };
       kept = λ i h.
           let i_in : i < length program.pt = omega arith in
           let node : Node = node_at nodes i in
           let fresh = started.fresh i i_in in
-          let within = started.within i i_in in
+          let within = started.seated.within i i_in in
           let long : length (part slab node) ≡ node.size = length-take-le node.size (drop node.start slab) (omega (arith, length-drop node.start slab)) in
           let size : get_or program.sizes.pt i 0 ≡ boxes_of (op_at program.pt i) = ap (λ (ns : List ℕ). get_or ns i 0) runs.sizes ∙ get_or-map boxes_of program.pt i True 0 i_in in
           record {

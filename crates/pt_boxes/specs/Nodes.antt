@@ -1,9 +1,10 @@
 -- Past-time instructions, their truths and their parts of the slab of boxes.
 
-use Rattle.std.specs.Prelude.{◌≡◌, ℕ, ◌+◌, ◌<◌, ◌≤◌, false, List, length, take, drop, slice_index_or}
+use Rattle.std.specs.Prelude.{◌≡◌, ℕ, ◌<◌, false, List, length, take, drop, slice_index_or}
 use Rattle.mltl_base.specs.declared.operators.PtOp.{PtOp}
 use Rattle.mltl_base.specs.declared.operators.PtOp.TheVariants.{True, Since}
 use Rattle.mltl_base.specs.Queues.{boxes_of}
+use Rattle.ft_slab.specs.Seats.{AreSeated}
 use Rattle.pt_boxes.specs.declared.boxes.Boxes.{Boxes}
 use Rattle.pt_boxes.specs.declared.boxes.Span.{Span}
 use Rattle.pt_boxes.specs.declared.rows.Node.{Node}
@@ -29,9 +30,8 @@ abbrev pub boxes_in : List Span → Node → List Span
 boxes_in slab node = kept node.boxes (part slab node)
 
 -- the parts of the slab follow one another and end within it
-pub record AreLaid (nodes : List Node) (slab : List Span) : Type 0 where
-  pub within : (j : ℕ) → j < length nodes → (node_at nodes j).start + (node_at nodes j).size ≤ length slab
-  pub apart : (j k : ℕ) → j < k → k < length nodes → (node_at nodes j).start + (node_at nodes j).size ≤ (node_at nodes k).start
+abbrev pub AreLaid : List Node → List Span → Type 0
+AreLaid nodes slab = AreSeated no_node (λ node. node.start) (λ node. node.size) nodes (length slab) (length nodes)
 
 -- the boxes of a Since lie apart after n rows; of another instruction nothing is asked
 abbrev pub HasBoxes : PtOp → ℕ → List Span → Type 0

@@ -1,3 +1,5 @@
+//! The boxes of one Since: a ring of spans.
+
 ghost use Rattle.std.specs.Prelude.{◌≡◌, ◌+◌, ◌≤◌, ◌<◌, [], ◌∷◌, ◌++◌, length, slice_get};
 ghost use Rattle.scq_ring.specs.Runs.{place_of};
 

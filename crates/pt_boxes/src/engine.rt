@@ -1,3 +1,5 @@
+//! The past-time engine of a checked program.
+
 ghost use Rattle.std.specs.Prelude.{◌≡◌};
 ghost use Rattle.obs_verify.specs.Running.{RunsPast};
 
@@ -53,8 +55,11 @@ impl Pt {
     /// Takes the row that the Booleanizer took last. It takes no memory.
     pub fn row<L: Ledger>(&mut self, checked: &Checked, bz: &Bz, steps: &mut Steps<L>)
         requires given { (row : Row) × (bz.now ≡ numbers_on row checked.now.bz) }
-        requires stands { (rows : List Row) × Stands checked.now rows self.old × (length rows < 2 ^ 40) }
-        ensures stands { (rows : List Row) (row : Row) → length rows < 2 ^ 40 → bz.now ≡ numbers_on row checked.now.bz → Stands checked.now rows self.old → Stands checked.now (rows ++ row ∷ []) self.new }
+        requires stands { (rows : List Row) × Stands checked.now rows self.old
+            × (length rows < 2 ^ 40) }
+        ensures stands { (rows : List Row) (row : Row) → length rows < 2 ^ 40
+            → bz.now ≡ numbers_on row checked.now.bz → Stands checked.now rows self.old
+            → Stands checked.now (rows ++ row ∷ []) self.new }
         ensures counted { steps.new ≤ steps.old + row_work checked.now }
     {
         let program = program_of(checked);

@@ -50,8 +50,12 @@ fn step<L: Ledger>(
     requires early { now < 2 ^ 40 }
     requires kept { IsKept op now boxes.old own.old }
     ensures kept { IsKept op (now + 1) boxes.new own.new }
-    ensures told { (loaded table : Table) → IsTurn op bz.now loaded table now before.now (kept boxes.old own.old) → IsTold op table (now + 1) (kept boxes.new own.new) }
-    ensures truth { (loaded table : Table) → IsTurn op bz.now loaded table now before.now (kept boxes.old own.old) → result ≡ table (length before.now) now }
+    ensures told { (loaded table : Table)
+        → IsTurn op bz.now loaded table now before.now (kept boxes.old own.old)
+        → IsTold op table (now + 1) (kept boxes.new own.new) }
+    ensures truth { (loaded table : Table)
+        → IsTurn op bz.now loaded table now before.now (kept boxes.old own.old)
+        → result ≡ table (length before.now) now }
     ensures counted { steps.new ≤ steps.old + (boxes_of op + 2) }
 {
     steps.tick();
@@ -83,11 +87,13 @@ pub fn row_of<L: Ledger>(
 )
     requires order { ArePastInOrder ops.now }
     requires bounded { (i : ℕ) → i < length ops.now → HasPastBounds MAX_BOUND (op_at ops.now i) }
-    requires loaded { (i k : ℕ) → i < length ops.now → op_at ops.now i ≡ loads k → k < length bz.now }
+    requires loaded { (i k : ℕ) → i < length ops.now → op_at ops.now i ≡ loads k
+        → k < length bz.now }
     requires early { now < 2 ^ 40 }
     requires kept { AreKept ops.now now nodes.old slab.old }
     ensures kept { AreKept ops.now (now + 1) nodes.new slab.new }
-    ensures table { (loaded table : Table) → IsTable ops.now loaded (now + 1) table → AgreeOnLoads ops.now bz.now loaded now
+    ensures table { (loaded table : Table) → IsTable ops.now loaded (now + 1) table
+        → AgreeOnLoads ops.now bz.now loaded now
         → HasTable ops.now table now nodes.old slab.old → HasTable ops.now table (now + 1) nodes.new slab.new }
     ensures counted { steps.new ≤ steps.old + sum_by (λ op. boxes_of op + 2) ops.now }
 {

@@ -18,7 +18,8 @@ fn age(boxes: &mut Boxes, spans: &[Span], now: u64, left: bool)
     requires belongs { Belongs boxes.old spans.now }
     ensures belongs { Belongs boxes.new spans.now }
     ensures rest { kept boxes.new spans.now ≡ if left then without_ended now (kept boxes.old spans.now) else [] }
-    ensures apart { (i : Interval) → AreApart i now 0 (kept boxes.old spans.now) → AreApart i (now + 1) 0 (kept boxes.new spans.now) }
+    ensures apart { (i : Interval) → AreApart i now 0 (kept boxes.old spans.now)
+        → AreApart i (now + 1) 0 (kept boxes.new spans.now) }
 {
     if left {
         boxes.let_ended_go(spans, now);
@@ -89,7 +90,8 @@ pub fn since_row<L: Ledger>(
     requires apart { AreApart window now 0 (kept boxes.old spans.old) }
     ensures belongs { Belongs boxes.new spans.new }
     ensures apart { AreApart window (now + 1) 0 (kept boxes.new spans.new) }
-    ensures told { (p q : ℕ → Bool) → Tells window p q now (kept boxes.old spans.old) → p now ≡ left → q now ≡ right
+    ensures told { (p q : ℕ → Bool) → Tells window p q now (kept boxes.old spans.old) → p now ≡ left
+        → q now ≡ right
         → Tells window p q (now + 1) (kept boxes.new spans.new) }
     ensures holds { result ≡ in_some (kept boxes.new spans.new) now }
     ensures counted { steps.new ≤ steps.old + 2 }

@@ -1,3 +1,5 @@
+//! A ring of merged runs, and its slots.
+
 ghost use Rattle.std.specs.Prelude.{◌≡◌, ℕ, ◌+◌, ◌-◌, ◌^◌, ◌<◌, ◌≤◌, ◌↔◌, max, length, IfSome, IsSome, List, nat_lt, if◌then◌else◌};
 ghost use Rattle.scq_ring.specs.Runs.{Belongs, IsAround, IsClear, IsNewest, Shows, frontier_of, low_of, place_of, verdict_at};
 ghost use Rattle.scq_ring.specs.declared.runs.Slot.{Slot};
@@ -107,10 +109,14 @@ impl Ring {
         // What is kept: a write of the last verdict lets nothing go.
         ensures rises { low_of self.old ≤ low_of self.new }
         ensures bounded { low_of self.new ≤ max (low_of self.old) (upto + 1 - length slots.old) }
-        ensures stays { 0 < frontier_of self.old → value ≡ verdict_at self.old slots.old (frontier_of self.old - 1) → low_of self.new ≡ low_of self.old }
+        ensures stays { 0 < frontier_of self.old
+            → value ≡ verdict_at self.old slots.old (frontier_of self.old - 1)
+            → low_of self.new ≡ low_of self.old }
 
-        ensures kept { (t : ℕ) → low_of self.new ≤ t → t < frontier_of self.old → verdict_at self.new slots.new t ≡ verdict_at self.old slots.old t }
-        ensures written { (t : ℕ) → frontier_of self.old ≤ t → t ≤ upto → verdict_at self.new slots.new t ≡ value }
+        ensures kept { (t : ℕ) → low_of self.new ≤ t → t < frontier_of self.old
+            → verdict_at self.new slots.new t ≡ verdict_at self.old slots.old t }
+        ensures written { (t : ℕ) → frontier_of self.old ≤ t → t ≤ upto
+            → verdict_at self.new slots.new t ≡ value }
         ensures step { steps.new ≡ steps.old + 1 }
     {
         steps.tick();
@@ -166,8 +172,10 @@ impl Ring {
         ensures belongs { Belongs self.new slots.new }
         ensures frontier { frontier_of self.new ≡ upto + 1 }
         ensures low { low_of self.new ≡ low_of self.old }
-        ensures kept { (t : ℕ) → low_of self.old ≤ t → t < frontier_of self.old → verdict_at self.new slots.new t ≡ verdict_at self.old slots.old t }
-        ensures written { (t : ℕ) → frontier_of self.old ≤ t → t ≤ upto → verdict_at self.new slots.new t ≡ verdict_at self.old slots.old (frontier_of self.old - 1) }
+        ensures kept { (t : ℕ) → low_of self.old ≤ t → t < frontier_of self.old
+            → verdict_at self.new slots.new t ≡ verdict_at self.old slots.old t }
+        ensures written { (t : ℕ) → frontier_of self.old ≤ t → t ≤ upto
+            → verdict_at self.new slots.new t ≡ verdict_at self.old slots.old (frontier_of self.old - 1) }
     {
         slots[newest].upto = upto;
         self.frontier = upto + 1;
@@ -182,7 +190,8 @@ impl Ring {
         ensures rises { low_of self.old ≤ low_of self.new }
         ensures fewer { self.new.used + 1 ≡ self.old.used }
         ensures bounded { low_of self.new + self.new.used ≤ frontier_of self.old }
-        ensures kept { (t : ℕ) → low_of self.new ≤ t → t < frontier_of self.old → verdict_at self.new slots.now t ≡ verdict_at self.old slots.now t }
+        ensures kept { (t : ℕ) → low_of self.new ≤ t → t < frontier_of self.old
+            → verdict_at self.new slots.now t ≡ verdict_at self.old slots.now t }
     {
         self.low = slots[self.oldest].upto + 1;
         self.oldest = place(self.oldest, 1, slots.len());
@@ -198,8 +207,10 @@ impl Ring {
         ensures belongs { Belongs self.new slots.new }
         ensures frontier { frontier_of self.new ≡ upto + 1 }
         ensures low { low_of self.new ≡ low_of self.old }
-        ensures kept { (t : ℕ) → low_of self.old ≤ t → t < frontier_of self.old → verdict_at self.new slots.new t ≡ verdict_at self.old slots.old t }
-        ensures written { (t : ℕ) → frontier_of self.old ≤ t → t ≤ upto → verdict_at self.new slots.new t ≡ value }
+        ensures kept { (t : ℕ) → low_of self.old ≤ t → t < frontier_of self.old
+            → verdict_at self.new slots.new t ≡ verdict_at self.old slots.old t }
+        ensures written { (t : ℕ) → frontier_of self.old ≤ t → t ≤ upto
+            → verdict_at self.new slots.new t ≡ value }
     {
         slots[place(self.oldest, self.used, slots.len())] = Slot { upto, value };
         self.used += 1;
@@ -213,7 +224,8 @@ impl Ring {
         requires known { from < frontier_of self.now }
         ensures reaches { from ≤ result.upto }
         ensures known { result.upto < frontier_of self.now }
-        ensures verdict { (t : ℕ) → from ≤ t → t ≤ result.upto → verdict_at self.now slots.now t ≡ result.value }
+        ensures verdict { (t : ℕ) → from ≤ t → t ≤ result.upto
+            → verdict_at self.now slots.now t ≡ result.value }
     {
         let (mut first, mut last) = self.newest_around(slots, from);
         'halving: while first < last {

@@ -1,6 +1,4 @@
-use Rattle.std.proofs.Common.{◌≡◌, ℕ, ◌+◌, ◌-◌, ◌<◌, ◌≤◌, max, arith, ap, subst, sym, ◌∙◌, inl, inr, Bool, true, false, Some, None}
-use Rattle.ft_ops.specs.Scans.{Scan}
-use Rattle.ft_ops.proofs.Going.{shown_run}
+use Rattle.std.proofs.Common.{◌≡◌, ◌+◌, ◌-◌, max, arith}
 use Rattle.ft_ops.proofs.Rules.{over_false, over_scan}
 use Rattle.ft_ops.proofs.until.next_turn.Goals as goal
 

@@ -1,5 +1,4 @@
-use Rattle.std.proofs.Common.{◌≡◌, ℕ, ◌+◌, ◌-◌, ◌<◌, ◌≤◌, max, arith, ap, subst, sym, ◌∙◌, inl, inr, Bool, true, false, Some, None}
-use Rattle.ft_ops.specs.Scans.{Scan}
+use Rattle.std.proofs.Common.{◌≡◌, ℕ, ◌≤◌, arith, ap, ◌∙◌, inl, Bool, true, Some, None}
 use Rattle.ft_ops.proofs.Going.{shown_run}
 use Rattle.ft_ops.proofs.Rules.{left_unknown}
 use Rattle.ft_ops.proofs.until.read_ahead.Goals as goal

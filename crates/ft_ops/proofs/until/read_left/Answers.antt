@@ -1,5 +1,4 @@
-use Rattle.std.proofs.Common.{◌≡◌, ℕ, ◌+◌, ◌-◌, ◌<◌, ◌≤◌, max, arith, ap, subst, sym, ◌∙◌, inl, inr, Bool, true, false, Some, None}
-use Rattle.ft_ops.specs.Scans.{Scan}
+use Rattle.std.proofs.Common.{◌≡◌, ℕ, ◌+◌, ◌-◌, ◌<◌, ◌≤◌, arith, ap, ◌∙◌, Bool, false, Some}
 use Rattle.ft_ops.proofs.Going.{shown_run}
 use Rattle.ft_ops.proofs.Rules.{left_false, left_false_scan}
 use Rattle.ft_ops.proofs.until.read_left.Goals as goal

@@ -1,4 +1,4 @@
-use Rattle.std.proofs.Common.{◌≡◌, ℕ, ◌+◌, ◌-◌, ◌<◌, ◌≤◌, max, arith, ap, subst, sym, ◌∙◌, inl, inr, Bool, true, false, Some, None}
+use Rattle.std.proofs.Common.{◌≡◌, ℕ, ◌+◌, ◌-◌, ◌≤◌, arith, ap, subst, sym, ◌∙◌, inr, Bool, true, Some, None}
 use Rattle.ft_ops.specs.Scans.{Scan}
 use Rattle.ft_ops.proofs.Going.{shown_run}
 use Rattle.ft_ops.proofs.Rules.{right_true, fresh_scan, right_unknown}

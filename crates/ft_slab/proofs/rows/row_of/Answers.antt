@@ -7,7 +7,8 @@ use Rattle.ft_slab.specs.Plans.{IsPaced, IsPlaced, IsReady, IsSeated, Plan}
 use Rattle.ft_slab.specs.Tables.{IsScanned, IsTold}
 use Rattle.mltl_base.specs.declared.operators.FtOp.TheVariants.{Load}
 use Rattle.ft_slab.proofs.Pieces.{first_behind}
-use Rattle.ft_slab.proofs.Turning.{Turned, Stepped, ready_here, stepped, turned_on, seats_on, told_here, Retold, retold_on, work_same, first_size, first_sizes, ahead_same, fronts_before}
+use Rattle.ft_slab.proofs.Seats.{Stepped, stepped}
+use Rattle.ft_slab.proofs.Turning.{Turned, ready_here, turned_on, seats_on, told_here, Retold, retold_on, work_same, first_size, first_sizes, ahead_same, fronts_before}
 use Rattle.ft_slab.proofs.rows.row_of.Goals as goal
 
 pub step-requires-clause-ready : goal.step-requires-clause-ready
@@ -63,8 +64,8 @@ loop-i-preserved g c =
     let slab' : List Slot = low ++ (own ++ drop node.size high) in
     let i = c.loop-i.invariant in
     let in_ops : length before < length c.args.ops.now = omega arith in
-    let st : Stepped nodes slab (length before) new_node own nodes' slab' =
-    stepped plan c.args.ops.now nodes slab n before rest low high node c.split_at_mut-before.ensures.value c.split_at_mut-low.ensures.value some node_is low_is turned new_node own c.step.ensures.start c.step.ensures.size c.step.auto.own in
+    let st : Stepped no_node (λ (m : Node). m.start) (λ (m : Node). m.size) nodes slab (length before) new_node own nodes' slab' =
+    stepped before rest low high node turned.laid c.split_at_mut-before.ensures.value c.split_at_mut-low.ensures.value some node_is low_is new_node own c.step.ensures.start c.step.ensures.size c.step.auto.own in
     let op_same : op_at c.args.ops.now (length before) ≡ op_at c.args.ops.now c.loop-i.i = ap (λ (k : ℕ). op_at c.args.ops.now k) front in
     record {
       seats = seats_on nodes slab (length before) new_node own nodes' slab' st c.args.nodes.now i.seats;

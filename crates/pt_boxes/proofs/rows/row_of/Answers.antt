@@ -2,12 +2,13 @@ use Rattle.std.proofs.Common.{◌≡◌, ℕ, ◌+◌, ◌<◌, List, ◌++◌, 
 use Rattle.std.proofs.lemmas.Grind.{common_steps}
 use Rattle.mltl_base.specs.declared.operators.PtOp.{PtOp}
 use Rattle.ft_slab.proofs.Pieces.{first_behind}
+use Rattle.ft_slab.proofs.Seats.{Stepped, stepped}
 use Rattle.pt_boxes.specs.declared.boxes.Span.{Span}
 use Rattle.pt_boxes.specs.declared.rows.Node.{Node}
 use Rattle.pt_boxes.specs.Boxes.{kept}
 use Rattle.pt_boxes.specs.Nodes.{IsKept, no_node, node_at, op_at}
 use Rattle.pt_boxes.specs.Tables.{IsTold, IsTurn}
-use Rattle.pt_boxes.proofs.Turning.{Retold, Stepped, Turned, retold_from, retold_on, retold_to, stepped, turn_here, turned_from, turned_on}
+use Rattle.pt_boxes.proofs.Turning.{Retold, Turned, retold_from, retold_on, retold_to, turn_here, turned_from, turned_on}
 use Rattle.pt_boxes.proofs.rows.row_of.Goals as goal
 
 pub loop-i-init : goal.loop-i-init
@@ -41,8 +42,8 @@ loop-i-preserved g c =
     let slab' : List Span = low ++ (own ++ drop node.size high) in
     let in_ops : length before < length ops = omega arith in
     let op_same : op_at ops (length before) ≡ op_at ops c.loop-i.i = ap (λ (k : ℕ). op_at ops k) front in
-    let st : Stepped nodes slab (length before) new own nodes' slab' =
-    stepped ops n nodes slab before rest low high node c.split_at_mut-before.ensures.value c.split_at_mut-high.ensures.value some node_is low_is turned new own refl refl c.step-node.auto.own in
+    let st : Stepped no_node (λ (m : Node). m.start) (λ (m : Node). m.size) nodes slab (length before) new own nodes' slab' =
+    stepped before rest low high node turned.laid c.split_at_mut-before.ensures.value c.split_at_mut-high.ensures.value some node_is low_is new own refl refl c.step-node.auto.own in
     record {
       turned =
           subst (λ (k : ℕ). Turned ops n nodes' slab' (k + 1)) front

@@ -3,6 +3,8 @@ use Rattle.std.proofs.lemmas.Grind.{common_steps}
 use Rattle.std.proofs.lemmas.List.{take_all}
 use Rattle.ft_slab.specs.declared.rows.Node.{Node}
 use Rattle.ft_slab.specs.State.{queue_count, size_at, slab_length}
+use Rattle.ft_slab.specs.Nodes.{no_node}
+use Rattle.ft_slab.proofs.Seats.{none_seated}
 use Rattle.ft_slab.proofs.Making.{Started, started_more, made_paced, made_table}
 use Rattle.ft_slab.proofs.slab.Queues.make.Goals as goal
 
@@ -10,7 +12,7 @@ pub loop-i-init : goal.loop-i-init
 loop-i-init c = record {
   count = grind (arith, common_steps);
   total = grind (arith, common_steps);
-  started = record { fresh = λ j h. absurd (omega arith); within = λ j h. absurd (omega arith); apart = λ j k jk h. absurd (omega arith) };
+  started = record { fresh = λ j h. absurd (omega arith); seated = none_seated no_node (λ node. node.start) (λ node. node.size) c.new-nodes.result.items };
 }
 
 pub loop-i-preserved : goal.loop-i-preserved
@@ -52,7 +54,7 @@ returns-clause-paced c = λ plan planned.
     let slab_ok = c.in_ok-slab.slab.ok.0 in
     record {
       inside = made_paced c.args.ops.now c.args.sizes.now c.loop-i.nodes.items c.in_ok-slab.slab.items (omega (arith, c.loop-i.invariant.count))
-          (λ j h. started.fresh j (omega arith)) (λ j h. omega (arith, started.within j (omega arith), c.in_ok-slab.ensures.len)) (λ j k jk h. started.apart j k jk (omega arith)) plan planned;
+          (λ j h. started.fresh j (omega arith)) (λ j h. omega (arith, started.seated.within j (omega arith), c.in_ok-slab.ensures.len)) (λ j k jk h. started.seated.apart j k jk (omega arith)) plan planned;
     }
 
 pub returns-clause-empty : goal.returns-clause-empty
@@ -62,5 +64,5 @@ returns-clause-empty c = λ table none.
     let slab_ok = c.in_ok-slab.slab.ok.0 in
     record {
       inside = made_table c.args.ops.now c.args.sizes.now c.loop-i.nodes.items c.in_ok-slab.slab.items (omega (arith, c.loop-i.invariant.count))
-          (λ j h. started.fresh j (omega arith)) (λ j h. omega (arith, started.within j (omega arith), c.in_ok-slab.ensures.len)) (λ j k jk h. started.apart j k jk (omega arith)) table none;
+          (λ j h. started.fresh j (omega arith)) (λ j h. omega (arith, started.seated.within j (omega arith), c.in_ok-slab.ensures.len)) (λ j k jk h. started.seated.apart j k jk (omega arith)) table none;
     }
