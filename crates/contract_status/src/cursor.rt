@@ -19,7 +19,8 @@ impl Cursor {
 
     /// The search begins at the first output.
     pub fn start() -> Cursor
-        ensures { (program : Program) (rows : List Row) (places : List ℕ) → IsCursor program rows places result }
+        ensures { (program : Program) (rows : List Row) (places : List ℕ)
+            → IsCursor program rows places result }
     {
         Cursor {
             out: 0,
@@ -29,23 +30,22 @@ impl Cursor {
 
     /// The search goes on behind a report of an output up to `time`, after so many rows: at the next output where no
     /// further time can be known, else at this one, with what is left of the stretch.
-    pub fn behind(out: usize, time: u64, stretch: Stretch, rows: u64) -> Cursor
+    pub fn move_behind(&mut self, out: usize, time: u64, stretch: Stretch, rows: u64)
         requires within { out + 1 < 2 ^ 64 }
         requires early { time < rows }
-        ensures place { (result.out ≡ out) ⊎ ((result.out ≡ out + 1) × (time + 1 ≡ rows)) }
-        ensures kept { (left : Found) → result.stretch ≡ Some left → (result.out ≡ out) × (left ≡ stretch) × (time < left.last) }
+        ensures place { (self.new.out ≡ out) ⊎ ((self.new.out ≡ out + 1) × (time + 1 ≡ rows)) }
+        ensures kept { (left : Found) → self.new.stretch ≡ Some left
+            → (self.new.out ≡ out) × (left ≡ stretch) × (time < left.last) }
     {
         if time + 1 == rows {
-            return Cursor {
-                out: out + 1,
-                stretch: None,
-            };
-        }
-        let stretch = if time < stretch.last {
-            Some(stretch)
+            self.out = out + 1;
+            self.stretch = None;
+        } else if time < stretch.last {
+            self.out = out;
+            self.stretch = Some(stretch);
         } else {
-            None
-        };
-        Cursor { out, stretch }
+            self.out = out;
+            self.stretch = None;
+        }
     }
 }

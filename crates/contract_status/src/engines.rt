@@ -98,7 +98,8 @@ impl Engines<'_> {
     /// The status of a contract whose first instruction is true from a time up to `last`.
     fn guarantee_from(&self, engine: Engine, j: u32, from: u64, last: u64) -> Option<Stretch>
         requires readable { CanRead self.now engine j from }
-        ensures shows { (program : Observer) (rows : List Row) (i : ℕ) → HaveTaken program rows self.now
+        ensures shows { (program : Observer) (rows : List Row) (i : ℕ)
+            → HaveTaken program rows self.now
             → from ≤ length (contract_words program rows engine i j) → Lasts (known_verdicts program rows engine i) from last holds
             → ShowsWords (contract_words program rows engine i j) from result }
     {
@@ -172,9 +173,11 @@ impl Engines<'_> {
     ) -> Option<(usize, Stretch)>
         requires readable { AreReadable program.now self.now places.now }
         requires same_length { length places.now ≡ length program.now.outs }
-        requires told { (rows : List Row) → HaveTaken program.now rows self.now → AreKnown program.now rows places.now
+        requires told { (rows : List Row) → HaveTaken program.now rows self.now
+            → AreKnown program.now rows places.now
             → AreTold program.now rows places.now first }
-        ensures finds { (rows : List Row) → HaveTaken program.now rows self.now → AreKnown program.now rows places.now
+        ensures finds { (rows : List Row) → HaveTaken program.now rows self.now
+            → AreKnown program.now rows places.now
             → FindsOpen program.now rows places.now result }
     {
         for k in first..program.outs.len() {
@@ -195,7 +198,8 @@ impl Engines<'_> {
         requires readable { AreReadable program.now self.now places.now }
         requires same_length { length places.now ≡ length program.now.outs }
         requires cursor { FitsEngines program.now self.now places.now cursor }
-        ensures finds { (rows : List Row) → HaveTaken program.now rows self.now → AreKnown program.now rows places.now
+        ensures finds { (rows : List Row) → HaveTaken program.now rows self.now
+            → AreKnown program.now rows places.now
             → FindsOpen program.now rows places.now result }
     {
         match cursor.stretch {

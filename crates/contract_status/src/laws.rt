@@ -32,8 +32,10 @@ pub fn row_opens_its_reports()
 pub fn drained_places_are_known_counts()
     ensures counts { (style : Form) (program : Observer) (rows : List Row) (places : List ℕ) →
         ArePlaced program rows places → open_of style program rows places ≡ [] → places ≡ known_counts_of program rows }
-    ensures drained { (style : Form) (program : Observer) (rows : List Row) → open_of style program rows (known_counts_of program rows) ≡ [] }
-    ensures placed { (program : Observer) (rows : List Row) (row : Row) → ArePlaced program (rows ++ row ∷ []) (known_counts_of program rows) }
+    ensures drained { (style : Form) (program : Observer) (rows : List Row)
+        → open_of style program rows (known_counts_of program rows) ≡ [] }
+    ensures placed { (program : Observer) (rows : List Row) (row : Row)
+        → ArePlaced program (rows ++ row ∷ []) (known_counts_of program rows) }
 {}
 
 /// Where nothing is open after n rows, an output's place is at least n less the width of each future-time instruction

@@ -109,7 +109,9 @@ impl Outs {
     /// Whether no report is open after `n` rows, in either style.
     pub fn drained(&self, checked: &Checked, ft: &Ft, pt: &Pt, n: u64) -> bool
         requires stands { (rows : List Row) × StandFor checked.now rows n ft.now pt.now self.now }
-        ensures drained { (style : Form) (rows : List Row) → StandFor checked.now rows n ft.now pt.now self.now → IsTrue result ↔ (open_of style checked.now rows self.now ≡ []) }
+        ensures drained { (style : Form) (rows : List Row)
+            → StandFor checked.now rows n ft.now pt.now self.now
+            → IsTrue result ↔ (open_of style checked.now rows self.now ≡ []) }
     {
         let engines = Engines { ft, pt, rows: n };
         let open = engines.first_open(checked.program(), &self.times, 0);

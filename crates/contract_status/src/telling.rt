@@ -23,11 +23,14 @@ pub fn tell_first(
     requires well_formed { IsWellFormed program.now }
     requires few { length program.now.outs < 2 ^ 32 }
     requires early { engines.now.rows ≤ 2 ^ 40 }
-    requires stands { (rows : List Row) × HaveTaken program.now rows engines.now × ArePlaced program.now rows places.old }
+    requires stands { (rows : List Row) × HaveTaken program.now rows engines.now
+        × ArePlaced program.now rows places.old }
     requires cursor { FitsEngines program.now engines.now places.old cursor.old }
-    ensures first { (rows : List Row) → HaveTaken program.now rows engines.now → ArePlaced program.now rows places.old
+    ensures first { (rows : List Row) → HaveTaken program.now rows engines.now
+        → ArePlaced program.now rows places.old
         → GivesFirst style program.now rows places.old places.new result }
-    ensures placed { (rows : List Row) → HaveTaken program.now rows engines.now → ArePlaced program.now rows places.old
+    ensures placed { (rows : List Row) → HaveTaken program.now rows engines.now
+        → ArePlaced program.now rows places.old
         → ArePlaced program.now rows places.new }
     ensures cursor { FitsEngines program.now engines.now places.new cursor.new }
     ensures none { IsNone result → places.new ≡ places.old }
@@ -39,7 +42,7 @@ pub fn tell_first(
     let (k, stretch) = engines.next_open(program, places, *cursor)?;
     let time = engines.last_covered(style, program.outs.get(k), places[k], stretch);
     places[k] = time + 1;
-    *cursor = Cursor::behind(k, time, stretch, engines.rows);
+    cursor.move_behind(k, time, stretch, engines.rows);
     Some(Report {
         out: k as u32,
         time,

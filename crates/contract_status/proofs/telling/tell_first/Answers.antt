@@ -81,8 +81,8 @@ returns-clause-fewer c =
     let told = tells c.args.style program stands.0 places k c.last_covered-time.result c.in_ok-k.stretch out c.get.ensures stands.2 first covers in
     fewer_left c.args.engines.now.rows places k (c.last_covered-time.result + 1) told.inside (omega (arith, told.upward)) (omega (arith, told.early, stands.1.count))
 
-pub behind-requires-clause-early : goal.behind-requires-clause-early
-behind-requires-clause-early c =
+pub move_behind-requires-clause-early : goal.move_behind-requires-clause-early
+move_behind-requires-clause-early c =
     let program = c.args.program.now in let places = c.args.places.now in let stands = c.requires.stands in let k = c.in_ok-k.k in let out = c.get.result.now in
     let first = c.in_ok-k.ensures.finds stands.0 stands.1 stands.2.known in
     let covers = c.last_covered-time.ensures.covers program stands.0 stands.1 (open_here program stands.0 places k c.in_ok-k.stretch out c.get.ensures first) in
@@ -97,4 +97,4 @@ returns-clause-cursor c =
     let told = tells c.args.style program stands.0 places k c.last_covered-time.result c.in_ok-k.stretch out c.get.ensures stands.2 found covers in
     λ rows taken known.
     let before = known_before program rows places k c.last_covered-time.result told.inside told.upward known in
-    cursor_behind program rows places k c.last_covered-time.result c.in_ok-k.stretch c.behind.result told.inside told.upward (c.in_ok-k.ensures.finds rows taken before) (rw taken.count c.behind.ensures.place) c.behind.ensures.kept
+    cursor_behind program rows places k c.last_covered-time.result c.in_ok-k.stretch c.move_behind.new.self told.inside told.upward (c.in_ok-k.ensures.finds rows taken before) (rw taken.count c.move_behind.ensures.place) c.move_behind.ensures.kept
