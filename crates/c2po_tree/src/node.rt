@@ -24,6 +24,19 @@ pub fn leaf_of(line: u32, atom: Atom) -> Expr
 }
 
 /// Two operands joined by an operator.
+pub fn joined_by(line: u32, binary: Infix, left: Box<Expr>, right: Box<Expr>) -> Expr
+    ensures { shape result ≡ joined line binary (shape left.value) (shape right.value) }
+{
+    let node = match binary {
+        Infix::Logic(op) => Node::Logic(op, left, right),
+        Infix::Between(op, low, high) => Node::Between(op, low, high, left, right),
+        Infix::Compare(op) => Node::Compare(op, left, right),
+        Infix::Arith(op) => Node::Arith(op, left, right),
+    };
+    Expr { line, node }
+}
+
+/// Two operands put into boxes and joined by an operator.
 pub fn join(
     alloc: Global,
     line: u32,
@@ -35,13 +48,7 @@ pub fn join(
 {
     let left = Box::new(alloc, left)?;
     let right = Box::new(alloc, right)?;
-    let node = match binary {
-        Infix::Logic(op) => Node::Logic(op, left, right),
-        Infix::Between(op, low, high) => Node::Between(op, low, high, left, right),
-        Infix::Compare(op) => Node::Compare(op, left, right),
-        Infix::Arith(op) => Node::Arith(op, left, right),
-    };
-    Ok(Expr { line, node })
+    Ok(joined_by(line, binary, left, right))
 }
 
 /// A field picked from an operand.
@@ -53,11 +60,10 @@ pub fn pick_of(alloc: Global, line: u32, left: Expr, field: Name) -> Result<Expr
 }
 
 /// An operand behind a prefix.
-pub fn behind(alloc: Global, prefix: Prefix, operand: Expr) -> Result<Expr, TreeFault>
-    ensures { Gives shape result (Some (prefixed prefix (shape operand))) }
+pub fn prefixed_by(prefix: Prefix, operand: Box<Expr>) -> Expr
+    ensures { shape result ≡ prefixed prefix (shape operand.value) }
 {
-    let operand = Box::new(alloc, operand)?;
-    Ok(match prefix {
+    match prefix {
         Prefix::Not(line) => Expr {
             line,
             node: Node::Not(operand),
@@ -70,7 +76,15 @@ pub fn behind(alloc: Global, prefix: Prefix, operand: Expr) -> Result<Expr, Tree
             line,
             node: Node::Window(op, low, high, operand),
         },
-    })
+    }
+}
+
+/// An operand put into a box behind a prefix.
+pub fn behind(alloc: Global, prefix: Prefix, operand: Expr) -> Result<Expr, TreeFault>
+    ensures { Gives shape result (Some (prefixed prefix (shape operand))) }
+{
+    let operand = Box::new(alloc, operand)?;
+    Ok(prefixed_by(prefix, operand))
 }
 
 /// A quantifier over a set, with its number where it counts.

@@ -1,9 +1,13 @@
-//! Copies of expressions.
+//! Copies of expressions. A level of nesting takes little of the stack, since each form has a function of its own.
 
 ghost use Rattle.std.specs.Prelude.{◌≡◌, map, IfOk};
-ghost use Rattle.c2po_tree.specs.Shape.{shape};
+ghost use Rattle.c2po_tree.specs.Fronts.{enclosed, joined, prefixed, quantified};
+ghost use Rattle.c2po_tree.specs.Shape.{pick, shape};
 
+use crate::node::{enclose, joined_by, leaf_of, prefixed_by, quantify};
+use crate::operator::{Atom, Bracket, Infix, Prefix, Quantifier};
 use crate::{Expr, Node};
+use mltl_base::Name;
 use std::alloc::{AllocError, Global};
 
 /// Copies of expressions in order.
@@ -29,6 +33,68 @@ fn copy_box(alloc: Global, expr: &Expr) -> Result<Box<Expr>, AllocError>
     Ok(copy)
 }
 
+/// Brackets around copies of their elements.
+#[cycle(copying)]
+fn copy_enclosed(alloc: Global, bracket: Bracket, elements: &[Expr]) -> Result<Expr, AllocError>
+    ensures { IfOk result (λ copy. shape copy ≡ enclosed bracket (map shape elements.now)) }
+{
+    let elements = copy_all(alloc, elements)?;
+    Ok(enclose(bracket, elements))
+}
+
+/// A field picked from a copy of an operand.
+#[cycle(copying)]
+fn copy_picked(alloc: Global, line: u32, whole: &Expr, field: &Name) -> Result<Expr, AllocError>
+    ensures { IfOk result (λ copy. shape copy ≡ pick line (shape whole.now) field.now) }
+{
+    let whole = copy_box(alloc, whole)?;
+    let node = Node::Pick(whole, field.copy());
+    Ok(Expr { line, node })
+}
+
+/// A copy of an operand behind a prefix.
+#[cycle(copying)]
+fn copy_behind(alloc: Global, prefix: Prefix, operand: &Expr) -> Result<Expr, AllocError>
+    ensures { IfOk result (λ copy. shape copy ≡ prefixed prefix (shape operand.now)) }
+{
+    let operand = copy_box(alloc, operand)?;
+    Ok(prefixed_by(prefix, operand))
+}
+
+/// A copy of an operand, joined by an operator to the one at its left.
+#[cycle(copying)]
+fn copy_joined(
+    alloc: Global,
+    line: u32,
+    binary: Infix,
+    operand: &Expr,
+    left: Box<Expr>,
+) -> Result<Expr, AllocError>
+    ensures { IfOk result (λ copy. shape copy
+        ≡ joined line binary (shape left.value) (shape operand.now)) }
+{
+    let operand = copy_box(alloc, operand)?;
+    Ok(joined_by(line, binary, left, operand))
+}
+
+/// A copy of a body under its quantifier, over a set.
+#[cycle(copying)]
+fn copy_quantified(
+    alloc: Global,
+    line: u32,
+    quantifier: Quantifier,
+    variable: &Name,
+    number: u64,
+    body: &Expr,
+    set: Box<Expr>,
+) -> Result<Expr, AllocError>
+    ensures { IfOk result (λ copy. shape copy
+        ≡ quantified line quantifier variable.now (shape set.value) number (shape body.now)) }
+{
+    let body = copy_box(alloc, body)?;
+    Ok(quantify(line, quantifier, variable.copy(), set, number, body))
+}
+
 /// A second expression like this one.
 #[cycle(copying)]
 pub(super) fn copy_expr(alloc: Global, expr: &Expr) -> Result<Expr, AllocError>
@@ -36,115 +102,48 @@ pub(super) fn copy_expr(alloc: Global, expr: &Expr) -> Result<Expr, AllocError>
 {
     let line = expr.line;
     match &expr.node {
-        Node::Number(number) => Ok(Expr {
-            line,
-            node: Node::Number(*number),
-        }),
-        Node::Truth(truth) => Ok(Expr {
-            line,
-            node: Node::Truth(*truth),
-        }),
-        Node::Ref(name) => Ok(Expr {
-            line,
-            node: Node::Ref(name.copy()),
-        }),
-        Node::Build(name, arguments) => {
-            let arguments = copy_all(alloc, arguments.as_slice())?;
-            Ok(Expr {
-                line,
-                node: Node::Build(name.copy(), arguments),
-            })
+        Node::Number(number) => Ok(leaf_of(line, Atom::Number(*number))),
+        Node::Truth(truth) => Ok(leaf_of(line, Atom::Truth(*truth))),
+        Node::Ref(name) => Ok(leaf_of(line, Atom::Ref(name.copy()))),
+        Node::Build(name, parts) => {
+            let bracket = Bracket::Call(line, name.copy());
+            copy_enclosed(alloc, bracket, parts.as_slice())
         }
-        Node::Group(elements) => {
-            let elements = copy_all(alloc, elements.as_slice())?;
-            Ok(Expr {
-                line,
-                node: Node::Group(elements),
-            })
+        Node::Group(members) => copy_enclosed(alloc, Bracket::Curly(line), members.as_slice()),
+        Node::Pick(whole, field) => copy_picked(alloc, line, whole, field),
+        Node::Minus(a) => copy_behind(alloc, Prefix::Minus(line), a),
+        Node::Not(a) => copy_behind(alloc, Prefix::Not(line), a),
+        Node::Window(op, low, high, a) => {
+            copy_behind(alloc, Prefix::Window(line, *op, *low, *high), a)
         }
-        Node::Pick(inner, field) => {
-            let inner = copy_box(alloc, inner)?;
-            Ok(Expr {
-                line,
-                node: Node::Pick(inner, field.copy()),
-            })
+        Node::Arith(op, a, b) => {
+            let a = copy_box(alloc, a)?;
+            copy_joined(alloc, line, Infix::Arith(*op), b, a)
         }
-        Node::Minus(inner) => {
-            let inner = copy_box(alloc, inner)?;
-            Ok(Expr {
-                line,
-                node: Node::Minus(inner),
-            })
+        Node::Compare(op, a, b) => {
+            let a = copy_box(alloc, a)?;
+            copy_joined(alloc, line, Infix::Compare(*op), b, a)
         }
-        Node::Not(inner) => {
-            let inner = copy_box(alloc, inner)?;
-            Ok(Expr {
-                line,
-                node: Node::Not(inner),
-            })
+        Node::Logic(op, a, b) => {
+            let a = copy_box(alloc, a)?;
+            copy_joined(alloc, line, Infix::Logic(*op), b, a)
         }
-        Node::Arith(op, left, right) => {
-            let left = copy_box(alloc, left)?;
-            let right = copy_box(alloc, right)?;
-            Ok(Expr {
-                line,
-                node: Node::Arith(*op, left, right),
-            })
+        Node::Between(op, low, high, a, b) => {
+            let a = copy_box(alloc, a)?;
+            copy_joined(alloc, line, Infix::Between(*op, *low, *high), b, a)
         }
-        Node::Compare(op, left, right) => {
-            let left = copy_box(alloc, left)?;
-            let right = copy_box(alloc, right)?;
-            Ok(Expr {
-                line,
-                node: Node::Compare(*op, left, right),
-            })
-        }
-        Node::Logic(op, left, right) => {
-            let left = copy_box(alloc, left)?;
-            let right = copy_box(alloc, right)?;
-            Ok(Expr {
-                line,
-                node: Node::Logic(*op, left, right),
-            })
-        }
-        Node::Window(op, low, high, inner) => {
-            let inner = copy_box(alloc, inner)?;
-            Ok(Expr {
-                line,
-                node: Node::Window(*op, *low, *high, inner),
-            })
-        }
-        Node::Between(op, low, high, left, right) => {
-            let left = copy_box(alloc, left)?;
-            let right = copy_box(alloc, right)?;
-            Ok(Expr {
-                line,
-                node: Node::Between(*op, *low, *high, left, right),
-            })
-        }
-        Node::Each(variable, set, body) => {
+        Node::Each(name, set, body) => {
             let set = copy_box(alloc, set)?;
-            let body = copy_box(alloc, body)?;
-            Ok(Expr {
-                line,
-                node: Node::Each(variable.copy(), set, body),
-            })
+            copy_quantified(alloc, line, Quantifier::Each, name, 0, body, set)
         }
-        Node::Exists(variable, set, body) => {
+        Node::Exists(name, set, body) => {
             let set = copy_box(alloc, set)?;
-            let body = copy_box(alloc, body)?;
-            Ok(Expr {
-                line,
-                node: Node::Exists(variable.copy(), set, body),
-            })
+            copy_quantified(alloc, line, Quantifier::Exists, name, 0, body, set)
         }
-        Node::Count(op, variable, set, number, body) => {
+        Node::Count(op, name, set, number, body) => {
             let set = copy_box(alloc, set)?;
-            let body = copy_box(alloc, body)?;
-            Ok(Expr {
-                line,
-                node: Node::Count(*op, variable.copy(), set, *number, body),
-            })
+            let quantifier = Quantifier::Count(*op);
+            copy_quantified(alloc, line, quantifier, name, *number, body, set)
         }
     }
 }

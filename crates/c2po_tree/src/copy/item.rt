@@ -45,6 +45,17 @@ fn copy_fields(alloc: Global, fields: &[FieldDecl]) -> Result<List<FieldDecl>, A
     Ok(copies)
 }
 
+/// The names of fields in order.
+pub fn field_names(alloc: Global, fields: &[FieldDecl]) -> Result<List<Name>, AllocError>
+    ensures { IfOk result (λ names. names ≡ map (λ f. f.name) (map field_shape fields.now)) }
+{
+    let mut names = List::new(alloc);
+    for field in fields {
+        names.push(field.name.copy())?;
+    }
+    Ok(names)
+}
+
 /// Copies of names in order.
 fn copy_names(alloc: Global, names: &[Name]) -> Result<List<Name>, AllocError>
     ensures { IfOk result (λ copies. copies ≡ names.now) }
