@@ -52,12 +52,19 @@ fn interval_of(low: u64, high: u64) -> Interval
     Interval { lo, hi }
 }
 
+/// The most nodes of an unfolding. Definitions are bounded one by one, and this bounds them in sum, so that no text asks
+/// for more than some hundreds of megabytes.
+const MAX_NODES: usize = 4_194_304;
+
 impl Unfolding {
-    /// Puts a node behind the others. At 2^32 nodes memory is wanting.
+    /// Puts a node behind the others. At `MAX_NODES` nodes memory is wanting.
     pub(crate) fn add_node(&mut self, node: Plain) -> Result<u32, AllocError>
         ensures pushed { OnOk result (self.new ≡ record self.old { nodes = self.old.nodes ++ node ∷ [] }) }
         ensures place { IfOk result (λ n. n ≡ length self.old.nodes) }
     {
+        if self.nodes.as_slice().len() >= MAX_NODES {
+            return Err(AllocError);
+        }
         let place = self.nodes.push(node)?;
         Ok(place)
     }
