@@ -20,12 +20,12 @@ use c2po_kinds::{
     Declarations, Signal, TypeFault, check_contract, check_define, check_formula, declare_input,
     declare_label, declare_struct, declare_value,
 };
-use c2po_tree::{Body, Expr, FieldDecl, Item, TypeTree};
+use c2po_tree::{Body, Expr, FieldDecl, Item, TypeTree, field_names};
 use mltl_base::limits::MAX_WEIGHT;
 use mltl_base::{Engine, List, Name};
 use mltl_ranges::NoRange;
 use plain_nodes::{Tenses, first_fault};
-use std::alloc::{AllocError, Global};
+use std::alloc::Global;
 use unfold::{UnfoldFault, Unfolded, Unfolding};
 
 /// The fault of an item that isn't unfolded.
@@ -46,17 +46,6 @@ fn no_range(line: u32, why: NoRange) -> TypeFault
         NoRange::Divisor => TypeFault::Divisor(line),
         NoRange::Wide => TypeFault::Range(line),
     }
-}
-
-/// The names of fields.
-fn field_names(alloc: Global, fields: &[FieldDecl]) -> Result<List<Name>, AllocError>
-    ensures { IfOk result (λ names. names ≡ map (λ f. f.name) (map field_shape fields.now)) }
-{
-    let mut names = List::new(alloc);
-    for field in fields {
-        names.push(field.name.copy())?;
-    }
-    Ok(names)
 }
 
 /// What is known behind a struct.

@@ -12,23 +12,12 @@ ghost use Rattle.set_expand.specs.Standing.{Puts, WantsMemory, signals_named};
 
 use crate::names::output_name;
 use crate::progress::Progress;
-use c2po_tree::{Body, Expr, FieldDecl, TypeTree};
+use c2po_tree::{Body, Expr, FieldDecl, TypeTree, field_names};
 use mltl_base::limits::MAX_WEIGHT;
 use mltl_base::{Engine, List, Name};
 use plain_nodes::PlainOut;
 use std::alloc::{AllocError, Global};
 use unfold::{UnfoldFault, Unfolding};
-
-/// The names of fields.
-fn field_names(alloc: Global, fields: &[FieldDecl]) -> Result<List<Name>, AllocError>
-    ensures { IfOk result (λ names. names ≡ map (λ f. f.name) (map field_shape fields.now)) }
-{
-    let mut names = List::new(alloc);
-    for field in fields {
-        names.push(field.name.copy())?;
-    }
-    Ok(names)
-}
 
 /// What is unfolded behind a struct.
 fn put_struct(
