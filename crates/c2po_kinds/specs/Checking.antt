@@ -6,8 +6,8 @@ use Rattle.c2po_kinds.specs.declared.fault.TypeFault.TheVariants.{Memory}
 abbrev pub Checked : Type 0 → Type 0
 Checked X = Result X TypeFault
 
--- the first fault decides
 infixl 10 ◌>>=◌
+-- the first fault decides
 abbrev pub ◌>>=◌ : {X Y : Type 0} → Checked X → (X → Checked Y) → Checked Y
 (Ok x) >>= f = f x
 (Err fault) >>= f = Err fault
@@ -17,11 +17,12 @@ abbrev pub in_turn : {X S : Type 0} → (X → S → Checked S) → List X → S
 in_turn step [] s = Ok s
 in_turn step (x ∷ xs) s = step x s >>= in_turn step xs
 
--- What was answered, as view sees it, is what the definition finds, unless memory is wanting.
+-- A fault is the one that the definition finds, unless memory is wanting.
 abbrev pub Fails : {Y : Type 0} → TypeFault → Checked Y → Type 0
 Fails Memory found = Unit {0}
 Fails fault found = found ≡ Err fault
 
+-- What was answered, as view sees it, is what the definition finds, unless memory is wanting.
 abbrev pub Gives : {X Y : Type 0} → (X → Y) → Checked X → Checked Y → Type 0
 Gives view (Ok x) found = found ≡ Ok (view x)
 Gives view (Err fault) found = Fails fault found

@@ -33,10 +33,11 @@ line_of (count line op x s n e) = line
 abbrev pub two : Checked Kind → Checked Kind → Checked (Kind × Kind)
 two left right = left >>= λ j. right >>= λ k. Ok (j, k)
 
--- kinds that are as wanted give a kind
+-- a kind that is as wanted gives a kind
 abbrev pub of_one : ℕ → Kind → Kind → Kind → Checked Kind
 of_one line wanted given k = expected line (same_kind k wanted) given
 
+-- two kinds that are as wanted give a kind
 abbrev pub of_two : ℕ → Kind → Kind → Kind × Kind → Checked Kind
 of_two line wanted given ks = expected line (same_kind ks.0 wanted && same_kind ks.1 wanted) given
 

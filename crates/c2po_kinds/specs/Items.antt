@@ -55,6 +55,7 @@ truth_of line k = if same_kind k truth then Ok true
     else if same_kind k whole then Ok false
     else Err (fault.Kind line)
 
+-- the kind of a signal, a truth or a whole number
 abbrev pub signal_kind : Bool → Kind
 signal_kind true = truth
 signal_kind false = whole

@@ -11,21 +11,26 @@ use Rattle.c2po_kinds.specs.Checking.{Checked, ◌>>=◌}
 
 -- Kinds, and what is asked of them.
 
+-- a kind that is no set
 abbrev pub plain : Base → Kind
 plain b = record { sets = 0; base = b }
 
+-- the kind of whole numbers
 abbrev pub whole : Kind
 whole = plain base.Int
 
+-- the kind of truths, and so of formulas
 abbrev pub truth : Kind
 truth = plain base.Bool
 
+-- whether two kinds that are no sets are one
 abbrev pub same_base : Base → Base → Bool
 same_base base.Int base.Int = true
 same_base base.Bool base.Bool = true
 same_base (base.Struct m) (base.Struct n) = m == n
 same_base _ _ = false
 
+-- whether two kinds are one
 abbrev pub same_kind : Kind → Kind → Bool
 same_kind j k = (j.sets == k.sets) && same_base j.base k.base
 
@@ -51,6 +56,7 @@ abbrev pub value_kind : ℕ → Meaning → Checked Kind
 value_kind line (Struct n) = Err (fault.Kind line)
 value_kind line (Value k) = Ok k
 
+-- the kind of the value that a known name stands for
 abbrev pub known_value : ℕ → Option Meaning → Checked Kind
 known_value line m = known line m >>= value_kind line
 

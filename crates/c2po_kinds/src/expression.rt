@@ -19,7 +19,8 @@ use std::alloc::Global;
 
 /// The kind of a formula over an interval, whose operands are truths where a test holds.
 fn window(line: u32, low: u64, high: u64, holds: bool) -> Result<Kind, TypeFault>
-    ensures { Gives (λ k. k) result (within_bounds line low high (kinds.expected line holds kinds.truth)) }
+    ensures { Gives (λ k. k) result
+        (within_bounds line low high (kinds.expected line holds kinds.truth)) }
 {
     if low > high || high > u64::from(MAX_BOUND) {
         return Err(TypeFault::Bounds(line));
@@ -55,7 +56,8 @@ fn quantified(
     number: u64,
     body: &Expr,
 ) -> Result<Kind, TypeFault>
-    ensures { Gives (λ k. k) result (quantified line variable.now set number (shape body.now) (visible scope.now)) }
+    ensures { Gives (λ k. k) result
+        (quantified line variable.now set number (shape body.now) (visible scope.now)) }
 {
     let member = member_of(line, set)?;
     if meaning(scope, variable).is_some() {

@@ -86,7 +86,8 @@ fn fields_of(
     line: u32,
     decls: &[FieldDecl],
 ) -> Result<NameTable<Kind>, TypeFault>
-    ensures { Gives (λ t. t) result (in_turn (with_field line declared.now) (map field_shape decls.now) []) }
+    ensures { Gives (λ t. t) result
+        (in_turn (with_field line declared.now) (map field_shape decls.now) []) }
 {
     let mut fields = NameTable::new(alloc);
     for decl in decls {
@@ -103,7 +104,8 @@ pub fn declare_struct(
     name: &Name,
     fields: &List<FieldDecl>,
 ) -> Result<Declarations, TypeFault>
-    ensures { Gives (λ d. d) result (with_struct line name.now (map field_shape fields.now) declared) }
+    ensures { Gives (λ d. d) result
+        (with_struct line name.now (map field_shape fields.now) declared) }
 {
     let mut declared = declared;
     if declared.names.contains(name) {
@@ -264,7 +266,8 @@ pub fn check_contract(
     left: &Expr,
     right: &Expr,
 ) -> Result<Kind, TypeFault>
-    ensures { Gives (λ k. k) result (contract_kind line (shape left.now) (shape right.now) declared.now) }
+    ensures { Gives (λ k. k) result
+        (contract_kind line (shape left.now) (shape right.now) declared.now) }
 {
     let scope = Scope::Items(declared);
     let left = kind_of(alloc, &scope, left)?;

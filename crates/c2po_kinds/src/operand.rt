@@ -103,7 +103,8 @@ fn build_struct(
     operands: &[(u32, Kind)],
     number: u32,
 ) -> Result<Kind, TypeFault>
-    ensures { Gives (λ k. k) result (built_from line number operands.now (slice_get declared.now.structs number)) }
+    ensures { Gives (λ k. k) result
+        (built_from line number operands.now (slice_get declared.now.structs number)) }
 {
     let Some(fields) = declared.structs.as_slice().get(number as usize) else {
         return Err(TypeFault::Count(line));

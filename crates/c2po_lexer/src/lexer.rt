@@ -132,8 +132,10 @@ fn add(tokens: &mut Tokens, token: Option<Token>) -> Result<(), LexFault>
 pub fn lex(alloc: Global, text: &[u8]) -> Result<Tokens, LexFault>
     requires { length text.now ≤ MAX_SPEC_BYTES }
     ensures tokens { IfOk result (λ tokens. tokens_of text.now ≡ Ok tokens) }
-    ensures first_fault { IfErr result (λ fault. fault ≢ LexFault.Memory → tokens_of text.now ≡ Err fault) }
-    ensures written { IfOk result (All (λ token. IsWrittenAs token.what (bytes_of text.now token))) }
+    ensures first_fault { IfErr result (λ fault. fault ≢ LexFault.Memory
+        → tokens_of text.now ≡ Err fault) }
+    ensures written { IfOk result
+        (All (λ token. IsWrittenAs token.what (bytes_of text.now token))) }
     ensures spans { IfOk result (AreInOrder 0 (length text.now)) }
     ensures names { IfOk result (All (λ token. HasPlainName token.what)) }
 {

@@ -113,7 +113,8 @@ fn take_names(
     so_far: List<Name>,
     tokens: &[Token],
 ) -> Result<(List<Name>, &[Token]), TreeFault>
-    ensures { Gives (λ x. (x.0, x.1.now)) result (names_behind so_far (names_within room tokens.now)) }
+    ensures { Gives (λ x. (x.0, x.1.now)) result
+        (names_behind so_far (names_within room tokens.now)) }
 {
     let room = deeper(room)?;
     let Some((name, rest)) = take_name(tokens) else {

@@ -25,7 +25,8 @@ fn item_on(
     tokens: &[Token],
 ) -> Result<Item, ParseFault>
     requires { length tokens.now ≤ MAX_ITEM_TOKENS }
-    ensures item { IfOk result (λ item. with_line line (piece_body section ended tokens.now) ≡ Ok (item_shape item)) }
+    ensures item { IfOk result
+        (λ item. with_line line (piece_body section ended tokens.now) ≡ Ok (item_shape item)) }
     ensures fault { IfErr result (λ fault. fault ≢ ParseFault.Memory →
         with_line line (piece_body section ended tokens.now) ≡ Err fault) }
 {
@@ -126,7 +127,8 @@ fn read_front(
 pub fn parse(alloc: Global, tokens: &Tokens) -> Result<SpecTree, ParseFault>
     // The trees of the definition, exactly where each item has one.
     ensures tree { IfOk result (λ tree. spec_of tokens.now ≡ Ok (spec_shape tree)) }
-    ensures first_fault { IfErr result (λ fault. fault ≢ ParseFault.Memory → spec_of tokens.now ≡ Err fault) }
+    ensures first_fault { IfErr result (λ fault. fault ≢ ParseFault.Memory
+        → spec_of tokens.now ≡ Err fault) }
 
     // Names stand in the tokens: where those are made of letters, digits and `_`, these are.
     ensures names { All (λ token. HasPlainName token.what) tokens.now → IfOk result (λ tree. ArePlainItems (spec_shape tree)) }

@@ -47,7 +47,7 @@ fn run(alloc: Global, items: &[Item]) -> Result<Progress, UnfoldFault>
 /// once, however often the name is used. Signals are numbered in the order of declaration, and an output without a
 /// label has the decimal text of its number as its name, counted from 0.
 ///
-/// Errors: memory is wanting, as it also is at 2^32 nodes or outputs.
+/// Errors: memory is wanting, as it also is at 4,194,304 nodes and at 2^32 outputs.
 pub fn expand(alloc: Global, spec: &TypedSpec) -> Result<Expanded, AllocError>
     // Each output unfolds to its plain formula.
     ensures unfolds { IfOk result (λ expanded. asked expanded ≡ outputs_of (spec_shape spec.now)) }
