@@ -71,7 +71,7 @@ simp_faultless (since i p q) h =
 -- ---- each output
 
 -- what simplification keeps of a formula, it keeps of an output
-kept_by : (P : plain.Formula → Type 0) → ((p : plain.Formula) → P p → P (simp p)) → (o : Output) → All P (formulas_of o) → All P (formulas_of (simple_output o))
+pub kept_by : (P : plain.Formula → Type 0) → ((p : plain.Formula) → P p → P (simp p)) → (o : Output) → All P (formulas_of o) → All P (formulas_of (simple_output o))
 kept_by P keep (formula p) h = All-cons P (simp p) [] (keep p (All-head P p [] h)) (All-nil P)
 kept_by P keep (contract p q) h =
     let rest = All-tail P p (q ∷ []) h in

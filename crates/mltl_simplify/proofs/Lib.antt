@@ -8,3 +8,4 @@ pub mod Heads
 pub mod Numbering
 pub mod Placing
 pub mod Ending
+pub mod Signals

@@ -3,7 +3,8 @@
 
 ghost use Rattle.std.specs.Prelude.{◌≡◌, ◌+◌, ◌<◌, ◌≤◌, ℕ, All, Bool, true, List, Some, length, slice_get};
 ghost use Rattle.mltl_base.specs.Atoms.{Atom, Row};
-ghost use Rattle.mltl_base.specs.Formula.{Formula, conjunction, disjunction, finally, once, truth, wpd};
+ghost use Rattle.mltl_base.specs.Formula.{Formula, conjunction, disjunction, finally, formula_over, once, truth, wpd};
+ghost use Rattle.mltl_base.specs.Kinds.{ReadsKinds};
 ghost use Rattle.mltl_base.specs.Meaning.{sat};
 ghost use Rattle.mltl_base.specs.Programs.{IsFit};
 ghost use Rattle.mltl_base.specs.Settled.{IsFuture, IsOrdered, IsPast, Settled, SettledAmong};
@@ -34,13 +35,16 @@ pub fn simplified_formulas_settle_among_each_class()
 {}
 
 /// Intervals of a simplified formula run upward and stay in bounds where those of its formula do, and it has no operators
-/// of another tense and no other atoms.
+/// of another tense and no other atoms. It reads signals that its formula reads, each by its kind, and over columns it is
+/// what the formula over columns becomes.
 pub fn simplified_formulas_keep_their_form()
     ensures ordered { (p : Formula) → IsOrdered p → IsOrdered (simp p) }
     ensures bounded { (p : Formula) → AreBounded p → AreBounded (simp p) }
     ensures past { (p : Formula) → IsPast p → IsPast (simp p) }
     ensures future { (p : Formula) → IsFuture p → IsFuture (simp p) }
     ensures atoms { (p : Formula) (a : Atom) → HasAtom (simp p) a → HasAtom p a }
+    ensures kinds { (kinds : List Bool) (p : Formula) → ReadsKinds kinds p → ReadsKinds kinds (simp p) }
+    ensures over { (columns : List ℕ) (p : Formula) → formula_over columns (simp p) ≡ simp (formula_over columns p) }
 {}
 
 /// A verdict that is known of a simplified formula is settled for its formula, and comes no later than that formula's
