@@ -5,3 +5,4 @@ pub mod NameLaws
 pub mod CompiledLaws
 pub mod TellingLaws
 pub mod MovedImages
+pub mod SimpleLaws

@@ -4,3 +4,5 @@ pub mod Limits
 pub mod Image
 pub mod Compiled
 pub mod ImageFiles
+pub mod Simplified
+pub mod Unfolded

@@ -3,7 +3,7 @@
 //! [`front`] reads a text: its tokens, the trees of its items, and the check of those. [`back`] makes the program of a
 //! checked specification, over the columns of its signals. [`compile`] does both, and takes the columns from the header
 //! line of a trace. What program a text and a header line stand for, or why they are refused, is `image_of_text` in this
-//! crate's `specs/`.
+//! crate's `specs/`. [`back_simple`] makes the program in simplified form, where that is smaller.
 //!
 //! ```text
 //! let text = b"INPUT p, q: bool; FTSPEC f: p && F[0,2] q;";
@@ -17,9 +17,11 @@ pub mod laws;
 mod names;
 mod program;
 mod signals;
+mod simple;
 mod text;
 
 pub use compiling::{columns_of, compile};
 pub use fault::{CompileFault, HeaderWhy, Refusal};
 pub use program::back;
+pub use simple::back_simple;
 pub use text::front;

@@ -1,0 +1,66 @@
+//! From a checked specification to its program in simplified form.
+
+ghost use Rattle.std.specs.Prelude.{◌≡◌, ◌<◌, ◌^◌, None, length, if◌then◌else◌, nat_le, IfErr, IfOk, OnOk};
+ghost use Rattle.c2po_tree.specs.ItemShape.{spec_shape};
+ghost use Rattle.c2po_types.specs.Signals.{signals_of as declared};
+ghost use Rattle.obs_files.specs.Names.{NamesFit};
+ghost use Rattle.set_expand.specs.Outputs.{outputs_of};
+ghost use Rattle.spec_compile.specs.Refusals.{IsFirstRefusal};
+ghost use Rattle.spec_compile.specs.Limits.{limit_refusal};
+ghost use Rattle.spec_compile.specs.Image.{AreColumnsFor, over_columns};
+ghost use Rattle.spec_compile.specs.Simplified.{is_limit as limits, simple_image, slots_in};
+
+use crate::CompileFault;
+use crate::program::built;
+use c2po_types::TypedSpec;
+use delay_sizes::slot_count;
+use mltl_base::Columns;
+use mltl_simplify::simplify;
+use obs_build::BuildFault;
+use obs_verify::Checked;
+use set_expand::expand;
+use std::alloc::Global;
+
+/// Whether a limit is exceeded; else memory is wanting.
+fn is_limit(fault: BuildFault) -> bool
+    ensures { result ≡ limits fault }
+{
+    fault != BuildFault::Memory
+}
+
+/// The first program where it has no more slots and boxes than the second, else the second.
+fn smaller(simple: Checked, plain: Checked) -> Checked
+    requires simple { slots_in simple < 2 ^ 64 }
+    requires plain { slots_in plain < 2 ^ 64 }
+    ensures { result ≡ (if nat_le (slots_in simple) (slots_in plain) then simple else plain) }
+{
+    let fits = slot_count(&simple.program().sizes) <= slot_count(&plain.program().sizes);
+    if fits { simple } else { plain }
+}
+
+/// The image of a specification in simplified form, over the columns of its signals. Where that form exceeds a limit, or
+/// needs more slots and boxes, it is the image that [`back`](crate::back) makes.
+///
+/// Errors: those of `back`.
+pub fn back_simple(
+    alloc: Global,
+    spec: &TypedSpec,
+    columns: &Columns,
+) -> Result<Checked, CompileFault>
+    requires columns { AreColumnsFor (length (declared (spec_shape spec.now))) columns.now }
+    ensures image { IfOk result (λ checked. checked
+        ≡ simple_image columns.now (declared (spec_shape spec.now)) (outputs_of (spec_shape spec.now))) }
+    ensures within { OnOk result (limit_refusal (over_columns columns.now (outputs_of (spec_shape spec.now))) ≡ None) }
+    ensures refused { IfErr result (λ fault.
+        IsFirstRefusal (limit_refusal (over_columns columns.now (outputs_of (spec_shape spec.now)))) fault) }
+    ensures names { IfOk result NamesFit }
+{
+    let expanded = expand(alloc, spec)?;
+    let plain = built(alloc, &expanded, spec, columns)?;
+    let simple = simplify(alloc, &expanded)?;
+    match built(alloc, &simple, spec, columns) {
+        Ok(simple) => Ok(smaller(simple, plain)),
+        Err(fault) if is_limit(fault) => Ok(plain),
+        Err(_) => Err(CompileFault::Memory),
+    }
+}
