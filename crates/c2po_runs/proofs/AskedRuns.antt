@@ -1,11 +1,10 @@
 -- Runs by what the words ask for: help, nothing, or what memory is wanting for.
 
-use Rattle.std.proofs.Common.{◌≡◌, ◌≢◌, ◌↔◌, ℕ, Bool, true, false, if◌then◌else◌, List, [], ◌∷◌, ◌++◌, refl, sym, ◌∙◌, ap, subst}
+use Rattle.std.proofs.Common.{◌≡◌, ◌≢◌, ◌↔◌, ℕ, Bool, List, [], ◌∷◌, refl, sym, ◌∙◌, ap, subst}
 use Rattle.std.proofs.lemmas.List.{append-nil}
 use Rattle.tool_io.specs.declared.host.Place.TheVariants as at
 use Rattle.tool_io.specs.Log.{Event, given, names_of, Writes}
 use Rattle.tool_io.proofs.LogLaws.{WritesFront-misses, Writes-given, Writes-given_elsewhere, Writes-names}
-use Rattle.tool_words.specs.C2poWords.{CompileAsked}
 use Rattle.tool_words.specs.C2poWords as words
 use Rattle.tool_runs.specs.declared.message.Tool.TheVariants.{C2po}
 use Rattle.tool_runs.specs.declared.status.Status as status
@@ -14,7 +13,7 @@ use Rattle.tool_runs.specs.Messages.{usage}
 use Rattle.tool_runs.specs.Attaching.{OpensAsTold}
 use Rattle.tool_runs.specs.Telling.{HelpLog}
 use Rattle.tool_runs.proofs.AttachLaws.{no_reads_none, writes_unread}
-use Rattle.c2po_runs.specs.Asking.{Ask, help, make, nothing, compile_asked, served, ask, asked_names}
+use Rattle.c2po_runs.specs.Asking.{Ask, help, make, nothing, served, ask, asked_names}
 use Rattle.c2po_runs.specs.Run.{MakeOutcome, HelpOutcome, NothingOutcome, OutcomeOf, TriesOf, WritesAttached, names_out, seen, Ran}
 
 -- help, or a front of it, went out
@@ -67,13 +66,6 @@ run_no_memory asked = run_none asked answers.Memory (memory_none asked) tt
 
 pub run_nothing : (asked : Ask) → asked ≡ nothing → Ran asked answers.Usage []
 run_nothing asked is = subst (λ a. Ran a answers.Usage []) (sym is) (run_none nothing answers.Usage refl tt)
-
--- simplified forms are asked for as nothing
-pub served_run : (asked : CompileAsked) (answer : status.Status) (events : List Event) → asked.simplify ≡ false → Ran (make (compile_asked asked)) answer events → Ran (served (words.compile asked)) answer events
-served_run asked answer events is ran = subst (λ a. Ran a answer events) (sym (ap (λ (b : Bool). if b then nothing else make (compile_asked asked)) is)) ran
-
-pub served_simplified : (asked : CompileAsked) → asked.simplify ≡ true → Ran (served (words.compile asked)) answers.Usage []
-served_simplified asked is = run_nothing (served (words.compile asked)) (ap (λ (b : Bool). if b then nothing else make (compile_asked asked)) is)
 
 -- how an answer tells what was asked
 nothing_usage : (answer : status.Status) (out : List ℕ) → NothingOutcome answer out → answer ≢ answers.Memory → answer ≡ answers.Usage

@@ -17,8 +17,9 @@ use Rattle.tool_runs.specs.Attaching.{is_attached, ReadsAttached, OpensAsTold}
 use Rattle.tool_runs.specs.Files.{file_place, file_limit}
 use Rattle.tool_runs.specs.Reading.{FileLog}
 use Rattle.tool_runs.proofs.AttachLaws.{is_attached-append, ReadsAttached-append, no_reads_none, missed_none, or_true}
+use Rattle.c2po_runs.specs.declared.make.Form.{Form}
 use Rattle.c2po_runs.specs.declared.make.Product.{Product}
-use Rattle.c2po_runs.specs.declared.make.Product.TheVariants.{Image, Table, Upgrade}
+use Rattle.c2po_runs.specs.declared.make.Product.TheVariants.{Compiled, Upgrade}
 use Rattle.c2po_runs.specs.Asking.{MakeAsked, from_text, place_named, read_names}
 use Rattle.c2po_runs.specs.Made.{made, made_of_text}
 use Rattle.c2po_runs.specs.Run.{Seen, seen, place_of, is_tried, IsFaultless, Makes, MakeOutcome}
@@ -194,7 +195,7 @@ module _ (asked : MakeAsked) (bytes : List ℕ) (first second : List Event) (rea
   made_alone (Err answer) none is = refused_alone answer is
 
   -- a header file comes behind it, which a specification without a fault names
-  module _ (tabled : Bool) (name : List ℕ) (named : asked.header ≡ Some name) (is_made : (lines : List (List ℕ)) → made asked bytes lines ≡ made_of_text tabled (Some name) bytes lines) (none : first_refusal bytes ≡ None) where
+  module _ (form : Form) (name : List ℕ) (named : asked.header ≡ Some name) (is_made : (lines : List (List ℕ)) → made asked bytes lines ≡ made_of_text form (Some name) bytes lines) (none : first_refusal bytes ≡ None) where
     faultless : (lines : List (List ℕ)) → IsFaultless asked (headed name lines)
     faultless lines = record { whole = record { ended = refl; within = within }; faultless = none }
 
@@ -225,7 +226,7 @@ module _ (asked : MakeAsked) (bytes : List ℕ) (first second : List Event) (rea
     header_attached log is =
         is_attached-append at.Header first second ∙ ap (λ v. is_attached at.Header first || v) (ap (is_attached at.Header) is) ∙ or_true (is_attached at.Header first)
 
-    header_made : (result : Result (Vec ℕ Global) status.Status) → HeaderLog result tabled name bytes second → GatherLog result asked (first ++ second)
+    header_made : (result : Result (Vec ℕ Global) status.Status) → HeaderLog result form name bytes second → GatherLog result asked (first ++ second)
     header_made (Ok made_bytes) is =
         let line = is.2 in
         let lines = lines_of line.ended line.bytes in
@@ -256,24 +257,22 @@ module _ (asked : MakeAsked) (bytes : List ℕ) (first second : List Event) (rea
         (refusal_outcome answer asked (headed name lines) speaks refl (out_untried_header (from_text asked.product) asked.file name) (record { whole = record { ended = refl; within = within }; is = is_made lines ∙ line.makes name }))
         (λ tried. faultless lines) (refuses_opened answer (first ++ second) speaks)
 
-  spec_made : (header : Option (List ℕ)) (tabled : Bool) (result : Result (Vec ℕ Global) status.Status) → asked.header ≡ header → ((lines : List (List ℕ)) → made asked bytes lines ≡ made_of_text tabled header bytes lines) → first_refusal bytes ≡ None → SpecLog result tabled header bytes second → GatherLog result asked (first ++ second)
-  spec_made None tabled result named is_made none is = made_alone result (ap (place_named at.Header) named) (subst (λ found. MadeLog result found second) (sym (is_made [])) is)
-  spec_made (Some name) tabled result named is_made none is = header_made tabled name named is_made none result is
+  spec_made : (header : Option (List ℕ)) (form : Form) (result : Result (Vec ℕ Global) status.Status) → asked.header ≡ header → ((lines : List (List ℕ)) → made asked bytes lines ≡ made_of_text form header bytes lines) → first_refusal bytes ≡ None → SpecLog result form header bytes second → GatherLog result asked (first ++ second)
+  spec_made None form result named is_made none is = made_alone result (ap (place_named at.Header) named) (subst (λ found. MadeLog result found second) (sym (is_made [])) is)
+  spec_made (Some name) form result named is_made none is = header_made form name named is_made none result is
 
-  text_made : (tabled : Bool) (result : Result (Vec ℕ Global) status.Status) → ((lines : List (List ℕ)) → made asked bytes lines ≡ made_of_text tabled asked.header bytes lines) → TextLog result tabled asked.header bytes second → GatherLog result asked (first ++ second)
-  text_made tabled (Ok made_bytes) is_made (inl is) = absurd is
-  text_made tabled (Err answer) is_made (inl is) = refused_alone answer (subst (λ found. RefusedLog (Err answer) found second) (sym (is_made [])) is)
-  text_made tabled result is_made (inr is) = spec_made asked.header tabled result refl is_made is.0 is.1
+  text_made : (form : Form) (result : Result (Vec ℕ Global) status.Status) → ((lines : List (List ℕ)) → made asked bytes lines ≡ made_of_text form asked.header bytes lines) → TextLog result form asked.header bytes second → GatherLog result asked (first ++ second)
+  text_made form (Ok made_bytes) is_made (inl is) = absurd is
+  text_made form (Err answer) is_made (inl is) = refused_alone answer (subst (λ found. RefusedLog (Err answer) found second) (sym (is_made [])) is)
+  text_made form result is_made (inr is) = spec_made asked.header form result refl is_made is.0 is.1
 
 -- by what is made
 file_made : (product : Product) (name : List ℕ) (header out : Option (List ℕ)) (bytes : List ℕ) (result : Result (Vec ℕ Global) status.Status) (first second : List Event) → (product ≡ Upgrade → header ≡ None)
     → HasRead (file_place (from_text product)) name bytes true first → length bytes ≤ file_limit (from_text product) → FileMadeLog product result header bytes second
     → GatherLog result (record { product = product; file = name; header = header; out = out }) (first ++ second)
 unfolding made
-file_made Image name header out bytes result first second no_header read within is =
-    text_made (record { product = Image; file = name; header = header; out = out }) bytes first second read within false result (λ lines. refl) is
-file_made Table name header out bytes result first second no_header read within is =
-    text_made (record { product = Table; file = name; header = header; out = out }) bytes first second read within true result (λ lines. refl) is
+file_made (Compiled form) name header out bytes result first second no_header read within is =
+    text_made (record { product = Compiled form; file = name; header = header; out = out }) bytes first second read within form result (λ lines. refl) is
 file_made Upgrade name header out bytes result first second no_header read within is =
     made_alone (record { product = Upgrade; file = name; header = header; out = out }) bytes first second read within result (ap (place_named at.Header) (no_header refl)) is
 
@@ -315,18 +314,15 @@ module _ (asked : MakeAsked) where
 
 -- an outcome at the place of the file
 open_outcome : (product : Product) (asked : MakeAsked) (run : Seen) → asked.product ≡ product → run.file ≡ [] → run.out ≡ [] → MakeOutcome (answers.OpenFault (file_place (from_text product))) asked run
-open_outcome Image asked run is none silent = (ap (λ p. file_place (from_text p)) (sym is), none, silent)
-open_outcome Table asked run is none silent = (ap (λ p. file_place (from_text p)) (sym is), none, silent)
+open_outcome (Compiled form) asked run is none silent = (ap (λ p. file_place (from_text p)) (sym is), none, silent)
 open_outcome Upgrade asked run is none silent = (ap (λ p. file_place (from_text p)) (sym is), none, silent)
 
 read_outcome : (product : Product) (asked : MakeAsked) (run : Seen) → asked.product ≡ product → length run.file ≤ file_limit (from_text asked.product) → run.out ≡ [] → MakeOutcome (answers.ReadFault (file_place (from_text product))) asked run
-read_outcome Image asked run is within silent = (ap (λ p. file_place (from_text p)) (sym is), within, silent)
-read_outcome Table asked run is within silent = (ap (λ p. file_place (from_text p)) (sym is), within, silent)
+read_outcome (Compiled form) asked run is within silent = (ap (λ p. file_place (from_text p)) (sym is), within, silent)
 read_outcome Upgrade asked run is within silent = (ap (λ p. file_place (from_text p)) (sym is), within, silent)
 
 long_outcome : (product : Product) (asked : MakeAsked) (run : Seen) → asked.product ≡ product → file_limit (from_text asked.product) < length run.file → run.out ≡ [] → MakeOutcome (answers.TextTooLong (file_place (from_text product))) asked run
-long_outcome Image asked run is long silent = (ap (λ p. file_place (from_text p)) (sym is), long, silent)
-long_outcome Table asked run is long silent = (ap (λ p. file_place (from_text p)) (sym is), long, silent)
+long_outcome (Compiled form) asked run is long silent = (ap (λ p. file_place (from_text p)) (sym is), long, silent)
 long_outcome Upgrade asked run is long silent = (ap (λ p. file_place (from_text p)) (sym is), long, silent)
 
 file_attached_so : (text : Bool) (name : List ℕ) (log : List Event) → is_attached (file_place text) (Attached (file_place text) name ∷ log) ≡ true

@@ -15,15 +15,15 @@ use Rattle.c2po_tree.specs.ItemShape.{ItemShape}
 use Rattle.spec_compile.specs.Front.{first_refusal, items_in}
 use Rattle.spec_compile.specs.Refusals.{IsFirstRefusal}
 use Rattle.spec_compile.specs.declared.fault.CompileFault.{CompileFault}
-use Rattle.spec_compile.specs.Compiled.{image_of_text}
 use Rattle.spec_compile.specs.declared.fault.HeaderWhy.TheVariants.{NoHeader}
 use Rattle.spec_compile.specs.declared.fault.CompileFault.TheVariants as compile
 use Rattle.spec_compile.proofs.CompiledLaws.{header_refused}
 use Rattle.tool_runs.specs.declared.status.Status as status
 use Rattle.tool_runs.specs.declared.status.Status.TheVariants as answers
-use Rattle.c2po_runs.specs.Made.{compile_status, compiled_bytes, unless_long, begins_long, first_line, made_of_text}
+use Rattle.c2po_runs.specs.declared.make.Form.{Form}
+use Rattle.c2po_runs.specs.Made.{compile_status, compiled_bytes, text_bytes, unless_long, begins_long, first_line, made_of_text}
 use Rattle.c2po_runs.specs.Phases.{Refuses, ReadsLine, LineLog, HeaderLog, RefusedLog, MadeLog}
-use Rattle.c2po_runs.proofs.MakingLaws.{headed, refused_so}
+use Rattle.c2po_runs.proofs.MakingLaws.{headed, refused_by, refused_so}
 
 -- what a call that makes no other call answers
 abbrev pub Made : Result (Vec ℕ Global) status.Status → Result (List ℕ) status.Status → Type 0
@@ -79,9 +79,9 @@ module _ (cut : Cutting) (events : List Event) where
   cut_takes : (outcome : line.Line) (cuts : CutsLine Header fresh cut outcome events) → Takes Header (concat cuts.pieces) cut.ended events
   cut_takes outcome cuts = record { pieces = cuts.pieces; are = cuts.reads; joined = refl; end = sym cuts.ended }
 
-  module _ (tabled : Bool) (text : List ℕ) (none : first_refusal text ≡ None) where
+  module _ (form : Form) (text : List ℕ) (none : first_refusal text ≡ None) where
     -- the first line gives what the header's columns give
-    line_makes : (found : Result (List ℕ) status.Status) (cuts : CutsLine Header fresh cut line.TheVariants.Row events) → compiled_bytes tabled (image_of_text text (Some (line_text (row_of cut)))) ≡ found → ReadsLine tabled text found events
+    line_makes : (found : Result (List ℕ) status.Status) (cuts : CutsLine Header fresh cut line.TheVariants.Row events) → text_bytes form text (Some (line_text (row_of cut))) ≡ found → ReadsLine form text found events
     line_makes found cuts is =
         let raw = cuts.answer.0 in
         let gives = cuts.answer.1 in
@@ -93,12 +93,12 @@ module _ (cut : Cutting) (events : List Event) where
           bytes = concat cuts.pieces;
           ended = cut.ended;
           takes = cut_takes line.TheVariants.Row cuts;
-          makes = λ name. headed tabled name text (lines_of cut.ended (concat cuts.pieces)) none
-              ∙ ap (λ b. unless_long b (compiled_bytes tabled (image_of_text text (Some (first_line (lines_of cut.ended (concat cuts.pieces))))))) short
-              ∙ ap (λ l. compiled_bytes tabled (image_of_text text (Some l))) first ∙ is;
+          makes = λ name. headed form name text (lines_of cut.ended (concat cuts.pieces)) none
+              ∙ ap (λ b. unless_long b (text_bytes form text (Some (first_line (lines_of cut.ended (concat cuts.pieces)))))) short
+              ∙ ap (λ l. text_bytes form text (Some l)) first ∙ is;
         }
 
-    pub row_made : (result : Result (Vec ℕ Global) status.Status) (cuts : CutsLine Header fresh cut line.TheVariants.Row events) → Made result (compiled_bytes tabled (image_of_text text (Some (line_text (row_of cut))))) → LineLog result tabled text events
+    pub row_made : (result : Result (Vec ℕ Global) status.Status) (cuts : CutsLine Header fresh cut line.TheVariants.Row events) → Made result (text_bytes form text (Some (line_text (row_of cut)))) → LineLog result form text events
     row_made (Ok bytes) cuts made = line_makes (Ok bytes.items) cuts made
     row_made (Err answers.Memory) cuts made = record { bytes = concat cuts.pieces; ended = cut.ended; takes = cut_takes line.TheVariants.Row cuts }
     row_made (Err (answers.Refused line why)) cuts made = (tt, line_makes (Err (answers.Refused line why)) cuts (made.1 (λ e. cc)))
@@ -107,7 +107,7 @@ module _ (cut : Cutting) (events : List Event) where
     row_made (Err answer) cuts made = absurd made.0
 
     -- there is no line
-    pub end_made : CutsLine Header fresh cut line.TheVariants.End events → LineLog (Err (answers.BadHeader NoHeader)) tabled text events
+    pub end_made : CutsLine Header fresh cut line.TheVariants.End events → LineLog (Err (answers.BadHeader NoHeader)) form text events
     end_made cuts =
         let all = cuts.answer.1 in
         let are : lines_of cut.ended (concat cuts.pieces) ≡ [] = ap (lines_of cut.ended) all ∙ no_lines cut.ended in (
@@ -116,9 +116,9 @@ module _ (cut : Cutting) (events : List Event) where
             bytes = concat cuts.pieces;
             ended = cut.ended;
             takes = cut_takes line.TheVariants.End cuts;
-            makes = λ name. headed tabled name text (lines_of cut.ended (concat cuts.pieces)) none
-                ∙ ap (λ lines. unless_long (begins_long lines) (compiled_bytes tabled (image_of_text text (Some (first_line lines))))) are
-                ∙ ap (compiled_bytes tabled) (header_refused text (Some []) (compile.BadHeader NoHeader) none refl);
+            makes = λ name. headed form name text (lines_of cut.ended (concat cuts.pieces)) none
+                ∙ ap (λ lines. unless_long (begins_long lines) (text_bytes form text (Some (first_line lines)))) are
+                ∙ ap (compiled_bytes form.table) (refused_by form.simplify text (Some []) (compile.BadHeader NoHeader) (header_refused text (Some []) (compile.BadHeader NoHeader) none refl));
           },
         )
       where
@@ -127,7 +127,7 @@ module _ (cut : Cutting) (events : List Event) where
         no_lines false = refl
 
     -- it doesn't end
-    pub long_made : CutsLine Header fresh cut line.TheVariants.LongLine events → LineLog (Err (answers.TextTooLong Header)) tabled text events
+    pub long_made : CutsLine Header fresh cut line.TheVariants.LongLine events → LineLog (Err (answers.TextTooLong Header)) form text events
     long_made cuts =
         let gives = cuts.answer.0 in
         let long = lines_of-long cut.ended (concat cuts.pieces) [] gives.no_newline cuts.answer.1 in
@@ -136,30 +136,30 @@ module _ (cut : Cutting) (events : List Event) where
           bytes = concat cuts.pieces;
           ended = cut.ended;
           takes = cut_takes line.TheVariants.LongLine cuts;
-          makes = λ name. headed tabled name text (lines_of cut.ended (concat cuts.pieces)) none
-              ∙ ap (λ b. unless_long b (compiled_bytes tabled (image_of_text text (Some (first_line (lines_of cut.ended (concat cuts.pieces))))))) begins;
+          makes = λ name. headed form name text (lines_of cut.ended (concat cuts.pieces)) none
+              ∙ ap (λ b. unless_long b (text_bytes form text (Some (first_line (lines_of cut.ended (concat cuts.pieces)))))) begins;
         }
 
-  pub fault_made : (tabled : Bool) (text : List ℕ) → CutsLine Header fresh cut line.TheVariants.ReadFault events → LineLog (Err (answers.ReadFault Header)) tabled text events
-  fault_made tabled text cuts = record { bytes = concat cuts.pieces; ended = cut.ended; takes = cut_takes line.TheVariants.ReadFault cuts }
+  pub fault_made : (form : Form) (text : List ℕ) → CutsLine Header fresh cut line.TheVariants.ReadFault events → LineLog (Err (answers.ReadFault Header)) form text events
+  fault_made form text cuts = record { bytes = concat cuts.pieces; ended = cut.ended; takes = cut_takes line.TheVariants.ReadFault cuts }
 
 -- nothing was read
-pub none_made : (tabled : Bool) (text : List ℕ) → LineLog (Err answers.Memory) tabled text []
-none_made tabled text = record { bytes = []; ended = false; takes = record { pieces = []; are = refl; joined = refl; end = refl } }
+pub none_made : (form : Form) (text : List ℕ) → LineLog (Err answers.Memory) form text []
+none_made form text = record { bytes = []; ended = false; takes = record { pieces = []; are = refl; joined = refl; end = refl } }
 
 -- behind the attach of a header file
-pub header_log : (result : Result (Vec ℕ Global) status.Status) (tabled : Bool) (name text : List ℕ) (events : List Event) → (log : List Event) × (events ≡ Attached Header name ∷ log) × LineLog result tabled text log → HeaderLog result tabled name text events
-header_log (Ok bytes) tabled name text events has = has
-header_log (Err (answers.OpenFault Header)) tabled name text events has = absurd has.2.0
-header_log (Err answer) tabled name text events has = has
+pub header_log : (result : Result (Vec ℕ Global) status.Status) (form : Form) (name text : List ℕ) (events : List Event) → (log : List Event) × (events ≡ Attached Header name ∷ log) × LineLog result form text log → HeaderLog result form name text events
+header_log (Ok bytes) form name text events has = has
+header_log (Err (answers.OpenFault Header)) form name text events has = absurd has.2.0
+header_log (Err answer) form name text events has = has
 
 -- what the calls that make bytes answer
-pub made_so : (tabled : Bool) (header : Option (List ℕ)) (items : List ItemShape) (text : List ℕ) (result : Result (Vec ℕ Global) status.Status)
-    → IfOk result (λ bytes. (text : List ℕ) → first_refusal text ≡ None → items ≡ items_in text → compiled_bytes tabled (image_of_text text header) ≡ Ok bytes.items)
-    → IfErr result (λ answer. answer ≢ answers.Memory → (text : List ℕ) → first_refusal text ≡ None → items ≡ items_in text → compiled_bytes tabled (image_of_text text header) ≡ Err answer)
-    → IfErr result Refuses → first_refusal text ≡ None → items ≡ items_in text → Made result (compiled_bytes tabled (image_of_text text header))
-made_so tabled header items text (Ok bytes) made refused speaks none same = made text none same
-made_so tabled header items text (Err answer) made refused speaks none same = (speaks, λ some. refused some text none same)
+pub made_so : (form : Form) (header : Option (List ℕ)) (items : List ItemShape) (text : List ℕ) (result : Result (Vec ℕ Global) status.Status)
+    → IfOk result (λ bytes. (text : List ℕ) → first_refusal text ≡ None → items ≡ items_in text → text_bytes form text header ≡ Ok bytes.items)
+    → IfErr result (λ answer. answer ≢ answers.Memory → (text : List ℕ) → first_refusal text ≡ None → items ≡ items_in text → text_bytes form text header ≡ Err answer)
+    → IfErr result Refuses → first_refusal text ≡ None → items ≡ items_in text → Made result (text_bytes form text header)
+made_so form header items text (Ok bytes) made refused speaks none same = made text none same
+made_so form header items text (Err answer) made refused speaks none same = (speaks, λ some. refused some text none same)
 
 pub made_log : (found : Result (List ℕ) status.Status) (result : Result (Vec ℕ Global) status.Status) → Made result found → MadeLog result found []
 made_log found (Ok bytes) made = (refl, made)
@@ -174,7 +174,7 @@ program_made found (Ok bytes) made refused speaks = made_log found (Ok bytes) ma
 program_made found (Err answer) made refused speaks = made_log found (Err answer) (speaks, refused)
 
 -- a text is refused
-pub front_refused : (tabled : Bool) (header : Option (List ℕ)) (text : List ℕ) (fault : CompileFault) → IsFirstRefusal (first_refusal text) fault → RefusedLog (Err (compile_status fault)) (made_of_text tabled header text []) []
-front_refused tabled header text (compile.Refused line why) is = (refl, tt, refused_so tabled header text (compile.Refused line why) is (λ e. cc))
-front_refused tabled header text (compile.BadHeader why) is = absurd is
-front_refused tabled header text compile.Memory is = refl
+pub front_refused : (form : Form) (header : Option (List ℕ)) (text : List ℕ) (fault : CompileFault) → IsFirstRefusal (first_refusal text) fault → RefusedLog (Err (compile_status fault)) (made_of_text form header text []) []
+front_refused form header text (compile.Refused line why) is = (refl, tt, refused_so form header text (compile.Refused line why) is (λ e. cc))
+front_refused form header text (compile.BadHeader why) is = absurd is
+front_refused form header text compile.Memory is = refl

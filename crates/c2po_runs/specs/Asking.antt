@@ -1,17 +1,17 @@
 -- What the words of c2po ask for, of what it does.
 
-use Rattle.std.specs.Prelude.{ℕ, Bool, true, false, if◌then◌else◌, Option, Some, None, option_map, List, [], ◌∷◌, ◌++◌}
+use Rattle.std.specs.Prelude.{ℕ, Bool, true, false, Option, Some, None, option_map, List, [], ◌∷◌, ◌++◌}
 use Rattle.tool_io.specs.declared.host.Place.{Place}
 use Rattle.tool_io.specs.declared.host.Place.TheVariants.{Header, Out}
 use Rattle.tool_words.specs.C2poWords.{Asked, CompileAsked}
 use Rattle.tool_words.specs.C2poWords as words
 use Rattle.tool_runs.specs.Files.{file_place}
 use Rattle.c2po_runs.specs.declared.make.Product.{Product}
-use Rattle.c2po_runs.specs.declared.make.Product.TheVariants.{Image, Table, Upgrade}
+use Rattle.c2po_runs.specs.declared.make.Product.TheVariants.{Compiled, Upgrade}
 use Rattle.c2po_runs.specs.declared.make.Make as told
 
--- what is made of a file: of a specification its image or its table, maybe under a header; of a program its upgrade;
--- and the file into which it is written, where one is named
+-- what is made of a file: of a specification its image or its table in one of two forms, maybe under a header; of a
+-- program its upgrade; and the file into which it is written, where one is named
 pub record MakeAsked : Type 0 where
   pub product : Product
   pub file : List ℕ
@@ -24,21 +24,22 @@ pub data Ask : Type 0 where
   make : MakeAsked → Ask
   nothing : Ask
 
--- the image of a specification, or its table
-abbrev pub product_of : Bool → Product
-product_of true = Table
-product_of false = Image
-
+-- the image of a specification, or its table, as it stands or in simplified form
 abbrev pub compile_asked : CompileAsked → MakeAsked
-compile_asked asked = record { product = product_of asked.table; file = asked.spec; header = asked.header; out = asked.out }
+compile_asked asked = record {
+  product = Compiled (record { table = asked.table; simplify = asked.simplify });
+  file = asked.spec;
+  header = asked.header;
+  out = asked.out;
+}
 
 abbrev pub upgrade_asked : List ℕ → List ℕ → MakeAsked
 upgrade_asked out program = record { product = Upgrade; file = program; header = None; out = Some out }
 
--- of what words may ask for; simplified images and texts aren't served
+-- of what words may ask for; texts aren't served
 abbrev pub served : Asked → Ask
 served words.help = help
-served (words.compile asked) = if asked.simplify then nothing else make (compile_asked asked)
+served (words.compile asked) = make (compile_asked asked)
 served (words.upgrade out program) = make (upgrade_asked out program)
 served (words.show out program) = nothing
 served words.nothing = nothing
@@ -48,8 +49,7 @@ ask list = served (words.ask list)
 
 -- whether the file is a specification
 abbrev pub from_text : Product → Bool
-from_text Image = true
-from_text Table = true
+from_text (Compiled form) = true
 from_text Upgrade = false
 
 -- a place with the name of a file, where one is named

@@ -2,7 +2,10 @@
 
 use Rattle.std.specs.Prelude.{ℕ, Bool, true, false, Option, Some, None, Result, Ok, Err, List, [], ◌∷◌}
 use Rattle.mltl_base.specs.declared.interval.Part.TheVariants.{Bz}
+use Rattle.mltl_base.specs.declared.program.Columns.{Columns}
 use Rattle.mltl_base.specs.declared.program.Program.{Program}
+use Rattle.mltl_base.specs.declared.signal.Signal.{Signal}
+use Rattle.mltl_base.specs.Subformulas.{Asked}
 use Rattle.tool_io.specs.declared.host.Place.TheVariants.{Header}
 use Rattle.tool_io.specs.Cutting.{line_text, is_long}
 use Rattle.obs_binary.specs.Layout.{spelling}
@@ -15,11 +18,14 @@ use Rattle.spec_compile.specs.declared.fault.CompileFault.{CompileFault}
 use Rattle.spec_compile.specs.declared.fault.CompileFault.TheVariants as compile_fault
 use Rattle.spec_compile.specs.Front.{first_refusal}
 use Rattle.spec_compile.specs.Compiled.{image_of_text}
+use Rattle.spec_compile.specs.Image.{image}
+use Rattle.spec_compile.specs.Simplified.{simple_image, simple_image_of_text}
 use Rattle.tool_runs.specs.declared.status.Status.{Status}
 use Rattle.tool_runs.specs.declared.status.Status.TheVariants.{Refused, BadProgram, BadHeader, TextTooLong, Memory}
 use Rattle.tool_runs.specs.Files.{file_status}
+use Rattle.c2po_runs.specs.declared.make.Form.{Form}
 use Rattle.c2po_runs.specs.declared.make.Product.{Product}
-use Rattle.c2po_runs.specs.declared.make.Product.TheVariants.{Image, Table, Upgrade}
+use Rattle.c2po_runs.specs.declared.make.Product.TheVariants.{Compiled, Upgrade}
 use Rattle.c2po_runs.specs.Asking.{MakeAsked}
 
 -- the status of a run whose specification isn't compiled
@@ -36,6 +42,20 @@ written_as false program = spelling program
 abbrev pub compiled_bytes : Bool → Result Program CompileFault → Result (List ℕ) Status
 compiled_bytes tabled (Ok program) = Ok (written_as tabled program)
 compiled_bytes tabled (Err fault) = Err (compile_status fault)
+
+-- the image over columns, as it stands or in simplified form
+abbrev pub image_by : Bool → Columns → List Signal → List Asked → Program
+image_by false columns signals outs = image columns signals outs
+image_by true columns signals outs = simple_image columns signals outs
+
+-- the program of a text and a header line in the same two forms
+abbrev pub program_by : Bool → List ℕ → Option (List ℕ) → Result Program CompileFault
+program_by false text header = image_of_text text header
+program_by true text header = simple_image_of_text text header
+
+-- what is written of a text and a header line
+abbrev pub text_bytes : Form → List ℕ → Option (List ℕ) → Result (List ℕ) Status
+text_bytes form text header = compiled_bytes form.table (program_by form.simplify text header)
 
 -- what is written of a program file: the bytes of its program in version 2, unless one column is read in both ways
 abbrev pub raised_bytes : Program → Option ℕ → Result (List ℕ) Status
@@ -66,15 +86,14 @@ unless_refused (Some fault) made = Err (compile_status fault)
 
 -- What a text gives: without a header over the columns in order of declaration; with one over the columns that its
 -- first line names, and the text is refused first, then a line that is too long, then the header, then a limit.
-abbrev pub made_of_text : Bool → Option (List ℕ) → List ℕ → List (List ℕ) → Result (List ℕ) Status
-made_of_text tabled None text lines = compiled_bytes tabled (image_of_text text None)
-made_of_text tabled (Some name) text lines =
-    unless_refused (first_refusal text) (unless_long (begins_long lines) (compiled_bytes tabled (image_of_text text (Some (first_line lines)))))
+abbrev pub made_of_text : Form → Option (List ℕ) → List ℕ → List (List ℕ) → Result (List ℕ) Status
+made_of_text form None text lines = text_bytes form text None
+made_of_text form (Some name) text lines =
+    unless_refused (first_refusal text) (unless_long (begins_long lines) (text_bytes form text (Some (first_line lines))))
 
 -- what a file gives, with the lines of the header file that were read
 abbrev pub made_as : Product → Option (List ℕ) → List ℕ → List (List ℕ) → Result (List ℕ) Status
-made_as Image header file lines = made_of_text false header file lines
-made_as Table header file lines = made_of_text true header file lines
+made_as (Compiled form) header file lines = made_of_text form header file lines
 made_as Upgrade header file lines = upgraded_bytes (opened file)
 
 unfoldable pub made : MakeAsked → List ℕ → List (List ℕ) → Result (List ℕ) Status

@@ -10,8 +10,9 @@ use Rattle.tool_io.specs.Cutting.{lines_of}
 use Rattle.spec_compile.specs.Front.{first_refusal}
 use Rattle.tool_runs.specs.declared.status.Status as status
 use Rattle.tool_runs.specs.Attaching.{is_attached, ReadsAttached, OpensAsTold}
+use Rattle.c2po_runs.specs.declared.make.Form.{Form}
 use Rattle.c2po_runs.specs.declared.make.Product.{Product}
-use Rattle.c2po_runs.specs.declared.make.Product.TheVariants.{Image, Table, Upgrade}
+use Rattle.c2po_runs.specs.declared.make.Product.TheVariants.{Compiled, Upgrade}
 use Rattle.c2po_runs.specs.Asking.{MakeAsked, read_names, place_named}
 use Rattle.c2po_runs.specs.Made.{upgraded_bytes, made_of_text}
 use Rattle.obs_files.specs.Faults.{opened}
@@ -26,11 +27,11 @@ Refuses status.TheVariants.Memory = Unit {0}
 Refuses answer = ⊥
 
 -- reads of an attached header file gave its first line, or met its end before one, or there is no end of that line
-pub record ReadsLine (tabled : Bool) (text : List ℕ) (found : Result (List ℕ) status.Status) (log : List Event) : Type 0 where
+pub record ReadsLine (form : Form) (text : List ℕ) (found : Result (List ℕ) status.Status) (log : List Event) : Type 0 where
   pub bytes : List ℕ
   pub ended : Bool
   pub takes : Takes place.TheVariants.Header bytes ended log
-  pub makes : (name : List ℕ) → made_of_text tabled (Some name) text (lines_of ended bytes) ≡ found
+  pub makes : (name : List ℕ) → made_of_text form (Some name) text (lines_of ended bytes) ≡ found
 
 -- reads that gave nothing
 pub record ReadsNone (log : List Event) : Type 0 where
@@ -39,20 +40,20 @@ pub record ReadsNone (log : List Event) : Type 0 where
   pub takes : Takes place.TheVariants.Header bytes ended log
 
 -- the log under the first line of an attached header file, by a text that isn't refused
-abbrev pub LineLog : Result (Vec ℕ Global) status.Status → Bool → List ℕ → List Event → Type 0
-LineLog (Ok bytes) tabled text log = ReadsLine tabled text (Ok bytes.items) log
-LineLog (Err (status.TheVariants.ReadFault place.TheVariants.Header)) tabled text log = ReadsNone log
-LineLog (Err status.TheVariants.Memory) tabled text log = ReadsNone log
-LineLog (Err (status.TheVariants.TextTooLong place.TheVariants.Header)) tabled text log =
-    ReadsLine tabled text (Err (status.TheVariants.TextTooLong place.TheVariants.Header)) log
-LineLog (Err answer) tabled text log = Refuses answer × ReadsLine tabled text (Err answer) log
+abbrev pub LineLog : Result (Vec ℕ Global) status.Status → Form → List ℕ → List Event → Type 0
+LineLog (Ok bytes) form text log = ReadsLine form text (Ok bytes.items) log
+LineLog (Err (status.TheVariants.ReadFault place.TheVariants.Header)) form text log = ReadsNone log
+LineLog (Err status.TheVariants.Memory) form text log = ReadsNone log
+LineLog (Err (status.TheVariants.TextTooLong place.TheVariants.Header)) form text log =
+    ReadsLine form text (Err (status.TheVariants.TextTooLong place.TheVariants.Header)) log
+LineLog (Err answer) form text log = Refuses answer × ReadsLine form text (Err answer) log
 
 -- the same where the header file is to be attached
-abbrev pub HeaderLog : Result (Vec ℕ Global) status.Status → Bool → List ℕ → List ℕ → List Event → Type 0
-HeaderLog (Err (status.TheVariants.OpenFault place.TheVariants.Header)) tabled name text events =
+abbrev pub HeaderLog : Result (Vec ℕ Global) status.Status → Form → List ℕ → List ℕ → List Event → Type 0
+HeaderLog (Err (status.TheVariants.OpenFault place.TheVariants.Header)) form name text events =
     (events ≡ Missed place.TheVariants.Header name ∷ []) ⊎ (events ≡ [])
-HeaderLog result tabled name text events =
-    (log : List Event) × (events ≡ Attached place.TheVariants.Header name ∷ log) × LineLog result tabled text log
+HeaderLog result form name text events =
+    (log : List Event) × (events ≡ Attached place.TheVariants.Header name ∷ log) × LineLog result form text log
 
 -- nothing was called, and this refuses what was there
 abbrev pub RefusedLog : Result (Vec ℕ Global) status.Status → Result (List ℕ) status.Status → List Event → Type 0
@@ -66,20 +67,19 @@ MadeLog (Ok bytes) found events = (events ≡ []) × (found ≡ Ok bytes.items)
 MadeLog result found events = RefusedLog result found events
 
 -- behind a specification without a fault
-abbrev pub SpecLog : Result (Vec ℕ Global) status.Status → Bool → Option (List ℕ) → List ℕ → List Event → Type 0
-SpecLog result tabled None text events = MadeLog result (made_of_text tabled None text []) events
-SpecLog result tabled (Some name) text events = HeaderLog result tabled name text events
+abbrev pub SpecLog : Result (Vec ℕ Global) status.Status → Form → Option (List ℕ) → List ℕ → List Event → Type 0
+SpecLog result form None text events = MadeLog result (made_of_text form None text []) events
+SpecLog result form (Some name) text events = HeaderLog result form name text events
 
 -- behind the text of a specification: it is refused, or it has no fault
-abbrev pub TextLog : Result (Vec ℕ Global) status.Status → Bool → Option (List ℕ) → List ℕ → List Event → Type 0
-TextLog result tabled header text events =
-    RefusedLog result (made_of_text tabled header text []) events
-    ⊎ ((first_refusal text ≡ None) × SpecLog result tabled header text events)
+abbrev pub TextLog : Result (Vec ℕ Global) status.Status → Form → Option (List ℕ) → List ℕ → List Event → Type 0
+TextLog result form header text events =
+    RefusedLog result (made_of_text form header text []) events
+    ⊎ ((first_refusal text ≡ None) × SpecLog result form header text events)
 
 -- behind the bytes of a file
 abbrev pub FileMadeLog : Product → Result (Vec ℕ Global) status.Status → Option (List ℕ) → List ℕ → List Event → Type 0
-FileMadeLog Image result header file events = TextLog result false header file events
-FileMadeLog Table result header file events = TextLog result true header file events
+FileMadeLog (Compiled form) result header file events = TextLog result form header file events
 FileMadeLog Upgrade result header file events = MadeLog result (upgraded_bytes (opened file)) events
 
 abbrev pub BehindLog : Result (Vec ℕ Global) status.Status → MakeAsked → List ℕ → List Event → Type 0

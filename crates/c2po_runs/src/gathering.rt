@@ -10,7 +10,7 @@ ghost use Rattle.c2po_runs.specs.Asking.{from_text as is_text, make_of};
 ghost use Rattle.c2po_runs.specs.Phases.{BehindLog, GatherLog, SpecLog, TextLog};
 
 use crate::heading::under_header;
-use crate::make::{Make, Product};
+use crate::make::{Form, Make, Product};
 use crate::making::{compiled_bytes, status_of_compile, upgraded_bytes};
 use c2po_types::TypedSpec;
 use spec_compile::front;
@@ -23,16 +23,16 @@ fn of_spec<H: Host>(
     alloc: Global,
     spec: &TypedSpec,
     header: Option<&str>,
-    table: bool,
+    form: Form,
     host: &mut H,
 ) -> Result<Vec<u8>, Status>
     ensures cause { PhaseCause result (H.faults host.old) (H.faults host.new) }
     ensures log { (text : Seq ℕ) → first_refusal text ≡ None → spec_shape spec.now ≡ items_in text
-        → OnLog (H.log host.old) (H.log host.new) (SpecLog result table (option_map (λ name. name.now) header.entry) text) }
+        → OnLog (H.log host.old) (H.log host.new) (SpecLog result form (option_map (λ name. name.now) header.entry) text) }
 {
     match header {
-        None => compiled_bytes(alloc, spec, None, table),
-        Some(name) => under_header(alloc, spec, name, table, host),
+        None => compiled_bytes(alloc, spec, None, form),
+        Some(name) => under_header(alloc, spec, name, form, host),
     }
 }
 
@@ -41,15 +41,15 @@ fn of_text<H: Host>(
     alloc: Global,
     text: &[u8],
     header: Option<&str>,
-    table: bool,
+    form: Form,
     host: &mut H,
 ) -> Result<Vec<u8>, Status>
     requires within { length text.now ≤ 1048576 }
     ensures cause { PhaseCause result (H.faults host.old) (H.faults host.new) }
-    ensures log { OnLog (H.log host.old) (H.log host.new) (TextLog result table (option_map (λ name. name.now) header.entry) text.now) }
+    ensures log { OnLog (H.log host.old) (H.log host.new) (TextLog result form (option_map (λ name. name.now) header.entry) text.now) }
 {
     match front(alloc, text) {
-        Ok(spec) => of_spec(alloc, &spec, header, table, host),
+        Ok(spec) => of_spec(alloc, &spec, header, form, host),
         Err(fault) => Err(status_of_compile(fault)),
     }
 }
@@ -66,8 +66,7 @@ fn of_file<H: Host>(
     ensures log { OnLog (H.log host.old) (H.log host.new) (BehindLog result (make_of asked.now) bytes.now) }
 {
     match asked.product {
-        Product::Image => of_text(alloc, bytes, asked.header, false, host),
-        Product::Table => of_text(alloc, bytes, asked.header, true, host),
+        Product::Compiled(form) => of_text(alloc, bytes, asked.header, form, host),
         Product::Upgrade => upgraded_bytes(alloc, bytes),
     }
 }

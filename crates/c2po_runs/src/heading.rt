@@ -7,6 +7,7 @@ ghost use Rattle.tool_io.specs.Log.{OnLog};
 ghost use Rattle.tool_runs.specs.Causes.{PhaseCause};
 ghost use Rattle.c2po_runs.specs.Phases.{HeaderLog, LineLog};
 
+use crate::make::Form;
 use crate::making::compiled_bytes;
 use c2po_types::TypedSpec;
 use spec_compile::HeaderWhy;
@@ -19,36 +20,36 @@ pub(crate) fn under_header<H: Host>(
     alloc: Global,
     spec: &TypedSpec,
     name: &str,
-    table: bool,
+    form: Form,
     host: &mut H,
 ) -> Result<Vec<u8>, Status>
     ensures cause { PhaseCause result (H.faults host.old) (H.faults host.new) }
     ensures log { (text : Seq ℕ) → first_refusal text ≡ None → spec_shape spec.now ≡ items_in text
-        → OnLog (H.log host.old) (H.log host.new) (HeaderLog result table name.now text) }
+        → OnLog (H.log host.old) (H.log host.new) (HeaderLog result form name.now text) }
 {
     if let Attached::Failed = host.attach(Place::Header, name) {
         return Err(Status::OpenFault(Place::Header));
     }
-    under_first_line(alloc, spec, table, host)
+    under_first_line(alloc, spec, form, host)
 }
 
 /// The same where the header file is attached.
 fn under_first_line<H: Host>(
     alloc: Global,
     spec: &TypedSpec,
-    table: bool,
+    form: Form,
     host: &mut H,
 ) -> Result<Vec<u8>, Status>
     ensures cause { PhaseCause result (H.faults host.old) (H.faults host.new) }
     ensures log { (text : Seq ℕ) → first_refusal text ≡ None → spec_shape spec.now ≡ items_in text
-        → OnLog (H.log host.old) (H.log host.new) (LineLog result table text) }
+        → OnLog (H.log host.old) (H.log host.new) (LineLog result form text) }
 {
     let mut cut = match LineCut::make(alloc) {
         Ok(cut) => cut,
         Err(_) => return Err(Status::Memory),
     };
     match cut.next_line(host, Place::Header) {
-        Line::Row => compiled_bytes(alloc, spec, Some(cut.line()), table),
+        Line::Row => compiled_bytes(alloc, spec, Some(cut.line()), form),
         Line::End => Err(Status::BadHeader(HeaderWhy::NoHeader)),
         Line::LongLine => Err(Status::TextTooLong(Place::Header)),
         Line::ReadFault => Err(Status::ReadFault(Place::Header)),

@@ -2,17 +2,22 @@
 
 ghost use Rattle.std.specs.Prelude.{◌≡◌, ◌≢◌, None};
 ghost use Rattle.tool_words.specs.C2poWords.{compile_of};
-ghost use Rattle.c2po_runs.specs.Asking.{compile_asked, from_text as is_text, make_of, product_of, upgrade_asked};
+ghost use Rattle.c2po_runs.specs.Asking.{compile_asked, from_text as is_text, make_of, upgrade_asked};
 
 use tool_words::Compile;
+
+/// What is written of a specification: its image or its instruction table, as it stands or in simplified form.
+#[derive(Clone, Copy, PartialEq, Eq, Debug)]
+pub(crate) struct Form {
+    pub(crate) table: bool,
+    pub(crate) simplify: bool,
+}
 
 /// What is made of a file.
 #[derive(Clone, Copy, PartialEq, Eq, Debug)]
 pub(crate) enum Product {
-    /// The image of a specification.
-    Image,
-    /// The instruction table of a specification.
-    Table,
+    /// A specification is compiled.
+    Compiled(Form),
     /// A program in version 2.
     Upgrade,
 }
@@ -22,7 +27,10 @@ impl Product {
     pub(crate) fn from_text(self) -> bool
         ensures { result ≡ is_text self }
     {
-        self != Product::Upgrade
+        match self {
+            Product::Compiled(_) => true,
+            Product::Upgrade => false,
+        }
     }
 }
 
@@ -37,24 +45,17 @@ pub(crate) struct Make<'a> {
     pub(crate) out: Option<&'a str>,
 }
 
-fn product_for(table: bool) -> Product
-    ensures product { result ≡ product_of table }
-    ensures compiles { result ≢ Product.Upgrade }
-{
-    if table {
-        Product::Table
-    } else {
-        Product::Image
-    }
-}
-
 /// The image or the table of a specification.
 pub(crate) fn compilation<'a>(asked: &Compile<'a>) -> Make<'a>
     ensures made { make_of result ≡ compile_asked (compile_of asked.now) }
     ensures compiles { result.product ≢ Product.Upgrade }
 {
+    let form = Form {
+        table: asked.table,
+        simplify: asked.simplify,
+    };
     Make {
-        product: product_for(asked.table),
+        product: Product::Compiled(form),
         file: asked.spec,
         header: asked.header,
         out: asked.out,

@@ -1,22 +1,27 @@
 //! From a specification, or from the bytes of a program, to the bytes that are written.
 
-ghost use Rattle.std.specs.Prelude.{◌≡◌, ◌≢◌, ◌≤◌, Err, IfErr, IfOk, List as Seq, None, Ok, ℕ, length};
+ghost use Rattle.std.specs.Prelude.{◌≡◌, ◌≢◌, ◌≤◌, Err, IfErr, IfOk, List as Seq, None, Ok, OnOk, ℕ, length};
 ghost use Rattle.std.specs.Option.{ForSome, option_copied};
 ghost use Rattle.c2po_tree.specs.ItemShape.{spec_shape};
 ghost use Rattle.obs_files.specs.Faults.{opened};
 ghost use Rattle.obs_files.specs.Names.{NamesFit};
-ghost use Rattle.spec_compile.specs.Compiled.{image_of_text};
+ghost use Rattle.c2po_types.specs.Signals.{signals_of};
+ghost use Rattle.set_expand.specs.Outputs.{outputs_of};
 ghost use Rattle.spec_compile.specs.Front.{first_refusal, items_in};
+ghost use Rattle.spec_compile.specs.Image.{AreColumnsFor, over_columns};
+ghost use Rattle.spec_compile.specs.Limits.{limit_refusal};
+ghost use Rattle.spec_compile.specs.Refusals.{IsFirstRefusal};
 ghost use Rattle.tool_runs.specs.Files.{file_status};
 ghost use Rattle.c2po_runs.specs.Phases.{Refuses};
-ghost use Rattle.c2po_runs.specs.Made.{compile_status, compiled_bytes as bytes_of_text, upgraded_bytes as bytes_of_program, written_as};
+ghost use Rattle.c2po_runs.specs.Made.{compile_status, image_by, text_bytes, upgraded_bytes as bytes_of_program, written_as};
 
+use crate::make::Form;
 use c2po_types::TypedSpec;
-use mltl_base::Part;
+use mltl_base::{Columns, Part};
 use obs_files::{FileFault, ProgramFault, image, open, upgraded_names_fit};
 use obs_table::instruction_table;
 use obs_verify::{Checked, UpgradeFault, upgrade};
-use spec_compile::{CompileFault, back, columns_of};
+use spec_compile::{CompileFault, back, back_simple, columns_of};
 use std::alloc::Global;
 use tool_runs::Status;
 
@@ -37,26 +42,48 @@ fn written(alloc: Global, table: bool, checked: &Checked) -> Result<Vec<u8>, Sta
     }
 }
 
+/// The program of a specification over columns, maybe in simplified form.
+fn program_of(
+    alloc: Global,
+    spec: &TypedSpec,
+    columns: &Columns,
+    simplify: bool,
+) -> Result<Checked, CompileFault>
+    requires columns { AreColumnsFor (length (signals_of (spec_shape spec.now))) columns.now }
+    ensures image { IfOk result (λ checked. checked
+        ≡ image_by simplify columns.now (signals_of (spec_shape spec.now)) (outputs_of (spec_shape spec.now))) }
+    ensures within { OnOk result (limit_refusal (over_columns columns.now (outputs_of (spec_shape spec.now))) ≡ None) }
+    ensures refused { IfErr result (λ fault.
+        IsFirstRefusal (limit_refusal (over_columns columns.now (outputs_of (spec_shape spec.now)))) fault) }
+    ensures names { IfOk result NamesFit }
+{
+    if simplify {
+        back_simple(alloc, spec, columns)
+    } else {
+        back(alloc, spec, columns)
+    }
+}
+
 /// What is written of a specification whose signals stand in the columns of a header line, or in the order of declaration.
 pub(crate) fn compiled_bytes(
     alloc: Global,
     spec: &TypedSpec,
     header: Option<&[u8]>,
-    table: bool,
+    form: Form,
 ) -> Result<Vec<u8>, Status>
     requires line { ForSome header (λ line. length line.now ≤ 65535) }
     ensures made { IfOk result (λ bytes. (text : Seq ℕ) → first_refusal text ≡ None → spec_shape spec.now ≡ items_in text →
-        bytes_of_text table (image_of_text text (option_copied header.entry)) ≡ Ok bytes.items) }
+        text_bytes form text (option_copied header.entry) ≡ Ok bytes.items) }
     ensures refused { IfErr result (λ status. status ≢ Status.Memory → (text : Seq ℕ) → first_refusal text ≡ None → spec_shape spec.now ≡ items_in text →
-        bytes_of_text table (image_of_text text (option_copied header.entry)) ≡ Err status) }
+        text_bytes form text (option_copied header.entry) ≡ Err status) }
     ensures refuses { IfErr result Refuses }
 {
     let columns = match columns_of(alloc, spec, header) {
         Ok(columns) => columns,
         Err(fault) => return Err(status_of_compile(fault)),
     };
-    match back(alloc, spec, &columns) {
-        Ok(checked) => written(alloc, table, &checked),
+    match program_of(alloc, spec, &columns, form.simplify) {
+        Ok(checked) => written(alloc, form.table, &checked),
         Err(fault) => Err(status_of_compile(fault)),
     }
 }

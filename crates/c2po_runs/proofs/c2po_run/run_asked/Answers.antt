@@ -13,13 +13,13 @@ returns-in-Help-clause-log g c =
 
 pub returns-in-Compile-clause-log : goal.returns-in-Compile-clause-log
 returns-in-Compile-clause-log g c =
-    OnLog-map _ _ _ c.compile.ensures.log
-    (λ events ran. subst (λ asked. Ran (served (asked_of asked)) c.compile.result events) (sym c.in-Compile.is) ran)
+    OnLog-map _ _ _ c.make.ensures.log
+    (λ events ran. subst (λ asked. Ran (served (asked_of asked)) c.make.result events) (sym c.in-Compile.is) (subst (λ made. Ran (make made) c.make.result events) c.compilation.ensures.made ran))
 
 pub returns-in-Upgrade-clause-log : goal.returns-in-Upgrade-clause-log
 returns-in-Upgrade-clause-log g c =
-    OnLog-map _ _ _ c.make.ensures.log
-    (λ events ran. subst (λ asked. Ran (served (asked_of asked)) c.make.result events) (sym c.in-Upgrade.is) (subst (λ made. Ran (make made) c.make.result events) c.upgrading.ensures.made ran))
+    OnLog-map _ _ _ c.make-in-Upgrade.ensures.log
+    (λ events ran. subst (λ asked. Ran (served (asked_of asked)) c.make-in-Upgrade.result events) (sym c.in-Upgrade.is) (subst (λ made. Ran (make made) c.make-in-Upgrade.result events) c.upgrading.ensures.made ran))
 
 pub returns-in-Show-clause-log : goal.returns-in-Show-clause-log
 returns-in-Show-clause-log g c = OnLog-none _ _ (run_nothing (served (asked_of c.args.asked)) (ap (λ asked. served (asked_of asked)) c.in-Show.is))

@@ -9,4 +9,4 @@ returns-in-Ok-clause-log g c =
 
 pub returns-in-Err-clause-log : goal.returns-in-Err-clause-log
 returns-in-Err-clause-log g c =
-    OnLog-none _ _ (rw c.status_of_compile.ensures.status (inl (front_refused c.args.table (option_map (λ name. name.now) c.args.header) c.args.text.now c.in-Err.fault c.in-Err.ensures.refused)))
+    OnLog-none _ _ (rw c.status_of_compile.ensures.status (inl (front_refused c.args.form (option_map (λ name. name.now) c.args.header) c.args.text.now c.in-Err.fault c.in-Err.ensures.refused)))

@@ -7,4 +7,4 @@ use Rattle.c2po_runs.proofs.heading.under_header.Goals as goal
 pub returns-clause-log : goal.returns-clause-log
 returns-clause-log g c text none same =
     OnLog-map _ _ _ (OnLog-attached _ _ _ Header c.args.name.now _ c.in_default.ensures.log (c.under_first_line.ensures.log text none same))
-    (λ events has. header_log c.under_first_line.result c.args.table c.args.name.now text events has)
+    (λ events has. header_log c.under_first_line.result c.args.form c.args.name.now text events has)

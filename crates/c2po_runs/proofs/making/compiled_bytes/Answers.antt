@@ -5,12 +5,12 @@ use Rattle.c2po_runs.proofs.making.compiled_bytes.Goals as goal
 
 pub returns-in-Err-clause-refused : goal.returns-in-Err-clause-refused
 returns-in-Err-clause-refused c = rw c.status_of_compile.ensures.status (λ some text none same.
-    header_refuses c.args.table text (option_copied c.args.header) (spec_shape c.args.spec.now) c.in-Err.fault none same c.in-Err.ensures.fault some)
+    header_refuses c.args.form text (option_copied c.args.header) (spec_shape c.args.spec.now) c.in-Err.fault none same c.in-Err.ensures.fault some)
 
-pub returns-in-Ok-back-clause-made : goal.returns-in-Ok-back-clause-made
-returns-in-Ok-back-clause-made c =
-    text_written c.args.table (option_copied c.args.header) (spec_shape c.args.spec.now) c.in-Ok.columns c.in-Ok-back.checked c.written.result c.in-Ok.ensures.columns c.in-Ok-back.ensures.image c.in-Ok-back.ensures.within c.written.ensures.bytes
+pub returns-in-Ok-program_of-clause-made : goal.returns-in-Ok-program_of-clause-made
+returns-in-Ok-program_of-clause-made c =
+    text_written c.args.form (option_copied c.args.header) (spec_shape c.args.spec.now) c.in-Ok.columns c.in-Ok-program_of.checked c.written.result c.in-Ok.ensures.columns c.in-Ok-program_of.ensures.image c.in-Ok-program_of.ensures.within c.written.ensures.bytes
 
 pub returns-clause-refused : goal.returns-clause-refused
-returns-clause-refused c = rw c.status_of_compile-in-Err-back.ensures.status (λ some text none same.
-    limit_refuses c.args.table text (option_copied c.args.header) (spec_shape c.args.spec.now) c.in-Ok.columns c.in-Err-back.fault none same c.in-Ok.ensures.columns c.in-Err-back.ensures.refused some)
+returns-clause-refused c = rw c.status_of_compile-in-Err-program_of.ensures.status (λ some text none same.
+    limit_refuses c.args.form text (option_copied c.args.header) (spec_shape c.args.spec.now) c.in-Ok.columns c.in-Err-program_of.fault none same c.in-Ok.ensures.columns c.in-Err-program_of.ensures.refused some)
