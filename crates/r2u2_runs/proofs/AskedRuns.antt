@@ -1,11 +1,11 @@
 -- Runs by what the words ask for: help, a demo, nothing, or a file for which memory is wanting before it is read.
 
-use Rattle.std.proofs.Common.{◌≡◌, ◌≢◌, ◌↔◌, ℕ, ◌≤◌, ◌<◌, ◌⊎◌, Bool, true, false, if◌then◌else◌, Option, Some, None, List, [], ◌∷◌, ◌++◌, length, map, refl, sym, ◌∙◌, ap, subst, arith, inl, inr}
+use Rattle.std.proofs.Common.{◌≡◌, ◌≢◌, ◌↔◌, ℕ, ◌<◌, ◌⊎◌, Bool, false, Option, None, List, [], ◌∷◌, ◌++◌, refl, sym, ◌∙◌, ap, subst, arith, inl, inr}
 use Rattle.std.proofs.lemmas.List.{append-nil}
 use Rattle.tool_io.specs.declared.host.Place as place
 use Rattle.tool_io.specs.declared.host.Place.TheVariants.{Trace, Out}
 use Rattle.tool_io.specs.declared.host.Place.TheVariants as at
-use Rattle.tool_io.specs.Log.{Event, Took, Gave, given, names_of, Prompt, Writes, WritesFront}
+use Rattle.tool_io.specs.Log.{Event, Took, given, names_of, Writes, WritesFront}
 use Rattle.tool_io.proofs.LogLaws.{WritesFront-misses, Writes-given, Writes-given_elsewhere, Writes-names}
 use Rattle.tool_io.proofs.Prompting.{Prompt-from_by, Writes-prompt}
 use Rattle.tool_words.specs.R2u2Words.{RunAsked}
@@ -14,8 +14,7 @@ use Rattle.mltl_monitor.specs.declared.state.State.{State}
 use Rattle.tool_runs.specs.declared.message.Tool.TheVariants.{R2u2}
 use Rattle.tool_runs.specs.declared.status.Status as status
 use Rattle.tool_runs.specs.Messages.{usage}
-use Rattle.tool_runs.specs.Attaching.{OpensAsTold, ReadsAttached}
-use Rattle.tool_runs.specs.Files.{file_limit}
+use Rattle.tool_runs.specs.Attaching.{OpensAsTold}
 use Rattle.tool_runs.specs.Telling.{HelpLog}
 use Rattle.tool_runs.proofs.AttachLaws.{no_reads_none, writes_unread}
 use Rattle.r2u2_runs.specs.Asking.{Ask, help, over, demo, nothing, served, ask, asked_names}

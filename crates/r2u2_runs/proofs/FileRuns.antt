@@ -1,13 +1,12 @@
 -- A run of a file: its bytes, and then its trace.
 
-use Rattle.std.proofs.Common.{◌≡◌, ◌≢◌, ℕ, ◌≤◌, ◌<◌, ◌⊎◌, Bool, true, false, ◌||◌, Option, Some, None, Result, Ok, Err, List, [], ◌∷◌, ◌++◌, length, map, Vec, refl, sym, ◌∙◌, ap, subst, arith, append_assoc, inl, inr}
+use Rattle.std.proofs.Common.{◌≡◌, ℕ, ◌≤◌, ◌<◌, ◌⊎◌, Bool, true, false, ◌||◌, Option, Some, None, Ok, Err, List, [], ◌∷◌, ◌++◌, length, map, Vec, refl, sym, ◌∙◌, ap, subst, arith, append_assoc, inl, inr}
 use Rattle.std.specs.declared.alloc.Global.{Global}
 use Rattle.std.proofs.lemmas.List.{append-nil}
-use Rattle.mltl_base.specs.declared.program.Program.{Program}
 use Rattle.tool_io.specs.declared.host.Place as place
 use Rattle.tool_io.specs.declared.host.Place.TheVariants.{Spec, Trace, Out}
 use Rattle.tool_io.specs.declared.host.Place.TheVariants as at
-use Rattle.tool_io.specs.Log.{Event, Attached, Missed, Took, Gave, same_place, taken, given, ended_from, names_of, Reads, Prompt}
+use Rattle.tool_io.specs.Log.{Event, Attached, Missed, Took, taken, given, ended_from, names_of, Reads, Prompt}
 use Rattle.tool_io.specs.Whole.{Takes}
 use Rattle.tool_io.specs.Cutting.{HasNoNewline, lines_of}
 use Rattle.tool_io.proofs.LogLaws.{same_place-self, taken-append, given-append, ended_from-append, names_of-append, Reads-taken, Reads-taken_elsewhere, Reads-given, Reads-names, Reads-ended, Reads-ended_elsewhere}
@@ -21,9 +20,9 @@ use Rattle.tool_runs.specs.Reading.{FileLog}
 use Rattle.tool_runs.proofs.AttachLaws.{ReadsAttached-append, file_attached, file_reads, is_attached-append, missed_none, no_reads_none, or_true, split_at}
 use Rattle.r2u2_runs.specs.Asking.{over}
 use Rattle.r2u2_runs.specs.ProgramBy.{file_refusal, unless_long, unless_refused, begins_long, header_in, program_by, program_over}
-use Rattle.r2u2_runs.specs.Outcome.{due_by, Silent, NeverRan, LinesOutcome}
-use Rattle.r2u2_runs.specs.Run.{file_of, file_ended, trace_of, trace_ended, lines_in, found_in, IsReadable, ReadsFirstLine, ByLines, FileOutcome, BegunFor, RefusesBehind, Ran}
-use Rattle.r2u2_runs.specs.Phases.{NotOpened, IsOpened, RanFile, TraceOutcome, RanTrace}
+use Rattle.r2u2_runs.specs.Outcome.{due_by, Silent}
+use Rattle.r2u2_runs.specs.Run.{file_ended, trace_of, trace_ended, lines_in, found_in, IsReadable, ReadsFirstLine, FileOutcome, BegunFor, RefusesBehind, Ran}
+use Rattle.r2u2_runs.specs.Phases.{IsOpened, RanFile, TraceOutcome}
 use Rattle.r2u2_runs.proofs.Refusing.{Refuses, file_refuses}
 use Rattle.r2u2_runs.proofs.TraceRuns.{trace_elsewhere}
 

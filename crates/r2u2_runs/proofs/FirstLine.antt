@@ -1,13 +1,12 @@
 -- The first line of a trace, which is read and given once more.
 
-use Rattle.std.proofs.Common.{◌≡◌, ℕ, ◌+◌, ◌-◌, ◌≤◌, ◌<◌, ◌^◌, min, ◌==◌, ◌&&◌, nat_lt, Bool, true, false, if◌then◌else◌, Option, Some, None, is_some, unwrap_or, Result, Ok, Err, List, [], ◌∷◌, ◌++◌, length, take, slice_index, refl, sym, ◌∙◌, ap, subst, arith, inl, inr}
-use Rattle.std.specs.List.{concat}
+use Rattle.std.proofs.Common.{◌≡◌, ℕ, ◌+◌, ◌-◌, ◌≤◌, ◌<◌, ◌^◌, min, ◌==◌, ◌&&◌, nat_lt, Bool, true, false, if◌then◌else◌, Option, Some, None, is_some, unwrap_or, Err, List, [], ◌∷◌, ◌++◌, length, take, slice_index, refl, sym, ◌∙◌, ap, subst, arith, inl, inr}
 use Rattle.std.proofs.lemmas.List.{length-append, length-take}
 use Rattle.std.proofs.lemmas.Bool.Decides.{nat_tests}
 use Rattle.tool_io.specs.declared.host.Place.TheVariants.{Trace}
 use Rattle.tool_io.specs.declared.line_cut.Line as line
 use Rattle.tool_io.specs.Log.{Event}
-use Rattle.tool_io.specs.Cutting.{Cutting, HasNoNewline, EndsLine, IsRow, CutsLine, GivesRow, GivesNone, ends_in, without_end, line_text, next_number, row_of, fresh, keeps}
+use Rattle.tool_io.specs.Cutting.{Cutting, HasNoNewline, IsRow, CutsLine, ends_in, without_end, line_text, row_of, fresh, keeps}
 use Rattle.trace_feed.specs.Header.{begins_header}
 use Rattle.trace_watch.specs.declared.status.TraceWhy.TheVariants.{LongLine}
 use Rattle.tool_runs.specs.declared.status.Status as status

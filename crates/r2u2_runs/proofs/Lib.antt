@@ -5,5 +5,6 @@ pub mod LineRuns
 pub mod TraceRuns
 pub mod FileRuns
 pub mod AskedRuns
+pub mod ImageFiles
 pub mod Telling
 pub mod MainLaws

@@ -1,6 +1,6 @@
 -- A run over the lines of a trace: the first line, and then the loop.
 
-use Rattle.std.proofs.Common.{◌≡◌, ℕ, ◌≤◌, ◌<◌, ◌⊎◌, Bool, true, false, cond, if◌then◌else◌, Option, Some, None, Result, Ok, Err, List, [], ◌∷◌, ◌++◌, length, map, refl, sym, ◌∙◌, ap, subst, arith, append_assoc, inl, inr}
+use Rattle.std.proofs.Common.{◌≡◌, ℕ, ◌<◌, ◌⊎◌, Bool, true, false, if◌then◌else◌, Option, Some, None, Result, Ok, Err, List, [], ◌∷◌, ◌++◌, length, map, refl, sym, ◌∙◌, ap, subst, append_assoc, inl, inr}
 use Rattle.std.proofs.lemmas.List.{append-nil}
 use Rattle.mltl_base.specs.declared.program.Program.{Program}
 use Rattle.mltl_base.specs.Programs.{outputs, output_names}
@@ -9,7 +9,7 @@ use Rattle.mltl_base.specs.Lines.{lines}
 use Rattle.tool_io.specs.declared.host.Place as place
 use Rattle.tool_io.specs.declared.host.Place.TheVariants.{Trace, Out}
 use Rattle.tool_io.specs.Log.{Event, Took, taken, given, ended_from, Prompt}
-use Rattle.tool_io.specs.Cutting.{Cutting, HasNoNewline, IsRow, OnlyWhereNeeded, lines_of, line_text, is_long, next_number, fresh}
+use Rattle.tool_io.specs.Cutting.{Cutting, HasNoNewline, OnlyWhereNeeded, lines_of, line_text, fresh}
 use Rattle.tool_io.proofs.LogLaws.{taken-append, given-append, ended_from-append, Reads-taken, Reads-given, Reads-ended}
 use Rattle.tool_io.proofs.CutLaws.{lines_of-none, lines_of-long, is_long-row}
 use Rattle.tool_io.proofs.Prompting.{PromptBy, PromptBy-append, PromptBy-from, Prompt-from_by}
@@ -20,13 +20,13 @@ use Rattle.trace_watch.specs.declared.status.TraceWhy.TheVariants.{LongLine}
 use Rattle.trace_watch.specs.declared.status.Watched as watched
 use Rattle.trace_watch.specs.Trace.{TraceRows, trace_rows, due}
 use Rattle.trace_watch.specs.Stamped.{stamped_rows}
-use Rattle.trace_watch.specs.Watch.{OnlyRun, IsTold, Outcome, IsWatch}
+use Rattle.trace_watch.specs.Watch.{OnlyRun, IsTold, Outcome}
 use Rattle.trace_watch.proofs.LineLaws.{reads_prompt, OnlyRun-append, OnlyRun-reads, row_line}
 use Rattle.tool_runs.specs.declared.status.Status as status
 use Rattle.r2u2_runs.specs.ProgramBy.{file_refusal, program_by, header_in, begins_long, unless_long, unless_refused, program_over}
-use Rattle.r2u2_runs.specs.Outcome.{due_by, rows_by, Silent, AllTold, NeverRan, LinesOutcome}
+use Rattle.r2u2_runs.specs.Outcome.{due_by, rows_by, AllTold, LinesOutcome}
 use Rattle.r2u2_runs.specs.Run.{trace_of, trace_ended, lines_in, BegunFor, HasBegun, ReadsFirstLine}
-use Rattle.r2u2_runs.specs.Phases.{FirstRead, StandsFirst, IsFirst, header_of_row, header_at, FirstLog, RanLoop, NoMemory, NoProgram, HasProgram, RanRows, RanLines, status_of}
+use Rattle.r2u2_runs.specs.Phases.{FirstRead, StandsFirst, IsFirst, header_of_row, header_at, FirstLog, RanLoop, RanRows, RanLines, status_of}
 use Rattle.r2u2_runs.proofs.Refusing.{Refuses, IsMarked, program_refuses}
 
 -- no line says no row

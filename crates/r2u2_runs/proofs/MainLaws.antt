@@ -1,14 +1,14 @@
 -- The message behind a run, and what follows from a run without a fault.
 
-use Rattle.std.proofs.Common.{◌≡◌, ◌≢◌, ℕ, ◌≤◌, ◌<◌, ◌⊎◌, Bool, true, false, ◌||◌, Option, Result, Ok, Err, List, [], ◌∷◌, ◌++◌, length, map, refl, sym, ◌∙◌, ap, subst, inl, inr, arith}
+use Rattle.std.proofs.Common.{◌≡◌, ◌≢◌, ℕ, ◌≤◌, ◌<◌, ◌⊎◌, Bool, false, Option, Result, Ok, Err, List, [], ◌++◌, length, refl, sym, ◌∙◌, ap, subst, inl, inr, arith}
 use Rattle.std.proofs.lemmas.List.{append-nil}
 use Rattle.mltl_base.specs.declared.program.Program.{Program}
 use Rattle.tool_io.specs.declared.host.Place as place
 use Rattle.tool_io.specs.declared.host.Place.TheVariants.{Trace, Out}
 use Rattle.tool_io.specs.declared.host.Place.TheVariants as at
 use Rattle.tool_io.specs.declared.host.Put as put
-use Rattle.tool_io.specs.Log.{Event, Took, Gave, same_place, taken, given, ended_from, names_of, Prompt, Writes}
-use Rattle.tool_io.specs.Host.{Rose, RoseAt, WriteCause}
+use Rattle.tool_io.specs.Log.{Event, Took, taken, given, ended_from, names_of, Prompt, Writes}
+use Rattle.tool_io.specs.Host.{Rose, WriteCause}
 use Rattle.tool_io.specs.Cutting.{lines_of}
 use Rattle.tool_io.specs.Whole.{PutAllLog}
 use Rattle.tool_io.proofs.LogLaws.{taken-append, given-append, ended_from-append, names_of-append, Writes-given, Writes-given_elsewhere, Writes-taken, Writes-names, Writes-ended}
@@ -20,16 +20,16 @@ use Rattle.tool_runs.specs.declared.message.Tool.TheVariants.{R2u2}
 use Rattle.tool_runs.specs.declared.status.Status as status
 use Rattle.tool_runs.specs.Messages.{told_to_user}
 use Rattle.tool_runs.specs.Causes.{NoOtherRose, RunCause}
-use Rattle.tool_runs.specs.Attaching.{OpensAsTold, is_attached}
+use Rattle.tool_runs.specs.Attaching.{is_attached}
 use Rattle.tool_runs.specs.Files.{file_limit, file_place}
 use Rattle.tool_runs.specs.Telling.{ToldWhole}
-use Rattle.tool_runs.proofs.AttachLaws.{ReadsAttached-append, is_attached-append, opened_still, split_at, writes_unattached, writes_unread}
+use Rattle.tool_runs.proofs.AttachLaws.{ReadsAttached-append, opened_still, split_at, writes_unattached, writes_unread}
 use Rattle.tool_runs.proofs.CauseLaws.{err_stays, rose_at}
 use Rattle.r2u2_runs.specs.Demo.{DemoOutcome}
-use Rattle.r2u2_runs.specs.Asking.{Ask, help, over, demo, nothing, asked_names}
-use Rattle.r2u2_runs.specs.ProgramBy.{file_refusal, header_in, program_over}
+use Rattle.r2u2_runs.specs.Asking.{Ask, help, over, demo, nothing}
+use Rattle.r2u2_runs.specs.ProgramBy.{file_refusal, program_over}
 use Rattle.r2u2_runs.specs.Outcome.{due_by, StopsBy, LinesOutcome}
-use Rattle.r2u2_runs.specs.Run.{BegunFor, RefusesBehind, file_of, file_ended, trace_of, trace_ended, lines_in, found_in, IsReadable, FileOutcome, HelpOutcome, NothingOutcome, OutcomeOf, TriesSecond, IsPrompt, TellsFormulas, Ran, CompletesBy, Complete, IsRun}
+use Rattle.r2u2_runs.specs.Run.{BegunFor, RefusesBehind, file_of, file_ended, trace_of, trace_ended, lines_in, found_in, IsReadable, FileOutcome, HelpOutcome, NothingOutcome, OutcomeOf, TriesSecond, IsPrompt, TellsFormulas, Ran, Complete, IsRun}
 use Rattle.r2u2_runs.proofs.Telling.{settled_by}
 
 -- rows that end cleanly, and a program, where another end is told, or no program

@@ -1,6 +1,6 @@
 -- What a file and a header give, from the answers of the calls that read them.
 
-use Rattle.std.proofs.Common.{◌≡◌, ◌≢◌, ◌∙◌, ℕ, ◌==◌, Bool, true, false, if◌then◌else◌, Option, Some, None, Result, Ok, Err, List, map, IfOk, OnOk, IfErr, refl, sym, ap, subst}
+use Rattle.std.proofs.Common.{◌≡◌, ◌≢◌, ◌∙◌, ℕ, ◌==◌, Bool, true, false, if◌then◌else◌, Option, Some, None, Result, Ok, Err, List, map, IfOk, IfErr, refl, sym, ap, subst}
 use Rattle.mltl_base.specs.declared.program.Columns.{Columns}
 use Rattle.mltl_base.specs.declared.program.Program.{Program}
 use Rattle.c2po_tree.specs.ItemShape.{ItemShape}
@@ -19,7 +19,7 @@ use Rattle.spec_compile.specs.Refusals.{header_refusal, IsFirstRefusal}
 use Rattle.spec_compile.specs.Front.{items_in, refusal_in, first_refusal}
 use Rattle.spec_compile.specs.Limits.{limit_refusal}
 use Rattle.spec_compile.specs.Image.{over_columns, image}
-use Rattle.spec_compile.specs.Compiled.{columns_by, image_of_text}
+use Rattle.spec_compile.specs.Compiled.{columns_by}
 use Rattle.spec_compile.proofs.CompiledLaws.{header_answer, back_answers, back_refuses}
 use Rattle.r2u2_runs.specs.declared.opening.Opened.{Opened}
 use Rattle.r2u2_runs.specs.declared.opening.Opened.TheVariants as made
@@ -85,7 +85,7 @@ file_program source bytes header program found is spells same =
     subst (λ s. program_by s bytes header ≡ found) (sym is) (ap (opened_under header) spells ∙ same)
 
 -- a program of version 2 under a header
-under_line : (line : List ℕ) (program : Program) → program.version ≡ 2 → bound_under (Some line) program ≡ bound_over program (header_meaning (map (λ s. s.name) program.signals) line)
+pub under_line : (line : List ℕ) (program : Program) → program.version ≡ 2 → bound_under (Some line) program ≡ bound_over program (header_meaning (map (λ s. s.name) program.signals) line)
 under_line line program two =
     ap (λ (n : ℕ). if n == 2 then bound_over program (header_meaning (map (λ s. s.name) program.signals) line) else Ok program) two
 

@@ -1,6 +1,6 @@
 -- Which statuses a file, a header and the limits of a program give.
 
-use Rattle.std.proofs.Common.{◌≡◌, ◌∙◌, ℕ, ◌==◌, Bool, true, false, if◌then◌else◌, Option, Some, None, Result, Ok, Err, List, [], ◌∷◌, length, map, refl, sym, ap, subst}
+use Rattle.std.proofs.Common.{◌≡◌, ℕ, ◌==◌, Bool, true, false, if◌then◌else◌, Option, Some, None, Result, Ok, Err, List, [], ◌∷◌, length, map, sym, subst}
 use Rattle.std.specs.Prelude.{option_map}
 use Rattle.std.specs.Option.{option_or}
 use Rattle.mltl_base.specs.declared.program.Columns.{Columns}
@@ -25,7 +25,7 @@ use Rattle.trace_feed.specs.Header.{begins_header, times, first_place, column_of
 use Rattle.spec_compile.specs.declared.fault.CompileFault.{CompileFault}
 use Rattle.spec_compile.specs.declared.fault.CompileFault.TheVariants as compile
 use Rattle.spec_compile.specs.declared.fault.Refusal.TheVariants as limits
-use Rattle.spec_compile.specs.Refusals.{token_refusal, tree_refusal, check_refusal, header_refusal}
+use Rattle.spec_compile.specs.Refusals.{token_refusal, tree_refusal, check_refusal}
 use Rattle.spec_compile.specs.Front.{items_in, tokens_in, refusal_in, first_refusal}
 use Rattle.spec_compile.specs.Limits.{has_many_nodes, is_late, has_many_slots, limit_refusal}
 use Rattle.spec_compile.specs.Image.{over_columns, image}
@@ -34,7 +34,7 @@ use Rattle.spec_compile.specs.Compiled as text
 use Rattle.tool_runs.specs.declared.status.Status.{Status}
 use Rattle.tool_runs.specs.declared.status.Status.TheVariants.{Refused, BadProgram, BadTrace, Memory}
 use Rattle.tool_runs.specs.Files.{file_status}
-use Rattle.r2u2_runs.specs.ProgramBy.{compile_status, header_status, with_status, refusal_of, file_refusal, bound_over, bound_under, opened_under, program_by}
+use Rattle.r2u2_runs.specs.ProgramBy.{compile_status, with_status, refusal_of, file_refusal, bound_over, bound_under, opened_under, program_by}
 
 -- a status by which there is no program
 abbrev pub Refuses : Status → Type 0

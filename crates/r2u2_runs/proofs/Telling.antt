@@ -1,37 +1,23 @@
 -- What the lines of a run tell of the formulas of its file.
 
-use Rattle.std.proofs.Common.{◌≡◌, ◌∙◌, ℕ, Bool, true, false, Option, Some, None, Result, Ok, Err, List, map, refl, sym, ap}
+use Rattle.std.proofs.Common.{◌≡◌, ℕ, Bool, true, false, Option, Some, None, Result, Ok, Err, List, refl, ap}
 use Rattle.mltl_base.specs.declared.program.Columns.{Columns}
 use Rattle.mltl_base.specs.declared.program.Program.{Program}
 use Rattle.mltl_base.specs.declared.report.Style.{Style}
-use Rattle.mltl_base.specs.Atoms.{Row}
-use Rattle.mltl_base.specs.Lines.{lines, lines_of_reports}
-use Rattle.mltl_base.specs.Programs.{outputs, output_names}
-use Rattle.mltl_base.specs.Reports.{Output, reports}
-use Rattle.mltl_base.specs.Subformulas.{Asked}
-use Rattle.mltl_base.proofs.Telling.{told_words, reports_rise}
-use Rattle.mltl_base.proofs.Words.{word_settled, word_known}
 use Rattle.mltl_base.specs.declared.signal.Signal.{Signal}
+use Rattle.mltl_base.specs.Atoms.{Row}
+use Rattle.mltl_base.specs.Subformulas.{Asked}
 use Rattle.trace_feed.specs.declared.header_fault.HeaderFault.{HeaderFault}
 use Rattle.tool_words.specs.R2u2Words.{RunAsked}
 use Rattle.spec_compile.specs.declared.fault.CompileFault.{CompileFault}
 use Rattle.spec_compile.specs.Front.{first_refusal}
-use Rattle.spec_compile.specs.Image.{plain_outputs}
 use Rattle.spec_compile.specs.Compiled.{columns_by, signals_in, outputs_in, image_under, image_of_text}
 use Rattle.spec_compile.specs.Compiled as text
 use Rattle.spec_compile.proofs.TellingLaws.{text_reports, text_names}
 use Rattle.tool_runs.specs.declared.status.Status.{Status}
 use Rattle.r2u2_runs.specs.ProgramBy.{compile_status, with_status, file_refusal, program_by, header_in, begins_long, unless_long, unless_refused, program_over}
-use Rattle.r2u2_runs.specs.Settled.{AreSettled, TellsOf, TellsFile, IsSettledBy}
-
--- the reports of any outputs are settled after any rows
-are_settled : (style : Style) (outs : List Output) (rows : List Row) → AreSettled style outs rows
-are_settled style outs rows = record {
-  each_once = λ k o is. told_words style k outs rows o is;
-  in_order = λ k o is. reports_rise style k outs rows o is;
-  settled = λ o t w is. word_settled rows o t w is;
-  in_time = λ o t early. word_known rows o t early;
-}
+use Rattle.r2u2_runs.specs.Formulas.{TellsSource, TellsFile, IsSettledBy}
+use Rattle.r2u2_runs.proofs.ImageFiles.{program_told, tells_text}
 
 -- a program that was found was found without its statuses, in spite of refusals, and of a long line
 status_found : (found : Result Program CompileFault) (program : Program) → with_status compile_status found ≡ Ok program → found ≡ Ok program
@@ -67,23 +53,15 @@ columns_found bytes header program is =
     columns_under (signals_in bytes) (outputs_in bytes) (columns_by (signals_in bytes) header) program
     (text_found (first_refusal bytes) (image_under (signals_in bytes) (outputs_in bytes) (columns_by (signals_in bytes) header)) program is)
 
-tells_text : (style : Style) (bytes : List ℕ) (header : Option (List ℕ)) (program : Program) (rows : List Row) → image_of_text bytes header ≡ Ok program → TellsFile true style bytes header program rows
-tells_text style bytes header program rows is =
+tells_source : (style : Style) (bytes : List ℕ) (header : Option (List ℕ)) (program : Program) (rows : List Row) → image_of_text bytes header ≡ Ok program → TellsSource style bytes header program rows
+tells_source style bytes header program rows is =
     let found = columns_found bytes header program is in
-    let plain = plain_outputs found.0 (outputs_in bytes) in (
-      found.0,
-      found.1,
-      record {
-        lines_are = ap (λ names. lines_of_reports names (reports style (outputs program) rows)) (text_names bytes header found.0 program is found.1)
-            ∙ ap (lines_of_reports (map (λ (o : Asked). o.name) (outputs_in bytes))) (text_reports style bytes header found.0 program rows is found.1);
-        settled = are_settled style plain rows;
-      },
-    )
+    (found.0, found.1, tells_text style bytes found.0 program rows (text_names bytes header found.0 program is found.1) (text_reports style bytes header found.0 program rows is found.1))
 
 tells_file : (source : Bool) (style : Style) (bytes : List ℕ) (header : Option (List ℕ)) (program : Program) (rows : List Row) → program_by source bytes header ≡ Ok program → TellsFile source style bytes header program rows
 unfolding program_by
-tells_file true style bytes header program rows is = tells_text style bytes header program rows (status_found (image_of_text bytes header) program is)
-tells_file false style bytes header program rows is = record { lines_are = refl; settled = are_settled style (outputs program) rows }
+tells_file true style bytes header program rows is = tells_source style bytes header program rows (status_found (image_of_text bytes header) program is)
+tells_file false style bytes header program rows is = program_told style bytes header program rows is
 
 pub settled_by : (asked : RunAsked) (bytes : List ℕ) (raws : List (List ℕ)) (ended : Bool) (trace : List ℕ) → IsSettledBy asked bytes (header_in raws) (program_over asked.source bytes raws) ended trace
 settled_by asked bytes raws ended trace program is rows more split = tells_file asked.source asked.style bytes (header_in raws) program rows (over_found asked.source bytes raws program is)

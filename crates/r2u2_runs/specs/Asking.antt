@@ -1,10 +1,8 @@
 -- What the words of r2u2 ask for, of what it does.
 
-use Rattle.std.specs.Prelude.{ℕ, Bool, true, false, List, [], ◌∷◌}
-use Rattle.mltl_base.specs.declared.limits.TheConstants.{MAX_SPEC_BYTES, MAX_PROGRAM_BYTES}
+use Rattle.std.specs.Prelude.{ℕ, List, [], ◌∷◌}
 use Rattle.tool_io.specs.declared.host.Place.{Place}
-use Rattle.tool_io.specs.declared.host.Place.TheVariants.{Spec, Program, Trace}
-use Rattle.tool_words.specs.declared.r2u2_words.R2u2Ask.{R2u2Ask}
+use Rattle.tool_io.specs.declared.host.Place.TheVariants.{Trace}
 use Rattle.tool_words.specs.R2u2Words.{Asked, RunAsked, asked_of}
 use Rattle.tool_words.specs.R2u2Words as words
 use Rattle.tool_runs.specs.Files.{file_place}

@@ -2,7 +2,6 @@
 
 use Rattle.std.specs.Prelude.{◌≡◌, ℕ, ◌⊎◌, Bool, true, false, if◌then◌else◌, IsSome, Option, Some, None, Result, Ok, Err, List, []}
 use Rattle.mltl_base.specs.declared.program.Program.{Program}
-use Rattle.mltl_base.specs.Atoms.{Row}
 use Rattle.tool_io.specs.declared.host.Place.TheVariants.{Trace, Out}
 use Rattle.tool_io.specs.Log.{IsProperFront}
 use Rattle.tool_io.specs.Cutting.{lines_of}

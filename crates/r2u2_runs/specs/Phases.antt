@@ -1,16 +1,11 @@
 -- What each phase of a run tells.
 
-use Rattle.std.specs.Prelude.{◌≡◌, ℕ, ◌<◌, ◌≤◌, ◌⊎◌, Bool, true, false, if◌then◌else◌, Option, Some, None, Result, Ok, Err, List, [], ◌∷◌, ◌++◌, length, Vec}
+use Rattle.std.specs.Prelude.{◌≡◌, ℕ, ◌<◌, ◌≤◌, ◌⊎◌, Bool, true, false, if◌then◌else◌, Option, Some, None, Result, Ok, Err, List, [], ◌∷◌, ◌++◌, length}
 use Rattle.std.specs.List.{concat}
-use Rattle.std.specs.declared.alloc.Global.{Global}
 use Rattle.mltl_base.specs.declared.program.Program.{Program}
 use Rattle.tool_io.specs.declared.host.Place as place
-use Rattle.tool_io.specs.declared.whole.WholeFault.{WholeFault}
-use Rattle.tool_io.specs.declared.whole.WholeFault.TheVariants as fault
-use Rattle.tool_io.specs.Log.{Event, Attached, Missed, taken, given, ended_from, names_of, IsFront, Reads, meets_end, Prompt, WritesFront, Writes}
-use Rattle.tool_io.specs.Host.{NoFault}
-use Rattle.tool_io.specs.Whole.{Takes}
-use Rattle.tool_io.specs.Cutting.{Cutting, HasNoNewline, IsRow, OnlyWhereNeeded, line_text, lines_of, next_number}
+use Rattle.tool_io.specs.Log.{Event, taken, given, ended_from, names_of, IsFront, Reads, meets_end, Prompt}
+use Rattle.tool_io.specs.Cutting.{Cutting, HasNoNewline, IsRow, OnlyWhereNeeded, line_text, next_number}
 use Rattle.c2po_tree.specs.ItemShape.{spec_shape}
 use Rattle.obs_files.specs.Faults.{opened}
 use Rattle.spec_compile.specs.Front.{items_in, first_refusal}
@@ -20,12 +15,9 @@ use Rattle.mltl_monitor.specs.declared.state.State.{State}
 use Rattle.trace_watch.specs.declared.status.TraceWhy.TheVariants.{LongLine}
 use Rattle.trace_watch.specs.declared.status.Watched as watched
 use Rattle.trace_watch.specs.Watch.{OnlyRun, IsWatch, first_of}
-use Rattle.tool_runs.specs.declared.message.Tool.TheVariants.{R2u2}
 use Rattle.r2u2_runs.specs.declared.opening.Opened.{Opened}
 use Rattle.r2u2_runs.specs.declared.opening.Opened.TheVariants as file
 use Rattle.tool_runs.specs.declared.status.Status as status
-use Rattle.tool_runs.specs.Messages.{usage}
-use Rattle.tool_runs.specs.Causes.{RunCause}
 use Rattle.tool_runs.specs.Attaching.{OpensAsTold, ReadsAttached}
 use Rattle.tool_runs.specs.Files.{file_place}
 use Rattle.r2u2_runs.specs.ProgramBy.{file_refusal, program_by, program_over}

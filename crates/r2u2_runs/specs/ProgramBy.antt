@@ -1,13 +1,12 @@
 -- The program that runs over the lines of a trace, or what refuses it: a specification compiled over the header of the
 -- trace, or a program file whose stored signals stand in the columns of that header.
 
-use Rattle.std.specs.Prelude.{ℕ, ◌≡◌, ◌==◌, Bool, true, false, if◌then◌else◌, Option, Some, None, option_map, Result, Ok, Err, List, [], ◌∷◌, map}
+use Rattle.std.specs.Prelude.{ℕ, ◌==◌, Bool, true, false, if◌then◌else◌, Option, Some, None, option_map, Result, Ok, Err, List, [], ◌∷◌, map}
 use Rattle.mltl_base.specs.declared.program.Columns.{Columns}
 use Rattle.mltl_base.specs.declared.program.Program.{Program}
 use Rattle.tool_io.specs.Cutting.{line_text, is_long}
 use Rattle.obs_verify.specs.Bound.{bound}
 use Rattle.obs_files.specs.declared.fault.FileFault.{FileFault}
-use Rattle.obs_files.specs.declared.fault.FileFault.TheVariants as file_fault
 use Rattle.obs_files.specs.Faults.{opened}
 use Rattle.trace_feed.specs.declared.header_fault.HeaderFault.{HeaderFault}
 use Rattle.trace_feed.specs.declared.header_fault.HeaderFault.TheVariants as header_fault
@@ -19,7 +18,7 @@ use Rattle.spec_compile.specs.declared.fault.HeaderWhy.TheVariants as why
 use Rattle.spec_compile.specs.Front.{first_refusal}
 use Rattle.spec_compile.specs.Compiled.{image_of_text}
 use Rattle.tool_runs.specs.declared.status.Status.{Status}
-use Rattle.tool_runs.specs.declared.status.Status.TheVariants.{Refused, BadProgram, BadHeader, BadTrace, OpenFault, ReadFault, WriteFault, Memory}
+use Rattle.tool_runs.specs.declared.status.Status.TheVariants.{Refused, BadHeader, BadTrace, Memory}
 use Rattle.tool_runs.specs.Files.{file_status}
 
 -- the status of a run whose specification isn't compiled; the header is the first line of its trace

@@ -1,10 +1,9 @@
 -- What a whole run of r2u2 tells: from its words to its message.
 
-use Rattle.std.specs.Prelude.{◌≡◌, ◌≢◌, ℕ, ◌<◌, ◌≤◌, ◌⊎◌, Bool, true, false, ◌||◌, MatchBool, Option, None, Result, List, [], ◌∷◌, ◌++◌, length}
+use Rattle.std.specs.Prelude.{◌≡◌, ◌≢◌, ℕ, ◌<◌, ◌≤◌, ◌⊎◌, Bool, true, false, Option, None, Result, List, [], ◌∷◌, ◌++◌, length}
 use Rattle.mltl_base.specs.declared.program.Program.{Program}
 use Rattle.tool_io.specs.declared.host.Place as place
-use Rattle.tool_io.specs.Log.{Event, Attached, Took, same_place, taken, given, ended_from, names_of, IsFront, IsProperFront, Prompt}
-use Rattle.tool_io.specs.Host.{Rose, NoFault, RoseAt}
+use Rattle.tool_io.specs.Log.{Event, Took, taken, given, ended_from, names_of, IsFront, IsProperFront, Prompt}
 use Rattle.tool_io.specs.Cutting.{HasNoNewline, lines_of}
 use Rattle.tool_words.specs.R2u2Words.{RunAsked}
 use Rattle.mltl_monitor.specs.declared.state.State.{State}
@@ -20,7 +19,7 @@ use Rattle.r2u2_runs.specs.Asking.{Ask, help, over, demo, nothing, asked_names}
 use Rattle.r2u2_runs.specs.ProgramBy.{file_refusal, header_in, program_over}
 use Rattle.r2u2_runs.specs.Demo.{DemoOutcome}
 use Rattle.r2u2_runs.specs.Outcome.{due_by, Silent, StopsBy, LinesOutcome}
-use Rattle.r2u2_runs.specs.Settled.{IsSettledBy}
+use Rattle.r2u2_runs.specs.Formulas.{IsSettledBy}
 
 -- the bytes of the file that were taken, and whether its end was met
 abbrev pub file_of : RunAsked → List Event → List ℕ

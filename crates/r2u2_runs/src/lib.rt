@@ -12,9 +12,11 @@
 #![tactic(auto)]
 
 mod demo;
+mod laws;
 mod opening;
 mod r2u2_run;
 mod reading;
 mod running;
 
+pub use laws::images_tell_their_texts;
 pub use r2u2_run::r2u2_main;

@@ -1,4 +1,4 @@
-use Rattle.std.proofs.Common.{◌≡◌, ℕ, Bool, true, false, if◌then◌else◌, List, subst, sym}
+use Rattle.std.proofs.Common.{ℕ, Bool, if◌then◌else◌, List, subst, sym}
 use Rattle.mltl_monitor.specs.Monitoring.{program_of}
 use Rattle.tool_io.proofs.LogLaws.{OnLog-map}
 use Rattle.trace_watch.specs.Trace.{trace_rows}
