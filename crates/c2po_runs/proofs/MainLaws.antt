@@ -1,6 +1,7 @@
 -- The message behind a run, and what follows from a run without a fault.
 
 use Rattle.std.proofs.Common.{◌≡◌, ◌≢◌, ℕ, ◌≤◌, ◌⊎◌, Bool, true, false, ◌||◌, Result, Ok, Err, List, [], ◌∷◌, ◌++◌, length, map, refl, sym, ◌∙◌, ap, subst, inl, inr, arith}
+use Rattle.std.proofs.Math.Bool.{or-false}
 use Rattle.std.proofs.lemmas.List.{append-nil}
 use Rattle.tool_io.specs.declared.host.Place as place
 use Rattle.tool_io.specs.declared.host.Place.TheVariants as at
@@ -25,10 +26,6 @@ use Rattle.c2po_runs.specs.Run.{Seen, seen, place_of, TriesOf, TriesInTurn, Writ
 use Rattle.c2po_runs.specs.Made.{made}
 use Rattle.c2po_runs.proofs.LogLaws.{writes-append}
 use Rattle.c2po_runs.proofs.GatherRuns.{same_seen}
-
-or_false : (b : Bool) → (b || false) ≡ b
-or_false true = refl
-or_false false = refl
 
 -- bytes that are made aren't refused
 not_refused : (answer : status.Status) (bytes : List ℕ) (found : Result (List ℕ) status.Status) → found ≡ Ok bytes → found ≡ Err answer → ⊥
@@ -85,7 +82,7 @@ module _ (first second : List Event) (sent : List ℕ) (writes : Writes at.Err s
   unattached p = ap (is_attached p) writes.are ∙ writes_unattached p writes.pieces
 
   all_attached : is_attached at.Out all ≡ is_attached at.Out first
-  all_attached = is_attached-append at.Out first second ∙ ap (λ v. is_attached at.Out first || v) (unattached at.Out) ∙ or_false (is_attached at.Out first)
+  all_attached = is_attached-append at.Out first second ∙ ap (λ v. is_attached at.Out first || v) (unattached at.Out) ∙ or-false (is_attached at.Out first)
 
   all_seen : (asked : MakeAsked) → seen asked all ≡ seen asked first
   all_seen asked = same_seen (seen asked all) (seen asked first) all_names (all_taken (place_of asked)) (all_ended (place_of asked))

@@ -14,6 +14,7 @@ use Rattle.mltl_base.specs.declared.report.Style.TheVariants.{Each, Runs}
 use Rattle.mltl_base.specs.Atoms.{Row}
 use Rattle.mltl_base.specs.Programs.{output_of, outputs}
 use Rattle.mltl_base.specs.Reports.{Output, words, same_word, goes_on, of_words}
+use Rattle.mltl_base.proofs.Telling.{same_word_self}
 use Rattle.mltl_base.proofs.Words.{words_fit}
 use Rattle.contract_status.specs.declared.cursor.Cursor.{Cursor}
 use Rattle.contract_status.specs.declared.engines.Engines.{Engines}
@@ -74,13 +75,6 @@ each_first k p ws w there =
     rw (drop_more ws p w (slice_get_within ws p w there), here, add-one p) refl
 
 -- whether the next word is the same
-same_word_self : (w : Word) → same_word w w ≡ true
-same_word_self True = refl
-same_word_self False = refl
-same_word_self Inactive = refl
-same_word_self Invalid = refl
-same_word_self Verified = refl
-
 same_word_other : (v w : Word) → v ≢ w → same_word v w ≡ false
 same_word_other True True differ = absurd (differ refl)
 same_word_other False False differ = absurd (differ refl)

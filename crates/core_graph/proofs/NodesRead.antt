@@ -3,7 +3,7 @@
 use Rattle.std.proofs.Common.{◌≡◌, ℕ, ℤ, ◌+◌, ◌<◌, Bool, true, false, Some, List, [], ◌∷◌, ◌++◌, length, take, get_or, slice_get, slice_index, refl, sym, subst, ap, ap₂, ◌∙◌, arith, inl, inr}
 use Rattle.std.specs.Prelude.{Result, IfOk}
 use Rattle.std.proofs.lemmas.List.{length_push, take_more}
-use Rattle.std.proofs.lemmas.Option.{slice_get-get_or, same_Some}
+use Rattle.std.proofs.lemmas.Option.{same_Some, slice_get-get_or}
 use Rattle.mltl_base.specs.declared.operators.ArithOp as arith_op
 use Rattle.mltl_base.specs.declared.operators.CompareOp as compare
 use Rattle.mltl_base.specs.declared.operators.LogicOp as logic
@@ -15,7 +15,7 @@ use Rattle.mltl_base.specs.Formula.{Formula, Core, core, core_atom, neg, formula
 use Rattle.plain_nodes.specs.declared.nodes.Plain.{Plain}
 use Rattle.plain_nodes.specs.declared.nodes.Plain.TheVariants.{Truth, Flag, Number, Signal, Minus, Arith, Compare, Not, Logic, Window, Between}
 use Rattle.plain_nodes.specs.Nodes as plain
-use Rattle.plain_nodes.proofs.Places.{at_push}
+use Rattle.plain_nodes.proofs.Places.{at_push, node_there}
 use Rattle.plain_nodes.proofs.Pushing as pushing
 use Rattle.core_graph.specs.declared.item.Item.{Item}
 use Rattle.core_graph.specs.declared.item.Item.TheVariants as item
@@ -24,10 +24,6 @@ use Rattle.core_graph.specs.Items.{arith_sign, tree_at, tree_of, trees, Has, Gro
 use Rattle.core_graph.specs.Images.{of_term, of_core}
 use Rattle.core_graph.specs.Reading.{Stands, AreRead}
 use Rattle.core_graph.proofs.Outputs.{number_there, formula_there}
-
--- the node that an arm has found
-pub node_there : (nodes : List Plain) (i : ℕ) (node : Plain) → i < length nodes → get_or nodes i (Truth false) ≡ node → slice_get nodes i ≡ Some node
-node_there nodes i node l e = slice_get-get_or nodes i (Truth false) l ∙ ap Some e
 
 pub same_node : (nodes : List Plain) (i : ℕ) (found node : Plain) → i < length nodes → get_or nodes i (Truth false) ≡ found → slice_get nodes i ≡ Some node → found ≡ node
 same_node nodes i found node l e g = same_Some found node (sym (node_there nodes i found l e) ∙ g)

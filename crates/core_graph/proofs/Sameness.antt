@@ -8,6 +8,7 @@ use Rattle.mltl_base.specs.Atoms.{Term, column, constant, negative, plus, minus,
 use Rattle.mltl_base.specs.Formula.{Core, ctrue, catom, cnot, cand, cuntil, csince}
 use Rattle.mltl_base.specs.Programs.{Expression, whole, truth}
 use Rattle.mltl_base.specs.Subformulas.{same_interval, same_term, same_atom, same_expression, same}
+use Rattle.mltl_base.proofs.Sameness.{same_interval_sound}
 use Rattle.core_graph.specs.Trees.{Sign, negative_sign, plus_sign, minus_sign, times_sign, quotient_sign, remainder_sign, equal_sign, less_sign, at_most_sign, different_sign, greater_sign, at_least_sign, true_sign, load_sign, not_sign, and_sign, sign_number, Label, sign, in_column, truth_in, number, until_in, since_in, same_label, root, Tree, leaf, one, two, same_tree}
 use Rattle.core_graph.specs.Images.{of_term, of_atom, of_expression, of_core}
 
@@ -35,13 +36,6 @@ sign_back true_sign = refl
 sign_back load_sign = refl
 sign_back not_sign = refl
 sign_back and_sign = refl
-
-same_interval_sound : (i j : Interval) → same_interval i j ≡ true → i ≡ j
-same_interval_sound i j e =
-    let p = and_parts (i.lo == j.lo) (i.hi == j.hi) e in
-    let l : i.lo ≡ j.lo = eqb-true i.lo j.lo p.0 in
-    let h : i.hi ≡ j.hi = eqb-true i.hi j.hi p.1 in
-    λ k. record { lo = l k; hi = h k }
 
 same_label_sound : (l m : Label) → same_label l m ≡ true → l ≡ m
 same_label_sound (sign s) (sign t) e = ap sign (sym (sign_back s) ∙ (ap sign_at (eqb-true (sign_number s) (sign_number t) e) ∙ sign_back t))

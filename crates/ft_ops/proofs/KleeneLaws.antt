@@ -4,6 +4,7 @@ use Rattle.std.proofs.lemmas.Bool.{cases_eq}
 use Rattle.mltl_base.specs.declared.interval.Interval.{Interval}
 use Rattle.mltl_base.specs.Kleene.{k_not, k_and, k_or, k_some_below, k_every_below, k_every_in}
 use Rattle.mltl_base.specs.Verdicts.{Known, k_until}
+use Rattle.mltl_base.proofs.CoreVerdicts.{every_known}
 
 -- two values
 pub and_false_left : (x y : Option Bool) → x ≡ Some false → k_and x y ≡ Some false
@@ -113,11 +114,6 @@ some_none (suc n) f i i_in e each = elim (cases_eq i n) [
 ]
 
 -- every place below n
-pub every_true : (n : ℕ) (f : ℕ → Option Bool) → ((i : ℕ) → i < n → f i ≡ Some true) → k_every_below n f ≡ Some true
-unfolding k_every_below
-every_true zero f each = refl
-every_true (suc n) f each = and_true _ _ (every_true n f (λ i h. each i (omega arith))) ∙ each n (omega arith)
-
 pub every_false : (n : ℕ) (f : ℕ → Option Bool) (i : ℕ) → i < n → f i ≡ Some false → k_every_below n f ≡ Some false
 unfolding k_every_below
 every_false zero f i i_in e = absurd (omega arith)
@@ -149,7 +145,7 @@ every_none (suc n) f i i_in e each = elim (cases_eq i n) [
 
 -- p holds at t + j from the lower end on and before k
 pub before_true : (i : Interval) (p : Known) (t k : ℕ) → ((j : ℕ) → i.lo ≤ j → j < k → p (t + j) ≡ Some true) → k_every_in i.lo k (λ j. p (t + j)) ≡ Some true
-before_true i p t k each = every_true (k - i.lo) (λ j. p (t + (i.lo + j))) (λ j h. each (i.lo + j) (omega arith) (omega arith))
+before_true i p t k each = every_known (k - i.lo) (λ j. p (t + (i.lo + j))) (λ j h. each (i.lo + j) (omega arith) (omega arith))
 
 pub before_false : (i : Interval) (p : Known) (t k j : ℕ) → i.lo ≤ j → j < k → p (t + j) ≡ Some false → k_every_in i.lo k (λ m. p (t + m)) ≡ Some false
 before_false i p t k j from to e =

@@ -4,7 +4,7 @@ use Rattle.std.specs.List.{slice_get}
 use Rattle.std.proofs.lemmas.Bool.{cases_lt, cases_Bool}
 use Rattle.std.proofs.lemmas.Bool.Decides.{nat_tests}
 use Rattle.std.proofs.lemmas.List.Folds.{list_any-append}
-use Rattle.std.proofs.Math.Bool.{and-false, and-true, or-false}
+use Rattle.std.proofs.Math.Bool.{and-false, and-true, or-false, or_assoc}
 use Rattle.mltl_base.specs.declared.interval.Interval.{Interval}
 use Rattle.mltl_base.specs.Meaning.{within}
 use Rattle.pt_boxes.specs.declared.boxes.Span.{Span}
@@ -51,10 +51,6 @@ in_some_first i n (t ∷ ts) s a e =
 covers_joined : (s new : Span) (u : ℕ) → s.first ≤ new.first → s.last ≤ new.last → new.first ≤ s.last + 1 → covers (record { first = s.first; last = new.last }) u ≡ (covers s u || covers new u)
 covers_joined s new u from to touch = grind (arith, nat_tests)
 
-or_or : (x y z : Bool) → (x || (y || z)) ≡ ((x || y) || z)
-or_or true y z = refl
-or_or false y z = refl
-
 in_some-prolonged : (i : Interval) (n low : ℕ) (new : Span) (u : ℕ) (boxes : List Span) → AreApart i n low boxes → new.last + 1 ≡ n + i.hi → n + i.lo ≡ new.first + 1 → i.lo ≤ i.hi → meets new.first boxes ≡ true
     → in_some (prolonged new.last boxes) u ≡ (in_some boxes u || covers new u)
 unfolding AreApart meets prolonged
@@ -64,7 +60,7 @@ in_some-prolonged i n low new u (s ∷ []) a last first ordered met =
     let joined = covers_joined s new u (omega (arith, a.1, a.3)) (omega (arith, a.3)) touch in
     or-false _ ∙ joined ∙ ap (λ (b : Bool). b || covers new u) (sym (or-false (covers s u)))
 in_some-prolonged i n low new u (s ∷ s' ∷ ss) a last first ordered met =
-    ap (λ (b : Bool). covers s u || b) (in_some-prolonged i n (s.last + 2) new u (s' ∷ ss) a.4 last first ordered met) ∙ or_or (covers s u) (in_some (s' ∷ ss) u) (covers new u)
+    ap (λ (b : Bool). covers s u || b) (in_some-prolonged i n (s.last + 2) new u (s' ∷ ss) a.4 last first ordered met) ∙ sym (or_assoc (covers s u) (in_some (s' ∷ ss) u) (covers new u))
 
 -- a stretch more covers its times too
 pub in_some-with_stretch : (i : Interval) (n u : ℕ) (boxes : List Span) → i.lo ≤ i.hi → AreApart i (n + 1) 0 boxes → n ≤ u

@@ -10,6 +10,7 @@ use Rattle.c2po_tree.specs.Names.{ArePlainItems}
 use Rattle.c2po_types.specs.FirstFault.{first_fault}
 use Rattle.c2po_types.specs.Signals.{signals_of}
 use Rattle.mltl_base.specs.Subformulas.{IsTensed}
+use Rattle.plain_nodes.specs.Faults.{HasRanges}
 use Rattle.plain_nodes.specs.declared.nodes.Plain.{Plain}
 use Rattle.plain_nodes.specs.declared.nodes.Expanded.{Expanded}
 use Rattle.plain_nodes.specs.Nodes.{trees, AreSound}
@@ -17,7 +18,7 @@ use Rattle.plain_nodes.specs.Outputs.{NamesFormulas, asked_by, asked, IsSound}
 use Rattle.unfold.specs.Stands.{nodes_of}
 use Rattle.set_expand.specs.declared.progress.Progress.{Progress}
 use Rattle.mltl_base.specs.Kinds.{ReadsSignals, kinds_of}
-use Rattle.set_expand.specs.Outputs.{HasPlainName, HasRanges, asked_from, outputs_of}
+use Rattle.set_expand.specs.Outputs.{HasPlainName, asked_from, outputs_of}
 use Rattle.set_expand.specs.Standing.{Leaves}
 use Rattle.set_expand.proofs.Faultless.{faultless-ranged, faultless-tensed}
 use Rattle.set_expand.proofs.Labelling.{plain_outputs}

@@ -17,7 +17,7 @@ use Rattle.c2po_kinds.specs.declared.fault.TypeFault.{TypeFault}
 use Rattle.c2po_kinds.specs.declared.fault.TypeFault.TheVariants.{Wide, Tense}
 use Rattle.c2po_kinds.specs.Checking.{Checked, ◌>>=◌, in_turn}
 use Rattle.c2po_kinds.specs.Items.{Labels, with_struct, with_input, define_kind, with_value, with_label, formula_kind, contract_kind}
-use Rattle.plain_nodes.specs.Faults.{formula_fault}
+use Rattle.plain_nodes.specs.Faults.{HasRanges, formula_fault}
 use Rattle.unfold.specs.Faults.{value_fault}
 use Rattle.unfold.specs.Values.{weight, formula_of}
 use Rattle.unfold.specs.Environment.{declare, fields, value, value_of}
@@ -25,7 +25,7 @@ use Rattle.c2po_types.specs.FirstFault.{State, start, ranged, one_tense, with_si
 use Rattle.c2po_types.specs.Signals.{body_signals, signals_of}
 use Rattle.c2po_types.proofs.Parts.{bind-ok, unless-ok, when-ok, ranged-ok, ok-inj}
 use Rattle.c2po_types.proofs.SignalLaws.{checked-signals}
-use Rattle.set_expand.specs.Outputs.{Place, before, name_of, values_behind, asked_at, behind, asked_from, outputs_of, HasRanges}
+use Rattle.set_expand.specs.Outputs.{Place, before, name_of, values_behind, asked_at, behind, asked_from, outputs_of}
 use Rattle.set_expand.specs.Weights.{IsLight, AreLight}
 use Rattle.set_expand.proofs.Tensing.{of_tense}
 

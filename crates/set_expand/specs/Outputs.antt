@@ -1,12 +1,11 @@
 -- What the outputs of a specification ask for: the plain formulas that their expressions stand for.
 
-use Rattle.std.specs.Prelude.{ℕ, ◌+◌, ◌≡◌, Option, Some, None, List, [], ◌∷◌, ◌++◌, length, map, All, decimal}
+use Rattle.std.specs.Prelude.{ℕ, ◌+◌, Option, Some, None, List, [], ◌∷◌, ◌++◌, length, map, decimal}
 use Rattle.mltl_base.specs.Reports.{formula, contract}
-use Rattle.mltl_base.specs.Subformulas.{Asked, formulas_of}
+use Rattle.mltl_base.specs.Subformulas.{Asked}
 use Rattle.c2po_tree.specs.ItemShape as item
 use Rattle.c2po_tree.specs.ItemShape.{BodyShape, ItemShape}
 use Rattle.c2po_tree.specs.Names.{IsPlainName}
-use Rattle.plain_nodes.specs.Faults.{formula_fault}
 use Rattle.unfold.specs.Values.{formula_of}
 use Rattle.unfold.specs.Environment.{Env, no_names, declare, fields, value, value_of}
 use Rattle.c2po_types.specs.FirstFault.{with_signals}
@@ -67,10 +66,6 @@ asked_from (i ∷ items) p = asked_at i.body p ++ asked_from items (behind i.bod
 -- the outputs of a specification in order, counted from 0
 unfoldable pub outputs_of : List ItemShape → List Asked
 outputs_of items = asked_from items before
-
--- each whole number of the output has a range, and each divisor is a number other than 0
-abbrev pub HasRanges : Asked → Type 0
-HasRanges asked = All (λ p. formula_fault p ≡ None) (formulas_of asked.output)
 
 -- the output's name is made of letters, digits and `_`
 abbrev pub HasPlainName : Asked → Type 0

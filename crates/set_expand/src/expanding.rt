@@ -8,11 +8,12 @@ ghost use Rattle.mltl_base.specs.Meaning.{count, sat};
 ghost use Rattle.c2po_tree.specs.ItemShape.{item_shape, spec_shape};
 ghost use Rattle.c2po_types.specs.Signals.{signals_of};
 ghost use Rattle.count_sets.specs.Counting.{compares, counting};
+ghost use Rattle.plain_nodes.specs.Faults.{HasRanges};
 ghost use Rattle.plain_nodes.specs.Outputs.{IsSound, asked};
 ghost use Rattle.unfold.specs.Values.{counted_formula};
 ghost use Rattle.unfold.specs.declared.fault.UnfoldFault.TheVariants.{Memory};
 ghost use Rattle.mltl_base.specs.Kinds.{ReadsSignals, kinds_of};
-ghost use Rattle.set_expand.specs.Outputs.{HasPlainName, HasRanges, before, outputs_of};
+ghost use Rattle.set_expand.specs.Outputs.{HasPlainName, before, outputs_of};
 ghost use Rattle.set_expand.specs.Standing.{Leaves};
 ghost use Rattle.set_expand.specs.Weights.{AreLight};
 

@@ -1,6 +1,7 @@
 -- Which places a log attached, over one log after another.
 
 use Rattle.std.proofs.Common.{◌≡◌, ℕ, ◌⊎◌, Bool, true, false, ◌||◌, List, [], ◌∷◌, ◌++◌, map, refl, sym, ◌∙◌, ap, subst, inl, inr}
+use Rattle.std.proofs.Math.Bool.{or-false}
 use Rattle.tool_io.specs.declared.host.Place as place
 use Rattle.tool_io.specs.declared.host.Place.TheVariants as at
 use Rattle.tool_io.specs.Log.{Event, Attached, Missed, Took, Gave, same_place}
@@ -80,11 +81,7 @@ pub writes_unattached : (p : place.Place) (pieces : List (List ℕ)) → is_atta
 writes_unattached p [] = refl
 writes_unattached p (piece ∷ pieces) = writes_unattached p pieces
 
-or_false : (b : Bool) → (b || false) ≡ b
-or_false true = refl
-or_false false = refl
-
 pub opened_still : (answer : status.Status) (first second : List Event) → ((p : place.Place) → is_attached p second ≡ false) → OpensAsTold answer first → OpensAsTold answer (first ++ second)
-opened_still (status.TheVariants.OpenFault p) first second none is = is_attached-append p first second ∙ ap (λ v. is_attached p first || v) (none p) ∙ or_false (is_attached p first) ∙ is
-opened_still (status.TheVariants.ReadFault p) first second none is = is_attached-append p first second ∙ ap (λ v. is_attached p first || v) (none p) ∙ or_false (is_attached p first) ∙ is
+opened_still (status.TheVariants.OpenFault p) first second none is = is_attached-append p first second ∙ ap (λ v. is_attached p first || v) (none p) ∙ or-false (is_attached p first) ∙ is
+opened_still (status.TheVariants.ReadFault p) first second none is = is_attached-append p first second ∙ ap (λ v. is_attached p first || v) (none p) ∙ or-false (is_attached p first) ∙ is
 opened_still answer first second none is = tt
