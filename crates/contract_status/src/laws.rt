@@ -51,10 +51,12 @@ pub fn drained_places_are_wide()
 /// from the number of words known before the row on.
 #[tactic(auto, using(crate::proofs::Draining::entries_kept, crate::proofs::Draining::entries_kept_after_row))]
 pub fn reads_are_kept()
-    ensures placed { (program : Observer) (rows : List Row) (ft : Ft) (places : List ℕ) (k g : ℕ) (output : Reported) →
+    ensures placed { (program : Observer) (rows : List Row) (ft : Ft) (places : List ℕ)
+        (k g : ℕ) (output : Reported) →
         IsWellFormed program → Stands program rows ft → ArePlaced program rows places
         → slice_get program.outs k ≡ Some output → Contains (reported output) g → lowest_at ft g ≤ slice_index places k }
-    ensures after_row { (program : Observer) (rows : List Row) (row : Row) (ft : Ft) (k g : ℕ) (output : Reported) →
+    ensures after_row { (program : Observer) (rows : List Row) (row : Row) (ft : Ft)
+        (k g : ℕ) (output : Reported) →
         IsWellFormed program → Stands program (rows ++ row ∷ []) ft
         → slice_get program.outs k ≡ Some output → Contains (reported output) g → lowest_at ft g ≤ slice_index (known_counts_of program rows) k }
 {}

@@ -52,7 +52,8 @@ impl Outs {
         ensures placed { (rows : List Row) → StandFor checked.now rows n ft.now pt.now self.old
             → ArePlaced checked.now rows self.new }
         ensures none { IsNone result → self.new ≡ self.old }
-        ensures moved { IfSome result (λ report. self.new ≡ slice_set self.old report.out (report.time + 1)) }
+        ensures moved { IfSome result
+            (λ report. self.new ≡ slice_set self.old report.out (report.time + 1)) }
         ensures exists { IfSome result (λ report. report.out < length checked.now.outs) }
         ensures taken { IfSome result (λ report. report.time < n) }
         ensures fewer { IfSome result (λ _. times_left n self.new < times_left n self.old) }
@@ -70,7 +71,8 @@ impl Outs {
         ensures placed { (rows : List Row) → StandFor checked.now rows n ft.now pt.now self.old
             → ArePlaced checked.now rows self.new }
         ensures none { IsNone result → self.new ≡ self.old }
-        ensures moved { IfSome result (λ report. self.new ≡ slice_set self.old report.out (report.time + 1)) }
+        ensures moved { IfSome result
+            (λ report. self.new ≡ slice_set self.old report.out (report.time + 1)) }
         ensures exists { IfSome result (λ report. report.out < length checked.now.outs) }
         ensures taken { IfSome result (λ report. report.time < n) }
         ensures fewer { IfSome result (λ _. times_left n self.new < times_left n self.old) }
@@ -97,7 +99,8 @@ impl Outs {
             → ArePlaced checked.now rows self.new }
         ensures cursor { FitsCursor checked.now n ft.now pt.now self.new cursor.new }
         ensures none { IsNone result → self.new ≡ self.old }
-        ensures moved { IfSome result (λ report. self.new ≡ slice_set self.old report.out (report.time + 1)) }
+        ensures moved { IfSome result
+            (λ report. self.new ≡ slice_set self.old report.out (report.time + 1)) }
         ensures exists { IfSome result (λ report. report.out < length checked.now.outs) }
         ensures taken { IfSome result (λ report. report.time < n) }
         ensures fewer { IfSome result (λ _. times_left n self.new < times_left n self.old) }

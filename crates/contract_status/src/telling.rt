@@ -34,10 +34,12 @@ pub fn tell_first(
         → ArePlaced program.now rows places.new }
     ensures cursor { FitsEngines program.now engines.now places.new cursor.new }
     ensures none { IsNone result → places.new ≡ places.old }
-    ensures moved { IfSome result (λ report. places.new ≡ slice_set places.old report.out (report.time + 1)) }
+    ensures moved { IfSome result
+        (λ report. places.new ≡ slice_set places.old report.out (report.time + 1)) }
     ensures exists { IfSome result (λ report. report.out < length program.now.outs) }
     ensures taken { IfSome result (λ report. report.time < engines.now.rows) }
-    ensures fewer { IfSome result (λ _. times_left engines.now.rows places.new < times_left engines.now.rows places.old) }
+    ensures fewer { IfSome result
+        (λ _. times_left engines.now.rows places.new < times_left engines.now.rows places.old) }
 {
     let (k, stretch) = engines.next_open(program, places, *cursor)?;
     let time = engines.last_covered(style, program.outs.get(k), places[k], stretch);

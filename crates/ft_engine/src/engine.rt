@@ -73,7 +73,8 @@ impl Ft {
     pub fn verdict(&self, i: u32, t: u64) -> Option<bool>
         requires exists { i < instruction_count self.now }
         requires kept { lowest_at self.now i ≤ t }
-        ensures verdict { MatchOption result (frontier_at self.now i ≤ t) (λ v. (t < frontier_at self.now i) × (kept_verdict self.now i t ≡ v)) }
+        ensures verdict { MatchOption result (frontier_at self.now i ≤ t)
+            (λ v. (t < frontier_at self.now i) × (kept_verdict self.now i t ≡ v)) }
     {
         self.queues.verdict(i, t)
     }

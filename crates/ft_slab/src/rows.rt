@@ -105,7 +105,8 @@ pub fn row_of<T: Truths, L: Ledger>(
     ensures seats { KeepsSeats nodes.old nodes.new }
     ensures paced { (plan : Plan) (n : ℕ) → n < 2 ^ 40 → IsPaced plan ops.now nodes.old slab.old n
         → IsPaced plan ops.now nodes.new slab.new (n + 1) }
-    ensures counted { steps.new ≤ steps.old + work_before ops.now (size_in nodes.old) (length ops.now) }
+    ensures counted { steps.new
+        ≤ steps.old + work_before ops.now (size_in nodes.old) (length ops.now) }
     ensures verdicts { (plan : Plan) (truth : Loads) (n : ℕ) (old new : Table)
         → TakesRow plan truth n ops.now nodes.old slab.old old new
         → AgreeOnLoads ops.now (truth n) (T.gives truths.now) → HaveVerdicts ops.now new nodes.new slab.new }

@@ -29,10 +29,14 @@ impl Queues {
         requires same_length { length sizes.now ≡ length ops.now }
         requires few { sum sizes.now < 2 ^ 32 }
         ensures count { IfOk result (λ queues. queue_count queues ≡ length ops.now) }
-        ensures sizes { IfOk result (λ queues. (i : ℕ) → i < length ops.now → size_at queues i ≡ slice_index sizes.now i) }
+        ensures sizes { IfOk result (λ queues. (i : ℕ) → i < length ops.now
+            → size_at queues i ≡ slice_index sizes.now i) }
         ensures slots { IfOk result (λ queues. slab_length queues ≡ sum sizes.now) }
-        ensures paced { IfOk result (λ queues. (plan : Plan) → IsPlannedFor plan ops.now (slice_index sizes.now) → IsPacedAfter plan ops.now queues 0) }
-        ensures empty { IfOk result (λ queues. (table : Table) → ((i : ℕ) → table i ≡ []) → HasTable ops.now table queues) }
+        ensures paced { IfOk result (λ queues. (plan : Plan)
+            → IsPlannedFor plan ops.now (slice_index sizes.now)
+            → IsPacedAfter plan ops.now queues 0) }
+        ensures empty { IfOk result (λ queues. (table : Table) → ((i : ℕ) → table i ≡ [])
+            → HasTable ops.now table queues) }
     {
         let mut nodes = Vec::new(alloc);
         let mut start = 0;
@@ -61,7 +65,8 @@ impl Queues {
         ensures slots { slab_length self.new ≡ slab_length self.old }
         ensures paced { (plan : Plan) (n : ℕ) → n < 2 ^ 40 → IsPacedAfter plan ops.now self.old n
             → IsPacedAfter plan ops.now self.new (n + 1) }
-        ensures counted { steps.new ≤ steps.old + work_before ops.now (size_at self.old) (length ops.now) }
+        ensures counted { steps.new
+            ≤ steps.old + work_before ops.now (size_at self.old) (length ops.now) }
         ensures verdicts { (plan : Plan) (truth : Loads) (n : ℕ) (old new : Table) → n < 2 ^ 40
             → IsPacedAfter plan ops.now self.old n
             → IsTable ops.now truth (n + 1) new → Extends old new → AgreeOnLoads ops.now (truth n) (T.gives truths.now)
@@ -101,7 +106,8 @@ impl Queues {
         requires exists { i < queue_count self.now }
         requires sound { AreSound self.now }
         requires kept { low_at self.now i ≤ t }
-        ensures verdict { MatchOption result (front_at self.now i ≤ t) (λ v. (t < front_at self.now i) × (verdict_in self.now i t ≡ v)) }
+        ensures verdict { MatchOption result (front_at self.now i ≤ t)
+            (λ v. (t < front_at self.now i) × (verdict_in self.now i t ≡ v)) }
     {
         match self.run_from(i, t) {
             Seen::Nothing => None,

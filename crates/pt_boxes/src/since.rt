@@ -17,7 +17,8 @@ use std::sync::ledger::Ledger;
 fn age(boxes: &mut Boxes, spans: &[Span], now: u64, left: bool)
     requires belongs { Belongs boxes.old spans.now }
     ensures belongs { Belongs boxes.new spans.now }
-    ensures rest { kept boxes.new spans.now ≡ if left then without_ended now (kept boxes.old spans.now) else [] }
+    ensures rest { kept boxes.new spans.now
+        ≡ if left then without_ended now (kept boxes.old spans.now) else [] }
     ensures apart { (i : Interval) → AreApart i now 0 (kept boxes.old spans.now)
         → AreApart i (now + 1) 0 (kept boxes.new spans.now) }
 {
@@ -50,7 +51,9 @@ fn open(boxes: &mut Boxes, spans: &mut [Span], window: Interval, now: u64, right
     requires room { length spans.old ≡ box_count window }
     requires apart { AreApart window (now + 1) 0 (kept boxes.old spans.old) }
     ensures belongs { Belongs boxes.new spans.new }
-    ensures opened { kept boxes.new spans.new ≡ if right then with_stretch (stretch_at window now) (kept boxes.old spans.old) else kept boxes.old spans.old }
+    ensures opened { kept boxes.new spans.new
+        ≡ if right then with_stretch (stretch_at window now) (kept boxes.old spans.old)
+        else kept boxes.old spans.old }
     ensures apart { AreApart window (now + 1) 0 (kept boxes.new spans.new) }
 {
     few_boxes();

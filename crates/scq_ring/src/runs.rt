@@ -150,7 +150,8 @@ impl Ring {
     fn newest_with(&self, slots: &[Slot], value: bool) -> Option<usize>
         requires belongs { Belongs self.now slots.now }
         ensures place { IfSome result (IsNewest self.now slots.now) }
-        ensures same { IsSome result ↔ ((0 < self.now.used) × (value ≡ verdict_at self.now slots.now (frontier_of self.now - 1))) }
+        ensures same { IsSome result ↔ ((0 < self.now.used)
+            × (value ≡ verdict_at self.now slots.now (frontier_of self.now - 1))) }
     {
         if self.used == 0 {
             return None;
