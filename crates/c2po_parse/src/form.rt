@@ -55,35 +55,14 @@ fn take_type(
     ensures { Gives (λ x. (type_shape x.0, x.1.now)) result (type_within room tokens.now) }
 {
     let room = deeper(room)?;
-    match tokens {
-        [
-            Token {
-                what: What::Word(name),
-                ..
-            },
-            rest @ ..,
-        ] => Ok((TypeTree::Named(name.copy()), rest)),
-        [
-            Token {
-                what: What::Reserved(Keyword::Bool),
-                ..
-            },
-            rest @ ..,
-        ] => Ok((TypeTree::Named(bool_name()), rest)),
-        [
-            Token {
-                what: What::Reserved(Keyword::Int),
-                ..
-            },
-            rest @ ..,
-        ] => Ok((TypeTree::Named(int_name()), rest)),
-        [
-            Token {
-                what: What::Reserved(Keyword::Set),
-                ..
-            },
-            rest @ ..,
-        ] => {
+    let [first, rest @ ..] = tokens else {
+        return Err(TreeFault::NoTree);
+    };
+    match &first.what {
+        What::Word(name) => Ok((TypeTree::Named(name.copy()), rest)),
+        What::Reserved(Keyword::Bool) => Ok((TypeTree::Named(bool_name()), rest)),
+        What::Reserved(Keyword::Int) => Ok((TypeTree::Named(int_name()), rest)),
+        What::Reserved(Keyword::Set) => {
             let Some(rest) = take_sign(Sign::Less, rest) else {
                 return Err(TreeFault::NoTree);
             };
