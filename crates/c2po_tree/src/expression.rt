@@ -92,7 +92,8 @@ fn prefixed_operand(
     prefix: Prefix,
     tokens: &[Token],
 ) -> Result<(Expr, &[Token]), TreeFault>
-    ensures { Gives (λ x. (shape x.0, x.1.now)) result (before (climb room) level prefix tokens.now) }
+    ensures { Gives (λ x. (shape x.0, x.1.now)) result
+        (before (climb room) level prefix tokens.now) }
 {
     let own = prefix_level_of(prefix);
     if own < level {
@@ -125,7 +126,8 @@ fn quantified_operand(
     variable: Name,
     tokens: &[Token],
 ) -> Result<(Expr, &[Token]), TreeFault>
-    ensures { Gives (λ x. (shape x.0, x.1.now)) result (bound (climb room) line quantifier variable tokens.now) }
+    ensures { Gives (λ x. (shape x.0, x.1.now)) result
+        (bound (climb room) line quantifier variable tokens.now) }
 {
     let (set, rest) = whole(alloc, room, 1, tokens)?;
     let Some((number, rest)) = take_middle(quantifier, rest) else {
@@ -150,7 +152,8 @@ fn follow(
     left: Expr,
     tokens: &[Token],
 ) -> Result<(Expr, &[Token]), TreeFault>
-    ensures { Gives (λ x. (shape x.0, x.1.now)) result (climb room (Rest level (shape left)) tokens.now) }
+    ensures { Gives (λ x. (shape x.0, x.1.now)) result
+        (climb room (Rest level (shape left)) tokens.now) }
 {
     let room = deeper(room)?;
     let Some((operator, rest)) = take_operator(tokens) else {
@@ -183,7 +186,8 @@ fn elements(
     so_far: Vec<Expr>,
     tokens: &[Token],
 ) -> Result<(Expr, &[Token]), TreeFault>
-    ensures { Gives (λ x. (shape x.0, x.1.now)) result (climb room (Elements bracket (map shape so_far.items)) tokens.now) }
+    ensures { Gives (λ x. (shape x.0, x.1.now)) result
+        (climb room (Elements bracket (map shape so_far.items)) tokens.now) }
 {
     let room = deeper(room)?;
     let (element, rest) = whole(alloc, room, 1, tokens)?;

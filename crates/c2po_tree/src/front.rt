@@ -217,7 +217,8 @@ fn take_window(line: u32, word: Keyword, tokens: &[Token]) -> Option<(Start, &[T
 
 /// A name alone, or a call where `(` follows it.
 fn name_start(line: u32, name: Name, tokens: &[Token]) -> (Start, &[Token])
-    ensures { (result.0, result.1.now) ≡ named_or_called line name tokens.now (past Sign.LeftRound tokens.now) }
+    ensures { (result.0, result.1.now)
+        ≡ named_or_called line name tokens.now (past Sign.LeftRound tokens.now) }
 {
     match take_sign(Sign::LeftRound, tokens) {
         Some(rest) => (Start::Open(Bracket::Call(line, name)), rest),
@@ -227,7 +228,8 @@ fn name_start(line: u32, name: Name, tokens: &[Token]) -> (Start, &[Token])
 
 /// The operand that a reserved word begins, and what follows its beginning.
 fn word_begins(line: u32, word: Keyword, tokens: &[Token]) -> Option<(Start, &[Token])>
-    ensures { option_map (λ x. (x.0, x.1.now)) result ≡ word_start line word tokens.now (word_quantifier word) }
+    ensures { option_map (λ x. (x.0, x.1.now)) result
+        ≡ word_start line word tokens.now (word_quantifier word) }
 {
     match word {
         Keyword::True => Some((Start::Leaf(line, Atom::Truth(true)), tokens)),

@@ -96,7 +96,8 @@ pub fn quantify(
     number: u64,
     body: Box<Expr>,
 ) -> Expr
-    ensures { shape result ≡ quantified line quantifier variable (shape set.value) number (shape body.value) }
+    ensures { shape result
+        ≡ quantified line quantifier variable (shape set.value) number (shape body.value) }
 {
     match quantifier {
         Quantifier::Each => Expr {
@@ -116,7 +117,8 @@ pub fn quantify(
 
 /// Elements with one more behind them.
 pub fn with_member(elements: Vec<Expr>, element: Expr) -> Result<Vec<Expr>, TreeFault>
-    ensures { Gives (λ v. map shape v.items) result (Some (map shape elements.items ++ shape element ∷ [])) }
+    ensures { Gives (λ v. map shape v.items) result
+        (Some (map shape elements.items ++ shape element ∷ [])) }
 {
     let mut elements = elements;
     elements.push(element)?;

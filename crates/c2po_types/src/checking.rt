@@ -40,7 +40,8 @@ pub fn check(alloc: Global, tree: &SpecTree) -> Result<TypedSpec, TypeFault>
     requires plain { ArePlainItems (spec_shape tree.now) }
     ensures unchanged { IfOk result (λ spec. spec_shape spec ≡ spec_shape tree.now) }
     ensures faultless { OnOk result (first_fault (spec_shape tree.now) ≡ None) }
-    ensures first { IfErr result (λ fault. fault ≢ TypeFault.Memory → first_fault (spec_shape tree.now) ≡ Some fault) }
+    ensures first { IfErr result
+        (λ fault. fault ≢ TypeFault.Memory → first_fault (spec_shape tree.now) ≡ Some fault) }
 {
     let Progress { declared, .. } = run(alloc, tree.items.as_slice())?;
     let copy = copy_tree(alloc, tree)?;

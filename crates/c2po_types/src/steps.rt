@@ -58,7 +58,8 @@ fn step_struct(
 ) -> Result<Progress, TypeFault>
     requires { progress.total ≤ MAX_WEIGHT }
     ensures reached { (env : Env) → StandsFor progress.values env
-        → Reaches result (struct_step line name.now (map field_shape fields.now) (state_of progress env)) }
+        → Reaches result
+        (struct_step line name.now (map field_shape fields.now) (state_of progress env)) }
     ensures light { IfOk result (λ p. p.total ≤ MAX_WEIGHT) }
 {
     let Progress {
@@ -212,7 +213,8 @@ fn put_out(
 ) -> Result<Progress, TypeFault>
     requires { progress.total + weight ≤ MAX_WEIGHT }
     ensures reached { (env : Env) → StandsFor progress.values env
-        → Reaches result (with_out line progress.labels weight (told_fault why) mixed (state_of progress env)) }
+        → Reaches result
+        (with_out line progress.labels weight (told_fault why) mixed (state_of progress env)) }
     ensures light { IfOk result (λ p. p.total ≤ MAX_WEIGHT) }
 {
     if let Some(why) = why {
@@ -270,7 +272,8 @@ fn step_formula(
 ) -> Result<Progress, TypeFault>
     requires { progress.total ≤ MAX_WEIGHT }
     ensures reached { (env : Env) → StandsFor progress.values env
-        → Reaches result (formula_step line engine label.now (shape expr.now) (state_of progress env)) }
+        → Reaches result
+        (formula_step line engine label.now (shape expr.now) (state_of progress env)) }
     ensures light { IfOk result (λ p. p.total ≤ MAX_WEIGHT) }
 {
     let progress = add_label(alloc, progress, line, label)?;

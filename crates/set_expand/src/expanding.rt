@@ -52,7 +52,8 @@ fn run(alloc: Global, items: &[Item]) -> Result<Progress, UnfoldFault>
 pub fn expand(alloc: Global, spec: &TypedSpec) -> Result<Expanded, AllocError>
     // Each output unfolds to its plain formula.
     ensures unfolds { IfOk result (λ expanded. asked expanded ≡ outputs_of (spec_shape spec.now)) }
-    ensures sound { IfOk result (λ expanded. IsSound expanded (length (signals_of (spec_shape spec.now)))) }
+    ensures sound { IfOk result
+        (λ expanded. IsSound expanded (length (signals_of (spec_shape spec.now)))) }
 
     // What the check of the specification promises of its outputs.
     ensures ranged { IfOk result (λ expanded. All HasRanges (asked expanded)) }
@@ -61,7 +62,8 @@ pub fn expand(alloc: Global, spec: &TypedSpec) -> Result<Expanded, AllocError>
 
     // A counting quantifier that is unfolded counts its bodies, equal ones each.
     ensures counting { (op : Op) (m : ℕ) (bodies : Seq Formula) (rows : Seq Row) (t : ℕ)
-        → sat rows (counted_formula bodies (counting op (length bodies) m)) t ≡ compares op m (count rows bodies t) }
+        → sat rows (counted_formula bodies (counting op (length bodies) m)) t
+        ≡ compares op m (count rows bodies t) }
 {
     quantifiers_count();
     let progress = match run(alloc, spec.tree().items.as_slice()) {

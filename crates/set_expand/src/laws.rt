@@ -12,6 +12,8 @@ ghost use Rattle.mltl_base.specs.Kinds.{HaveOwnNames};
 /// have.
 #[tactic(auto, using(crate::proofs::OwnNames::own_names, crate::proofs::OwnNames::few_signals))]
 pub fn signals_are_told_apart()
-    ensures names { (items : Seq ItemShape) → first_fault items ≡ None → HaveOwnNames (signals_of items) }
-    ensures few { (items : Seq ItemShape) → first_fault items ≡ None → length (signals_of items) ≤ MAX_SIGNALS }
+    ensures names { (items : Seq ItemShape) → first_fault items ≡ None
+        → HaveOwnNames (signals_of items) }
+    ensures few { (items : Seq ItemShape) → first_fault items ≡ None
+        → length (signals_of items) ≤ MAX_SIGNALS }
 {}

@@ -56,9 +56,11 @@ fn add_signals(
     from: u32,
 ) -> Result<(Unfolding, u32), AllocError>
     ensures stand { (env : Env) → StandsFor values env
-        → IfOk result (λ all. StandsFor all.0 (with_signals from (signals_named truth names.now) env)) }
+        → IfOk result
+        (λ all. StandsFor all.0 (with_signals from (signals_named truth names.now) env)) }
     ensures number { IfOk result (λ all. all.1 ≡ from + length names.now) }
-    ensures sound { AreSound from (nodes_of values) → IfOk result (λ all. AreSound all.1 (nodes_of all.0)) }
+    ensures sound { AreSound from (nodes_of values)
+        → IfOk result (λ all. AreSound all.1 (nodes_of all.0)) }
     ensures grows { IfOk result (λ all. Grows (nodes_of values) (nodes_of all.0)) }
 {
     let mut values = values;

@@ -195,9 +195,11 @@ impl Unfolding {
         requires { room ≤ MAX_WEIGHT }
         ensures later { OnOk result (IsLater self.old self.new) }
         ensures light { IfOk result (λ s. s.weight ≤ room) }
-        ensures holds { (env : Env) → Fits self.old scope.now env → is_quantifier (shape e.now) ≡ true
+        ensures holds { (env : Env) → Fits self.old scope.now env
+            → is_quantifier (shape e.now) ≡ true
             → IfOk result (λ s. Holds self.new s (value_of (shape e.now) env)) }
-        ensures heavy { (env : Env) → Fits self.old scope.now env → is_quantifier (shape e.now) ≡ true
+        ensures heavy { (env : Env) → Fits self.old scope.now env
+            → is_quantifier (shape e.now) ≡ true
             → IfErr result (λ why. why ≡ Heavy → room < weight (value_of (shape e.now) env)) }
     {
         let levels = deeper(levels)?;
@@ -310,12 +312,16 @@ impl Unfolding {
         requires { room ≤ MAX_WEIGHT }
         ensures later { OnOk result (IsLater self.old self.new) }
         ensures light { IfOk result (λ s. s.weight ≤ room) }
-        ensures holds { (env : Env) (s v : Value) → Fits self.old scope.now env → Heads self.old set.now s
+        ensures holds { (env : Env) (s v : Value) → Fits self.old scope.now env
+            → Heads self.old set.now s
             → slice_get (members s) i ≡ Some v
-            → IfOk result (λ r. Holds self.new r (value_of (shape body.now) (bind name.now v env))) }
-        ensures heavy { (env : Env) (s v : Value) → Fits self.old scope.now env → Heads self.old set.now s
+            → IfOk result
+            (λ r. Holds self.new r (value_of (shape body.now) (bind name.now v env))) }
+        ensures heavy { (env : Env) (s v : Value) → Fits self.old scope.now env
+            → Heads self.old set.now s
             → slice_get (members s) i ≡ Some v
-            → IfErr result (λ why. why ≡ Heavy → room < weight (value_of (shape body.now) (bind name.now v env))) }
+            → IfErr result
+            (λ why. why ≡ Heavy → room < weight (value_of (shape body.now) (bind name.now v env))) }
     {
         let levels = deeper(levels)?;
         let inner = self.member_scope(&*scope, &*name, &*set, i);

@@ -65,7 +65,8 @@ impl Unfolding {
         requires formulas { AreFormulas self.old.nodes bodies.now }
         ensures later { OnOk result (IsLater self.old self.new) }
         ensures has { (ps : Seq Formula) (c : Counted) → HaveFormulas self.old.nodes bodies.now ps
-            → last_formula gates.now ≡ Some c → IfOk result (λ n. Has self.new.nodes n (formula (counted_formula ps c))) }
+            → last_formula gates.now ≡ Some c
+            → IfOk result (λ n. Has self.new.nodes n (formula (counted_formula ps c))) }
     {
         let mut nodes = Vec::new(alloc);
         for gate in gates {
@@ -82,9 +83,11 @@ impl Unfolding {
         requires earlier { AreFormulas self.old.nodes earlier.now }
         ensures later { OnOk result (IsLater self.old self.new) }
         ensures is { IfOk result (λ n. IsFormula (slice_get (trees self.new.nodes) n)) }
-        ensures has { (ps : Seq Formula) (cs : Seq Counted) → HaveFormulas self.old.nodes bodies.now ps
+        ensures has { (ps : Seq Formula) (cs : Seq Counted)
+            → HaveFormulas self.old.nodes bodies.now ps
             → HaveFormulas self.old.nodes earlier.now (map (counted_formula ps) cs)
-            → IfOk result (λ n. Has self.new.nodes n (formula (counted_formula ps (formula_of cs gate)))) }
+            → IfOk result
+            (λ n. Has self.new.nodes n (formula (counted_formula ps (formula_of cs gate)))) }
     {
         match gate {
             Gate::Truth(truth) => {

@@ -133,7 +133,8 @@ impl Unfolding {
         whole: Head<'a>,
         field: &Name,
     ) -> Result<Head<'a>, UnfoldFault>
-        ensures head { (env : Env) (v : Value) → Fits self.now scope.now env → Heads self.now whole.entry v
+        ensures head { (env : Env) (v : Value) → Fits self.now scope.now env
+            → Heads self.now whole.entry v
             → IfOk result (λ h. Heads self.now h (picked (λ y. fields_in (env y)) field.now v)) }
         ensures memory { IfErr result (λ why. why ≡ Memory) }
     {

@@ -15,7 +15,8 @@ ghost use Rattle.unfold.specs.Values.{Value, counted_formula, interval, joined_a
 #[tactic(auto, using(crate::proofs::Meaning::counting_means))]
 pub fn quantifiers_count()
     ensures { (op : CountOp) (m : ℕ) (bodies : Seq Formula) (rows : Seq Row) (t : ℕ)
-        → sat rows (counted_formula bodies (counting op (length bodies) m)) t ≡ compares op m (count rows bodies t) }
+        → sat rows (counted_formula bodies (counting op (length bodies) m)) t
+        ≡ compares op m (count rows bodies t) }
 {}
 
 /// Joined bodies weigh what they weigh, and one more for each operator between them.

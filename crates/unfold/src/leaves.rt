@@ -59,7 +59,8 @@ const MAX_NODES: usize = 4_194_304;
 impl Unfolding {
     /// Puts a node behind the others. At `MAX_NODES` nodes memory is wanting.
     pub(crate) fn add_node(&mut self, node: Plain) -> Result<u32, AllocError>
-        ensures pushed { OnOk result (self.new ≡ record self.old { nodes = self.old.nodes ++ node ∷ [] }) }
+        ensures pushed { OnOk result
+            (self.new ≡ record self.old { nodes = self.old.nodes ++ node ∷ [] }) }
         ensures place { IfOk result (λ n. n ≡ length self.old.nodes) }
     {
         if self.nodes.as_slice().len() >= MAX_NODES {
@@ -73,7 +74,8 @@ impl Unfolding {
     pub(crate) fn place(&mut self, node: Plain) -> Result<u32, AllocError>
         requires formed { (signals : ℕ) → IsFormed signals (trees self.old.nodes) node }
         ensures later { OnOk result (IsLater self.old self.new) }
-        ensures has { IfOk result (λ n. Has self.new.nodes n (tree_of (trees self.old.nodes) node)) }
+        ensures has { IfOk result
+            (λ n. Has self.new.nodes n (tree_of (trees self.old.nodes) node)) }
     {
         let place = self.add_node(node)?;
         Ok(place)
@@ -84,7 +86,8 @@ impl Unfolding {
         requires formed { (signals : ℕ) → IsFormed signals (trees self.old.nodes) node }
         ensures later { OnOk result (IsLater self.old self.new) }
         ensures weight { IfOk result (λ s. s.weight ≡ weight) }
-        ensures holds { IfOk result (λ s. Holds self.new s (leaf (tree_of (trees self.old.nodes) node) weight)) }
+        ensures holds { IfOk result
+            (λ s. Holds self.new s (leaf (tree_of (trees self.old.nodes) node) weight)) }
     {
         let place = self.place(node)?;
         Ok(Stored {
@@ -137,7 +140,8 @@ impl Unfolding {
     pub(crate) fn truth_leaf(&mut self, truth: bool, weight: u32) -> Result<Stored, AllocError>
         ensures later { OnOk result (IsLater self.old self.new) }
         ensures weight { IfOk result (λ s. s.weight ≡ weight) }
-        ensures holds { IfOk result (λ s. Holds self.new s (leaf (formula (constant_formula truth)) weight)) }
+        ensures holds { IfOk result
+            (λ s. Holds self.new s (leaf (formula (constant_formula truth)) weight)) }
     {
         self.leaf(Plain::Truth(truth), weight)
     }
@@ -162,7 +166,8 @@ impl Unfolding {
         requires { a.weight + 1 < 2 ^ 32 }
         ensures later { OnOk result (IsLater self.old self.new) }
         ensures weight { IfOk result (λ s. s.weight ≡ a.weight + 1) }
-        ensures holds { (v : Value) → Holds self.old a v → IfOk result (λ s. Holds self.new s (opposite v)) }
+        ensures holds { (v : Value) → Holds self.old a v
+            → IfOk result (λ s. Holds self.new s (opposite v)) }
     {
         let n = self.number(a)?;
         self.leaf(Plain::Minus(n), a.weight + 1)
@@ -173,7 +178,8 @@ impl Unfolding {
         requires { a.weight + 1 < 2 ^ 32 }
         ensures later { OnOk result (IsLater self.old self.new) }
         ensures weight { IfOk result (λ s. s.weight ≡ a.weight + 1) }
-        ensures holds { (v : Value) → Holds self.old a v → IfOk result (λ s. Holds self.new s (inverted v)) }
+        ensures holds { (v : Value) → Holds self.old a v
+            → IfOk result (λ s. Holds self.new s (inverted v)) }
     {
         let n = self.formula(a)?;
         self.leaf(Plain::Not(n), a.weight + 1)

@@ -89,7 +89,8 @@ impl Unfolding {
         truth: bool,
     ) -> Result<(), AllocError>
         ensures stands { (env : Env) → StandsFor self.old env
-            → OnOk result (StandsFor self.new (declare name.now (value (signal_value truth number)) env)) }
+            → OnOk result
+            (StandsFor self.new (declare name.now (value (signal_value truth number)) env)) }
         ensures grows { OnOk result (Grows (nodes_of self.old) (nodes_of self.new)) }
         ensures sound { (signals : ℕ) → number < signals → AreSound signals (nodes_of self.old)
             → OnOk result (AreSound signals (nodes_of self.new)) }
@@ -117,7 +118,8 @@ impl Unfolding {
     ) -> Result<Option<NoRange>, UnfoldFault>
         requires { room ≤ MAX_WEIGHT }
         ensures stands { (env : Env) → StandsFor self.old env
-            → OnOk result (StandsFor self.new (declare name.now (value (value_of (shape e.now) env)) env)) }
+            → OnOk result
+            (StandsFor self.new (declare name.now (value (value_of (shape e.now) env)) env)) }
         ensures fault { (env : Env) → StandsFor self.old env
             → IfOk result (λ fault. told_fault fault ≡ value_fault (value_of (shape e.now) env)) }
         ensures light { (env : Env) → StandsFor self.old env
@@ -136,7 +138,8 @@ impl Unfolding {
     /// The formula of an expression as a node. `Heavy` is the answer exactly where its weight is above the room.
     pub fn unfold(&mut self, alloc: Global, e: &Expr, room: u32) -> Result<Unfolded, UnfoldFault>
         requires { room ≤ MAX_WEIGHT }
-        ensures stands { (env : Env) → StandsFor self.old env → OnOk result (StandsFor self.new env) }
+        ensures stands { (env : Env) → StandsFor self.old env
+            → OnOk result (StandsFor self.new env) }
         ensures has { (env : Env) → StandsFor self.old env
             → IfOk result (λ r. Has (nodes_of self.new) r.node (formula (formula_of (value_of (shape e.now) env)))) }
         ensures weight { (env : Env) → StandsFor self.old env
@@ -145,11 +148,14 @@ impl Unfolding {
         ensures heavy { (env : Env) → StandsFor self.old env
             → IfErr result (λ why. why ≡ Heavy → room < weight (value_of (shape e.now) env)) }
         ensures fault { (env : Env) → StandsFor self.old env
-            → IfOk result (λ r. told_fault r.fault ≡ formula_fault (formula_of (value_of (shape e.now) env))) }
+            → IfOk result
+            (λ r. told_fault r.fault ≡ formula_fault (formula_of (value_of (shape e.now) env))) }
         ensures past { (env : Env) → StandsFor self.old env
-            → IfOk result (λ r. r.tenses.past ≡ has_past (formula_of (value_of (shape e.now) env))) }
+            → IfOk result
+            (λ r. r.tenses.past ≡ has_past (formula_of (value_of (shape e.now) env))) }
         ensures future { (env : Env) → StandsFor self.old env
-            → IfOk result (λ r. r.tenses.future ≡ has_future (formula_of (value_of (shape e.now) env))) }
+            → IfOk result
+            (λ r. r.tenses.future ≡ has_future (formula_of (value_of (shape e.now) env))) }
         ensures grows { OnOk result (Grows (nodes_of self.old) (nodes_of self.new)) }
         ensures sound { (signals : ℕ) → AreSound signals (nodes_of self.old)
             → OnOk result (AreSound signals (nodes_of self.new)) }
@@ -174,7 +180,8 @@ impl Unfolding {
 
     /// Declares a name, unless it is known.
     fn declare(&mut self, alloc: Global, name: &Name, entry: Entry) -> Result<(), AllocError>
-        ensures stands { (env : Env) (k : Known) → StandsFor self.old env → Means self.old (Some entry) k
+        ensures stands { (env : Env) (k : Known) → StandsFor self.old env
+            → Means self.old (Some entry) k
             → OnOk result (StandsFor self.new (declare name.now k env)) }
         ensures kept { OnOk result (self.new ≡ record self.old { names = self.new.names }) }
     {
@@ -193,7 +200,8 @@ impl Unfolding {
     ) -> Result<Stored, AllocError>
         ensures later { OnOk result (IsLater self.old self.new) }
         ensures weight { IfOk result (λ s. s.weight ≡ weight) }
-        ensures structure { (x : Seq ℕ) (vs : Values) → whole ≡ Struct x → HoldAll self.old members vs
+        ensures structure { (x : Seq ℕ) (vs : Values) → whole ≡ Struct x
+            → HoldAll self.old members vs
             → IfOk result (λ s. Holds self.new s (structure x vs weight)) }
         ensures set { (vs : Values) → whole ≡ Set → HoldAll self.old members vs
             → IfOk result (λ s. Holds self.new s (set vs weight)) }
