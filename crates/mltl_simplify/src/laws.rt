@@ -44,7 +44,8 @@ pub fn simplified_formulas_keep_their_form()
     ensures future { (p : Formula) → IsFuture p → IsFuture (simp p) }
     ensures atoms { (p : Formula) (a : Atom) → HasAtom (simp p) a → HasAtom p a }
     ensures kinds { (kinds : List Bool) (p : Formula) → ReadsKinds kinds p → ReadsKinds kinds (simp p) }
-    ensures over { (columns : List ℕ) (p : Formula) → formula_over columns (simp p) ≡ simp (formula_over columns p) }
+    ensures over { (columns : List ℕ) (p : Formula) →
+        formula_over columns (simp p) ≡ simp (formula_over columns p) }
 {}
 
 /// A verdict that is known of a simplified formula is settled for its formula, and comes no later than that formula's

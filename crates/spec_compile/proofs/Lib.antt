@@ -6,3 +6,5 @@ pub mod CompiledLaws
 pub mod TellingLaws
 pub mod MovedImages
 pub mod SimpleLaws
+pub mod OrderedValues
+pub mod SimpleTelling

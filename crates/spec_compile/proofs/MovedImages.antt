@@ -1,6 +1,6 @@
 -- An image whose signals are moved to other columns tells what the image over those columns tells.
 
-use Rattle.std.proofs.Common.{◌≡◌, ◌∙◌, ◌<◌, ℕ, zero, suc, Bool, true, false, None, Some, List, [], ◌∷◌, length, map, slice_get, slice_index, refl, sym, ap, ap₂, arith, inl, inr, eq-eqb}
+use Rattle.std.proofs.Common.{◌≡◌, ◌∙◌, ◌<◌, ℕ, zero, suc, Bool, true, false, None, Some, List, [], ◌∷◌, length, map, All, slice_get, slice_index, refl, sym, ap, ap₂, arith, inl, inr, eq-eqb}
 use Rattle.std.proofs.lemmas.Bool.Decides.{eqb_tells}
 use Rattle.std.proofs.lemmas.List.{length-map}
 use Rattle.std.proofs.lemmas.Option.{slice_get_within}
@@ -13,12 +13,13 @@ use Rattle.mltl_base.specs.Formula.{Formula, truth, falsity, atom, negation, con
 use Rattle.mltl_base.specs.Kinds.{ReadsWholes, AtomReadsKinds, ReadsKinds, ReadsSignals, kinds_of}
 use Rattle.mltl_base.specs.Programs.{outputs, output_names}
 use Rattle.mltl_base.specs.Reports.{Output, formula, contract, reports}
-use Rattle.mltl_base.specs.Subformulas.{Asked, core_output, formulas_of}
+use Rattle.mltl_base.specs.Subformulas.{Asked, IsTensed, core_output, formulas_of}
 use Rattle.mltl_base.proofs.Unfolding.{Each, each_from_all}
 use Rattle.plain_nodes.specs.Outputs.{asked_over, output_over}
 use Rattle.obs_binary.specs.Layout as binary
-use Rattle.obs_verify.specs.Bound.{AreDifferent, bound_signals, moved}
+use Rattle.obs_verify.specs.Bound.{AreDifferent, bound, bound_signals, moved}
 use Rattle.obs_verify.specs.Layout.{HasLayout}
+use Rattle.obs_verify.specs.WellFormed.{IsWellFormed}
 use Rattle.obs_verify.proofs.MovedLaws.{over, atom_over as moved_atom}
 use Rattle.obs_verify.proofs.BoundOutputs.{moved_core, moved_formula, moved_output, outputs_bound, plain_moved}
 use Rattle.obs_verify.proofs.RunLaws.{runs_future, runs_past}
@@ -27,7 +28,7 @@ use Rattle.obs_build.proofs.Tenses.{image_unfolds, image_names, image_tells}
 use Rattle.set_expand.proofs.Signalling.{outputs-read}
 use Rattle.spec_compile.specs.Compiled.{outputs_in, signals_in}
 use Rattle.spec_compile.specs.Front.{items_in, first_refusal}
-use Rattle.spec_compile.specs.Image.{image, plain_outputs}
+use Rattle.spec_compile.specs.Image.{AreColumnsFor, image, plain_outputs}
 use Rattle.spec_compile.specs.ImageFiles.{CanMove, image_in, moved_image}
 use Rattle.spec_compile.proofs.ImageLaws.{image_of}
 use Rattle.spec_compile.proofs.TellingLaws.{tensed}
@@ -195,17 +196,20 @@ layout_of program h = record {
 }
 
 -- an image whose signals are moved has the outputs of the image there
-pub moved_outputs : (text : List ℕ) (old new : Columns) → CanMove text old new → outputs (moved_image text old new) ≡ outputs (image_in text new)
+pub moved_image_outputs : (signals : List Signal) (outs : List Asked) (old new : Columns) → All IsTensed outs → All (ReadsSignals (kinds_of signals)) outs
+    → AreColumnsFor (length signals) old → length new.of_signal ≡ length signals → HasLayout (image old signals outs) → IsWellFormed (image old signals outs)
+    → outputs (bound (image old signals outs) new.width new.of_signal) ≡ outputs (image new signals outs)
 unfolding image
-moved_outputs text old new h =
-    let signals : List Signal = signals_in text in
-    let outs : List Asked = outputs_in text in
+moved_image_outputs signals outs old new tenses reads serve one_each layout well_formed =
     let g : ℕ → ℕ = moved (stored_signals signals old.of_signal) new.of_signal in
-    let reads : Each (ReadsSignals (kinds_of signals)) outs = each_from_all (ReadsSignals (kinds_of signals)) outs (outputs-read (items_in text)) in
-    outputs_bound (image_in text old) new.width new.of_signal (runs_future (image_in text old) h.layout h.well_formed) (runs_past (image_in text old) h.layout h.well_formed)
-    ∙ ap (map (moved_output g)) (image_unfolds signals old outs (image_in text old) (tensed text h.faultless) (image_of old signals outs))
-    ∙ outputs_new g (kinds_of signals) old.of_signal new.of_signal (signal_moves signals old.of_signal new.of_signal h.serve.one_each h.one_each h.serve.different) outs reads
-    ∙ sym (image_unfolds signals new outs (image_in text new) (tensed text h.faultless) (image_of new signals outs))
+    outputs_bound (image old signals outs) new.width new.of_signal (runs_future (image old signals outs) layout well_formed) (runs_past (image old signals outs) layout well_formed)
+    ∙ ap (map (moved_output g)) (image_unfolds signals old outs (image old signals outs) tenses (image_of old signals outs))
+    ∙ outputs_new g (kinds_of signals) old.of_signal new.of_signal (signal_moves signals old.of_signal new.of_signal serve.one_each one_each serve.different) outs (each_from_all (ReadsSignals (kinds_of signals)) outs reads)
+    ∙ sym (image_unfolds signals new outs (image new signals outs) tenses (image_of new signals outs))
+
+pub moved_outputs : (text : List ℕ) (old new : Columns) → CanMove text old new → outputs (moved_image text old new) ≡ outputs (image_in text new)
+moved_outputs text old new h =
+    moved_image_outputs (signals_in text) (outputs_in text) old new (tensed text h.faultless) (outputs-read (items_in text)) h.serve h.one_each h.layout h.well_formed
 
 -- the image tells what the text's outputs tell over its columns
 pub image_reports : (style : Style) (text : List ℕ) (columns : Columns) (rows : List Row) → first_refusal text ≡ None

@@ -1,7 +1,8 @@
 -- Programs in simplified form.
 
-use Rattle.std.proofs.Common.{◌≡◌, ◌∙◌, ◌<◌, ◌^◌, ℕ, Bool, true, false, None, Some, List, Result, Ok, Err, All, refl, sym, ap, ap₂, subst, arith}
+use Rattle.std.proofs.Common.{◌≡◌, ◌∙◌, ◌≤◌, ◌<◌, ◌^◌, ℕ, Bool, true, false, None, Some, List, Result, Ok, Err, All, refl, sym, ap, ap₂, subst, arith}
 use Rattle.std.specs.Prelude.{◌&&◌, if◌then◌else◌, is_none, nat_le, Option}
+use Rattle.std.proofs.lemmas.Bool.{and_parts, leb-true}
 use Rattle.std.proofs.lemmas.List.Elements.{All-map}
 use Rattle.mltl_base.specs.declared.program.Columns.{Columns}
 use Rattle.mltl_base.specs.declared.program.Program.{Program}
@@ -23,9 +24,10 @@ use Rattle.spec_compile.specs.Compiled.{columns_by, image_of_text, outputs_in, s
 use Rattle.spec_compile.specs.Front.{first_refusal}
 use Rattle.spec_compile.specs.Image.{image, over_columns}
 use Rattle.spec_compile.specs.Limits.{limit_refusal}
-use Rattle.spec_compile.specs.Simplified.{is_limit, simple_image, simple_image_of_text, simplified, slots_in, smaller_outputs}
+use Rattle.spec_compile.specs.Simplified.{are_smaller, is_limit, simple_image, simple_image_of_text, simplified, slots_in, smaller_outputs}
 use Rattle.spec_compile.proofs.CompiledLaws.{compiled}
 use Rattle.spec_compile.proofs.LimitLaws.{first_exceeded}
+use Rattle.spec_compile.proofs.TellingLaws.{image_found, image_under_header}
 
 -- names stay
 pub named_simple : (spec simple : Expanded) → asked simple ≡ simple_outputs (asked spec) → All HasPlainName (asked spec) → All HasPlainName (asked simple)
@@ -99,3 +101,45 @@ unfolding simple_image_of_text
 simple_compiled text header columns p none h within is =
     ap₂ (simplified (signals_in text) (outputs_in text)) h (compiled text header columns (image columns (signals_in text) (outputs_in text)) none h within refl)
     ∙ ap Ok (sym is)
+
+-- a text that is compiled so has no fault, and its program is the image of the smaller outputs
+pub simple_found : (text : List ℕ) (header : Option (List ℕ)) (columns : Columns) (p : Program) → simple_image_of_text text header ≡ Ok p → columns_by (signals_in text) header ≡ Ok columns
+    → (first_refusal text ≡ None) × (p ≡ simple_image columns (signals_in text) (outputs_in text))
+unfolding simple_image_of_text
+simple_found text header columns p h k =
+    go (image_of_text text header) refl (ap (λ c. simplified (signals_in text) (outputs_in text) c (image_of_text text header)) (sym k) ∙ h)
+  where
+    go : (found : Result Program CompileFault) → image_of_text text header ≡ found → simplified (signals_in text) (outputs_in text) (Ok columns) found ≡ Ok p
+        → (first_refusal text ≡ None) × (p ≡ simple_image columns (signals_in text) (outputs_in text))
+    go (Ok plain) is same = let e : p ≡ simple_image columns (signals_in text) (outputs_in text) = cc in ((image_found text header columns plain is k).0, e)
+    go (Err fault) is same = absurd (cc)
+
+-- it is refused only where its image is
+found_refused : (signals : List Signal) (outs : List Asked) (columns : Result Columns HeaderFault) (found : Result Program CompileFault) (fault : CompileFault) → simplified signals outs columns found ≡ Err fault → found ≡ Err fault
+found_refused signals outs (Ok columns) (Ok plain) fault h = absurd (cc)
+found_refused signals outs (Ok columns) (Err other) fault h = h
+found_refused signals outs (Err why) found fault h = h
+
+pub plain_refused : (text : List ℕ) (header : Option (List ℕ)) (fault : CompileFault) → simple_image_of_text text header ≡ Err fault → image_of_text text header ≡ Err fault
+unfolding simple_image_of_text
+plain_refused text header fault h = found_refused (signals_in text) (outputs_in text) (columns_by (signals_in text) header) (image_of_text text header) fault h
+
+-- it has no more slots and boxes
+image_no_more : (columns : Columns) (signals : List Signal) (outs : List Asked) → slots_in (simple_image columns signals outs) ≤ slots_in (image columns signals outs)
+unfolding image smaller_outputs
+image_no_more columns signals outs =
+    go (are_smaller (over_columns columns (simple_outputs outs)) (over_columns columns outs))
+    (λ is. leb-true _ _ (and_parts (is_none (limit_refusal (over_columns columns (simple_outputs outs)))) (nat_le (slots_of (over_columns columns (simple_outputs outs))) (slots_of (over_columns columns outs))) is).1)
+  where
+    go : (b : Bool) → (b ≡ true → slots_of (over_columns columns (simple_outputs outs)) ≤ slots_of (over_columns columns outs))
+        → slots_in (image columns signals (if b then simple_outputs outs else outs)) ≤ slots_in (image columns signals outs)
+    go true less = less refl
+    go false less = omega arith
+
+pub simple_no_more : (text : List ℕ) (header : Option (List ℕ)) (simple plain : Program) → simple_image_of_text text header ≡ Ok simple → image_of_text text header ≡ Ok plain → slots_in simple ≤ slots_in plain
+simple_no_more text header simple plain is was =
+    let under = image_under_header text header plain was in
+    let has = simple_found text header under.columns simple is under.found in
+    subst (λ p. slots_in p ≤ slots_in plain) (sym has.1)
+    (subst (λ q. slots_in (simple_image under.columns (signals_in text) (outputs_in text)) ≤ slots_in q) (sym under.is_image)
+    (image_no_more under.columns (signals_in text) (outputs_in text)))

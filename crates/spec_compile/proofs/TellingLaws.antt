@@ -50,7 +50,7 @@ not_refused None found p h = (refl, h)
 not_refused (Some refusal) found p h = absurd (cc)
 
 -- a program that a text and a header line stand for is the image over their columns
-image_found : (text : List ℕ) (header : Option (List ℕ)) (columns : Columns) (p : Program) → image_of_text text header ≡ Ok p
+pub image_found : (text : List ℕ) (header : Option (List ℕ)) (columns : Columns) (p : Program) → image_of_text text header ≡ Ok p
     → columns_by (signals_in text) header ≡ Ok columns → (first_refusal text ≡ None) × (p ≡ image columns (signals_in text) (outputs_in text))
 unfolding image_of_text
 image_found text header columns p h k =

@@ -1,18 +1,27 @@
 -- The program that is compiled where simplified forms are asked for.
 
-use Rattle.std.specs.Prelude.{◌+◌, ℕ, nat_le, Bool, true, false, ◌&&◌, if◌then◌else◌, is_none, List, Option, Result, Ok, sum}
+use Rattle.std.specs.Prelude.{◌≡◌, ◌+◌, ◌<◌, ℕ, nat_le, Bool, true, false, ◌&&◌, if◌then◌else◌, is_none, List, length, slice_get, Option, Some, None, Result, Ok, sum}
 use Rattle.mltl_base.specs.declared.program.Columns.{Columns}
 use Rattle.mltl_base.specs.declared.program.Program.{Program}
+use Rattle.mltl_base.specs.declared.report.Style.{Style}
+use Rattle.mltl_base.specs.declared.report.Word.{Word}
 use Rattle.mltl_base.specs.declared.signal.Signal.{Signal}
+use Rattle.mltl_base.specs.Atoms.{Row}
+use Rattle.mltl_base.specs.Programs.{outputs}
+use Rattle.mltl_base.specs.Reports.{Output, delay, meaning, reports, told, IsRising, IsSettled}
 use Rattle.mltl_base.specs.Subformulas.{Asked}
 use Rattle.mltl_simplify.specs.Outputs.{simple_outputs}
 use Rattle.obs_build.specs.Limits.{slots_of}
 use Rattle.obs_build.specs.declared.fault.BuildFault.{BuildFault}
 use Rattle.obs_build.specs.declared.fault.BuildFault.TheVariants.{TooManyNodes, TooLate, TooManySlots, Memory}
+use Rattle.obs_verify.specs.Bound.{bound}
+use Rattle.obs_verify.specs.Layout.{HasLayout}
+use Rattle.obs_verify.specs.WellFormed.{IsWellFormed}
 use Rattle.trace_feed.specs.declared.header_fault.HeaderFault.{HeaderFault}
 use Rattle.spec_compile.specs.declared.fault.CompileFault.{CompileFault}
 use Rattle.spec_compile.specs.Compiled.{signals_in, outputs_in, columns_by, image_of_text}
-use Rattle.spec_compile.specs.Image.{image, over_columns}
+use Rattle.spec_compile.specs.Front.{first_refusal}
+use Rattle.spec_compile.specs.Image.{AreColumnsFor, image, over_columns}
 use Rattle.spec_compile.specs.Limits.{limit_refusal}
 
 -- the fault is a limit that is exceeded, and not want of memory
@@ -48,3 +57,26 @@ simplified signals outs columns found = found
 unfoldable pub simple_image_of_text : List ℕ → Option (List ℕ) → Result Program CompileFault
 simple_image_of_text text header =
     simplified (signals_in text) (outputs_in text) (columns_by (signals_in text) header) (image_of_text text header)
+
+-- the image of a text in simplified form over columns of its signals, and the same whose signals are moved to further ones
+abbrev pub simple_image_in : List ℕ → Columns → Program
+simple_image_in text columns = simple_image columns (signals_in text) (outputs_in text)
+
+abbrev pub moved_simple_image : List ℕ → Columns → Columns → Program
+moved_simple_image text old new = bound (simple_image_in text old) new.width new.of_signal
+
+-- a text without a fault, with columns over which the verifier finds no fault in that image, and with further columns, one
+-- for each signal
+pub record CanMoveSimple (text : List ℕ) (old new : Columns) : Type 0 where
+  pub faultless : first_refusal text ≡ None
+  pub serve : AreColumnsFor (length (signals_in text)) old
+  pub layout : HasLayout (simple_image_in text old)
+  pub well_formed : IsWellFormed (simple_image_in text old)
+  pub one_each : length new.of_signal ≡ length (signals_in text)
+
+-- what the reports of a program tell of its output k, for an output: later and later times, each with a word that is
+-- settled for it whatever rows follow, and none later than its worst-case delay
+pub record TellsSettled (style : Style) (program : Program) (k : ℕ) (o : Output) (rows : List Row) : Type 0 where
+  pub in_order : IsRising k 0 (reports style (outputs program) rows)
+  pub settled : (t : ℕ) (w : Word) → slice_get (told k 0 (reports style (outputs program) rows)) t ≡ Some w → IsSettled rows o t w
+  pub in_time : (t : ℕ) → t + delay o < length rows → slice_get (told k 0 (reports style (outputs program) rows)) t ≡ Some (meaning rows o t)

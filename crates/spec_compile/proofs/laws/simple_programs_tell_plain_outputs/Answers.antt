@@ -1,0 +1,11 @@
+use Rattle.spec_compile.proofs.SimpleTelling.{moved_told, simple_named, simple_told}
+use Rattle.spec_compile.proofs.laws.simple_programs_tell_plain_outputs.Goals as goal
+
+pub returns-clause-told : goal.returns-clause-told
+returns-clause-told c = simple_told
+
+pub returns-clause-moved : goal.returns-clause-moved
+returns-clause-moved c = moved_told
+
+pub returns-clause-names : goal.returns-clause-names
+returns-clause-names c = simple_named
