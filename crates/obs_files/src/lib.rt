@@ -4,6 +4,7 @@
 mod fault;
 mod files;
 mod laws;
+mod text;
 
 pub use fault::{FileFault, ProgramFault};
 pub use files::{image, open};

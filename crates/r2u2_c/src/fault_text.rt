@@ -1,14 +1,11 @@
 //! Refusals in words.
 
-ghost use Rattle.std.specs.Prelude.{◌≡◌, ◌+◌, ◌≤◌, ◌++◌, length, decimal};
+ghost use Rattle.std.specs.Prelude.{◌≡◌, ◌+◌, ◌≤◌, ◌++◌, length};
 ghost use Rattle.arrayvec.specs.ArrayVec.{array_vec_len};
-ghost use Rattle.r2u2_c.specs.Faults.{fault_text, numbered, part_name, parted, text_of};
+ghost use Rattle.r2u2_c.specs.Faults.{text_of};
 
 use crate::opening::Refusal;
 use arrayvec::ArrayVec;
-use itoa::Buffer;
-use mltl_base::Part;
-use obs_files::ProgramFault;
 
 /// The bytes of a text, at most 77 of them.
 type Text = ArrayVec<u8, 95>;
@@ -19,7 +16,7 @@ pub(crate) fn text_of_refusal(why: &Refusal) -> ArrayVec<u8, 95>
 {
     let mut text = ArrayVec::new();
     match why {
-        Refusal::Program(fault) => add_fault(&mut text, *fault),
+        Refusal::Program(fault) => add(&mut text, &fault.text()),
         Refusal::NoSignals => add(&mut text, b"no signals"),
         Refusal::LongHeader => add(&mut text, b"line too long"),
         Refusal::NoHeader => add(&mut text, b"no header"),
@@ -45,69 +42,4 @@ fn add(text: &mut Text, piece: &[u8])
     ensures len { array_vec_len text.new ≡ array_vec_len text.old + length piece.now }
 {
     let _ = text.try_extend_from_slice(piece);
-}
-
-fn add_fault(text: &mut Text, fault: ProgramFault)
-    requires { array_vec_len text.old ≡ 0 }
-    ensures { text.new.items ≡ text.old.items ++ fault_text fault }
-{
-    match fault {
-        ProgramFault::Short => add(text, b"short"),
-        ProgramFault::Magic => add(text, b"magic"),
-        ProgramFault::Version => add(text, b"version"),
-        ProgramFault::Reserved(at) => add_numbered(text, b"reserved", at),
-        ProgramFault::Opcode(at) => add_numbered(text, b"opcode", at),
-        ProgramFault::Trailing => add(text, b"trailing"),
-        ProgramFault::NameBytes(k) => add_numbered(text, b"namebytes", u64::from(k)),
-        ProgramFault::SignalBytes(k) => add_numbered(text, b"signalbytes", u64::from(k)),
-        ProgramFault::Width => add(text, b"width"),
-        ProgramFault::Signal(k) => add_numbered(text, b"signal", u64::from(k)),
-        ProgramFault::Operand(part, i) => add_parted(text, b"operand", part, i),
-        ProgramFault::Interval(part, i) => add_parted(text, b"interval", part, i),
-        ProgramFault::Divisor(i) => add_numbered(text, b"divisor", u64::from(i)),
-        ProgramFault::Range(i) => add_numbered(text, b"range", u64::from(i)),
-        ProgramFault::TooLate(i) => add_numbered(text, b"toolate", u64::from(i)),
-        ProgramFault::Output(k) => add_numbered(text, b"output", u64::from(k)),
-        ProgramFault::Size(part, i) => add_parted(text, b"size", part, i),
-        ProgramFault::TooManySlots => add(text, b"toomanyslots"),
-    }
-}
-
-fn add_numbered(text: &mut Text, name: &[u8], n: u64)
-    requires { array_vec_len text.old + length name.now ≤ 40 }
-    ensures { text.new.items ≡ text.old.items ++ numbered name.now n }
-{
-    add(text, name);
-    add(text, b" ");
-    add_number(text, n);
-}
-
-fn add_parted(text: &mut Text, name: &[u8], part: Part, n: u32)
-    requires { array_vec_len text.old + length name.now ≤ 40 }
-    ensures { text.new.items ≡ text.old.items ++ parted name.now part n }
-{
-    add(text, name);
-    add(text, b" ");
-    add(text, name_of_part(part).as_bytes());
-    add(text, b" ");
-    add_number(text, u64::from(n));
-}
-
-fn add_number(text: &mut Text, n: u64)
-    requires { array_vec_len text.old + 20 ≤ 95 }
-    ensures { text.new.items ≡ text.old.items ++ decimal n }
-{
-    let mut buffer = Buffer::new();
-    add(text, buffer.format(n).as_bytes());
-}
-
-fn name_of_part(part: Part) -> &'static str
-    ensures text { result.now ≡ part_name part }
-    ensures short { length result.now ≡ 2 }
-{
-    match part {
-        Part::Bz => "bz",
-        Part::Ft => "ft",
-        Part::Pt => "pt",
-    }
 }

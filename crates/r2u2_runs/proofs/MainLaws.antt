@@ -7,11 +7,11 @@ use Rattle.tool_io.specs.declared.host.Place as place
 use Rattle.tool_io.specs.declared.host.Place.TheVariants.{Trace, Out}
 use Rattle.tool_io.specs.declared.host.Place.TheVariants as at
 use Rattle.tool_io.specs.declared.host.Put as put
-use Rattle.tool_io.specs.Log.{Event, Took, taken, given, ended_from, names_of, Prompt, Writes}
+use Rattle.tool_io.specs.Log.{Event, Took, taken, given, Prompt, Writes}
 use Rattle.tool_io.specs.Host.{Rose, WriteCause}
 use Rattle.tool_io.specs.Cutting.{lines_of}
 use Rattle.tool_io.specs.Whole.{PutAllLog}
-use Rattle.tool_io.proofs.LogLaws.{taken-append, given-append, ended_from-append, names_of-append, Writes-given, Writes-given_elsewhere, Writes-taken, Writes-names, Writes-ended}
+use Rattle.tool_io.proofs.LogLaws.{given-append, Writes-given}
 use Rattle.tool_io.proofs.Prompting.{PromptBy-append, PromptBy-from, Prompt-from_by, Writes-prompt}
 use Rattle.tool_words.specs.R2u2Words.{RunAsked}
 use Rattle.mltl_monitor.specs.declared.state.State.{State}
@@ -20,11 +20,11 @@ use Rattle.tool_runs.specs.declared.message.Tool.TheVariants.{R2u2}
 use Rattle.tool_runs.specs.declared.status.Status as status
 use Rattle.tool_runs.specs.Messages.{told_to_user}
 use Rattle.tool_runs.specs.Causes.{NoOtherRose, RunCause}
-use Rattle.tool_runs.specs.Attaching.{is_attached}
 use Rattle.tool_runs.specs.Files.{file_limit, file_place}
 use Rattle.tool_runs.specs.Telling.{ToldWhole}
-use Rattle.tool_runs.proofs.AttachLaws.{ReadsAttached-append, opened_still, split_at, writes_unattached, writes_unread}
+use Rattle.tool_runs.proofs.AttachLaws.{ReadsAttached-append, opened_still, split_at, writes_unread}
 use Rattle.tool_runs.proofs.CauseLaws.{err_stays, rose_at}
+use Rattle.tool_runs.proofs.MessageLaws.{Leaves, message_leaves, unattached}
 use Rattle.r2u2_runs.specs.Demo.{DemoOutcome}
 use Rattle.r2u2_runs.specs.Asking.{Ask, help, over, demo, nothing}
 use Rattle.r2u2_runs.specs.ProgramBy.{file_refusal, program_over}
@@ -99,23 +99,14 @@ module _ (first second : List Event) (sent : List ℕ) (writes : Writes at.Err s
   abbrev all : List Event
   all = first ++ second
 
-  all_taken : (p : place.Place) → taken p all ≡ taken p first
-  all_taken p = taken-append p first second ∙ ap (λ b. taken p first ++ b) (Writes-taken at.Err p sent second writes) ∙ append-nil (taken p first)
-
-  all_ended : (p : place.Place) → ended_from false p all ≡ ended_from false p first
-  all_ended p = ended_from-append false p first second ∙ Writes-ended (ended_from false p first) at.Err p sent second writes
-
-  all_out : given Out all ≡ given Out first
-  all_out = given-append Out first second ∙ ap (λ b. given Out first ++ b) (Writes-given_elsewhere at.Err Out sent second refl writes) ∙ append-nil (given Out first)
-
-  pub all_names : names_of all ≡ names_of first
-  all_names = names_of-append first second ∙ ap (λ names. names_of first ++ names) (Writes-names at.Err sent second writes) ∙ append-nil (names_of first)
+  leaves : Leaves first all
+  leaves = message_leaves first second sent writes
 
   all_lines : lines_in all ≡ lines_in first
-  all_lines = ap (λ v. lines_of v (trace_of all)) (all_ended Trace) ∙ ap (lines_of (trace_ended first)) (all_taken Trace)
+  all_lines = ap (λ v. lines_of v (trace_of all)) (leaves.ends Trace) ∙ ap (lines_of (trace_ended first)) (leaves.bytes Trace)
 
   all_found : (asked : RunAsked) → found_in asked all ≡ found_in asked first
-  all_found asked = ap (λ b. program_over asked.source b (lines_in all)) (all_taken (file_place asked.source)) ∙ ap (program_over asked.source (file_of asked first)) all_lines
+  all_found asked = ap (λ b. program_over asked.source b (lines_in all)) (leaves.bytes (file_place asked.source)) ∙ ap (program_over asked.source (file_of asked first)) all_lines
 
   still_prompt : (due_of : List ℕ → List ℕ) → Prompt due_of [] first → Prompt due_of [] all
   still_prompt due_of is = Prompt-from_by due_of [] all (PromptBy-append due_of [] [] first second (PromptBy-from due_of [] first is) (Writes-prompt due_of (taken Trace first) (given Out first) at.Err sent second writes))
@@ -131,27 +122,27 @@ module _ (first second : List Event) (sent : List ℕ) (writes : Writes at.Err s
   second_still nothing is = tt
   second_still (demo seed rows) is = tt
   second_still (over asked) is = λ two.
-      subst (λ b. IsReadable asked b (file_ended asked all)) (sym (all_taken (file_place asked.source)))
-      (subst (IsReadable asked (file_of asked first)) (sym (all_ended (file_place asked.source))) (is (subst (λ ns. 1 < length ns) all_names two)))
+      subst (λ b. IsReadable asked b (file_ended asked all)) (sym (leaves.bytes (file_place asked.source)))
+      (subst (IsReadable asked (file_of asked first)) (sym (leaves.ends (file_place asked.source))) (is (subst (λ ns. 1 < length ns) leaves.names two)))
 
   pub outcome_still : (asked : Ask) (answer : status.Status) (kept : Option State) → OutcomeOf answer asked first kept → OutcomeOf answer asked all kept
-  outcome_still help answer kept is = subst (λ b. HelpOutcome answer b kept) (sym all_out) is
-  outcome_still nothing answer kept is = subst (λ b. NothingOutcome answer b kept) (sym all_out) is
-  outcome_still (demo seed rows) answer kept is = subst (λ b. DemoOutcome answer seed rows b kept) (sym all_out) is
+  outcome_still help answer kept is = subst (λ b. HelpOutcome answer b kept) (sym leaves.out) is
+  outcome_still nothing answer kept is = subst (λ b. NothingOutcome answer b kept) (sym leaves.out) is
+  outcome_still (demo seed rows) answer kept is = subst (λ b. DemoOutcome answer seed rows b kept) (sym leaves.out) is
   outcome_still (over asked) answer kept is =
-      subst (λ b. FileOutcome answer asked b (file_ended asked all) (trace_of all) (trace_ended all) (given Out all) kept) (sym (all_taken (file_place asked.source)))
-      (subst (λ v. FileOutcome answer asked (file_of asked first) v (trace_of all) (trace_ended all) (given Out all) kept) (sym (all_ended (file_place asked.source)))
-      (subst (λ b. FileOutcome answer asked (file_of asked first) (file_ended asked first) b (trace_ended all) (given Out all) kept) (sym (all_taken Trace))
-      (subst (λ v. FileOutcome answer asked (file_of asked first) (file_ended asked first) (trace_of first) v (given Out all) kept) (sym (all_ended Trace))
-      (subst (λ b. FileOutcome answer asked (file_of asked first) (file_ended asked first) (trace_of first) (trace_ended first) b kept) (sym all_out) is))))
+      subst (λ b. FileOutcome answer asked b (file_ended asked all) (trace_of all) (trace_ended all) (given Out all) kept) (sym (leaves.bytes (file_place asked.source)))
+      (subst (λ v. FileOutcome answer asked (file_of asked first) v (trace_of all) (trace_ended all) (given Out all) kept) (sym (leaves.ends (file_place asked.source)))
+      (subst (λ b. FileOutcome answer asked (file_of asked first) (file_ended asked first) b (trace_ended all) (given Out all) kept) (sym (leaves.bytes Trace))
+      (subst (λ v. FileOutcome answer asked (file_of asked first) (file_ended asked first) (trace_of first) v (given Out all) kept) (sym (leaves.ends Trace))
+      (subst (λ b. FileOutcome answer asked (file_of asked first) (file_ended asked first) (trace_of first) (trace_ended first) b kept) (sym leaves.out) is))))
 
   pub begun_still : (asked : Ask) (answer : status.Status) → RefusesBehind asked answer first → RefusesBehind asked answer all
   begun_still help answer is = tt
   begun_still (demo seed rows) answer is = tt
   begun_still nothing answer is = tt
   begun_still (over asked) answer is = λ unrefused.
-      subst (λ v. BegunFor answer v (lines_in all)) (sym (all_ended Trace))
-      (subst (BegunFor answer (trace_ended first)) (sym all_lines) (is (ap (file_refusal asked.source) (sym (all_taken (file_place asked.source))) ∙ unrefused)))
+      subst (λ v. BegunFor answer v (lines_in all)) (sym (leaves.ends Trace))
+      (subst (BegunFor answer (trace_ended first)) (sym all_lines) (is (ap (file_refusal asked.source) (sym (leaves.bytes (file_place asked.source))) ∙ unrefused)))
 
 tells_formulas : (asked : Ask) (events : List Event) → TellsFormulas asked events
 tells_formulas help events = tt
@@ -164,13 +155,13 @@ run_told : (asked : Ask) (answer : status.Status) (kept : Option State) (before 
 run_told asked answer kept before between now first second sent unsent ran cause same writes split whole =
     let outcome = outcome_still first second sent writes asked answer kept ran.outcome in
     record {
-      names = record { rest = ran.names.rest; split = ran.names.split ∙ ap (λ names. names ++ ran.names.rest) (sym (all_names first second sent writes)) };
+      names = record { rest = ran.names.rest; split = ran.names.split ∙ ap (λ names. names ++ ran.names.rest) (sym (message_leaves first second sent writes).names) };
       second = second_still first second sent writes asked ran.second;
       attached = ReadsAttached-append first second ran.attached (λ start after p piece is. absurd (writes_unread at.Err writes.pieces start after p piece (sym writes.are ∙ is)));
       prompt = prompt_still first second sent writes asked ran.prompt;
       settled = tells_formulas asked (first ++ second);
       outcome = outcome;
-      opened = opened_still answer first second (λ p. ap (is_attached p) writes.are ∙ writes_unattached p writes.pieces) ran.opened;
+      opened = opened_still answer first second (unattached first second sent writes) ran.opened;
       begun = begun_still first second sent writes asked answer ran.begun;
       early = λ memory start after piece is. elim (split_at first second start after (Took Trace piece) is) [
         | inl found ↦ ran.early memory start found.0 piece found.1

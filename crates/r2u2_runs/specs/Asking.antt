@@ -21,6 +21,7 @@ served (words.run asked) = over asked
 served (words.demo seed rows) = demo seed rows
 served words.nothing = nothing
 
+-- what the words ask for
 unfoldable pub ask : List (List ℕ) → Ask
 ask list = served (words.ask list)
 

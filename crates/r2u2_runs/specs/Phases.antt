@@ -53,9 +53,11 @@ abbrev pub header_of_row : Option (List ℕ) → Option (List ℕ)
 header_of_row None = None
 header_of_row (Some raw) = if begins_header (line_text raw) then Some (line_text raw) else None
 
+-- the same of the row that a cut has
 abbrev pub header_at : Cutting → Option (List ℕ)
 header_at cut = header_of_row cut.row
 
+-- the log of reading the first line, or why it gives none
 abbrev pub FirstLog : Result Bool status.Status → Cutting → List Event → Type 0
 FirstLog (Ok any) cut events = FirstRead cut events × IsFirst cut
 FirstLog (Err (status.TheVariants.BadTrace number LongLine)) cut events = FirstRead cut events × (number ≡ 1) × HasNoNewline cut.pending × (length cut.pending ≡ 65536)
@@ -79,11 +81,13 @@ pub record RanLoop (program : Program) (asked : RunAsked) (start : Cutting) (ans
   pub watch : IsWatch program asked.style (rows_by asked program (first_of start)) start cut monitor ended_so events
   pub kept_is : kept ≡ Some monitor
 
+-- memory was wanting, and nothing was done
 pub record NoMemory (answer : status.Status) (kept : Option State) (events : List Event) : Type 0 where
   pub is : answer ≡ status.TheVariants.Memory
   pub no_monitor : kept ≡ None
   pub no_events : events ≡ []
 
+-- the log of a loop over a trace, where memory came for its monitor
 abbrev pub LoopLog : Program → RunAsked → Cutting → status.Status → Option State → List Event → Type 0
 LoopLog program asked start answer kept events = NoMemory answer kept events ⊎ RanLoop program asked start answer kept events
 
@@ -141,5 +145,6 @@ pub record IsOpened (asked : RunAsked) (bytes : List ℕ) (answer : status.Statu
   pub unrefused : file_refusal asked.source bytes ≡ None
   pub ran : RanTrace asked bytes answer kept events
 
+-- the log of a run behind the reading of its file
 abbrev pub RanFile : RunAsked → List ℕ → status.Status → Option State → List Event → Type 0
 RanFile asked bytes answer kept events = NotOpened asked bytes answer kept events ⊎ IsOpened asked bytes answer kept events

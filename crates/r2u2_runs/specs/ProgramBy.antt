@@ -82,11 +82,12 @@ abbrev pub begins_long : List (List ℕ) → Bool
 begins_long [] = false
 begins_long (raw ∷ raws) = is_long raw
 
--- what was found, unless the first line is too long, or unless something is refused before
+-- what was found, unless the first line is too long
 abbrev pub unless_long : Bool → Result Program Status → Result Program Status
 unless_long true found = Err (BadTrace 1 trace.LongLine)
 unless_long false found = found
 
+-- what was found, unless something is refused before
 abbrev pub unless_refused : Option Status → Result Program Status → Result Program Status
 unless_refused None found = found
 unless_refused (Some status) found = Err status

@@ -21,20 +21,23 @@ use Rattle.r2u2_runs.specs.Demo.{DemoOutcome}
 use Rattle.r2u2_runs.specs.Outcome.{due_by, Silent, StopsBy, LinesOutcome}
 use Rattle.r2u2_runs.specs.Formulas.{IsSettledBy}
 
--- the bytes of the file that were taken, and whether its end was met
+-- the bytes of the file that were taken
 abbrev pub file_of : RunAsked → List Event → List ℕ
 file_of asked events = taken (file_place asked.source) events
 
+-- whether its end was met
 abbrev pub file_ended : RunAsked → List Event → Bool
 file_ended asked events = ended_from false (file_place asked.source) events
 
--- the bytes of the trace, whether its end was met, and the lines that it has so far
+-- the bytes of the trace that were taken
 abbrev pub trace_of : List Event → List ℕ
 trace_of events = taken place.TheVariants.Trace events
 
+-- whether its end was met
 abbrev pub trace_ended : List Event → Bool
 trace_ended events = ended_from false place.TheVariants.Trace events
 
+-- the lines that it has so far
 abbrev pub lines_in : List Event → List (List ℕ)
 lines_in events = lines_of (trace_ended events) (trace_of events)
 
@@ -146,6 +149,7 @@ CompletesBy help answer events = (answer ≡ status.TheVariants.Helped) ⊎ (ans
 CompletesBy (demo seed rows) answer events = (answer ≡ status.TheVariants.Done) ⊎ (answer ≡ status.TheVariants.Memory)
 CompletesBy nothing answer events = Unit {0}
 
+-- so where no count rose but that of the error output
 abbrev pub Complete : Ask → status.Status → (place.Place → ℕ) → (place.Place → ℕ) → List Event → Type 0
 Complete asked answer before now events = NoOtherRose before now → CompletesBy asked answer events
 

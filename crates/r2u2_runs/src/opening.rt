@@ -31,7 +31,8 @@ pub(crate) fn open_file(alloc: Global, source: bool, bytes: &[u8]) -> Result<Ope
     requires { length bytes.now ≤ file_limit source }
     ensures opens { IfOk result (λ opened. Opens opened source bytes.now) }
     ensures unrefused { OnOk result (file_refusal source bytes.now ≡ None) }
-    ensures refused { IfErr result (λ status. status ≢ Status.Memory → file_refusal source bytes.now ≡ Some status) }
+    ensures refused { IfErr result (λ status. status ≢ Status.Memory →
+        file_refusal source bytes.now ≡ Some status) }
     ensures no_call { IfErr result TellsNoCall }
 {
     if source {
@@ -45,7 +46,8 @@ fn open_spec(alloc: Global, text: &[u8]) -> Result<Opened, Status>
     requires { length text.now ≤ 1048576 }
     ensures opens { IfOk result (λ opened. Opens opened Bool.true text.now) }
     ensures unrefused { OnOk result (file_refusal Bool.true text.now ≡ None) }
-    ensures refused { IfErr result (λ status. status ≢ Status.Memory → file_refusal Bool.true text.now ≡ Some status) }
+    ensures refused { IfErr result (λ status. status ≢ Status.Memory →
+        file_refusal Bool.true text.now ≡ Some status) }
     ensures no_call { IfErr result TellsNoCall }
 {
     match front(alloc, text) {
@@ -57,7 +59,8 @@ fn open_spec(alloc: Global, text: &[u8]) -> Result<Opened, Status>
 fn open_program(alloc: Global, bytes: &[u8]) -> Result<Opened, Status>
     ensures opens { IfOk result (λ opened. Opens opened Bool.false bytes.now) }
     ensures unrefused { OnOk result (file_refusal Bool.false bytes.now ≡ None) }
-    ensures refused { IfErr result (λ status. status ≢ Status.Memory → file_refusal Bool.false bytes.now ≡ Some status) }
+    ensures refused { IfErr result (λ status. status ≢ Status.Memory →
+        file_refusal Bool.false bytes.now ≡ Some status) }
     ensures no_call { IfErr result TellsNoCall }
 {
     match open(alloc, bytes) {
@@ -73,9 +76,11 @@ pub(crate) fn program_for(
     header: Option<&[u8]>,
 ) -> Result<Checked, Status>
     requires line { ForSome header (λ line. length line.now ≤ 65535) }
-    ensures program { IfOk result (λ checked. (source : Bool) (bytes : Seq ℕ) → Opens opened source bytes →
+    ensures program { IfOk result (λ checked.
+        (source : Bool) (bytes : Seq ℕ) → Opens opened source bytes →
         program_by source bytes (option_copied header.entry) ≡ Ok checked) }
-    ensures refused { IfErr result (λ status. status ≢ Status.Memory → (source : Bool) (bytes : Seq ℕ) → Opens opened source bytes →
+    ensures refused { IfErr result (λ status. status ≢ Status.Memory →
+        (source : Bool) (bytes : Seq ℕ) → Opens opened source bytes →
         program_by source bytes (option_copied header.entry) ≡ Err status) }
     ensures no_call { IfErr result TellsNoCall }
 {
@@ -88,9 +93,11 @@ pub(crate) fn program_for(
 /// The program of a specification, whose signals stand in the columns of a header.
 fn compiled(alloc: Global, spec: &TypedSpec, header: Option<&[u8]>) -> Result<Checked, Status>
     requires line { ForSome header (λ line. length line.now ≤ 65535) }
-    ensures program { IfOk result (λ checked. (source : Bool) (bytes : Seq ℕ) → Opens (Opened.Spec spec.now) source bytes →
+    ensures program { IfOk result (λ checked.
+        (source : Bool) (bytes : Seq ℕ) → Opens (Opened.Spec spec.now) source bytes →
         program_by source bytes (option_copied header.entry) ≡ Ok checked) }
-    ensures refused { IfErr result (λ status. status ≢ Status.Memory → (source : Bool) (bytes : Seq ℕ) → Opens (Opened.Spec spec.now) source bytes →
+    ensures refused { IfErr result (λ status. status ≢ Status.Memory →
+        (source : Bool) (bytes : Seq ℕ) → Opens (Opened.Spec spec.now) source bytes →
         program_by source bytes (option_copied header.entry) ≡ Err status) }
     ensures no_call { IfErr result TellsNoCall }
 {
@@ -107,8 +114,10 @@ fn compiled(alloc: Global, spec: &TypedSpec, header: Option<&[u8]>) -> Result<Ch
 /// A program whose stored signals stand in the columns of a header. One of version 1 stores none.
 fn bound_to(alloc: Global, checked: Checked, header: Option<&[u8]>) -> Result<Checked, Status>
     requires line { ForSome header (λ line. length line.now ≤ 65535) }
-    ensures program { IfOk result (λ bound. bound_under (option_copied header.entry) checked ≡ Ok bound) }
-    ensures refused { IfErr result (λ status. status ≢ Status.Memory → bound_under (option_copied header.entry) checked ≡ Err status) }
+    ensures program { IfOk result (λ bound.
+        bound_under (option_copied header.entry) checked ≡ Ok bound) }
+    ensures refused { IfErr result (λ status. status ≢ Status.Memory →
+        bound_under (option_copied header.entry) checked ≡ Err status) }
     ensures no_call { IfErr result TellsNoCall }
 {
     match header {
@@ -122,7 +131,8 @@ fn bound_by(alloc: Global, checked: Checked, line: &[u8]) -> Result<Checked, Sta
     requires version { checked.version ≡ 2 }
     requires line { length line.now ≤ 65535 }
     ensures program { IfOk result (λ bound. bound_under (Some line.now) checked ≡ Ok bound) }
-    ensures refused { IfErr result (λ status. status ≢ Status.Memory → bound_under (Some line.now) checked ≡ Err status) }
+    ensures refused { IfErr result (λ status. status ≢ Status.Memory →
+        bound_under (Some line.now) checked ≡ Err status) }
     ensures no_call { IfErr result TellsNoCall }
 {
     match header_of(alloc, line, &checked) {

@@ -32,7 +32,8 @@ fn run_bytes<H: Host>(
     requires mission { asked.now.mission ≤ 2 ^ 40 }
     requires none_kept { kept.old ≡ None }
     ensures cause { RunCause result (H.faults host.old) (H.faults host.new) }
-    ensures log { OnLog (H.log host.old) (H.log host.new) (RanFile (run_of asked.now) bytes.now result kept.new) }
+    ensures log { OnLog (H.log host.old) (H.log host.new)
+        (RanFile (run_of asked.now) bytes.now result kept.new) }
 {
     match open_file(alloc, asked.source, bytes) {
         Ok(opened) => run_trace(alloc, asked, opened, host, kept),
@@ -50,7 +51,8 @@ fn run_file<H: Host>(
     requires mission { asked.now.mission ≤ 2 ^ 40 }
     requires none_kept { kept.old ≡ None }
     ensures cause { RunCause result (H.faults host.old) (H.faults host.new) }
-    ensures log { OnLog (H.log host.old) (H.log host.new) (Ran (over (run_of asked.now)) result kept.new) }
+    ensures log { OnLog (H.log host.old) (H.log host.new)
+        (Ran (over (run_of asked.now)) result kept.new) }
 {
     match read_file(alloc, asked.source, asked.file, host) {
         Ok(bytes) => run_bytes(alloc, asked, &bytes, host, kept),
@@ -68,7 +70,8 @@ fn run_asked<H: Host>(
     requires bounds { IsInBounds asked }
     requires none_kept { kept.old ≡ None }
     ensures cause { RunCause result (H.faults host.old) (H.faults host.new) }
-    ensures log { OnLog (H.log host.old) (H.log host.new) (Ran (served (asked_of asked.entry)) result kept.new) }
+    ensures log { OnLog (H.log host.old) (H.log host.new)
+        (Ran (served (asked_of asked.entry)) result kept.new) }
 {
     match asked {
         R2u2Ask::Help => give_help(Tool::R2u2, host),
@@ -105,8 +108,10 @@ pub fn r2u2_main<H: Host>(
     requires none_kept { kept.old ≡ None }
     ensures usage { result ≢ Status.Memory → (result ≡ Status.Usage) ↔ (ask words.now ≡ nothing) }
     ensures helped { result ≡ Status.Helped → ask words.now ≡ help }
-    ensures cause { (p : Where) → p ≢ Err → CauseAt result p (H.faults host.old p) (H.faults host.new p) }
-    ensures log { OnLog (H.log host.old) (H.log host.new) (IsRun (ask words.now) result kept.new (H.faults host.old) (H.faults host.new)) }
+    ensures cause { (p : Where) → p ≢ Err →
+        CauseAt result p (H.faults host.old p) (H.faults host.new p) }
+    ensures log { OnLog (H.log host.old) (H.log host.new)
+        (IsRun (ask words.now) result kept.new (H.faults host.old) (H.faults host.new)) }
 {
     let status = run(alloc, words, host, kept);
     let _ = tell_user(Tool::R2u2, &status, host);

@@ -30,7 +30,9 @@ pub(crate) fn run_trace<H: Host>(
     requires mission { asked.now.mission ≤ 2 ^ 40 }
     requires none_kept { kept.old ≡ None }
     ensures cause { RunCause result (H.faults host.old) (H.faults host.new) }
-    ensures log { (bytes : Seq ℕ) → Opens opened asked.now.source bytes → OnLog (H.log host.old) (H.log host.new) (RanTrace (run_of asked.now) bytes result kept.new) }
+    ensures log { (bytes : Seq ℕ) → Opens opened asked.now.source bytes →
+        OnLog (H.log host.old) (H.log host.new)
+        (RanTrace (run_of asked.now) bytes result kept.new) }
 {
     if let Attached::Failed = host.attach(Place::Trace, asked.trace) {
         return Status::OpenFault(Place::Trace);
@@ -49,7 +51,9 @@ fn run_lines<H: Host>(
     requires mission { asked.now.mission ≤ 2 ^ 40 }
     requires none_kept { kept.old ≡ None }
     ensures cause { RunCause result (H.faults host.old) (H.faults host.new) }
-    ensures log { (bytes : Seq ℕ) → Opens opened asked.now.source bytes → OnLog (H.log host.old) (H.log host.new) (RanLines (run_of asked.now) bytes result kept.new) }
+    ensures log { (bytes : Seq ℕ) → Opens opened asked.now.source bytes →
+        OnLog (H.log host.old) (H.log host.new)
+        (RanLines (run_of asked.now) bytes result kept.new) }
 {
     let mut cut = match LineCut::make(alloc) {
         Ok(cut) => cut,
@@ -76,7 +80,9 @@ fn run_rows<H: Host>(
     requires any { any ≡ is_some cut.old.row }
     requires none_kept { kept.old ≡ None }
     ensures cause { RunCause result (H.faults host.old) (H.faults host.new) }
-    ensures log { (bytes : Seq ℕ) → Opens opened asked.now.source bytes → OnLog (H.log host.old) (H.log host.new) (RanRows (run_of asked.now) bytes cut.old result kept.new) }
+    ensures log { (bytes : Seq ℕ) → Opens opened asked.now.source bytes →
+        OnLog (H.log host.old) (H.log host.new)
+        (RanRows (run_of asked.now) bytes cut.old result kept.new) }
 {
     match program_for(alloc, opened, header_line(cut, any)) {
         Ok(checked) => watch_rows(alloc, asked, checked, cut, host, kept),
@@ -97,7 +103,8 @@ fn watch_rows<H: Host>(
     requires numbered { cut.old.number ≤ 1 }
     requires none_kept { kept.old ≡ None }
     ensures cause { RunCause result (H.faults host.old) (H.faults host.new) }
-    ensures log { OnLog (H.log host.old) (H.log host.new) (LoopLog checked (run_of asked.now) cut.old result kept.new) }
+    ensures log { OnLog (H.log host.old) (H.log host.new)
+        (LoopLog checked (run_of asked.now) cut.old result kept.new) }
 {
     let mut monitor = match Monitor::load(alloc, checked) {
         Ok(monitor) => monitor,
@@ -120,7 +127,8 @@ fn watch_asked<H: Host>(
     requires mission { asked.now.mission ≤ 2 ^ 40 }
     requires numbered { cut.old.number ≤ 1 }
     ensures cause { WatchCause result (H.faults host.old) (H.faults host.new) }
-    ensures log { OnLog (H.log host.old) (H.log host.new) (IsWatch (program_of monitor.old) asked.now.style (rows_by (run_of asked.now) (program_of monitor.old) (first_of cut.old)) cut.old cut.new monitor.new result) }
+    ensures log { OnLog (H.log host.old) (H.log host.new)
+        (IsWatch (program_of monitor.old) asked.now.style (rows_by (run_of asked.now) (program_of monitor.old) (first_of cut.old)) cut.old cut.new monitor.new result) }
     ensures program { program_of monitor.new ≡ program_of monitor.old }
 {
     if asked.timed {

@@ -1,3 +1,5 @@
 pub mod PhaseLaws
 pub mod AttachLaws
 pub mod CauseLaws
+pub mod LineLaws
+pub mod MessageLaws

@@ -8,11 +8,12 @@ use Rattle.obs_files.specs.declared.fault.FileFault.{FileFault}
 use Rattle.obs_files.specs.declared.fault.FileFault.TheVariants as file_fault
 use Rattle.tool_runs.specs.declared.status.Status as status
 
--- where it is read, a specification or a program; and the most bytes that it may have
+-- where it is read, a specification or a program
 abbrev pub file_place : Bool → Place
 file_place true = Spec
 file_place false = Program
 
+-- the most bytes that it may have
 abbrev pub file_limit : Bool → ℕ
 file_limit true = MAX_SPEC_BYTES
 file_limit false = MAX_PROGRAM_BYTES

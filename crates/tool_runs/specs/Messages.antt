@@ -1,12 +1,11 @@
 -- The messages of both programs, in bytes.
 
 use Rattle.std.specs.Prelude.{ℕ, ◌+◌, ◌==◌, if◌then◌else◌, List, [], ◌++◌, codes, decimal}
-use Rattle.mltl_base.specs.declared.interval.Part as part
 use Rattle.tool_io.specs.declared.host.Place as place
 use Rattle.tool_runs.specs.declared.message.Tool as tool
 use Rattle.tool_runs.specs.declared.status.Status as status
 use Rattle.spec_compile.specs.declared.fault.Refusal as refusal
-use Rattle.obs_files.specs.declared.fault.ProgramFault as fault
+use Rattle.obs_files.specs.Texts.{fault_text}
 use Rattle.spec_compile.specs.declared.fault.HeaderWhy as header
 use Rattle.trace_watch.specs.declared.status.TraceWhy as trace
 
@@ -42,44 +41,11 @@ refusal_text refusal.TheVariants.TooManyNodes = codes "too many nodes"
 refusal_text refusal.TheVariants.TooLate = codes "delay too large"
 refusal_text refusal.TheVariants.TooManySlots = codes "too many slots"
 
--- a part of a program
-abbrev pub part_name : part.Part → List ℕ
-part_name part.TheVariants.Bz = codes "bz"
-part_name part.TheVariants.Ft = codes "ft"
-part_name part.TheVariants.Pt = codes "pt"
-
--- a fault's name and its number, and with the part between them
-abbrev pub numbered : List ℕ → ℕ → List ℕ
-numbered name n = name ++ codes " " ++ decimal n
-
-abbrev pub parted : List ℕ → part.Part → ℕ → List ℕ
-parted name p n = name ++ codes " " ++ part_name p ++ codes " " ++ decimal n
-
--- what is wrong with a program file
-abbrev pub fault_text : fault.ProgramFault → List ℕ
-fault_text fault.TheVariants.Short = codes "short"
-fault_text fault.TheVariants.Magic = codes "magic"
-fault_text fault.TheVariants.Version = codes "version"
-fault_text (fault.TheVariants.Reserved at) = numbered (codes "reserved") at
-fault_text (fault.TheVariants.Opcode at) = numbered (codes "opcode") at
-fault_text fault.TheVariants.Trailing = codes "trailing"
-fault_text (fault.TheVariants.NameBytes k) = numbered (codes "namebytes") k
-fault_text (fault.TheVariants.SignalBytes k) = numbered (codes "signalbytes") k
-fault_text fault.TheVariants.Width = codes "width"
-fault_text (fault.TheVariants.Signal k) = numbered (codes "signal") k
-fault_text (fault.TheVariants.Operand p i) = parted (codes "operand") p i
-fault_text (fault.TheVariants.Interval p i) = parted (codes "interval") p i
-fault_text (fault.TheVariants.Divisor i) = numbered (codes "divisor") i
-fault_text (fault.TheVariants.Range i) = numbered (codes "range") i
-fault_text (fault.TheVariants.TooLate i) = numbered (codes "toolate") i
-fault_text (fault.TheVariants.Output k) = numbered (codes "output") k
-fault_text (fault.TheVariants.Size p i) = parted (codes "size") p i
-fault_text fault.TheVariants.TooManySlots = codes "toomanyslots"
-
--- a name that no column has, and one that more than one column has
+-- a name that no column has
 abbrev pub missing_text : List ℕ → List ℕ
 missing_text name = codes "name " ++ name ++ codes " missing"
 
+-- a name that more than one column has
 abbrev pub twice_text : List ℕ → List ℕ
 twice_text name = codes "name " ++ name ++ codes " twice"
 

@@ -2,14 +2,13 @@
 
 ghost use Rattle.std.specs.Prelude.{◌≡◌, ◌+◌, ◌≤◌, ◌++◌, length, decimal};
 ghost use Rattle.arrayvec.specs.ArrayVec.{array_vec_len};
-ghost use Rattle.tool_runs.specs.Messages.{message, usage, tool_name, refusal_text, part_name, numbered, parted, fault_text, missing_text, twice_text, header_text, trace_text, place_name, line_text, status_text};
+ghost use Rattle.tool_runs.specs.Messages.{message, usage, tool_name, refusal_text, missing_text, twice_text, header_text, trace_text, place_name, line_text, status_text};
 
 use crate::Status;
 use crate::text::add;
 use arrayvec::ArrayVec;
 use itoa::Buffer;
-use mltl_base::{Name, Part};
-use obs_files::ProgramFault;
+use mltl_base::Name;
 use spec_compile::{HeaderWhy, Refusal};
 use tool_io::Place;
 use trace_watch::TraceWhy;
@@ -86,7 +85,7 @@ fn add_status(text: &mut Text, status: &Status)
         Status::Refused(line, why) => add_refusal(text, *line, *why),
         Status::BadProgram(fault) => {
             add(text, b"program: ");
-            add_fault(text, *fault);
+            add(text, &fault.text());
         }
         Status::BadHeader(why) => {
             add(text, b"header: ");
@@ -179,66 +178,6 @@ fn words_of(why: Refusal) -> &'static str
         Refusal::TooManyNodes => "too many nodes",
         Refusal::TooLate => "delay too large",
         Refusal::TooManySlots => "too many slots",
-    }
-}
-
-fn add_fault(text: &mut Text, fault: ProgramFault)
-    requires { array_vec_len text.old ≤ 15 }
-    ensures items { text.new.items ≡ text.old.items ++ fault_text fault }
-    ensures len { array_vec_len text.new ≤ 191 }
-{
-    match fault {
-        ProgramFault::Short => add(text, b"short"),
-        ProgramFault::Magic => add(text, b"magic"),
-        ProgramFault::Version => add(text, b"version"),
-        ProgramFault::Reserved(at) => add_numbered(text, b"reserved", at),
-        ProgramFault::Opcode(at) => add_numbered(text, b"opcode", at),
-        ProgramFault::Trailing => add(text, b"trailing"),
-        ProgramFault::NameBytes(k) => add_numbered(text, b"namebytes", u64::from(k)),
-        ProgramFault::SignalBytes(k) => add_numbered(text, b"signalbytes", u64::from(k)),
-        ProgramFault::Width => add(text, b"width"),
-        ProgramFault::Signal(k) => add_numbered(text, b"signal", u64::from(k)),
-        ProgramFault::Operand(part, i) => add_parted(text, b"operand", part, i),
-        ProgramFault::Interval(part, i) => add_parted(text, b"interval", part, i),
-        ProgramFault::Divisor(i) => add_numbered(text, b"divisor", u64::from(i)),
-        ProgramFault::Range(i) => add_numbered(text, b"range", u64::from(i)),
-        ProgramFault::TooLate(i) => add_numbered(text, b"toolate", u64::from(i)),
-        ProgramFault::Output(k) => add_numbered(text, b"output", u64::from(k)),
-        ProgramFault::Size(part, i) => add_parted(text, b"size", part, i),
-        ProgramFault::TooManySlots => add(text, b"toomanyslots"),
-    }
-}
-
-fn add_numbered(text: &mut Text, name: &[u8], n: u64)
-    requires { array_vec_len text.old + length name.now ≤ 100 }
-    ensures items { text.new.items ≡ text.old.items ++ numbered name.now n }
-    ensures len { array_vec_len text.new ≤ 121 }
-{
-    add(text, name);
-    add(text, b" ");
-    add_number(text, n);
-}
-
-fn add_parted(text: &mut Text, name: &[u8], part: Part, n: u32)
-    requires { array_vec_len text.old + length name.now ≤ 100 }
-    ensures items { text.new.items ≡ text.old.items ++ parted name.now part n }
-    ensures len { array_vec_len text.new ≤ 124 }
-{
-    add(text, name);
-    add(text, b" ");
-    add(text, name_of_part(part).as_bytes());
-    add(text, b" ");
-    add_number(text, u64::from(n));
-}
-
-fn name_of_part(part: Part) -> &'static str
-    ensures text { result.now ≡ part_name part }
-    ensures short { length result.now ≡ 2 }
-{
-    match part {
-        Part::Bz => "bz",
-        Part::Ft => "ft",
-        Part::Pt => "pt",
     }
 }
 

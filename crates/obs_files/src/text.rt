@@ -1,0 +1,99 @@
+//! Faults of programs in words.
+
+ghost use Rattle.std.specs.Prelude.{◌≡◌, ◌+◌, ◌≤◌, ◌++◌, decimal, length};
+ghost use Rattle.arrayvec.specs.ArrayVec.{array_vec_len};
+ghost use Rattle.obs_files.specs.Texts.{fault_text, numbered, part_name, parted};
+
+use crate::ProgramFault;
+use arrayvec::ArrayVec;
+use itoa::Buffer;
+use mltl_base::Part;
+
+/// The bytes of a text.
+type Text = ArrayVec<u8, 40>;
+
+impl ProgramFault {
+    /// What is wrong, in words: the name of the fault, the part where it has one, and its number.
+    pub fn text(self) -> ArrayVec<u8, 40>
+        ensures { result.items ≡ fault_text self }
+    {
+        let mut text = ArrayVec::new();
+        add_fault(&mut text, self);
+        text
+    }
+}
+
+fn add_fault(text: &mut Text, fault: ProgramFault)
+    requires { array_vec_len text.old ≡ 0 }
+    ensures { text.new.items ≡ text.old.items ++ fault_text fault }
+{
+    match fault {
+        ProgramFault::Short => add(text, b"short"),
+        ProgramFault::Magic => add(text, b"magic"),
+        ProgramFault::Version => add(text, b"version"),
+        ProgramFault::Reserved(at) => add_numbered(text, b"reserved", at),
+        ProgramFault::Opcode(at) => add_numbered(text, b"opcode", at),
+        ProgramFault::Trailing => add(text, b"trailing"),
+        ProgramFault::NameBytes(k) => add_numbered(text, b"namebytes", u64::from(k)),
+        ProgramFault::SignalBytes(k) => add_numbered(text, b"signalbytes", u64::from(k)),
+        ProgramFault::Width => add(text, b"width"),
+        ProgramFault::Signal(k) => add_numbered(text, b"signal", u64::from(k)),
+        ProgramFault::Operand(part, i) => add_parted(text, b"operand", part, i),
+        ProgramFault::Interval(part, i) => add_parted(text, b"interval", part, i),
+        ProgramFault::Divisor(i) => add_numbered(text, b"divisor", u64::from(i)),
+        ProgramFault::Range(i) => add_numbered(text, b"range", u64::from(i)),
+        ProgramFault::TooLate(i) => add_numbered(text, b"toolate", u64::from(i)),
+        ProgramFault::Output(k) => add_numbered(text, b"output", u64::from(k)),
+        ProgramFault::Size(part, i) => add_parted(text, b"size", part, i),
+        ProgramFault::TooManySlots => add(text, b"toomanyslots"),
+    }
+}
+
+fn add_numbered(text: &mut Text, name: &[u8], n: u64)
+    requires { array_vec_len text.old + length name.now ≤ 11 }
+    ensures { text.new.items ≡ text.old.items ++ numbered name.now n }
+{
+    add(text, name);
+    add(text, b" ");
+    add_number(text, n);
+}
+
+fn add_parted(text: &mut Text, name: &[u8], part: Part, n: u32)
+    requires { array_vec_len text.old + length name.now ≤ 11 }
+    ensures { text.new.items ≡ text.old.items ++ parted name.now part n }
+{
+    add(text, name);
+    add(text, b" ");
+    add(text, name_of_part(part).as_bytes());
+    add(text, b" ");
+    add_number(text, u64::from(n));
+}
+
+fn name_of_part(part: Part) -> &'static str
+    ensures text { result.now ≡ part_name part }
+    ensures short { length result.now ≡ 2 }
+{
+    match part {
+        Part::Bz => "bz",
+        Part::Ft => "ft",
+        Part::Pt => "pt",
+    }
+}
+
+/// Puts a number behind a text that has room for it.
+fn add_number(text: &mut Text, n: u64)
+    requires { array_vec_len text.old + 20 ≤ 40 }
+    ensures { text.new.items ≡ text.old.items ++ decimal n }
+{
+    let mut buffer = Buffer::new();
+    add(text, buffer.format(n).as_bytes());
+}
+
+/// Puts a piece behind a text that has room for it.
+fn add(text: &mut Text, piece: &[u8])
+    requires { array_vec_len text.old + length piece.now ≤ 40 }
+    ensures items { text.new.items ≡ text.old.items ++ piece.now }
+    ensures len { array_vec_len text.new ≡ array_vec_len text.old + length piece.now }
+{
+    let _ = text.try_extend_from_slice(piece);
+}
