@@ -1,15 +1,14 @@
 -- The first line of a header file, and what is made under it.
 
-use Rattle.std.proofs.Common.{◌≡◌, ◌≢◌, ℕ, ◌-◌, ◌≤◌, ◌==◌, ◌&&◌, nat_lt, Bool, true, false, if◌then◌else◌, Option, Some, None, unwrap_or, Result, Ok, Err, IfOk, IfErr, List, [], ◌∷◌, ◌++◌, length, take, slice_index, Vec, refl, sym, ◌∙◌, ap, subst, arith, inl, inr}
+use Rattle.std.proofs.Common.{◌≡◌, ◌≢◌, ℕ, ◌≤◌, Bool, true, false, Option, Some, None, unwrap_or, Result, Ok, Err, IfOk, IfErr, List, [], ◌∷◌, ◌++◌, length, Vec, refl, sym, ◌∙◌, ap, subst, inl, inr}
 use Rattle.std.specs.declared.alloc.Global.{Global}
 use Rattle.std.specs.List.{concat}
-use Rattle.std.proofs.lemmas.List.{append-nil, length-append, length-take}
-use Rattle.std.proofs.lemmas.Bool.Decides.{nat_tests}
+use Rattle.std.proofs.lemmas.List.{append-nil}
 use Rattle.tool_io.specs.declared.host.Place.TheVariants.{Header}
 use Rattle.tool_io.specs.declared.line_cut.Line as line
 use Rattle.tool_io.specs.Log.{Event, Attached}
 use Rattle.tool_io.specs.Whole.{Takes}
-use Rattle.tool_io.specs.Cutting.{Cutting, IsRow, CutsLine, ends_in, without_end, line_text, lines_of, fresh, row_of}
+use Rattle.tool_io.specs.Cutting.{Cutting, IsRow, CutsLine, line_text, lines_of, fresh, row_of}
 use Rattle.tool_io.proofs.CutLaws.{lines_of-row, lines_of-last, lines_of-long, is_long-row}
 use Rattle.c2po_tree.specs.ItemShape.{ItemShape}
 use Rattle.spec_compile.specs.Front.{first_refusal, items_in}
@@ -20,6 +19,7 @@ use Rattle.spec_compile.specs.declared.fault.CompileFault.TheVariants as compile
 use Rattle.spec_compile.proofs.CompiledLaws.{header_refused}
 use Rattle.tool_runs.specs.declared.status.Status as status
 use Rattle.tool_runs.specs.declared.status.Status.TheVariants as answers
+use Rattle.tool_runs.proofs.LineLaws.{text_short}
 use Rattle.c2po_runs.specs.declared.make.Form.{Form}
 use Rattle.c2po_runs.specs.Made.{compile_status, compiled_bytes, text_bytes, unless_long, begins_long, first_line, made_of_text}
 use Rattle.c2po_runs.specs.Phases.{Refuses, ReadsLine, LineLog, HeaderLog, RefusedLog, MadeLog}
@@ -29,39 +29,6 @@ use Rattle.c2po_runs.proofs.MakingLaws.{headed, refused_by, refused_so}
 abbrev pub Made : Result (Vec ℕ Global) status.Status → Result (List ℕ) status.Status → Type 0
 Made (Ok bytes) found = found ≡ Ok bytes.items
 Made (Err answer) found = Refuses answer × (answer ≢ answers.Memory → found ≡ Err answer)
-
--- the byte at the end of a line
-last_byte : (body : List ℕ) → slice_index (body ++ 10 ∷ []) (length body) ≡ 10
-last_byte [] = refl
-last_byte (byte ∷ body) = last_byte body
-
-ends_line : (body : List ℕ) → ends_in 10 (body ++ 10 ∷ []) ≡ true
-ends_line body =
-    let size : length (body ++ 10 ∷ []) - 1 ≡ length body = omega (arith, length-append body (10 ∷ [])) in
-    let some : nat_lt 0 (length (body ++ 10 ∷ [])) ≡ true = grind (arith, nat_tests, length-append body (10 ∷ [])) in
-    ap (λ b. b && (slice_index (body ++ 10 ∷ []) (length (body ++ 10 ∷ []) - 1) == 10)) some
-    ∙ ap (λ n. slice_index (body ++ 10 ∷ []) n == 10) size
-    ∙ ap (λ n. n == 10) (last_byte body)
-
-without_shorter : (byte : ℕ) (bytes : List ℕ) → length (without_end byte bytes) ≤ length bytes
-without_shorter byte bytes =
-    elim (ends_in byte bytes) as (λ b. length (if b then take (length bytes - 1) bytes else bytes) ≤ length bytes) [
-      | true ↦ omega (arith, length-take (length bytes - 1) bytes)
-      | false ↦ omega arith
-    ]
-
--- the text of a line is shorter than the longest line
-text_short : (raw rest : List ℕ) (ended : Bool) → length raw ≤ 65536 → IsRow raw rest ended → length (line_text raw) ≤ 65535
-text_short raw rest ended fits (inl whole) =
-    let ends : ends_in 10 raw ≡ true = ap (ends_in 10) whole.is ∙ ends_line whole.body in
-    let text : line_text raw ≡ without_end 13 (take (length raw - 1) raw) = ap (λ (b : Bool). if b then without_end 13 (take (length raw - 1) raw) else raw) ends in
-    let short : length (without_end 13 (take (length raw - 1) raw)) ≤ 65535 = omega (arith, fits, without_shorter 13 (take (length raw - 1) raw), length-take (length raw - 1) raw) in
-    subst (λ t. length t ≤ 65535) (sym text) short
-text_short raw rest ended fits (inr last) =
-    elim (ends_in 10 raw) as (λ b. length (if b then without_end 13 (take (length raw - 1) raw) else raw) ≤ 65535) [
-      | true ↦ omega (arith, fits, without_shorter 13 (take (length raw - 1) raw), length-take (length raw - 1) raw)
-      | false ↦ omega (arith, last.short)
-    ]
 
 pub line_short : (cut : Cutting) (events : List Event) → CutsLine Header fresh cut line.TheVariants.Row events → length (line_text (row_of cut)) ≤ 65535
 line_short cut events cuts =

@@ -1,26 +1,25 @@
 -- The message behind a run, and what follows from a run without a fault.
 
-use Rattle.std.proofs.Common.{◌≡◌, ◌≢◌, ℕ, ◌≤◌, ◌⊎◌, Bool, true, false, ◌||◌, Result, Ok, Err, List, [], ◌∷◌, ◌++◌, length, map, refl, sym, ◌∙◌, ap, subst, inl, inr, arith}
-use Rattle.std.proofs.Math.Bool.{or-false}
+use Rattle.std.proofs.Common.{◌≡◌, ◌≢◌, ℕ, ◌≤◌, ◌⊎◌, Bool, false, Result, Ok, Err, List, [], ◌∷◌, ◌++◌, length, map, refl, sym, ◌∙◌, ap, subst, inl, inr, arith}
 use Rattle.std.proofs.lemmas.List.{append-nil}
 use Rattle.tool_io.specs.declared.host.Place as place
 use Rattle.tool_io.specs.declared.host.Place.TheVariants as at
 use Rattle.tool_io.specs.declared.host.Put as put
-use Rattle.tool_io.specs.Log.{Event, Gave, taken, given, ended_from, names_of, Writes}
+use Rattle.tool_io.specs.Log.{Event, Gave, taken, given, ended_from, Writes}
 use Rattle.tool_io.specs.Host.{Rose, WriteCause}
 use Rattle.tool_io.specs.Cutting.{lines_of}
 use Rattle.tool_io.specs.Whole.{PutAllLog}
-use Rattle.tool_io.proofs.LogLaws.{taken-append, given-append, ended_from-append, names_of-append, Writes-given, Writes-given_elsewhere, Writes-taken, Writes-names, Writes-ended}
+use Rattle.tool_io.proofs.LogLaws.{given-append, Writes-given}
 use Rattle.tool_runs.specs.declared.message.Tool.TheVariants.{C2po}
 use Rattle.tool_runs.specs.declared.status.Status as status
 use Rattle.tool_runs.specs.declared.status.Status.TheVariants as answers
 use Rattle.tool_runs.specs.Messages.{told_to_user}
 use Rattle.tool_runs.specs.Causes.{RunCause, NoOtherRose}
-use Rattle.tool_runs.specs.Attaching.{is_attached}
 use Rattle.tool_runs.specs.Files.{file_limit}
 use Rattle.tool_runs.specs.Telling.{ToldWhole}
-use Rattle.tool_runs.proofs.AttachLaws.{is_attached-append, ReadsAttached-append, writes_unread, writes_unattached, opened_still}
+use Rattle.tool_runs.proofs.AttachLaws.{ReadsAttached-append, writes_unread, opened_still}
 use Rattle.tool_runs.proofs.CauseLaws.{rose_at, err_stays}
+use Rattle.tool_runs.proofs.MessageLaws.{Leaves, message_leaves, unattached}
 use Rattle.c2po_runs.specs.Asking.{Ask, help, make, nothing, MakeAsked, from_text}
 use Rattle.c2po_runs.specs.Run.{Seen, seen, place_of, TriesOf, TriesInTurn, WritesAttached, names_out, MakeOutcome, HelpOutcome, NothingOutcome, OutcomeOf, Complete, Ran, IsMade}
 use Rattle.c2po_runs.specs.Made.{made}
@@ -66,27 +65,12 @@ module _ (first second : List Event) (sent : List ℕ) (writes : Writes at.Err s
   abbrev all : List Event
   all = first ++ second
 
-  all_taken : (p : place.Place) → taken p all ≡ taken p first
-  all_taken p = taken-append p first second ∙ ap (λ b. taken p first ++ b) (Writes-taken at.Err p sent second writes) ∙ append-nil (taken p first)
-
-  all_ended : (p : place.Place) → ended_from false p all ≡ ended_from false p first
-  all_ended p = ended_from-append false p first second ∙ Writes-ended (ended_from false p first) at.Err p sent second writes
-
-  all_out : given at.Out all ≡ given at.Out first
-  all_out = given-append at.Out first second ∙ ap (λ b. given at.Out first ++ b) (Writes-given_elsewhere at.Err at.Out sent second refl writes) ∙ append-nil (given at.Out first)
-
-  pub all_names : names_of all ≡ names_of first
-  all_names = names_of-append first second ∙ ap (λ names. names_of first ++ names) (Writes-names at.Err sent second writes) ∙ append-nil (names_of first)
-
-  pub unattached : (p : place.Place) → is_attached p second ≡ false
-  unattached p = ap (is_attached p) writes.are ∙ writes_unattached p writes.pieces
-
-  all_attached : is_attached at.Out all ≡ is_attached at.Out first
-  all_attached = is_attached-append at.Out first second ∙ ap (λ v. is_attached at.Out first || v) (unattached at.Out) ∙ or-false (is_attached at.Out first)
+  leaves : Leaves first all
+  leaves = message_leaves first second sent writes
 
   all_seen : (asked : MakeAsked) → seen asked all ≡ seen asked first
-  all_seen asked = same_seen (seen asked all) (seen asked first) all_names (all_taken (place_of asked)) (all_ended (place_of asked))
-      (ap (λ v. lines_of v (taken at.Header all)) (all_ended at.Header) ∙ ap (lines_of (ended_from false at.Header first)) (all_taken at.Header)) all_out all_attached
+  all_seen asked = same_seen (seen asked all) (seen asked first) leaves.names (leaves.bytes (place_of asked)) (leaves.ends (place_of asked))
+      (ap (λ v. lines_of v (taken at.Header all)) (leaves.ends at.Header) ∙ ap (lines_of (ended_from false at.Header first)) (leaves.bytes at.Header)) leaves.out (leaves.attached at.Out)
 
   pub tries_still : (asked : Ask) → TriesOf asked first → TriesOf asked all
   tries_still help tries = tt
@@ -94,9 +78,9 @@ module _ (first second : List Event) (sent : List ℕ) (writes : Writes at.Err s
   tries_still nothing tries = tt
 
   pub outcome_still : (asked : Ask) (answer : status.Status) → OutcomeOf answer asked first → OutcomeOf answer asked all
-  outcome_still help answer is = subst (HelpOutcome answer) (sym all_out) is
+  outcome_still help answer is = subst (HelpOutcome answer) (sym leaves.out) is
   outcome_still (make asked) answer is = subst (MakeOutcome answer asked) (sym (all_seen asked)) is
-  outcome_still nothing answer is = subst (NothingOutcome answer) (sym all_out) is
+  outcome_still nothing answer is = subst (NothingOutcome answer) (sym leaves.out) is
 
   no_gave : (pieces : List (List ℕ)) (before after : List Event) (piece : List ℕ) → map (Gave at.Err) pieces ≡ before ++ Gave at.Out piece ∷ after → ⊥
   no_gave [] [] after piece is = cc
@@ -112,7 +96,7 @@ run_told : (asked : Ask) (answer : status.Status) (before between now : place.Pl
 run_told asked answer before between now first second sent unsent ran cause same writes split whole =
     let outcome = outcome_still first second sent writes asked answer ran.outcome in
     record {
-      names = record { rest = ran.names.rest; split = ran.names.split ∙ ap (λ names. names ++ ran.names.rest) (sym (all_names first second sent writes)) };
+      names = record { rest = ran.names.rest; split = ran.names.split ∙ ap (λ names. names ++ ran.names.rest) (sym (message_leaves first second sent writes).names) };
       tries = tries_still first second sent writes asked ran.tries;
       reads = ReadsAttached-append first second ran.reads (λ start after p piece is. absurd (writes_unread at.Err writes.pieces start after p piece (sym writes.are ∙ is)));
       writes = writes_still first second sent writes (names_out asked) ran.writes;
