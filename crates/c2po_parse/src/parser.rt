@@ -131,7 +131,8 @@ pub fn parse(alloc: Global, tokens: &Tokens) -> Result<SpecTree, ParseFault>
         → spec_of tokens.now ≡ Err fault) }
 
     // Names stand in the tokens: where those are made of letters, digits and `_`, these are.
-    ensures names { All (λ token. HasPlainName token.what) tokens.now → IfOk result (λ tree. ArePlainItems (spec_shape tree)) }
+    ensures names { All (λ token. HasPlainName token.what) tokens.now
+        → IfOk result (λ tree. ArePlainItems (spec_shape tree)) }
 {
     let mut items = List::new(alloc);
     let mut section = None;
