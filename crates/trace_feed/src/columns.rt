@@ -26,7 +26,8 @@ struct NamedColumns {
 
 /// The first record of a text, if it has one.
 fn first_record(alloc: Global, text: &[u8]) -> Result<Option<ByteRecord>, HeaderFault>
-    ensures fields { IfOk result (λ found. option_map fields_of found ≡ option_map (λ read. read.0) (next_record default_config state.StartRecord [] [] (strip_bom text.now))) }
+    ensures fields { IfOk result (λ found. option_map fields_of found ≡ option_map (λ read. read.0)
+        (next_record default_config state.StartRecord [] [] (strip_bom text.now))) }
     ensures memory { IfErr result (λ fault. fault ≡ HeaderFault.Memory) }
 {
     let mut reader = ReaderBuilder::new()
@@ -59,7 +60,8 @@ fn read_header(alloc: Global, line: &[u8]) -> Result<NamedColumns, HeaderFault>
     ensures width { IfOk result (λ named. named.width ≡ length (names_of line.now)) }
     ensures narrow { IfOk result (λ named. named.width ≤ MAX_SIGNALS) }
     ensures places { IfOk result (λ named. ArePlaces (names_of line.now) named.places) }
-    ensures fault { IfErr result (λ fault. fault ≢ HeaderFault.Memory → (fault ≡ HeaderFault.NoHeader) × (begins_header line.now ≡ false)) }
+    ensures fault { IfErr result (λ fault. fault ≢ HeaderFault.Memory
+        → (fault ≡ HeaderFault.NoHeader) × (begins_header line.now ≡ false)) }
 {
     match line {
         [b'#', text @ ..] => {
@@ -77,9 +79,11 @@ fn columns_of_signals(
     named: &NamedColumns,
     signals: &[Signal],
 ) -> Result<Columns, HeaderFault>
-    ensures columns { IfOk result (λ columns. (names : Items (Items ℕ)) → ArePlaces names named.now.places
-        → of_width named.now.width (columns_of names (map (λ s. s.name) signals.now)) ≡ Ok columns) }
-    ensures fault { IfErr result (λ fault. fault ≢ HeaderFault.Memory → (names : Items (Items ℕ)) → ArePlaces names named.now.places
+    ensures columns { IfOk result (λ columns. (names : Items (Items ℕ)) →
+        ArePlaces names named.now.places → of_width named.now.width
+        (columns_of names (map (λ s. s.name) signals.now)) ≡ Ok columns) }
+    ensures fault { IfErr result (λ fault. fault ≢ HeaderFault.Memory
+        → (names : Items (Items ℕ)) → ArePlaces names named.now.places
         → columns_of names (map (λ s. s.name) signals.now) ≡ Err fault) }
 {
     let mut of_signal = List::new(alloc);
@@ -97,9 +101,11 @@ fn columns_of_stored(
     named: &NamedColumns,
     signals: &[StoredSignal],
 ) -> Result<Columns, HeaderFault>
-    ensures columns { IfOk result (λ columns. (names : Items (Items ℕ)) → ArePlaces names named.now.places
-        → of_width named.now.width (columns_of names (map (λ s. s.name) signals.now)) ≡ Ok columns) }
-    ensures fault { IfErr result (λ fault. fault ≢ HeaderFault.Memory → (names : Items (Items ℕ)) → ArePlaces names named.now.places
+    ensures columns { IfOk result (λ columns. (names : Items (Items ℕ)) →
+        ArePlaces names named.now.places → of_width named.now.width
+        (columns_of names (map (λ s. s.name) signals.now)) ≡ Ok columns) }
+    ensures fault { IfErr result (λ fault. fault ≢ HeaderFault.Memory
+        → (names : Items (Items ℕ)) → ArePlaces names named.now.places
         → columns_of names (map (λ s. s.name) signals.now) ≡ Err fault) }
 {
     let mut of_signal = List::new(alloc);
@@ -119,12 +125,16 @@ fn columns_of_stored(
 /// `Missing` where it stands nowhere, `Twice` where it stands more than once; `Memory` where memory is wanting.
 pub fn header(alloc: Global, line: &[u8], signals: &List<Signal>) -> Result<Columns, HeaderFault>
     requires { length line.now ≤ 65535 }
-    ensures columns { IfOk result (λ columns. header_meaning (map (λ s. s.name) signals.now) line.now ≡ Ok columns) }
-    ensures fault { IfErr result (λ fault. fault ≢ HeaderFault.Memory → header_meaning (map (λ s. s.name) signals.now) line.now ≡ Err fault) }
+    ensures columns { IfOk result (λ columns.
+        header_meaning (map (λ s. s.name) signals.now) line.now ≡ Ok columns) }
+    ensures fault { IfErr result (λ fault. fault ≢ HeaderFault.Memory
+        → header_meaning (map (λ s. s.name) signals.now) line.now ≡ Err fault) }
     ensures narrow { IfOk result (λ columns. columns.width ≤ MAX_SIGNALS) }
     ensures one_each { IfOk result (λ columns. length columns.of_signal ≡ length signals.now) }
-    ensures below { IfOk result (λ columns. All (λ column. column < columns.width) columns.of_signal) }
-    ensures different { IfOk result (λ columns. AreDifferentNames (map (λ s. s.name) signals.now) → AreDifferent columns.of_signal) }
+    ensures below { IfOk result (λ columns.
+        All (λ column. column < columns.width) columns.of_signal) }
+    ensures different { IfOk result (λ columns.
+        AreDifferentNames (map (λ s. s.name) signals.now) → AreDifferent columns.of_signal) }
 {
     let named = read_header(alloc, line)?;
     columns_of_signals(alloc, &named, signals.as_slice())
@@ -134,11 +144,15 @@ pub fn header(alloc: Global, line: &[u8], signals: &List<Signal>) -> Result<Colu
 pub fn header_of(alloc: Global, line: &[u8], checked: &Checked) -> Result<Columns, HeaderFault>
     requires version { checked.now.version ≡ 2 }
     requires short { length line.now ≤ 65535 }
-    ensures columns { IfOk result (λ columns. header_meaning (map (λ s. s.name) checked.now.signals) line.now ≡ Ok columns) }
-    ensures fault { IfErr result (λ fault. fault ≢ HeaderFault.Memory → header_meaning (map (λ s. s.name) checked.now.signals) line.now ≡ Err fault) }
+    ensures columns { IfOk result (λ columns.
+        header_meaning (map (λ s. s.name) checked.now.signals) line.now ≡ Ok columns) }
+    ensures fault { IfErr result (λ fault. fault ≢ HeaderFault.Memory
+        → header_meaning (map (λ s. s.name) checked.now.signals) line.now ≡ Err fault) }
     ensures narrow { IfOk result (λ columns. columns.width ≤ MAX_SIGNALS) }
-    ensures one_each { IfOk result (λ columns. length columns.of_signal ≡ length checked.now.signals) }
-    ensures below { IfOk result (λ columns. All (λ column. column < columns.width) columns.of_signal) }
+    ensures one_each { IfOk result (λ columns.
+        length columns.of_signal ≡ length checked.now.signals) }
+    ensures below { IfOk result (λ columns.
+        All (λ column. column < columns.width) columns.of_signal) }
     ensures different { IfOk result (λ columns. AreDifferent columns.of_signal) }
 {
     let named = read_header(alloc, line)?;

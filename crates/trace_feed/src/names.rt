@@ -45,7 +45,8 @@ impl Places {
 
     /// Notes the name of the next column. No signal has a name that isn't 1 to 64 bytes long.
     fn add(&mut self, alloc: Global, name: &[u8], column: u32) -> Result<(), AllocError>
-        ensures { OnOk result ((names : List (List ℕ)) → length names ≡ column → ArePlaces names self.old
+        ensures { OnOk result ((names : List (List ℕ)) → length names ≡ column
+            → ArePlaces names self.old
             → ArePlaces (names ++ name.now ∷ []) self.new) }
     {
         match Name::of(name) {
@@ -55,7 +56,8 @@ impl Places {
     }
 
     fn note(&mut self, alloc: Global, name: &Name, column: u32) -> Result<(), AllocError>
-        ensures { OnOk result ((names : List (List ℕ)) → length names ≡ column → ArePlaces names self.old
+        ensures { OnOk result ((names : List (List ℕ)) → length names ≡ column
+            → ArePlaces names self.old
             → ArePlaces (names ++ name.now ∷ []) self.new) }
     {
         let _ = name.bytes();
@@ -81,7 +83,8 @@ impl Places {
 
     /// The one column that has a name.
     pub fn find(&self, name: &Name) -> Result<u32, HeaderFault>
-        ensures { (names : List (List ℕ)) → ArePlaces names self.now → result ≡ column_of names name.now }
+        ensures { (names : List (List ℕ)) → ArePlaces names self.now
+            → result ≡ column_of names name.now }
     {
         let _ = name.bytes();
         if self.again.contains(name) {
