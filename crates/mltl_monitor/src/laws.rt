@@ -16,24 +16,30 @@ ghost use Rattle.mltl_monitor.specs.Monitoring.{IsDrained, Stands, open_of, plac
 /// Each future-time instruction has the slots that are stored for it, which are as many as it needs.
 #[tactic(auto, using(crate::proofs::Keeping::slots_needed))]
 pub fn slots_are_those_needed()
-    ensures stored { (monitor : Shown) (rows : List Row) → Stands monitor rows → slots_of monitor ≡ (program_of monitor).sizes.ft }
+    ensures stored { (monitor : Shown) (rows : List Row) → Stands monitor rows
+        → slots_of monitor ≡ (program_of monitor).sizes.ft }
     ensures needed { (monitor : Shown) (rows : List Row) → Stands monitor rows
-        → (program_of monitor).sizes.ft ≡ queue_lengths (program_of monitor).ft (program_of monitor).outs }
+        → (program_of monitor).sizes.ft
+        ≡ queue_lengths (program_of monitor).ft (program_of monitor).outs }
 {}
 
 /// The slots of all future-time instructions together, and the boxes that all past-time ones have room for, are as many
 /// as are stored, which are as many as the program needs. None is left over.
 #[tactic(auto, using(crate::proofs::Keeping::none_left_over))]
 pub fn no_slot_is_left_over()
-    ensures slots { (monitor : Shown) (rows : List Row) → Stands monitor rows → slot_total_of monitor ≡ sum (program_of monitor).sizes.ft }
-    ensures boxes { (monitor : Shown) (rows : List Row) → Stands monitor rows → room_total_of monitor ≡ sum (program_of monitor).sizes.pt }
+    ensures slots { (monitor : Shown) (rows : List Row) → Stands monitor rows
+        → slot_total_of monitor ≡ sum (program_of monitor).sizes.ft }
+    ensures boxes { (monitor : Shown) (rows : List Row) → Stands monitor rows
+        → room_total_of monitor ≡ sum (program_of monitor).sizes.pt }
     ensures needed { (monitor : Shown) (rows : List Row) → Stands monitor rows
-        → slot_total_of monitor + room_total_of monitor ≡ slot_count (program_of monitor).ft (program_of monitor).pt (program_of monitor).outs }
+        → slot_total_of monitor + room_total_of monitor ≡ slot_count
+        (program_of monitor).ft (program_of monitor).pt (program_of monitor).outs }
 {}
 
 /// A monitor has no report to give exactly where nothing is open after rows that it stands for, in either style.
 pub fn drained_is_nothing_open()
-    ensures { (style : Form) (monitor : Shown) (rows : List Row) → Stands monitor rows → IsDrained monitor ↔ (open_of style monitor rows ≡ []) }
+    ensures { (style : Form) (monitor : Shown) (rows : List Row) → Stands monitor rows
+        → IsDrained monitor ↔ (open_of style monitor rows ≡ []) }
 {}
 
 /// The queues keep the verdicts that an output reads from its next time on. Where all reports were given, this time is
@@ -41,12 +47,15 @@ pub fn drained_is_nothing_open()
 #[tactic(auto, using(crate::proofs::Keeping::entries_stay, crate::proofs::Keeping::told_places, crate::proofs::Keeping::told_wide))]
 pub fn reads_are_kept()
     ensures kept { (monitor : Shown) (rows : List Row) (k g : ℕ) (output : Reported) →
-        Stands monitor rows → slice_get (program_of monitor).outs k ≡ Some output → Contains (reported output) g
+        Stands monitor rows → slice_get (program_of monitor).outs k ≡ Some output
+        → Contains (reported output) g
         → lowest_at monitor.running.ft g ≤ slice_index (places_of monitor) k }
     ensures drained { (monitor : Shown) (rows : List Row) →
-        Stands monitor rows → IsDrained monitor → places_of monitor ≡ known_counts_of (program_of monitor) rows }
+        Stands monitor rows → IsDrained monitor
+        → places_of monitor ≡ known_counts_of (program_of monitor) rows }
     ensures wide { (monitor : Shown) (rows : List Row) (k g : ℕ) (output : Reported) →
-        Stands monitor rows → IsDrained monitor → slice_get (program_of monitor).outs k ≡ Some output → Contains (reported output) g
+        Stands monitor rows → IsDrained monitor
+        → slice_get (program_of monitor).outs k ≡ Some output → Contains (reported output) g
         → length rows ≤ slice_index (places_of monitor) k + width_of (program_of monitor) g }
 {}
 
@@ -54,17 +63,22 @@ pub fn reads_are_kept()
 /// each of them.
 #[tactic(auto, using(crate::proofs::Settled::first_covers, crate::proofs::Settled::first_is_settled))]
 pub fn reports_are_settled()
-    ensures upward { (style : Form) (monitor : Shown) (rows : List Row) (report : Given) (more : List Given) →
-        open_of style monitor rows ≡ report ∷ more → slice_index (places_of monitor) report.out ≤ report.time }
-    ensures settled { (style : Form) (monitor : Shown) (rows : List Row) (report : Given) (more : List Given) (o : Output) (t : ℕ) →
-        open_of style monitor rows ≡ report ∷ more → slice_get (outputs (program_of monitor)) report.out ≡ Some o
-        → slice_index (places_of monitor) report.out ≤ t → t ≤ report.time → IsSettled rows o t report.word }
+    ensures upward { (style : Form) (monitor : Shown) (rows : List Row)
+        (report : Given) (more : List Given) → open_of style monitor rows ≡ report ∷ more
+        → slice_index (places_of monitor) report.out ≤ report.time }
+    ensures settled { (style : Form) (monitor : Shown) (rows : List Row)
+        (report : Given) (more : List Given) (o : Output) (t : ℕ) →
+        open_of style monitor rows ≡ report ∷ more
+        → slice_get (outputs (program_of monitor)) report.out ≡ Some o
+        → slice_index (places_of monitor) report.out ≤ t → t ≤ report.time
+        → IsSettled rows o t report.word }
 {}
 
 /// Where all reports were given, each time below n less the delay of an output was told of it.
 #[tactic(auto, using(crate::proofs::Keeping::told_in_time))]
 pub fn reports_come_in_time()
     ensures told { (monitor : Shown) (rows : List Row) (k : ℕ) (o : Output) →
-        Stands monitor rows → IsDrained monitor → slice_get (outputs (program_of monitor)) k ≡ Some o
+        Stands monitor rows → IsDrained monitor
+        → slice_get (outputs (program_of monitor)) k ≡ Some o
         → length rows ≤ slice_index (places_of monitor) k + delay o }
 {}

@@ -121,7 +121,8 @@ impl Monitor {
 
     /// Reads the row of a line, if the line is one, and keeps it aside. Nothing else changes.
     pub fn read_line(&mut self, line: &[u8]) -> RowAnswer
-        ensures told { Tells result (read_of self.new) (line_meaning (program_of self.old) line.now) }
+        ensures told { Tells result (read_of self.new)
+            (line_meaning (program_of self.old) line.now) }
         ensures fit { result ≡ RowAnswer.Good → IsFit (program_of self.old) (read_of self.new) }
         ensures same { IsSame self.old self.new }
     {
@@ -162,7 +163,8 @@ impl Monitor {
 
     /// The next report of the last row, in a style. `None`, and no change, where none is left.
     pub fn next(&mut self, style: Style) -> Option<Report>
-        ensures first { (rows : List Row) → Stands self.old rows → GivesFirst style result self.old self.new rows }
+        ensures first { (rows : List Row) → Stands self.old rows
+            → GivesFirst style result self.old self.new rows }
         ensures stands { (rows : List Row) → Stands self.old rows → Stands self.new rows }
         ensures none { IsNone result ↔ IsDrained self.old }
         ensures same { IfNone result (self.new ≡ self.old) }
@@ -180,7 +182,8 @@ impl Monitor {
 
     /// The next report of the last row, one for each newly known time. `None`, and no change, where none is left.
     pub fn next_report(&mut self) -> Option<Report>
-        ensures first { (rows : List Row) → Stands self.old rows → GivesFirst Each result self.old self.new rows }
+        ensures first { (rows : List Row) → Stands self.old rows
+            → GivesFirst Each result self.old self.new rows }
         ensures stands { (rows : List Row) → Stands self.old rows → Stands self.new rows }
         ensures none { IsNone result ↔ IsDrained self.old }
         ensures same { IfNone result (self.new ≡ self.old) }
@@ -199,7 +202,8 @@ impl Monitor {
     /// The next report of the last row, one for each longest stretch of newly known times with one word, with its last
     /// time. `None`, and no change, where none is left.
     pub fn next_run(&mut self) -> Option<Report>
-        ensures first { (rows : List Row) → Stands self.old rows → GivesFirst Runs result self.old self.new rows }
+        ensures first { (rows : List Row) → Stands self.old rows
+            → GivesFirst Runs result self.old self.new rows }
         ensures stands { (rows : List Row) → Stands self.old rows → Stands self.new rows }
         ensures none { IsNone result ↔ IsDrained self.old }
         ensures same { IfNone result (self.new ≡ self.old) }
@@ -218,7 +222,8 @@ impl Monitor {
     /// Whether all reports were given.
     pub fn is_drained(&self) -> bool
         ensures drained { IsTrue result ↔ IsDrained self.now }
-        ensures open { (style : Form) (rows : List Row) → Stands self.now rows → IsTrue result ↔ (open_of style self.now rows ≡ []) }
+        ensures open { (style : Form) (rows : List Row) → Stands self.now rows
+            → IsTrue result ↔ (open_of style self.now rows ≡ []) }
     {
         self.state.running.is_drained()
     }

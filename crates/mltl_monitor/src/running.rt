@@ -72,7 +72,8 @@ impl Running {
         requires some { (rows : List Row) × HasTaken self.old rows }
         requires early { self.old.taken ≤ 2 ^ 40 }
         requires cursor { Fits self.old cursor.old }
-        ensures first { (rows : List Row) → HasTaken self.old rows → GivesFirst style result self.old self.new rows }
+        ensures first { (rows : List Row) → HasTaken self.old rows
+            → GivesFirst style result self.old self.new rows }
         ensures stands { (rows : List Row) → HasTaken self.old rows → HasTaken self.new rows }
         ensures cursor { Fits self.new cursor.new }
         ensures none { IsNone result → self.new ≡ self.old }
@@ -87,7 +88,8 @@ impl Running {
     /// Whether no report is open, in either style.
     pub fn is_drained(&self) -> bool
         requires some { (rows : List Row) × HasTaken self.now rows }
-        ensures open { (style : Form) (rows : List Row) → HasTaken self.now rows → IsTrue result ↔ (open_of style self.now rows ≡ []) }
+        ensures open { (style : Form) (rows : List Row) → HasTaken self.now rows
+            → IsTrue result ↔ (open_of style self.now rows ≡ []) }
     {
         self.outs
             .drained(&self.checked, &self.ft, &self.pt, self.taken)

@@ -15,7 +15,10 @@ ghost use Rattle.trace_watch.specs.Watch.{IsWatch, NoneRose, WatchCause};
 
 /// Where no fault was counted, and the trace has no faulty line and stays within the mission time, all is done.
 pub fn watch_takes_none()
-    ensures { (answer : Watched) (program : Observer) (style : Form) (rows_in : List (List ℕ) → TraceRows) (start cut : Cutting) (monitor : State) (events : List Event) (before now : Stream → ℕ) →
-        WatchCause answer before now → IsWatch program style rows_in start cut monitor answer events → NoneRose before now
-        → (rows_in (lines_of cut.ended (start.pending ++ taken Trace events))).stop ≡ Clean → answer ≡ Done }
+    ensures { (answer : Watched) (program : Observer) (style : Form)
+        (rows_in : List (List ℕ) → TraceRows) (start cut : Cutting) (monitor : State)
+        (events : List Event) (before now : Stream → ℕ) → WatchCause answer before now
+        → IsWatch program style rows_in start cut monitor answer events → NoneRose before now
+        → (rows_in (lines_of cut.ended (start.pending ++ taken Trace events))).stop ≡ Clean
+        → answer ≡ Done }
 {}

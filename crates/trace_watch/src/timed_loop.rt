@@ -41,7 +41,10 @@ fn hold<H: Host, L: Ledger>(
     requires begun { 0 < times → 0 < taken_by monitor.old }
     requires early { taken_by monitor.old + times ≤ 2 ^ 40 }
     ensures cause { TellCause result (H.faults host.old) (H.faults host.new) }
-    ensures log { (rows : List Row) → Stands monitor.old rows → OnLog (H.log host.old) (H.log host.new) (TellsRows result (program_of monitor.old) style rows (replicate times (last_of monitor.old)) monitor.new) }
+    ensures log { (rows : List Row) → Stands monitor.old rows
+        → OnLog (H.log host.old) (H.log host.new)
+        (TellsRows result (program_of monitor.old) style rows
+        (replicate times (last_of monitor.old)) monitor.new) }
     ensures read { read_of monitor.new ≡ read_of monitor.old }
     ensures program { program_of monitor.new ≡ program_of monitor.old }
     ensures taken { IsTrue result → taken_by monitor.new ≡ taken_by monitor.old + times }
@@ -69,7 +72,10 @@ fn take_behind<H: Host, L: Ledger>(
     requires begun { 0 < times → 0 < taken_by monitor.old }
     requires early { taken_by monitor.old + times < 2 ^ 40 }
     ensures cause { TellCause result (H.faults host.old) (H.faults host.new) }
-    ensures log { (rows : List Row) → Stands monitor.old rows → OnLog (H.log host.old) (H.log host.new) (TellsRows result (program_of monitor.old) style rows (replicate times (last_of monitor.old) ++ read_of monitor.old ∷ []) monitor.new) }
+    ensures log { (rows : List Row) → Stands monitor.old rows
+        → OnLog (H.log host.old) (H.log host.new)
+        (TellsRows result (program_of monitor.old) style rows
+        (replicate times (last_of monitor.old) ++ read_of monitor.old ∷ []) monitor.new) }
     ensures program { program_of monitor.new ≡ program_of monitor.old }
 {
     if !hold(monitor, host, times, style, steps) {
@@ -93,7 +99,11 @@ fn take_fields<H: Host, L: Ledger>(
     requires begun { 0 < times → 0 < taken_by monitor.old }
     requires early { taken_by monitor.old + times < 2 ^ 40 }
     ensures cause { StepCause result (H.faults host.old) (H.faults host.new) }
-    ensures log { (rows : List Row) (time : ℕ) → Stands monitor.old rows → OnLog (H.log host.old) (H.log host.new) (Brings result (fields_at time (line_meaning (program_of monitor.old) fields.now)) (program_of monitor.old) style rows (λ _. replicate times (last_of monitor.old)) number monitor.new) }
+    ensures log { (rows : List Row) (time : ℕ) → Stands monitor.old rows
+        → OnLog (H.log host.old) (H.log host.new) (Brings result
+        (fields_at time (line_meaning (program_of monitor.old) fields.now))
+        (program_of monitor.old) style rows
+        (λ _. replicate times (last_of monitor.old)) number monitor.new) }
     ensures program { program_of monitor.new ≡ program_of monitor.old }
 {
     match monitor.read_line(fields) {
@@ -130,7 +140,11 @@ fn take_line<H: Host, L: Ledger>(
     requires counted { taken_by monitor.old ≡ times_until last }
     requires mission { mission ≤ 2 ^ 40 }
     ensures cause { StepCause result (H.faults host.old) (H.faults host.new) }
-    ensures log { (rows : List Row) (before : Option (ℕ × Row)) → Stands monitor.old rows → IsLast before rows → time_of before ≡ last → OnLog (H.log host.old) (H.log host.new) (TakesStamped result last (line_of (program_of monitor.old) mission last cut.now) (program_of monitor.old) style rows (held before) cut.now.number monitor.new) }
+    ensures log { (rows : List Row) (before : Option (ℕ × Row)) →
+        Stands monitor.old rows → IsLast before rows → time_of before ≡ last
+        → OnLog (H.log host.old) (H.log host.new) (TakesStamped result last
+        (line_of (program_of monitor.old) mission last cut.now)
+        (program_of monitor.old) style rows (held before) cut.now.number monitor.new) }
     ensures program { program_of monitor.new ≡ program_of monitor.old }
 {
     let number = cut.number();
@@ -167,7 +181,10 @@ fn timed_step<H: Host, L: Ledger>(
     requires within { clock.lines ≤ mission }
     requires mission { mission ≤ 2 ^ 40 }
     ensures cause { StepCause result (H.faults host.old) (H.faults host.new) }
-    ensures log { (rows : List Row) (last : Option (ℕ × Row)) → Stands monitor.old rows → IsLast last rows → time_of last ≡ clock.last → OnLog (H.log host.old) (H.log host.new) (StampedSteps result (program_of monitor.old) style mission clock rows last cut.now monitor.new) }
+    ensures log { (rows : List Row) (last : Option (ℕ × Row)) →
+        Stands monitor.old rows → IsLast last rows → time_of last ≡ clock.last
+        → OnLog (H.log host.old) (H.log host.new) (StampedSteps result (program_of monitor.old)
+        style mission clock rows last cut.now monitor.new) }
     ensures program { program_of monitor.new ≡ program_of monitor.old }
 {
     if is_header(cut) {
@@ -196,7 +213,11 @@ fn timed_turn<H: Host, L: Ledger>(
     requires within { clock.lines ≤ mission }
     requires mission { mission ≤ 2 ^ 40 }
     ensures cause { StepCause result (H.faults host.old) (H.faults host.new) }
-    ensures log { (rows : List Row) (last : Option (ℕ × Row)) → Stands monitor.old rows → IsLast last rows → time_of last ≡ clock.last → OnLog (H.log host.old) (H.log host.new) (Turns result (program_of monitor.old) mission clock.lines rows cut.old cut.new monitor.new (StampedSteps result (program_of monitor.old) style mission clock rows last cut.new monitor.new)) }
+    ensures log { (rows : List Row) (last : Option (ℕ × Row)) →
+        Stands monitor.old rows → IsLast last rows → time_of last ≡ clock.last
+        → OnLog (H.log host.old) (H.log host.new) (Turns result (program_of monitor.old)
+        mission clock.lines rows cut.old cut.new monitor.new (StampedSteps result
+        (program_of monitor.old) style mission clock rows last cut.new monitor.new)) }
     ensures program { program_of monitor.new ≡ program_of monitor.old }
 {
     match cut.next_line(host, Place::Trace) {
@@ -228,7 +249,9 @@ fn timed_turns<H: Host, L: Ledger>(
     requires mission { mission ≤ 2 ^ 40 }
     requires numbered { cut.old.number ≤ 1 }
     ensures cause { WatchCause result (H.faults host.old) (H.faults host.new) }
-    ensures log { OnLog (H.log host.old) (H.log host.new) (IsWatch (program_of monitor.old) style (stamped_rows (program_of monitor.old) mission (first_of cut.old)) cut.old cut.new monitor.new result) }
+    ensures log { OnLog (H.log host.old) (H.log host.new) (IsWatch (program_of monitor.old) style
+        (stamped_rows (program_of monitor.old) mission (first_of cut.old))
+        cut.old cut.new monitor.new result) }
     ensures program { program_of monitor.new ≡ program_of monitor.old }
 {
     let mut steps = Steps::<L>::start(blank);
@@ -258,7 +281,9 @@ pub fn watch_timed<H: Host>(
     requires mission { mission ≤ 2 ^ 40 }
     requires numbered { cut.old.number ≤ 1 }
     ensures cause { WatchCause result (H.faults host.old) (H.faults host.new) }
-    ensures log { OnLog (H.log host.old) (H.log host.new) (IsWatch (program_of monitor.old) style (stamped_rows (program_of monitor.old) mission (first_of cut.old)) cut.old cut.new monitor.new result) }
+    ensures log { OnLog (H.log host.old) (H.log host.new) (IsWatch (program_of monitor.old) style
+        (stamped_rows (program_of monitor.old) mission (first_of cut.old))
+        cut.old cut.new monitor.new result) }
     ensures program { program_of monitor.new ≡ program_of monitor.old }
 {
     timed_turns::<H, Brand>(monitor, cut, host, mission, style, Blank::new(1))

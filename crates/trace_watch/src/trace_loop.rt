@@ -24,7 +24,10 @@ use trace_feed::RowAnswer;
 /// Writes the lines of all reports that are still to be given. Answers whether all went out.
 pub(crate) fn tell<H: Host>(monitor: &mut Monitor, host: &mut H, style: Style) -> bool
     ensures cause { TellCause result (H.faults host.old) (H.faults host.new) }
-    ensures log { (rows : List Row) → Stands monitor.old rows → OnLog (H.log host.old) (H.log host.new) (SendsText result (lines_of_reports (output_names (program_of monitor.old)) (open_of style monitor.old rows))) }
+    ensures log { (rows : List Row) → Stands monitor.old rows
+        → OnLog (H.log host.old) (H.log host.new) (SendsText result
+        (lines_of_reports (output_names (program_of monitor.old))
+        (open_of style monitor.old rows))) }
     ensures stands { (rows : List Row) → Stands monitor.old rows → Stands monitor.new rows }
     ensures program { program_of monitor.new ≡ program_of monitor.old }
     ensures as_many { taken_by monitor.new ≡ taken_by monitor.old }
@@ -54,7 +57,9 @@ fn take<H: Host, L: Ledger>(
     requires drained { IsDrained monitor.old }
     requires early { taken_by monitor.old < 2 ^ 40 }
     ensures cause { StepCause result (H.faults host.old) (H.faults host.new) }
-    ensures log { (rows : List Row) → Stands monitor.old rows → OnLog (H.log host.old) (H.log host.new) (TakesIt result (program_of monitor.old) style rows cut.now monitor.new) }
+    ensures log { (rows : List Row) → Stands monitor.old rows
+        → OnLog (H.log host.old) (H.log host.new)
+        (TakesIt result (program_of monitor.old) style rows cut.now monitor.new) }
     ensures program { program_of monitor.new ≡ program_of monitor.old }
 {
     let number = cut.number();
@@ -102,7 +107,9 @@ fn step<H: Host, L: Ledger>(
     requires within { before ≤ mission }
     requires mission { mission ≤ 2 ^ 40 }
     ensures cause { StepCause result (H.faults host.old) (H.faults host.new) }
-    ensures log { (rows : List Row) → Stands monitor.old rows → OnLog (H.log host.old) (H.log host.new) (RowSteps result (program_of monitor.old) style mission before rows cut.now monitor.new) }
+    ensures log { (rows : List Row) → Stands monitor.old rows
+        → OnLog (H.log host.old) (H.log host.new)
+        (RowSteps result (program_of monitor.old) style mission before rows cut.now monitor.new) }
     ensures program { program_of monitor.new ≡ program_of monitor.old }
 {
     if is_header(cut) {
@@ -131,7 +138,10 @@ fn turn<H: Host, L: Ledger>(
     requires within { before ≤ mission }
     requires mission { mission ≤ 2 ^ 40 }
     ensures cause { StepCause result (H.faults host.old) (H.faults host.new) }
-    ensures log { (rows : List Row) → Stands monitor.old rows → OnLog (H.log host.old) (H.log host.new) (Turns result (program_of monitor.old) mission before rows cut.old cut.new monitor.new (RowSteps result (program_of monitor.old) style mission before rows cut.new monitor.new)) }
+    ensures log { (rows : List Row) → Stands monitor.old rows
+        → OnLog (H.log host.old) (H.log host.new)
+        (Turns result (program_of monitor.old) mission before rows cut.old cut.new monitor.new
+        (RowSteps result (program_of monitor.old) style mission before rows cut.new monitor.new)) }
     ensures program { program_of monitor.new ≡ program_of monitor.old }
 {
     match cut.next_line(host, Place::Trace) {
@@ -163,7 +173,9 @@ fn turns<H: Host, L: Ledger>(
     requires mission { mission ≤ 2 ^ 40 }
     requires numbered { cut.old.number ≤ 1 }
     ensures cause { WatchCause result (H.faults host.old) (H.faults host.new) }
-    ensures log { OnLog (H.log host.old) (H.log host.new) (IsWatch (program_of monitor.old) style (trace_rows (program_of monitor.old) mission (first_of cut.old)) cut.old cut.new monitor.new result) }
+    ensures log { OnLog (H.log host.old) (H.log host.new) (IsWatch (program_of monitor.old) style
+        (trace_rows (program_of monitor.old) mission (first_of cut.old))
+        cut.old cut.new monitor.new result) }
     ensures program { program_of monitor.new ≡ program_of monitor.old }
 {
     let mut steps = Steps::<L>::start(blank);
@@ -195,7 +207,9 @@ pub fn watch<H: Host>(
     requires mission { mission ≤ 2 ^ 40 }
     requires numbered { cut.old.number ≤ 1 }
     ensures cause { WatchCause result (H.faults host.old) (H.faults host.new) }
-    ensures log { OnLog (H.log host.old) (H.log host.new) (IsWatch (program_of monitor.old) style (trace_rows (program_of monitor.old) mission (first_of cut.old)) cut.old cut.new monitor.new result) }
+    ensures log { OnLog (H.log host.old) (H.log host.new) (IsWatch (program_of monitor.old) style
+        (trace_rows (program_of monitor.old) mission (first_of cut.old))
+        cut.old cut.new monitor.new result) }
     ensures program { program_of monitor.new ≡ program_of monitor.old }
 {
     turns::<H, Brand>(monitor, cut, host, mission, style, Blank::new(1))
