@@ -1,4 +1,4 @@
-# make try        runs the first example, unproved, within about a minute
+# make try        runs the first example inside a small program, unproved, within about a minute
 # make            proves and builds both programs into build/
 # make check      passes the whole gate: proofs, edits that must fail, cases
 # make install    installs both programs and their man pages under PREFIX
@@ -24,7 +24,7 @@ $(BUILT):
 
 try:
 	@echo 'Unproved. The proved programs come by "make".'
-	cd crates/r2u2 && rt try --data grant.c2po=../../examples/grant.c2po --data grant.csv=../../examples/grant.csv -- --source grant.c2po grant.csv
+	cd crates/own_monitor && rt try
 
 check:
 	rt ci

@@ -7,6 +7,3 @@ mod running;
 mod state;
 
 pub use monitor::Monitor;
-
-#[cfg(test)]
-mod tests;
