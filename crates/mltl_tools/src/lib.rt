@@ -9,5 +9,5 @@ pub use obs_files::{ProgramFault, image};
 pub use r2u2_runs::r2u2_main;
 pub use spec_compile::{CompileFault, HeaderWhy, Refusal, back, compile, front};
 pub use tool_runs::{Status, Tool, message_of};
-pub use tool_words::Words;
+pub use tool_words::{Words, words_of};
 pub use trace_watch::{TraceWhy, Watched, watch, watch_timed};
