@@ -24,6 +24,6 @@ pub enum Style {
 #[derive(Clone, Copy, PartialEq, Eq, Hash, Debug)]
 pub struct Report {
     pub out: u32,
-    pub time: u64,
     pub word: Word,
+    pub time: u64,
 }
