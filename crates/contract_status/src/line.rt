@@ -2,12 +2,12 @@
 
 ghost use Rattle.std.specs.Prelude.{◌≡◌, ◌+◌, ◌^◌, ◌<◌, ◌≤◌, ◌++◌, length, decimal, slice_get, Some};
 ghost use Rattle.arrayvec.specs.ArrayVec.{array_vec_len};
-ghost use Rattle.mltl_base.specs.Lines.{line, word_text};
-ghost use Rattle.mltl_base.specs.Programs.{name_of as name, output_names};
+ghost use Rattle.mltl_base.specs.Lines.{line};
+ghost use Rattle.mltl_base.specs.Programs.{output_names};
 
 use arrayvec::ArrayVec;
 use itoa::Buffer;
-use mltl_base::{Out, Report, Word};
+use mltl_base::Report;
 use obs_verify::Checked;
 
 /// The bytes of a line, at most 88 of them: a name, a time of at most 13 digits, a word and three signs.
@@ -33,37 +33,13 @@ pub fn put_line(text: &mut ArrayVec<u8, 128>, report: &Report, checked: &Checked
     ensures short { array_vec_len text.new ≤ 88 }
 {
     text.clear();
-    add(
-        text,
-        name_of(checked.program().outs.get(report.out as usize)),
-    );
+    let out = checked.program().outs.get(report.out as usize);
+    add(text, out.name().bytes());
     text.push(b':');
     add_number(text, report.time);
     text.push(b',');
-    add(text, text_of(report.word).as_bytes());
+    add(text, report.word.text().as_bytes());
     text.push(b'\n');
-}
-
-fn name_of(out: &Out) -> &[u8]
-    ensures name { result.now ≡ name out.now }
-    ensures short { length result.now ≤ 64 }
-{
-    match out {
-        Out::Formula(_, _, name) | Out::Contract(_, _, _, name) => name.bytes(),
-    }
-}
-
-fn text_of(word: Word) -> &'static str
-    ensures text { result.now ≡ word_text word }
-    ensures short { length result.now ≤ 8 }
-{
-    match word {
-        Word::True => "T",
-        Word::False => "F",
-        Word::Inactive => "inactive",
-        Word::Invalid => "invalid",
-        Word::Verified => "verified",
-    }
 }
 
 /// Puts a piece behind a line that has room for it.

@@ -6,8 +6,6 @@ ghost use Rattle.mltl_base.specs.declared.report.Report.{Report};
 ghost use Rattle.std.specs.Prelude.{List as Seq};
 ghost use Rattle.demo_runs.specs.Summary.{count_text, line_text, listed_out, summary_of};
 ghost use Rattle.demo_runs.specs.Tallies.{AreTallies, count_in};
-ghost use Rattle.mltl_base.specs.Lines.{word_text};
-ghost use Rattle.mltl_base.specs.Programs.{name_of as own_name};
 ghost use Rattle.std.specs.Prelude.{decimal};
 
 use crate::tally::Tally;
@@ -39,7 +37,7 @@ pub(crate) fn summary_of(
 fn add_line(text: &mut Vec<u8>, out: &Out, tally: &Tally) -> Result<(), AllocError>
     ensures { OnOk result (text.new.items ≡ text.old.items ++ line_text (listed_out out.now) (count_in tally.now)) }
 {
-    text.extend_from_slice(name_of(out))?;
+    text.extend_from_slice(out.name().bytes())?;
     text.extend_from_slice(b":")?;
     match out {
         Out::Formula(..) => {
@@ -61,7 +59,7 @@ fn add_count(text: &mut Vec<u8>, word: Word, tally: &Tally) -> Result<(), AllocE
     ensures { OnOk result (text.new.items ≡ text.old.items ++ count_text word (count_in tally.now word)) }
 {
     text.extend_from_slice(b" ")?;
-    text.extend_from_slice(text_of(word).as_bytes())?;
+    text.extend_from_slice(word.text().as_bytes())?;
     text.extend_from_slice(b"=")?;
     add_number(text, tally.count(word))
 }
@@ -72,24 +70,4 @@ fn add_number(text: &mut Vec<u8>, n: u64) -> Result<(), AllocError>
     let mut buffer = Buffer::new();
     text.extend_from_slice(buffer.format(n).as_bytes())?;
     Ok(())
-}
-
-fn name_of(out: &Out) -> &[u8]
-    ensures { result.now ≡ own_name out.now }
-{
-    match out {
-        Out::Formula(_, _, name) | Out::Contract(_, _, _, name) => name.bytes(),
-    }
-}
-
-fn text_of(word: Word) -> &'static str
-    ensures { result.now ≡ word_text word }
-{
-    match word {
-        Word::True => "T",
-        Word::False => "F",
-        Word::Inactive => "inactive",
-        Word::Invalid => "invalid",
-        Word::Verified => "verified",
-    }
 }

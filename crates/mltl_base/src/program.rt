@@ -1,5 +1,8 @@
 //! Observer programs and their parts.
 
+ghost use Rattle.std.specs.Prelude.{◌≡◌};
+ghost use Rattle.mltl_base.specs.Programs.{name_of};
+
 use crate::{BzOp, Engine, FtOp, List, Name, PtOp};
 
 /// What a program reports: a formula, or an assume-guarantee contract of two formulas. The numbers are those of
@@ -8,6 +11,17 @@ use crate::{BzOp, Engine, FtOp, List, Name, PtOp};
 pub enum Out {
     Formula(Engine, u32, Name),
     Contract(Engine, u32, u32, Name),
+}
+
+impl Out {
+    /// The name under which it is reported.
+    pub fn name(&self) -> &Name
+        ensures name { result.now ≡ name_of self.now }
+    {
+        match self {
+            Out::Formula(_, _, name) | Out::Contract(_, _, _, name) => name,
+        }
+    }
 }
 
 /// The slots of the queue of each ft instruction, and the most boxes of each pt instruction.

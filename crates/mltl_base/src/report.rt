@@ -1,5 +1,8 @@
 //! What a monitor tells of an output.
 
+ghost use Rattle.std.specs.Prelude.{◌≡◌, ◌≤◌, length};
+ghost use Rattle.mltl_base.specs.Lines.{word_text};
+
 /// The verdict of a formula, or the status of an assume-guarantee contract.
 #[derive(Clone, Copy, PartialEq, Eq, Hash, Debug)]
 pub enum Word {
@@ -11,6 +14,22 @@ pub enum Word {
     Invalid,
     /// Assumption and guarantee are true.
     Verified,
+}
+
+impl Word {
+    /// How a line of verdicts writes the word.
+    pub fn text(self) -> &'static str
+        ensures text { result.now ≡ word_text self }
+        ensures short { length result.now ≤ 8 }
+    {
+        match self {
+            Word::True => "T",
+            Word::False => "F",
+            Word::Inactive => "inactive",
+            Word::Invalid => "invalid",
+            Word::Verified => "verified",
+        }
+    }
 }
 
 /// How times are told: one report for each time, or one for each longest stretch of newly known times with one word.

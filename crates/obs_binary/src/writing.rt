@@ -48,15 +48,6 @@ fn put_pt(out: &mut Vec<u8>, ops: &[PtOp], sizes: &[u32]) -> Result<(), AllocErr
     Ok(())
 }
 
-fn name_of(whole: &Out) -> &Name
-    ensures { result.now ≡ name_of whole.now }
-{
-    match whole {
-        Out::Formula(_, _, name) => name,
-        Out::Contract(_, _, _, name) => name,
-    }
-}
-
 fn head_of(whole: &Out) -> OutHead
     ensures head { result ≡ out_head whole.now }
     ensures fits { FitsOut whole.now }
@@ -121,7 +112,7 @@ fn joined_out_names(alloc: Global, outs: &[Out]) -> Result<Vec<u8>, AllocError>
 {
     let mut names = Vec::new(alloc);
     for whole in outs {
-        names.extend_from_slice(name_of(whole).bytes())?;
+        names.extend_from_slice(whole.name().bytes())?;
     }
     Ok(names)
 }

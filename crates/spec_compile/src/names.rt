@@ -5,16 +5,7 @@ ghost use Rattle.std.specs.List.{flat_map};
 ghost use Rattle.mltl_base.specs.Programs.{name_of as own_name};
 ghost use Rattle.obs_binary.specs.Layout.{out_names, signal_name, signal_names};
 
-use mltl_base::{Name, Out, Program, StoredSignal};
-
-fn name_of(out: &Out) -> &Name
-    ensures { result.now ≡ own_name out.now }
-{
-    match out {
-        Out::Formula(_, _, name) => name,
-        Out::Contract(_, _, _, name) => name,
-    }
-}
+use mltl_base::{Out, Program, StoredSignal};
 
 /// How many bytes the names of outputs have together.
 fn output_bytes(outs: &[Out]) -> u64
@@ -23,7 +14,7 @@ fn output_bytes(outs: &[Out]) -> u64
 {
     let mut bytes = 0u64;
     for out in outs {
-        bytes += name_of(out).bytes().len() as u64;
+        bytes += out.name().bytes().len() as u64;
     }
     bytes
 }
