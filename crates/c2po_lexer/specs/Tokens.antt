@@ -63,10 +63,11 @@ abbrev pub reading_of : List ℕ → Piece → Result (Option Token) LexFault
 reading_of text piece =
     result_map (option_map (token_of text piece)) (what_of (line_at text piece.start) piece.front piece.bytes)
 
--- the same at a place where a piece starts, and how many bytes it takes
+-- the same at a place where a piece starts
 abbrev pub reading_at : List ℕ → ℕ → Result (Option Token) LexFault
 reading_at text start = reading_of text (piece_at start (drop start text))
 
+-- how many bytes the piece takes that starts at a place
 abbrev pub size_at : List ℕ → ℕ → ℕ
 size_at text start = size_of (front_of (drop start text))
 
