@@ -44,6 +44,7 @@ abbrev pub before : Climbs → ℕ → Prefix → List Token → Option (Shape �
 before read level p ts =
     if nat_le level (prefix_level p) then (read (Whole (prefix_level p)) ts >>= λ x. Some (prefixed p x.0, x.1)) else None
 
+-- an operand, told how it begins and what follows that
 abbrev pub operand : Climbs → ℕ → Start × List Token → Option (Shape × List Token)
 operand read level (Leaf line a, rest) = Some (leaf line a, rest)
 operand read level (Before p, rest) = before read level p rest
@@ -57,6 +58,7 @@ joins read level left (Binary line op, rest) =
     read (Whole (right_level (level_of (Binary line op)))) rest >>= λ x. read (Rest level (joined line op left x.0)) x.1
 joins read level left (Field line x, rest) = read (Rest level (pick line left x)) rest
 
+-- an operand, joined by the operators of this level and above that follow it
 abbrev pub rest_of : Climbs → ℕ → Shape → List Token → Option (Operator × List Token) → Option (Shape × List Token)
 rest_of read level left ts None = Some (left, ts)
 rest_of read level left ts (Some o) = if nat_le level (level_of o.0) then joins read level left o else Some (left, ts)
@@ -66,6 +68,7 @@ abbrev pub elements_of : Climbs → Bracket → List Shape → List Token → Op
 elements_of read b es ts (Some rest) = read (Elements b es) rest
 elements_of read b es ts None = past (closing b) ts >>= λ rest. Some (enclosed b es, rest)
 
+-- one step of the reading, by what is to be read next
 abbrev pub climb_step : Climbs → Climbs
 climb_step read (Whole level) ts = read (Operand level) ts >>= λ x. read (Rest level x.0) x.1
 climb_step read (Operand level) ts = start_at ts >>= λ s. operand read level s

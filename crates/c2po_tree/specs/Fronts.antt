@@ -56,6 +56,7 @@ abbrev pub natural : ℤ → Option ℕ
 natural (pos n) = Some n
 natural (negsuc n) = None
 
+-- the number that a token is
 abbrev pub natural_in : What → Option ℕ
 natural_in (what.Number n) = natural n
 natural_in _ = None
@@ -71,6 +72,7 @@ bounds_or first (Some rest) = Some (0, first.0, rest)
 bounds_or first None = past sign.Comma first.1 >>= λ ts. natural_at ts >>= λ second.
     past sign.RightSquare second.1 >>= λ rest. Some (first.0, second.0, rest)
 
+-- the bounds of an interval whose first number was read, and what follows it
 abbrev pub bounds_at : ℕ × List Token → Option (ℕ × ℕ × List Token)
 bounds_at first = bounds_or first (past sign.RightSquare first.1)
 
@@ -121,16 +123,18 @@ word_quantifier keyword.ForAtLeast = Some (Count count_op.AtLeast)
 word_quantifier keyword.ForAtMost = Some (Count count_op.AtMost)
 word_quantifier _ = None
 
--- The operator that a token begins, told what follows the token: `U`, `R` and `S` take an interval with them, `.` takes
--- the name of a field, whose line counts.
+-- the pick of the field whose name is at the front, and what follows it
 abbrev pub field_of : List Token → Option (Operator × List Token)
 field_of [] = None
 field_of (t ∷ ts) = word_in t.what ts >>= λ x. Some (Field t.line x.0, x.1)
 
+-- the operator that a sign begins, told what follows the sign
 abbrev pub sign_operator : ℕ → Sign → List Token → Option (Operator × List Token)
 sign_operator line sign.Dot ts = field_of ts
 sign_operator line s ts = sign_infix s >>= λ op. Some (Binary line op, ts)
 
+-- The operator that a token begins, told what follows the token: `U`, `R` and `S` take an interval with them, `.` takes
+-- the name of a field, whose line counts.
 abbrev pub operator_in : ℕ → What → List Token → Option (Operator × List Token)
 operator_in line (what.Sign s) ts = sign_operator line s ts
 operator_in line (what.Reserved k) ts = word_between k >>= λ op. interval_at ts >>= λ i.
@@ -142,7 +146,7 @@ unfoldable pub operator_at : List Token → Option (Operator × List Token)
 operator_at [] = None
 operator_at (t ∷ ts) = operator_in t.line t.what ts
 
--- the level of an operator
+-- the level of an operator between two operands
 abbrev pub infix_level : Infix → ℕ
 infix_level (Logic logic_op.Iff) = 1
 infix_level (Logic logic_op.Implies) = 2
@@ -156,6 +160,7 @@ infix_level (Arith arith_op.Mul) = 9
 infix_level (Arith arith_op.Div) = 9
 infix_level (Arith arith_op.Rem) = 9
 
+-- the level of an operator
 abbrev pub level_of : Operator → ℕ
 level_of (Binary line op) = infix_level op
 level_of (Field line x) = 11
@@ -173,6 +178,7 @@ prefixed (Not line) e = negation line e
 prefixed (Minus line) e = minus line e
 prefixed (Window line op a b) e = window line op a b e
 
+-- the level of a prefix
 abbrev pub prefix_level : Prefix → ℕ
 prefix_level (Not line) = 6
 prefix_level (Minus line) = 10
@@ -205,20 +211,23 @@ abbrev pub named_or_called : ℕ → List ℕ → List Token → Option (List To
 named_or_called line x ts None = (Leaf line (Ref x), ts)
 named_or_called line x ts (Some us) = (Open (Call line x), us)
 
--- the start of an operand that a word makes, told what follows the word
+-- a quantifier and its variable, told what follows the quantifier's word
 abbrev pub bound_start : ℕ → Quantifier → List Token → Option (Start × List Token)
 bound_start line q ts = past sign.LeftRound ts >>= λ us. name_at us >>= λ x.
     past sign.Colon x.1 >>= λ vs. Some (Bind line q x.0, vs)
 
+-- a temporal prefix and its interval, told what follows the prefix's word
 abbrev pub window_start : ℕ → Keyword → List Token → Option (Start × List Token)
 window_start line k ts = word_window k >>= λ op. interval_at ts >>= λ i. Some (Before (Window line op i.0 i.1), i.2)
 
+-- the start of an operand that a word makes, told what follows the word
 abbrev pub word_start : ℕ → Keyword → List Token → Option Quantifier → Option (Start × List Token)
 word_start line keyword.True ts q = Some (Leaf line (Truth true), ts)
 word_start line keyword.False ts q = Some (Leaf line (Truth false), ts)
 word_start line k ts (Some q) = bound_start line q ts
 word_start line k ts None = window_start line k ts
 
+-- the start of an operand that a sign makes, told what follows the sign
 abbrev pub sign_start : ℕ → Sign → List Token → Option (Start × List Token)
 sign_start line sign.Bang ts = Some (Before (Not line), ts)
 sign_start line sign.Minus ts = Some (Before (Minus line), ts)
@@ -226,6 +235,7 @@ sign_start line sign.LeftRound ts = Some (Round, ts)
 sign_start line sign.LeftCurly ts = Some (Open (Curly line), ts)
 sign_start line _ ts = None
 
+-- the start of an operand that a token makes, told what follows the token
 abbrev pub start_in : ℕ → What → List Token → Option (Start × List Token)
 start_in line (what.Number n) ts = Some (Leaf line (Number n), ts)
 start_in line (what.Word x) ts = Some (named_or_called line x ts (past sign.LeftRound ts))
@@ -237,12 +247,13 @@ unfoldable pub start_at : List Token → Option (Start × List Token)
 start_at [] = None
 start_at (t ∷ ts) = start_in t.line t.what ts
 
--- what stands between a quantifier's set and its body: the number where it counts, `)` and `(`
+-- the number behind the set of a quantifier that counts; the others have 0
 abbrev pub number_at : Quantifier → List Token → Option (ℕ × List Token)
 number_at Each ts = Some (0, ts)
 number_at Exists ts = Some (0, ts)
 number_at (Count op) ts = past sign.Comma ts >>= λ us. natural_at us
 
+-- what stands between a quantifier's set and its body: the number where it counts, `)` and `(`
 unfoldable pub middle_at : Quantifier → List Token → Option (ℕ × List Token)
 middle_at q ts = number_at q ts >>= λ n. past sign.RightRound n.1 >>= λ us.
     past sign.LeftRound us >>= λ vs. Some (n.0, vs)

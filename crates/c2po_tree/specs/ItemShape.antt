@@ -9,14 +9,18 @@ use Rattle.c2po_tree.specs.declared.item.SpecTree.{SpecTree}
 use Rattle.c2po_tree.specs.Shape.{Shape, shape}
 
 -- The trees of items, as contracts compare them. A name is the list of its bytes.
+
+-- a type: a name, or the sets of a type
 pub data TypeShape : Type 0 where
   type_named : List ℕ → TypeShape
   set_of : TypeShape → TypeShape
 
+-- a field of a struct: its name and its type
 pub record FieldShape : Type 0 where
   pub name : List ℕ
   pub kind : TypeShape
 
+-- what an item says: a struct, inputs, a definition, a formula or a contract
 pub data BodyShape : Type 0 where
   structure : List ℕ → List FieldShape → BodyShape
   input : List (List ℕ) → TypeShape → BodyShape
@@ -24,6 +28,7 @@ pub data BodyShape : Type 0 where
   formula : Engine → Option (List ℕ) → Shape → BodyShape
   contract : Engine → Option (List ℕ) → Shape → Shape → BodyShape
 
+-- an item with its line
 pub record ItemShape : Type 0 where
   pub line : ℕ
   pub body : BodyShape
@@ -33,9 +38,11 @@ abbrev pub type_shape : TypeTree → TypeShape
 type_shape (Named x) = type_named x
 type_shape (Set' p t) = set_of (type_shape t)
 
+-- the shape of a field
 abbrev pub field_shape : FieldDecl → FieldShape
 field_shape f = record { name = f.name; kind = type_shape f.kind }
 
+-- the shape of what an item says
 abbrev pub body_shape : Body → BodyShape
 body_shape (Struct x fs) = structure x (map field_shape fs)
 body_shape (Input xs k) = input xs (type_shape k)

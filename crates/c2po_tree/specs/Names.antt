@@ -32,23 +32,27 @@ abbrev mutual
   HavePlainNames none = Unit {0}
   HavePlainNames (more e es) = HasPlainNames e × HavePlainNames es
 
--- the same of types, fields, items and whole specifications
+-- every name in a type is so made
 abbrev pub HasPlainType : TypeShape → Type 0
 HasPlainType (type_named x) = IsPlainName x
 HasPlainType (set_of k) = HasPlainType k
 
+-- every name in fields is so made
 abbrev pub ArePlainFields : List FieldShape → Type 0
 ArePlainFields [] = Unit {0}
 ArePlainFields (f ∷ fs) = (IsPlainName f.name × HasPlainType f.kind) × ArePlainFields fs
 
+-- every name of a list is so made
 abbrev pub ArePlain : List (List ℕ) → Type 0
 ArePlain [] = Unit {0}
 ArePlain (x ∷ xs) = IsPlainName x × ArePlain xs
 
+-- a label is so made, where there is one
 abbrev pub IsPlainLabel : Option (List ℕ) → Type 0
 IsPlainLabel None = Unit {0}
 IsPlainLabel (Some x) = IsPlainName x
 
+-- every name in what an item says is so made
 abbrev pub IsPlainBody : BodyShape → Type 0
 IsPlainBody (structure x fs) = IsPlainName x × ArePlainFields fs
 IsPlainBody (input xs k) = ArePlain xs × HasPlainType k
@@ -56,6 +60,7 @@ IsPlainBody (define x e) = IsPlainName x × HasPlainNames e
 IsPlainBody (formula engine label e) = IsPlainLabel label × HasPlainNames e
 IsPlainBody (contract engine label e f) = IsPlainLabel label × (HasPlainNames e × HasPlainNames f)
 
+-- every name in the items of a specification is so made
 abbrev pub ArePlainItems : List ItemShape → Type 0
 ArePlainItems [] = Unit {0}
 ArePlainItems (i ∷ is) = IsPlainBody i.body × ArePlainItems is

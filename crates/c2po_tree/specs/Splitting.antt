@@ -82,6 +82,7 @@ sides read level left (Binary line op, right) =
     read (left_level level) left >>= λ e. read (right_level level) right >>= λ f. Some (joined line op e f)
 sides read level left (Field line x, right) = read (left_level level) left >>= λ e. at_end (pick line e x) right
 
+-- an expression at a level of operators, split at one of them or read at the next level
 abbrev pub at_operators : Reads → ℕ → List Token → Option Cut → Option Shape
 at_operators read level ts None = read (suc level) ts
 at_operators read level ts (Some c) = operator_at c.1 >>= λ o. sides read level c.0 o
@@ -105,6 +106,7 @@ primary read read_all (Open b, rest) = read_all (closing b) rest >>= λ es. Some
 primary read read_all (Bind line q x, rest) = cut_inside rest >>= λ c. middle_at q c.1 >>= λ m.
     read 1 c.0 >>= λ s. block read m.1 >>= λ e. Some (quantified line q x s m.0 e)
 
+-- one step of the reading at a level
 abbrev pub split_step : Reads → ReadsAll → Reads
 split_step read read_all level ts =
     if nat_le 12 level then (start_at ts >>= λ s. primary read read_all s)
@@ -116,6 +118,7 @@ abbrev pub more_or_end : ReadsAll → Sign → Shape → List Token → Option (
 more_or_end read_all s e ts (Some rest) = read_all s rest >>= λ es. Some (e ∷ es)
 more_or_end read_all s e ts None = past s ts >>= λ rest. at_end (e ∷ []) rest
 
+-- one step of the reading of elements with commas between them
 abbrev pub elements_step : Reads → ReadsAll → ReadsAll
 elements_step read read_all s ts = cut_inside ts >>= λ c. read 1 c.0 >>= λ e.
     more_or_end read_all s e c.1 (past sign.Comma c.1)

@@ -44,6 +44,8 @@ is_sign s _ = false
 
 -- The level of the operator between or behind operands that a sign or a word is; 0 where it is none. Level 1 binds
 -- loosest. The prefixes `!`, `F`, `G`, `O` and `H` have level 6 and the prefix `-` has level 10.
+
+-- the level of the operator that a sign is
 abbrev pub sign_level : Sign → ℕ
 sign_level sign.Iff = 1
 sign_level sign.Implies = 2
@@ -63,12 +65,14 @@ sign_level sign.Percent = 9
 sign_level sign.Dot = 11
 sign_level _ = 0
 
+-- the level of the temporal operator that a word is between formulas
 abbrev pub word_level : Keyword → ℕ
 word_level keyword.U = 5
 word_level keyword.R = 5
 word_level keyword.S = 5
 word_level _ = 0
 
+-- the level of the operator that a token is
 abbrev pub token_level : What → ℕ
 token_level (what.Sign s) = sign_level s
 token_level (what.Reserved k) = word_level k
