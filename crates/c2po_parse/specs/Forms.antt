@@ -27,6 +27,7 @@ type_in read (what.Reserved keyword.Set) ts = past sign.Less ts >>= λ us. read 
     past sign.Greater k.1 >>= λ vs. Some (set_of k.0, vs)
 type_in read _ ts = None
 
+-- the type at the front, told how a type inside it is read
 abbrev pub type_step : TypeReads → TypeReads
 type_step read [] = None
 type_step read (t ∷ ts) = type_in read t.what ts
@@ -49,6 +50,7 @@ abbrev pub names_or : NamesRead → List ℕ → List Token → Option (List Tok
 names_or read x ts None = Some (x ∷ [], ts)
 names_or read x ts (Some rest) = read rest >>= λ xs. Some (x ∷ xs.0, xs.1)
 
+-- the names at the front, where they are so many at most, and what follows them
 unfoldable pub names_within : ℕ → NamesRead
 names_within zero ts = None
 names_within (suc n) ts = name_at ts >>= λ x. names_or (names_within n) x.0 x.1 (past sign.Comma x.1)
@@ -73,10 +75,12 @@ fields_of xs k = map (λ x. record { name = x; kind = k }) xs
 abbrev pub FieldsRead : Type 0
 FieldsRead = List Token → Option (List FieldShape × List Token)
 
+-- a `}` ends the fields, else more of them follow
 abbrev pub fields_or : FieldsRead → List FieldShape → List Token → Option (List Token) → Option (List FieldShape × List Token)
 fields_or read fs ts (Some rest) = Some (fs, rest)
 fields_or read fs ts None = read ts >>= λ gs. Some (fs ++ gs.0, gs.1)
 
+-- the fields at the front, in so many lists at most, their `}`, and what follows it
 unfoldable pub fields_within : ℕ → FieldsRead
 fields_within zero ts = None
 fields_within (suc n) ts = typed_at ts >>= λ d. past sign.Semicolon d.2 >>= λ us.
@@ -108,6 +112,7 @@ abbrev pub labelled : List Token → Option (List ℕ × List Token) → Option 
 labelled ts None = (None, ts)
 labelled ts (Some x) = (Some x.0, x.1)
 
+-- the label at the front, if there is one, and what follows it
 unfoldable pub label_at : List Token → Option (List ℕ) × List Token
 label_at ts = labelled ts (name_at ts >>= λ x. past sign.Colon x.1 >>= λ us. Some (x.0, us))
 
@@ -121,11 +126,12 @@ promise_at place depth [] = None
 promise_at place depth (t ∷ ts) = if is_promise depth t.what then Some place
     else promise_at (place + 1) (depth_after t.what depth) ts
 
--- a formula, or a contract where the only `=>` outside brackets stands
+-- a contract from its two sides, the right one without a `=>` outside brackets
 abbrev pub contract_of : Engine → Option (List ℕ) → List Token → List Token → Option BodyShape
 contract_of engine label left right = if is_some (promise_at 0 0 right) then None
     else (tree_of left >>= λ e. tree_of right >>= λ f. Some (contract engine label e f))
 
+-- a formula, or a contract where the only `=>` outside brackets stands
 abbrev pub output_at : Engine → Option (List ℕ) → List Token → Option ℕ → Option BodyShape
 output_at engine label ts None = tree_of ts >>= λ e. Some (formula engine label e)
 output_at engine label ts (Some n) = contract_of engine label (take n ts) (drop (n + 1) ts)

@@ -15,6 +15,7 @@ piece_body None ended ts = None
 piece_body (Some section) true ts = body_of section ts
 piece_body (Some section) false ts = None
 
+-- an item with its line, or a fault of grammar there
 abbrev pub with_line : ℕ → Option BodyShape → Result ItemShape ParseFault
 with_line line None = Err (Grammar line)
 with_line line (Some body) = Ok (record { line = line; body = body })
@@ -34,6 +35,7 @@ abbrev pub first_or : Result ItemShape ParseFault → Result (List ItemShape) Pa
 first_or (Err fault) others = Err fault
 first_or (Ok item) others = with_first item others
 
+-- the trees of pieces, or the first fault
 unfoldable pub trees : List Piece → Result (List ItemShape) ParseFault
 trees [] = Ok []
 trees (p ∷ ps) = first_or (piece_tree p) (trees ps)
@@ -42,10 +44,11 @@ trees (p ∷ ps) = first_or (piece_tree p) (trees ps)
 unfoldable pub spec_of : List Token → Result (List ItemShape) ParseFault
 spec_of ts = trees (pieces None 0 [] ts)
 
--- items that were read, and then those of what is left within a section
+-- items before the others
 abbrev pub all_with : List ItemShape → Result (List ItemShape) ParseFault → Result (List ItemShape) ParseFault
 all_with items (Err fault) = Err fault
 all_with items (Ok others) = Ok (items ++ others)
 
+-- items that were read, and then those of what is left within a section
 unfoldable pub reads_on : List ItemShape → Option Section → List Token → Result (List ItemShape) ParseFault
 reads_on items section ts = all_with items (trees (pieces section 0 [] ts))
