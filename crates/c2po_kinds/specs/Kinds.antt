@@ -77,10 +77,12 @@ built_from line n ps (Some fields) = if length ps == length fields
     then expected line (fit fields ps) (plain (base.Struct n))
     else Err (fault.Count line)
 
+-- the kind of a call of what a name stands for: only a struct can be called
 abbrev pub built : ℕ → Declarations → List Placed → Meaning → Checked Kind
 built line d ps (Value k) = Err (fault.Kind line)
 built line d ps (Struct n) = built_from line n ps (slice_get d.structs n)
 
+-- the kind of a call of a name, which has to be known
 abbrev pub known_built : ℕ → Declarations → List Placed → Option Meaning → Checked Kind
 known_built line d ps m = known line m >>= built line d ps
 
@@ -89,35 +91,40 @@ abbrev pub other_line : Kind → List Placed → Option ℕ
 other_line k [] = None
 other_line k (p ∷ ps) = if same_kind p.1 k then other_line k ps else Some p.0
 
--- a set of elements of one kind; the fault stands at the first element of another kind than the first one's
+-- the kind of a set of elements of a kind, unless one of another kind stands on a line
 abbrev pub set_unless : Kind → Option ℕ → Checked Kind
 set_unless k None = Ok (set_kind k)
 set_unless k (Some line) = Err (fault.Kind line)
 
+-- a set of elements of one kind; the fault stands at the first element of another kind than the first one's
 abbrev pub grouped : ℕ → List Placed → Checked Kind
 grouped line [] = Err (fault.Kind line)
 grouped line (p ∷ ps) = set_unless p.1 (other_line p.1 ps)
 
--- the struct of a kind
+-- the struct of a base kind
 abbrev pub struct_base : Base → Option ℕ
 struct_base (base.Struct n) = Some n
 struct_base _ = None
 
+-- the struct of a kind that is no set
 abbrev pub struct_of : Kind → Option ℕ
 struct_of k = if k.sets == 0 then struct_base k.base else None
 
--- a field of a struct's value
+-- the kind of a field, which a struct has to have
 abbrev pub field_kind : ℕ → Option Kind → Checked Kind
 field_kind line None = Err (fault.Field line)
 field_kind line (Some k) = Ok k
 
+-- the kind of a field by its name, among the fields of a struct
 abbrev pub picked_from : ℕ → List ℕ → Option (Table Kind) → Checked Kind
 picked_from line x None = Err (fault.Field line)
 picked_from line x (Some fields) = field_kind line (entry_of x fields)
 
+-- the kind of a field by its name, of a struct by its number
 abbrev pub picked_of : ℕ → List ℕ → Declarations → Option ℕ → Checked Kind
 picked_of line x d None = Err (fault.Kind line)
 picked_of line x d (Some n) = picked_from line x (slice_get d.structs n)
 
+-- the kind of a field of a struct's value
 abbrev pub picked : ℕ → List ℕ → Declarations → Kind → Checked Kind
 picked line x d k = picked_of line x d (struct_of k)

@@ -25,6 +25,7 @@ abbrev pub visible : Scope → Visible
 visible (Items d) = outside d.now
 visible (Within' x k _ around) = inside x.now k (visible around)
 
+-- a variable hides what is declared under its name
 abbrev pub variable_or : Option Kind → Option Meaning → Option Meaning
 variable_or (Some k) declared = Some (Value k)
 variable_or None declared = declared
