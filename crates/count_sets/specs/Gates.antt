@@ -5,6 +5,7 @@ use Rattle.count_sets.specs.declared.gate.Gate.{Gate}
 use Rattle.count_sets.specs.declared.gate.Gate.TheVariants.{Truth, Body, Both, Either, Not}
 use Rattle.count_sets.specs.Counting.{Counted, truth, body, both, either, negation}
 
+-- the formula of gate i
 abbrev pub formula_at : List Counted → ℕ → Counted
 formula_at formulas i = slice_index_or formulas i (truth false)
 
@@ -20,6 +21,7 @@ formula_of earlier (Not a) = negation (formula_at earlier a)
 unfoldable pub formulas : List Gate → List Counted
 formulas gates = fold (λ earlier gate. earlier ++ formula_of earlier gate ∷ []) [] gates
 
+-- the truth of body or gate i
 abbrev pub truth_at : List Bool → ℕ → Bool
 truth_at truths i = slice_index_or truths i false
 
@@ -35,10 +37,11 @@ truth_of bodies earlier (Not a) = not (truth_at earlier a)
 unfoldable pub truths : List Bool → List Gate → List Bool
 truths bodies gates = fold (λ earlier gate. earlier ++ truth_of bodies earlier gate ∷ []) [] gates
 
--- the formula, and the truth, of the last gate
+-- the formula of the last gate
 abbrev pub last_formula : List Gate → Option Counted
 last_formula gates = slice_get (formulas gates) (length gates - 1)
 
+-- the truth of the last gate
 abbrev pub last_truth : List Bool → List Gate → Option Bool
 last_truth bodies gates = slice_get (truths bodies gates) (length gates - 1)
 

@@ -39,7 +39,8 @@ pub fn network(alloc: Global, op: CountOp, n: u32, m: u32) -> Result<List<Gate>,
 fn at_least(alloc: Global, n: u32, m: u32) -> Result<List<Gate>, AllocError>
     requires some { 1 ≤ n }
     requires weight { 2 * n * (min m n + 1) + 4 ≤ 65536 }
-    ensures formula { IfOk result (λ gates. last_formula gates ≡ Some (counting CountOp.AtLeast n m)) }
+    ensures formula { IfOk result (λ gates.
+        last_formula gates ≡ Some (counting CountOp.AtLeast n m)) }
     ensures formed { IfOk result (λ gates. IsNetwork n gates) }
     ensures shared { IfOk result (λ gates. IsShared gates) }
     ensures size { IfOk result (λ gates. length gates ≤ n + 2 * n * (min m n + 1) + 4) }
@@ -65,7 +66,8 @@ fn at_least(alloc: Global, n: u32, m: u32) -> Result<List<Gate>, AllocError>
 fn at_most(alloc: Global, n: u32, m: u32) -> Result<List<Gate>, AllocError>
     requires some { 1 ≤ n }
     requires weight { 2 * n * (min m n + 1) + 4 ≤ 65536 }
-    ensures formula { IfOk result (λ gates. last_formula gates ≡ Some (counting CountOp.AtMost n m)) }
+    ensures formula { IfOk result (λ gates.
+        last_formula gates ≡ Some (counting CountOp.AtMost n m)) }
     ensures formed { IfOk result (λ gates. IsNetwork n gates) }
     ensures shared { IfOk result (λ gates. IsShared gates) }
     ensures size { IfOk result (λ gates. length gates ≤ n + 2 * n * (min m n + 1) + 4) }
@@ -93,7 +95,8 @@ fn at_most(alloc: Global, n: u32, m: u32) -> Result<List<Gate>, AllocError>
 fn exactly(alloc: Global, n: u32, m: u32) -> Result<List<Gate>, AllocError>
     requires some { 1 ≤ n }
     requires weight { 2 * n * (min m n + 1) + 4 ≤ 65536 }
-    ensures formula { IfOk result (λ gates. last_formula gates ≡ Some (counting CountOp.Exactly n m)) }
+    ensures formula { IfOk result (λ gates.
+        last_formula gates ≡ Some (counting CountOp.Exactly n m)) }
     ensures formed { IfOk result (λ gates. IsNetwork n gates) }
     ensures shared { IfOk result (λ gates. IsShared gates) }
     ensures size { IfOk result (λ gates. length gates ≤ n + 2 * n * (min m n + 1) + 4) }

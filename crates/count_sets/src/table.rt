@@ -79,8 +79,10 @@ impl Table {
         requires some { 1 ≤ plan.highest }
         requires capped { plan.highest + plan.bodies < 2 ^ 31 }
         requires room { plan.bodies * (1 + 2 * plan.highest) < 2 ^ 31 }
-        ensures table { IfOk result (λ table. IsTable plan plan.bodies table.gates table.row.items) }
-        ensures rising { IfOk result (λ table. IsRising plan plan.bodies table.gates table.row.items) }
+        ensures table { IfOk result (λ table.
+            IsTable plan plan.bodies table.gates table.row.items) }
+        ensures rising { IfOk result (λ table.
+            IsRising plan plan.bodies table.gates table.row.items) }
     {
         let mut gates = List::new(alloc);
         let no = add(&mut gates, Gate::Truth(false))?;
