@@ -37,14 +37,16 @@ pub fn queue_sizes(alloc: Global, graph: &Graph, delays: &Delays) -> Result<Size
     requires in_order { AreInOrder graph.now.ft }
     requires bounded { All (HasBounds MAX_BOUND) graph.now.ft }
     requires bounded_past { All (HasPastBounds MAX_BOUND) graph.now.pt }
-    requires named { All (NamesInstructions (length graph.now.ft) (length graph.now.pt)) graph.now.outs }
+    requires named { All (NamesInstructions (length graph.now.ft) (length graph.now.pt))
+        graph.now.outs }
     requires best { delays.now.best ≡ best_delays graph.now.ft }
     requires worst { delays.now.worst ≡ worst_delays graph.now.ft }
     requires in_time { All (λ rows. rows ≤ MAX_DELAY) delays.now.worst }
     ensures ft { IfOk result (λ sizes. sizes.ft ≡ lengths graph.now.ft graph.now.outs) }
     ensures pt { IfOk result (λ sizes. sizes.pt ≡ counts graph.now.pt) }
     ensures fits { OnOk result (slots graph.now.ft graph.now.pt graph.now.outs ≤ MAX_SLOTS) }
-    ensures too_many { result ≡ Err SizeFault.TooManySlots → MAX_SLOTS < slots graph.now.ft graph.now.pt graph.now.outs }
+    ensures too_many { result ≡ Err SizeFault.TooManySlots
+        → MAX_SLOTS < slots graph.now.ft graph.now.pt graph.now.outs }
 {
     let ft = queue_lengths(alloc, &graph.ft, &graph.outs, delays)?;
     let pt = box_counts(alloc, &graph.pt)?;
@@ -78,7 +80,8 @@ pub fn queue_lengths(
 /// The slots that reach from the best-case delay of each instruction to its width, both counted.
 fn lengths_of(alloc: Global, widths: &[u32], best: &[u32]) -> Result<List<u32>, AllocError>
     requires same { length widths.now ≡ length best.now }
-    requires covers { (g : ℕ) → g < length best.now → slice_index best.now g ≤ slice_index widths.now g }
+    requires covers { (g : ℕ) → g < length best.now
+        → slice_index best.now g ≤ slice_index widths.now g }
     requires small { All (λ rows. rows ≤ MAX_DELAY) widths.now }
     ensures len { IfOk result (λ sizes. length sizes ≡ length best.now) }
     ensures each { IfOk result (λ sizes. (g : ℕ) → g < length best.now
