@@ -5,6 +5,7 @@ use Rattle.mltl_base.specs.declared.operators.BzOp as bz
 use Rattle.mltl_base.specs.Programs.{expressions, term_at}
 use Rattle.mltl_base.specs.Ranges.{Range, Ranged, divided, in_word, left_over, lessened, multiplied, negated, over, over_both, over_divisor, range, range_from, signal_range, summed}
 
+-- the range of an earlier instruction
 abbrev pub range_at : List Range → ℕ → Ranged
 range_at before a = Ok (slice_index_or before a (range_from (pos 0) (pos 0)))
 

@@ -20,6 +20,7 @@ AreKinds signals kinds = (c : ℕ) (d : ColumnKinds) → c < length kinds → sl
 abbrev pub Names : Type 0
 Names = HashSet (Vec ℕ Global) (BuildHasherDefault FoldHasher)
 
+-- whether a name is in the set
 abbrev pub has_name : Names → List ℕ → Bool
 has_name names bytes = list_any (λ name. bytes_eq bytes name.items) names.keys
 

@@ -7,15 +7,17 @@ use Rattle.mltl_base.specs.Atoms.{negative, plus, minus, times, quotient, remain
 use Rattle.mltl_base.specs.Programs.{Expression, whole, truth, expression_of, term_at}
 use Rattle.mltl_base.specs.Ranges.{range}
 
--- an earlier instruction that gives a whole number
+-- there is an expression, and it gives a whole number
 abbrev pub IsWholeExpression : Option Expression → Type 0
 IsWholeExpression (Some (whole e)) = Unit {0}
 IsWholeExpression (Some (truth a)) = ⊥
 IsWholeExpression None = ⊥
 
+-- an earlier instruction that gives a whole number
 abbrev pub IsWhole : List Expression → ℕ → Type 0
 IsWhole before a = IsWholeExpression (slice_get before a)
 
+-- two earlier instructions that give whole numbers
 abbrev pub AreWhole : List Expression → ℕ → ℕ → Type 0
 AreWhole before a b = IsWhole before a × IsWhole before b
 

@@ -39,18 +39,21 @@ abbrev pub width_fault : Program → Option VerifyFault
 width_fault program = unless (nat_le program.width MAX_SIGNALS) Width
 
 -- 2. Stored signals have columns of a row, and no column or name twice.
+
+-- a signal has a column of a row, and no earlier one has its column or its name
 abbrev pub is_new_signal : ℕ → List StoredSignal → StoredSignal → Bool
 is_new_signal width earlier signal =
     (nat_lt signal.column width && not (list_any (λ before. before.column == signal.column) earlier))
     && not (list_any (λ before. bytes_eq signal.name before.name) earlier)
 
+-- the fault of stored signal k
 abbrev pub signal_fault : Program → ℕ → StoredSignal → Option VerifyFault
 signal_fault program k signal = unless (is_new_signal program.width (take k program.signals) signal) (Signal k)
 
 -- 3. Instructions of the Booleanizer read columns of their kind and whole numbers of earlier instructions, divide by
 -- numbers other than 0, and have values of 64 bits.
 
--- what stands at a place gives a whole number, or a truth
+-- what stands at a place gives a whole number
 abbrev pub is_whole : Option bz.BzOp → Bool
 is_whole None = false
 is_whole (Some (bz.TheVariants.IsTrue c)) = false
@@ -59,6 +62,7 @@ is_whole (Some (bz.TheVariants.Lt a b)) = false
 is_whole (Some (bz.TheVariants.Le a b)) = false
 is_whole (Some op) = true
 
+-- what stands at a place gives a truth
 abbrev pub is_truth : Option bz.BzOp → Bool
 is_truth None = false
 is_truth (Some (bz.TheVariants.IsTrue c)) = true
@@ -81,6 +85,7 @@ is_column_of program c truth =
     nat_lt c program.width
     && ((program.version == 1) || has_kind program.signals c truth)
 
+-- what instruction i reads, if anything, is a column of its kind or whole numbers of earlier instructions
 abbrev pub has_operands : Program → ℕ → bz.BzOp → Bool
 has_operands program i (bz.TheVariants.Column c) = is_column_of program c false
 has_operands program i (bz.TheVariants.IsTrue c) = is_column_of program c true
@@ -101,15 +106,18 @@ range_fault i (Ok range) = None
 range_fault i (Err divisor) = Some (Divisor i)
 range_fault i (Err wide) = Some (Range i)
 
+-- the fault of instruction i of the Booleanizer
 abbrev pub bz_fault : Program → ℕ → bz.BzOp → Option VerifyFault
 bz_fault program i op = or_else (unless (has_operands program i op) (Operand Bz i)) (range_fault i (range (term_at (expressions program.bz) i)))
 
 -- 4. Instructions of the future-time engine load truths and read earlier instructions, over intervals within the limit;
 -- none is too late.
 
+-- the bounds of an interval are in order and within the limit
 abbrev pub is_window : Interval → Bool
 is_window i = nat_le i.lo i.hi && nat_le i.hi MAX_BOUND
 
+-- what instruction i of the future-time engine reads, if anything, is a truth or earlier instructions
 abbrev pub has_future_operands : Program → ℕ → ft.FtOp → Bool
 has_future_operands program i ft.TheVariants.True = true
 has_future_operands program i (ft.TheVariants.Load a) = is_truth (slice_get program.bz a)
@@ -117,6 +125,7 @@ has_future_operands program i (ft.TheVariants.Not g) = nat_lt g i
 has_future_operands program i (ft.TheVariants.And l r) = nat_lt l i && nat_lt r i
 has_future_operands program i (ft.TheVariants.Until l r window) = nat_lt l i && nat_lt r i
 
+-- the interval of an instruction of the future-time engine, if it has one, is within the limit
 abbrev pub has_future_window : ft.FtOp → Bool
 has_future_window ft.TheVariants.True = true
 has_future_window (ft.TheVariants.Load a) = true
@@ -124,13 +133,17 @@ has_future_window (ft.TheVariants.Not g) = true
 has_future_window (ft.TheVariants.And l r) = true
 has_future_window (ft.TheVariants.Until l r window) = is_window window
 
+-- the fault of instruction i of the future-time engine, by its operands or its interval
 abbrev pub ft_fault : Program → ℕ → ft.FtOp → Option VerifyFault
 ft_fault program i op = or_else (unless (has_future_operands program i op) (Operand Ft i)) (unless (has_future_window op) (BadInterval Ft i))
 
+-- the fault of instruction i whose worst-case delay is over the limit
 abbrev pub late_fault : ℕ → ℕ → Option VerifyFault
 late_fault i delay = unless (nat_le delay MAX_DELAY) (TooLate i)
 
 -- 5. So do instructions of the past-time engine.
+
+-- what instruction i of the past-time engine reads, if anything, is a truth or earlier instructions
 abbrev pub has_past_operands : Program → ℕ → pt.PtOp → Bool
 has_past_operands program i pt.TheVariants.True = true
 has_past_operands program i (pt.TheVariants.Load a) = is_truth (slice_get program.bz a)
@@ -138,6 +151,7 @@ has_past_operands program i (pt.TheVariants.Not g) = nat_lt g i
 has_past_operands program i (pt.TheVariants.And l r) = nat_lt l i && nat_lt r i
 has_past_operands program i (pt.TheVariants.Since l r window) = nat_lt l i && nat_lt r i
 
+-- the interval of an instruction of the past-time engine, if it has one, is within the limit
 abbrev pub has_past_window : pt.PtOp → Bool
 has_past_window pt.TheVariants.True = true
 has_past_window (pt.TheVariants.Load a) = true
@@ -145,16 +159,20 @@ has_past_window (pt.TheVariants.Not g) = true
 has_past_window (pt.TheVariants.And l r) = true
 has_past_window (pt.TheVariants.Since l r window) = is_window window
 
+-- the fault of instruction i of the past-time engine, by its operands or its interval
 abbrev pub pt_fault : Program → ℕ → pt.PtOp → Option VerifyFault
 pt_fault program i op = or_else (unless (has_past_operands program i op) (Operand Pt i)) (unless (has_past_window op) (BadInterval Pt i))
 
 -- 6. Outputs report instructions of their engine.
+
+-- an output reports instructions that its engine has
 abbrev pub reports_within : ℕ → ℕ → out.Out → Bool
 reports_within fts pts (out.TheVariants.Formula engine.Ft g name) = nat_lt g fts
 reports_within fts pts (out.TheVariants.Formula engine.Pt g name) = nat_lt g pts
 reports_within fts pts (out.TheVariants.Contract engine.Ft l r name) = nat_lt l fts && nat_lt r fts
 reports_within fts pts (out.TheVariants.Contract engine.Pt l r name) = nat_lt l pts && nat_lt r pts
 
+-- the fault of output k
 abbrev pub output_fault : Program → ℕ → out.Out → Option VerifyFault
 output_fault program k output = unless (reports_within (length program.ft) (length program.pt) output) (Output k)
 

@@ -48,7 +48,8 @@ fn check_op(
     requires here { slice_get program.now.bz (length before.now) ≡ Some op.now }
     requires known { AreRanges program.now.bz before.now }
     ensures answer { IsAnswer result (bz_fault program.now (length before.now) op.now) }
-    ensures range { IfOk result (λ found. range (term_at (expressions program.now.bz) (length before.now)) ≡ Ok found) }
+    ensures range { IfOk result (λ found.
+        range (term_at (expressions program.now.bz) (length before.now)) ≡ Ok found) }
 {
     let i = before.len();
     if !has_operands(program, kinds, i, op) {

@@ -11,7 +11,8 @@ use mltl_base::{BzOp, List, Program, StoredSignal};
 pub fn move_reads(program: &mut Program, readers: &[Option<u32>], columns: &[u32])
     requires one_each { length columns.now ≡ length program.old.signals }
     requires readers { readers.now ≡ signals_read program.old }
-    ensures { program.new ≡ record program.old { bz = map (op_in program.old.signals columns.now) program.old.bz } }
+    ensures { program.new
+        ≡ record program.old { bz = map (op_in program.old.signals columns.now) program.old.bz } }
 {
     for (i, reader) in readers.iter().enumerate() {
         if let Some(k) = *reader {

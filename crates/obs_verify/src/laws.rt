@@ -13,9 +13,12 @@ ghost use Rattle.obs_verify.specs.WellFormed.{IsWellFormed};
 /// A well-formed program runs on both engines, and its outputs report instructions that exist.
 #[tactic(auto, using(crate::proofs::RunLaws::runs_future, crate::proofs::RunLaws::runs_past, crate::proofs::RunLaws::all_named))]
 pub fn well_formed_programs_run()
-    ensures future { (program : Observer) → HasLayout program → IsWellFormed program → RunsFuture program }
-    ensures past { (program : Observer) → HasLayout program → IsWellFormed program → RunsPast program }
-    ensures outputs { (program : Observer) → IsWellFormed program → All (NamesInstructions (length program.ft) (length program.pt)) program.outs }
+    ensures future { (program : Observer) → HasLayout program
+        → IsWellFormed program → RunsFuture program }
+    ensures past { (program : Observer) → HasLayout program
+        → IsWellFormed program → RunsPast program }
+    ensures outputs { (program : Observer) → IsWellFormed program
+        → All (NamesInstructions (length program.ft) (length program.pt)) program.outs }
 {}
 
 /// The Booleanizer can compute a well-formed program in 64 bits on every row that fits it.

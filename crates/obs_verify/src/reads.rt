@@ -56,7 +56,8 @@ fn note_reads(ops: &[BzOp], kinds: &mut [Kinds]) -> Result<(), UpgradeFault>
 /// Notes the column that an instruction reads, if it reads one; false where an earlier one reads it in the other way.
 fn note_read(kinds: &mut [Kinds], op: &BzOp) -> bool
     requires { ReadsWithin (length kinds.old) op.now }
-    ensures fits { (earlier : Items Op) → AreKinds (reads earlier) kinds.old → result ≡ not (clashes earlier op.now) }
+    ensures fits { (earlier : Items Op) → AreKinds (reads earlier) kinds.old
+        → result ≡ not (clashes earlier op.now) }
     ensures noted { (earlier : Items Op) → AreKinds (reads earlier) kinds.old → IsTrue result
         → AreKinds (reads (earlier ++ op.now ∷ [])) kinds.new }
 {
@@ -69,7 +70,8 @@ fn note_read(kinds: &mut [Kinds], op: &BzOp) -> bool
 
 fn note_column(kinds: &mut [Kinds], c: u32, truth: bool) -> bool
     requires { c < length kinds.old }
-    ensures fits { (earlier : Items Stored) → AreKinds earlier kinds.old → result ≡ not (has_kind earlier c (not truth)) }
+    ensures fits { (earlier : Items Stored) → AreKinds earlier kinds.old
+        → result ≡ not (has_kind earlier c (not truth)) }
     ensures noted { (earlier : Items Stored) → AreKinds earlier kinds.old → IsTrue result
         → AreKinds (earlier ++ signal_there c truth ∷ []) kinds.new }
 {

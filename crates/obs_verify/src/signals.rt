@@ -71,7 +71,8 @@ fn check_signal(
     k: u32,
     signal: &StoredSignal,
 ) -> Result<(), VerifyFault>
-    ensures answer { (earlier : List Stored) → AreKinds earlier kinds.now → AreNames earlier names.old
+    ensures answer { (earlier : List Stored) → AreKinds earlier kinds.now
+        → AreNames earlier names.old
         → IsAnswer result (unless (is_new_signal (length kinds.now) earlier signal.now) (Signal k)) }
     ensures names { OnOk result ((earlier : List Stored) → AreNames earlier names.old
         → AreNames (earlier ++ signal.now ∷ []) names.new) }
@@ -89,7 +90,8 @@ fn check_signal(
 /// Whether the column of a signal is one of a row, and no signal before stands there.
 fn is_free(kinds: &[Kinds], signal: &StoredSignal) -> bool
     ensures free { (earlier : List Stored) → AreKinds earlier kinds.now
-        → result ≡ (nat_lt signal.now.column (length kinds.now) && not (list_any (λ before. before.column == signal.now.column) earlier)) }
+        → result ≡ (nat_lt signal.now.column (length kinds.now)
+        && not (list_any (λ before. before.column == signal.now.column) earlier)) }
     ensures column { OnTrue result (signal.now.column < length kinds.now) }
 {
     if signal.column as usize >= kinds.len() {
@@ -108,7 +110,8 @@ pub fn is_empty(kinds: Kinds) -> bool
 /// Notes a signal of this kind in a column.
 pub fn note_kind(kinds: &mut [Kinds], column: u32, truth: bool)
     requires { column < length kinds.old }
-    ensures { (earlier : List Stored) (signal : Stored) → AreKinds earlier kinds.old → signal.column ≡ column → signal.truth ≡ truth
+    ensures { (earlier : List Stored) (signal : Stored) → AreKinds earlier kinds.old
+        → signal.column ≡ column → signal.truth ≡ truth
         → AreKinds (earlier ++ signal ∷ []) kinds.new }
 {
     let here = kinds[column as usize];
