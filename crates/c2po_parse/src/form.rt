@@ -142,7 +142,8 @@ fn with_field(
     kind: &TypeTree,
 ) -> Result<List<FieldDecl>, TreeFault>
     ensures { Gives (λ fs. map field_shape fs) result
-        (Some (map field_shape fields ++ record { name = name.now; kind = type_shape kind.now } ∷ [])) }
+        (Some (map field_shape fields
+        ++ record { name = name.now; kind = type_shape kind.now } ∷ [])) }
 {
     let kind = copy_type(alloc, kind)?;
     let name = name.copy();
