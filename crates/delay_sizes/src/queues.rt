@@ -121,7 +121,8 @@ fn widen_by_readers(widths: &mut [u32], worst: &[u32], ft: &List<FtOp>, outs: &L
     requires reported { All (ReportsInstructions (length worst.now)) outs.now }
     requires same { length widths.old ≡ length worst.now }
     ensures { (g : ℕ) → g < length worst.now
-        → slice_index widths.new g ≡ max (slice_index widths.old g) (widest_beside worst.now (readers ft.now outs.now) g) }
+        → slice_index widths.new g ≡ max (slice_index widths.old g)
+        (widest_beside worst.now (readers ft.now outs.now) g) }
 {
     widen_by_instructions(widths, worst, ft);
     widen_by_outputs(widths, worst, outs);
@@ -133,7 +134,8 @@ fn widen_by_instructions(widths: &mut [u32], worst: &[u32], ft: &List<FtOp>)
     requires each { length worst.now ≡ length ft.now }
     requires same { length widths.old ≡ length worst.now }
     ensures { (g : ℕ) → g < length worst.now
-        → slice_index widths.new g ≡ max (slice_index widths.old g) (widest_beside worst.now (map operands ft.now) g) }
+        → slice_index widths.new g ≡ max (slice_index widths.old g)
+        (widest_beside worst.now (map operands ft.now) g) }
 {
     for op in ft.as_slice() {
         widen_by_instruction(widths, worst, op);
@@ -146,7 +148,8 @@ fn widen_by_instruction(widths: &mut [u32], worst: &[u32], op: &FtOp)
     requires inside { IsAfterOperands (length worst.now) op.now }
     requires same { length widths.old ≡ length worst.now }
     ensures { (g : ℕ) → g < length worst.now
-        → slice_index widths.new g ≡ max (slice_index widths.old g) (delay_beside worst.now g (operands op.now)) }
+        → slice_index widths.new g ≡ max (slice_index widths.old g)
+        (delay_beside worst.now g (operands op.now)) }
 {
     match *op {
         FtOp::True | FtOp::Load(_) => {}
@@ -160,7 +163,8 @@ fn widen_by_outputs(widths: &mut [u32], worst: &[u32], outs: &List<Out>)
     requires reported { All (ReportsInstructions (length worst.now)) outs.now }
     requires same { length widths.old ≡ length worst.now }
     ensures { (g : ℕ) → g < length worst.now
-        → slice_index widths.new g ≡ max (slice_index widths.old g) (widest_beside worst.now (map reported outs.now) g) }
+        → slice_index widths.new g ≡ max (slice_index widths.old g)
+        (widest_beside worst.now (map reported outs.now) g) }
 {
     for out in outs.as_slice() {
         widen_by_output(widths, worst, out);
@@ -173,7 +177,8 @@ fn widen_by_output(widths: &mut [u32], worst: &[u32], out: &Out)
     requires inside { ReportsInstructions (length worst.now) out.now }
     requires same { length widths.old ≡ length worst.now }
     ensures { (g : ℕ) → g < length worst.now
-        → slice_index widths.new g ≡ max (slice_index widths.old g) (delay_beside worst.now g (reported out.now)) }
+        → slice_index widths.new g ≡ max (slice_index widths.old g)
+        (delay_beside worst.now g (reported out.now)) }
 {
     match out {
         Out::Formula(Engine::Ft, g, _) => widen(widths, worst, *g, *g),
@@ -188,7 +193,8 @@ fn widen(widths: &mut [u32], worst: &[u32], left: u32, right: u32)
     requires right { right < length worst.now }
     requires same { length widths.old ≡ length worst.now }
     ensures { (g : ℕ) → g < length worst.now
-        → slice_index widths.new g ≡ max (slice_index widths.old g) (delay_beside worst.now g (left ∷ right ∷ [])) }
+        → slice_index widths.new g ≡ max (slice_index widths.old g)
+        (delay_beside worst.now g (left ∷ right ∷ [])) }
 {
     let latest = worst[left as usize].max(worst[right as usize]);
     widths[left as usize] = widths[left as usize].max(latest);
