@@ -115,7 +115,8 @@ pub fn first_fault(left: Option<NoRange>, right: Option<NoRange>) -> Option<NoRa
 /// What is known of two formulas under an operator that looks at one time.
 fn joined(facts: &[Fact], a: u32, b: u32) -> Fact
     ensures { fact_view result
-        ≡ joined_fact (slice_get (map fact_view facts.now) a) (slice_get (map fact_view facts.now) b) }
+        ≡ joined_fact (slice_get (map fact_view facts.now) a)
+        (slice_get (map fact_view facts.now) b) }
 {
     let (left, right) = (tenses_at(facts, a), tenses_at(facts, b));
     let tenses = Tenses {
@@ -152,7 +153,8 @@ fn windowed(op: WindowOp, facts: &[Fact], a: u32) -> Fact
 /// What is known of two formulas under a temporal operator.
 fn between(op: BetweenOp, facts: &[Fact], a: u32, b: u32) -> Fact
     ensures { fact_view result
-        ≡ between_fact op (slice_get (map fact_view facts.now) a) (slice_get (map fact_view facts.now) b) }
+        ≡ between_fact op (slice_get (map fact_view facts.now) a)
+        (slice_get (map fact_view facts.now) b) }
 {
     let (left, right) = (tenses_at(facts, a), tenses_at(facts, b));
     let fault = first_fault(fault_at(facts, a), fault_at(facts, b));
