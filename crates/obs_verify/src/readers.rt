@@ -49,7 +49,8 @@ fn numbers_by_column(
 fn reader(numbers: &[Option<u32>], op: &BzOp) -> Option<u32>
     requires { ReadsWithin (length numbers.now) op.now }
     ensures { (signals : Items Stored)
-        → ((c : ℕ) → c < length numbers.now → slice_index_or numbers.now c None ≡ number_in signals c)
+        → ((c : ℕ) → c < length numbers.now
+        → slice_index_or numbers.now c None ≡ number_in signals c)
         → result ≡ signal_read signals op.now }
 {
     match *op {

@@ -62,7 +62,8 @@ fn check_sizes(alloc: Global, program: &Program, found: &Delays) -> Result<(), V
     requires worst { found.now.worst ≡ worst_delays program.now.ft }
     requires in_time { All (λ rows. rows ≤ MAX_DELAY) found.now.worst }
     ensures { IsAnswer result (or_else (slots_fault program.now)
-        (or_else (first_in (size_fault Ft (lengths program.now.ft program.now.outs)) 0 program.now.sizes.ft)
+        (or_else
+        (first_in (size_fault Ft (lengths program.now.ft program.now.outs)) 0 program.now.sizes.ft)
         (first_in (size_fault Pt (boxes program.now.pt)) 0 program.now.sizes.pt))) }
 {
     let ft = queue_lengths(alloc, &program.ft, &program.outs, found)?;

@@ -25,7 +25,8 @@ pub struct Kinds {
 fn insert_name(alloc: Global, names: &mut HashSet<Vec<u8>>, name: &Name) -> Result<bool, AllocError>
     ensures new { IfOk result (λ new. new ≡ not (has_name names.old name.now)) }
     ensures grown { IfOk result (λ new. new ≡ true
-        → (bytes : List ℕ) → has_name names.new bytes ≡ (bytes_eq bytes name.now || has_name names.old bytes)) }
+        → (bytes : List ℕ) → has_name names.new bytes
+        ≡ (bytes_eq bytes name.now || has_name names.old bytes)) }
 {
     let key = Vec::from_slice(alloc, name.bytes())?;
     let is_new = names.insert(key)?;
@@ -73,7 +74,8 @@ fn check_signal(
 ) -> Result<(), VerifyFault>
     ensures answer { (earlier : List Stored) → AreKinds earlier kinds.now
         → AreNames earlier names.old
-        → IsAnswer result (unless (is_new_signal (length kinds.now) earlier signal.now) (Signal k)) }
+        → IsAnswer result
+        (unless (is_new_signal (length kinds.now) earlier signal.now) (Signal k)) }
     ensures names { OnOk result ((earlier : List Stored) → AreNames earlier names.old
         → AreNames (earlier ++ signal.now ∷ []) names.new) }
     ensures column { OnOk result (signal.now.column < length kinds.now) }
