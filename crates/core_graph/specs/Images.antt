@@ -5,6 +5,7 @@ use Rattle.mltl_base.specs.Formula.{Core, ctrue, catom, cnot, cand, cuntil, csin
 use Rattle.mltl_base.specs.Programs.{Expression, whole, truth}
 use Rattle.core_graph.specs.Trees.{negative_sign, plus_sign, minus_sign, times_sign, quotient_sign, remainder_sign, equal_sign, less_sign, at_most_sign, different_sign, greater_sign, at_least_sign, true_sign, load_sign, not_sign, and_sign, sign, in_column, truth_in, number, until_in, since_in, Tree, leaf, one, two}
 
+-- a whole-number term as a tree
 abbrev pub of_term : Term → Tree
 of_term (column c) = leaf (in_column c)
 of_term (constant n) = leaf (number n)
@@ -15,6 +16,7 @@ of_term (times a b) = two (sign times_sign) (of_term a) (of_term b)
 of_term (quotient a b) = two (sign quotient_sign) (of_term a) (of_term b)
 of_term (remainder a b) = two (sign remainder_sign) (of_term a) (of_term b)
 
+-- an atom as a tree
 abbrev pub of_atom : Atom → Tree
 of_atom (is_true c) = leaf (truth_in c)
 of_atom (equal a b) = two (sign equal_sign) (of_term a) (of_term b)
@@ -24,10 +26,12 @@ of_atom (different a b) = two (sign different_sign) (of_term a) (of_term b)
 of_atom (greater a b) = two (sign greater_sign) (of_term a) (of_term b)
 of_atom (at_least a b) = two (sign at_least_sign) (of_term a) (of_term b)
 
+-- an expression as a tree
 abbrev pub of_expression : Expression → Tree
 of_expression (whole a) = of_term a
 of_expression (truth a) = of_atom a
 
+-- a core formula as a tree
 abbrev pub of_core : Core → Tree
 of_core ctrue = leaf (sign true_sign)
 of_core (catom a) = one (sign load_sign) (of_atom a)

@@ -8,7 +8,7 @@ use Rattle.core_graph.specs.declared.item.Operands.{Operands}
 use Rattle.core_graph.specs.declared.item.Operands.TheVariants.{Zero, One, Two}
 use Rattle.core_graph.specs.Trees.{Sign, negative_sign, plus_sign, minus_sign, times_sign, quotient_sign, remainder_sign, equal_sign, less_sign, at_most_sign, true_sign, load_sign, not_sign, and_sign, Label, sign, in_column, truth_in, number, until_in, since_in, Tree, leaf, one, two, is_core_label}
 
--- the operands of an item, and what stands at its node
+-- the operands of an item
 abbrev pub operands_of : Item → Operands
 operands_of (Column c) = Zero
 operands_of (Const n) = Zero
@@ -25,6 +25,7 @@ operands_of (And a b) = Two a b
 operands_of (Until i a b) = Two a b
 operands_of (Since i a b) = Two a b
 
+-- the sign of an arithmetic operator
 abbrev pub arith_sign : arith.ArithOp → Sign
 arith_sign arith.TheVariants.Add = plus_sign
 arith_sign arith.TheVariants.Sub = minus_sign
@@ -32,6 +33,7 @@ arith_sign arith.TheVariants.Mul = times_sign
 arith_sign arith.TheVariants.Div = quotient_sign
 arith_sign arith.TheVariants.Rem = remainder_sign
 
+-- what stands at the node of an item
 abbrev pub label_of : Item → Label
 label_of (Column c) = in_column c
 label_of (Const n) = number n
@@ -56,6 +58,7 @@ is_formula item = is_core_label (label_of item)
 abbrev pub tree_at : List Tree → ℕ → Tree
 tree_at earlier n = slice_index_or earlier n (leaf (sign true_sign))
 
+-- the tree of a label over the trees of its operands
 abbrev pub joined : List Tree → Label → Operands → Tree
 joined earlier l Zero = leaf l
 joined earlier l (One a) = one l (tree_at earlier a)

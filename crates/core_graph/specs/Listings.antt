@@ -29,12 +29,13 @@ asks Bz e = true
 asks Ft e = same_engine e engine.Ft
 asks Pt e = same_engine e engine.Pt
 
--- a tree, and an item, becomes an instruction of the part
+-- the tree becomes an instruction of the part
 abbrev pub is_in : Part → Tree → Bool
 is_in Bz t = not (is_core_tree t)
 is_in Ft t = is_core_tree t
 is_in Pt t = is_core_tree t
 
+-- the item becomes an instruction of the part
 abbrev pub is_item_in : Part → Item → Bool
 is_item_in Bz item = not (is_formula item)
 is_item_in Ft item = is_formula item
@@ -49,11 +50,12 @@ abbrev pub NamesNodes : ℕ → PlainOut → Type 0
 NamesNodes n (Formula e a name) = a < n
 NamesNodes n (Contract e a b name) = (a < n) × (b < n)
 
--- the items that an output, and all outputs, begin the walk of a part with
+-- the items that an output begins the walk of a part with
 abbrev pub roots_by : Part → List ℕ → PlainOut → List ℕ
 roots_by part ids (Formula e a name) = if asks part e then slice_index ids a ∷ [] else []
 roots_by part ids (Contract e a b name) = if asks part e then slice_index ids a ∷ slice_index ids b ∷ [] else []
 
+-- the items that all outputs together begin the walk of a part with
 abbrev pub roots_of : Part → List ℕ → List PlainOut → List ℕ
 roots_of part ids outs = flat_map (roots_by part ids) outs
 
@@ -77,7 +79,7 @@ pub record IsListing (items : List Item) (listed : List Tree) (ids places : List
   pub in_order : trees_of items ids ≡ listed
   pub numbered : (i n : ℕ) → slice_get ids i ≡ Some n → slice_index places n ≡ i
 
--- the instruction of an item, whose operands are numbered by their places
+-- the Booleanizer instruction of an arithmetic operator over the places of its operands
 abbrev pub arith_op : arith.ArithOp → ℕ → ℕ → bz.BzOp
 arith_op arith.TheVariants.Add a b = bz.TheVariants.Add a b
 arith_op arith.TheVariants.Sub a b = bz.TheVariants.Sub a b
@@ -85,6 +87,7 @@ arith_op arith.TheVariants.Mul a b = bz.TheVariants.Mul a b
 arith_op arith.TheVariants.Div a b = bz.TheVariants.Div a b
 arith_op arith.TheVariants.Rem a b = bz.TheVariants.Rem a b
 
+-- the Booleanizer instruction of an item, whose operands are numbered by their places
 abbrev pub bz_op_of : List ℕ → Item → bz.BzOp
 bz_op_of places (Column c) = bz.TheVariants.Column c
 bz_op_of places (Const n) = bz.TheVariants.Const n
@@ -96,6 +99,7 @@ bz_op_of places (Lt a b) = bz.TheVariants.Lt (slice_index places a) (slice_index
 bz_op_of places (Le a b) = bz.TheVariants.Le (slice_index places a) (slice_index places b)
 bz_op_of places _ = bz.TheVariants.IsTrue 0
 
+-- the future-time instruction of an item, whose operands are numbered by their places
 abbrev pub ft_op_of : List ℕ → List ℕ → Item → ft.FtOp
 ft_op_of loads places (Load a) = ft.TheVariants.Load (slice_index loads a)
 ft_op_of loads places (Not a) = ft.TheVariants.Not (slice_index places a)
@@ -103,6 +107,7 @@ ft_op_of loads places (And a b) = ft.TheVariants.And (slice_index places a) (sli
 ft_op_of loads places (Until i a b) = ft.TheVariants.Until (slice_index places a) (slice_index places b) i
 ft_op_of loads places _ = ft.TheVariants.True
 
+-- the past-time instruction of an item, whose operands are numbered by their places
 abbrev pub pt_op_of : List ℕ → List ℕ → Item → pt.PtOp
 pt_op_of loads places (Load a) = pt.TheVariants.Load (slice_index loads a)
 pt_op_of loads places (Not a) = pt.TheVariants.Not (slice_index places a)
@@ -114,11 +119,12 @@ pt_op_of loads places _ = pt.TheVariants.True
 abbrev pub item_at : List Item → ℕ → Item
 item_at items n = slice_index_or items n True
 
--- an output by the places of its items
+-- the places of items in an engine's part, of those in future time and those in past time
 abbrev pub places_for : Engine → List ℕ → List ℕ → List ℕ
 places_for engine.Ft ft pt = ft
 places_for engine.Pt ft pt = pt
 
+-- an output by the places of its items
 abbrev pub out_of : List ℕ → List ℕ → List ℕ → PlainOut → out.Out
 out_of ids ft pt (Formula e a name) =
     out.TheVariants.Formula e (slice_index (places_for e ft pt) (slice_index ids a)) name

@@ -33,12 +33,13 @@ pub data Label : Type 0 where
   until_in : Interval → Label
   since_in : Interval → Label
 
+-- a tree of labels: an expression or a core formula
 pub data Tree : Type 0 where
   leaf : Label → Tree
   one : Label → Tree → Tree
   two : Label → Tree → Tree → Tree
 
--- the two are one
+-- a number for each sign, no two alike
 abbrev pub sign_number : Sign → ℕ
 sign_number negative_sign = 0
 sign_number plus_sign = 1
@@ -57,6 +58,7 @@ sign_number load_sign = 13
 sign_number not_sign = 14
 sign_number and_sign = 15
 
+-- the two labels are one
 abbrev pub same_label : Label → Label → Bool
 same_label (sign s) (sign t) = sign_number s == sign_number t
 same_label (in_column c) (in_column d) = c == d
@@ -66,6 +68,7 @@ same_label (until_in i) (until_in j) = same_interval i j
 same_label (since_in i) (since_in j) = same_interval i j
 same_label _ _ = false
 
+-- the two trees are one
 unfoldable pub same_tree : Tree → Tree → Bool
 same_tree (leaf l) (leaf m) = same_label l m
 same_tree (one l t) (one m u) = same_label l m && same_tree t u
@@ -82,7 +85,7 @@ add_tree (two l t u) ts = add_new same_tree (two l t u) (add_tree u (add_tree t 
 abbrev pub completed : List Tree → List Tree
 completed roots = fold (λ ts t. add_tree t ts) [] roots
 
--- the node is one of a core formula, not of an expression
+-- the sign is one of a core formula, not of an expression
 abbrev pub is_core_sign : Sign → Bool
 is_core_sign true_sign = true
 is_core_sign load_sign = true
@@ -90,16 +93,19 @@ is_core_sign not_sign = true
 is_core_sign and_sign = true
 is_core_sign _ = false
 
+-- the label is one of a core formula, not of an expression
 abbrev pub is_core_label : Label → Bool
 is_core_label (sign s) = is_core_sign s
 is_core_label (until_in i) = true
 is_core_label (since_in i) = true
 is_core_label _ = false
 
+-- what stands at the root of a tree
 abbrev pub root : Tree → Label
 root (leaf l) = l
 root (one l t) = l
 root (two l t u) = l
 
+-- the tree is one of a core formula, not of an expression
 abbrev pub is_core_tree : Tree → Bool
 is_core_tree t = is_core_label (root t)

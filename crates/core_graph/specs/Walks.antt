@@ -29,12 +29,13 @@ pub record IsWalk (items : List Item) (order : List ℕ) (done : List Bool) : Ty
   pub told : (n : ℕ) (t : Tree) → Has items n t → slice_get done n ≡ Some (listed same_tree t (trees_of items order))
   pub closed : IsClosed (trees_of items order)
 
--- all operands are complete, and the first that isn't
+-- all operands are complete
 abbrev pub AreDone : List Bool → Operands → Type 0
 AreDone done Zero = Unit {0}
 AreDone done (One a) = slice_get done a ≡ Some true
 AreDone done (Two a b) = (slice_get done a ≡ Some true) × (slice_get done b ≡ Some true)
 
+-- item n is the first operand that isn't complete
 abbrev pub IsFirstOpen : List Bool → Operands → ℕ → Type 0
 IsFirstOpen done Zero n = ⊥
 IsFirstOpen done (One a) n = (n ≡ a) × (slice_get done a ≡ Some false)
@@ -57,16 +58,18 @@ unfoldable pub finish : List Tree → List Tree → List Tree
 finish [] ts = ts
 finish (t ∷ above) ts = add_tree t (finish above ts)
 
--- what is still to be done: for each open item, and below the latest that waits
+-- how many items there are up to the latest that waits: 0 where none waits
 unfoldable pub height : List ℕ → ℕ
 height [] = 0
 height (n ∷ []) = suc n
 height (n ∷ m ∷ ns) = height (m ∷ ns)
 
+-- how many items aren't complete
 unfoldable pub open_count : List Bool → ℕ
 open_count [] = 0
 open_count (true ∷ done) = open_count done
 open_count (false ∷ done) = suc (open_count done)
 
+-- what is still to be done: for each open item, and below the latest that waits
 abbrev pub work : List Bool → List ℕ → ℕ
 work done stack = open_count done * (length done + 1) + height stack

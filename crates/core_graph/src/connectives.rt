@@ -150,7 +150,8 @@ impl Forest {
         requires left { IsCoreAt self.old a }
         requires right { IsCoreAt self.old b }
         ensures grows { OnOk result (Grows self.old self.new) }
-        ensures has { (p q : Plainly) → Has self.old a (of_core (core p)) → Has self.old b (of_core (core q))
+        ensures has { (p q : Plainly)
+            → Has self.old a (of_core (core p)) → Has self.old b (of_core (core q))
             → IfOk result (λ n. Has self.new n (of_core (core (connected op p q)))) }
     {
         match op {
@@ -198,7 +199,8 @@ impl Forest {
         requires left { IsCoreAt self.old a }
         requires right { IsCoreAt self.old b }
         ensures grows { OnOk result (Grows self.old self.new) }
-        ensures has { (p q : Plainly) → Has self.old a (of_core (core p)) → Has self.old b (of_core (core q))
+        ensures has { (p q : Plainly)
+            → Has self.old a (of_core (core p)) → Has self.old b (of_core (core q))
             → IfOk result (λ n. Has self.new n (of_core (core (ranged op i p q)))) }
     {
         match op {

@@ -43,7 +43,8 @@ impl From<AllocError> for GraphFault {
 pub fn to_core(alloc: Global, spec: &Expanded, columns: &Columns) -> Result<Graph, GraphFault>
     requires nodes { AreSound (length columns.now.of_signal) spec.now.nodes }
     requires outs { All (NamesFormulas (trees spec.now.nodes)) spec.now.outs }
-    ensures graph { IfOk result (λ graph. IsGraphOf (asked_in columns.now.of_signal spec.now) graph) }
+    ensures graph { IfOk result
+        (λ graph. IsGraphOf (asked_in columns.now.of_signal spec.now) graph) }
     ensures few { OnOk result (AreFew (asked_in columns.now.of_signal spec.now)) }
     ensures too_many { result ≡ Err GraphFault.TooManyNodes
         → AreMany (asked_in columns.now.of_signal spec.now) }
@@ -62,9 +63,11 @@ fn graph_of(
 ) -> Result<Graph, GraphFault>
     requires nodes { AreSound (length columns.now) nodes.now }
     requires outs { All (NamesFormulas (trees nodes.now)) outs.now }
-    ensures graph { IfOk result (λ graph. IsGraphOf (asked_from columns.now nodes.now outs.now) graph) }
+    ensures graph { IfOk result
+        (λ graph. IsGraphOf (asked_from columns.now nodes.now outs.now) graph) }
     ensures few { OnOk result (AreFew (asked_from columns.now nodes.now outs.now)) }
-    ensures too_many { result ≡ Err GraphFault.TooManyNodes → AreMany (asked_from columns.now nodes.now outs.now) }
+    ensures too_many { result ≡ Err GraphFault.TooManyNodes
+        → AreMany (asked_from columns.now nodes.now outs.now) }
 {
     let mut forest = Forest::new(alloc);
     let ids = read(alloc, &mut forest, nodes, columns)?;

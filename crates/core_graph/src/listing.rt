@@ -119,7 +119,8 @@ fn select(
 ) -> Result<Vec<usize>, AllocError>
     requires forest { IsForest forest.now }
     requires there { All (λ n. n < length forest.now) order.now }
-    ensures { IfOk result (λ ids. ids.items ≡ filter (λ n. is_in part (tree_at (trees forest.now) n)) order.now) }
+    ensures { IfOk result
+        (λ ids. ids.items ≡ filter (λ n. is_in part (tree_at (trees forest.now) n)) order.now) }
 {
     let mut ids = Vec::new(alloc);
     for id in order {
@@ -148,7 +149,8 @@ fn places(alloc: Global, ids: &[usize], count: usize) -> Result<Vec<u32>, AllocE
     requires once { AreOnce ids.now }
     requires few { length ids.now ≤ MAX_INSTRUCTIONS }
     ensures count { IfOk result (λ places. length places.items ≡ count) }
-    ensures places { IfOk result (λ places. (i n : ℕ) → slice_get ids.now i ≡ Some n → slice_index places.items n ≡ i) }
+    ensures places { IfOk result (λ places. (i n : ℕ)
+        → slice_get ids.now i ≡ Some n → slice_index places.items n ≡ i) }
 {
     let mut places = vec![in alloc; 0_u32; count]?;
     for (i, id) in ids.iter().enumerate() {

@@ -38,7 +38,8 @@ pub fn ft_ops(
     requires placed { length ft.now.places.items ≡ length forest.now }
     requires there { All (λ n. n < length forest.now) ft.now.ids.items }
     ensures { IfOk result (λ ops. ops
-        ≡ map (λ n. ft_op_of bz.now.places.items ft.now.places.items (item_at forest.now n)) ft.now.ids.items) }
+        ≡ map (λ n. ft_op_of bz.now.places.items ft.now.places.items (item_at forest.now n))
+        ft.now.ids.items) }
 {
     let mut ops = List::new(alloc);
     for id in &ft.ids {
@@ -59,7 +60,8 @@ pub fn pt_ops(
     requires placed { length pt.now.places.items ≡ length forest.now }
     requires there { All (λ n. n < length forest.now) pt.now.ids.items }
     ensures { IfOk result (λ ops. ops
-        ≡ map (λ n. pt_op_of bz.now.places.items pt.now.places.items (item_at forest.now n)) pt.now.ids.items) }
+        ≡ map (λ n. pt_op_of bz.now.places.items pt.now.places.items (item_at forest.now n))
+        pt.now.ids.items) }
 {
     let mut ops = List::new(alloc);
     for id in &pt.ids {

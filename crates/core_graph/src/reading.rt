@@ -42,7 +42,8 @@ fn read_node(
     requires read { AreRead columns.now forest.old (take i nodes.now) ids.now }
     ensures grows { OnOk result (Grows forest.old forest.new) }
     ensures stands { (node : Plain) → slice_get nodes.now i ≡ Some node
-        → IfOk result (λ id. Stands columns.now forest.new id (tree_of (trees (take i nodes.now)) node)) }
+        → IfOk result (λ id.
+        Stands columns.now forest.new id (tree_of (trees (take i nodes.now)) node)) }
 {
     match nodes[i] {
         Plain::Truth(value) => forest.truth(value),

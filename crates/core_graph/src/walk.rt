@@ -36,9 +36,11 @@ pub fn completion(
 ) -> Result<Vec<usize>, GraphFault>
     requires forest { IsForest forest.now }
     requires there { All (λ n. n < length forest.now) roots.now }
-    ensures order { IfOk result (λ order. trees_of forest.now order.items ≡ completed (trees_of forest.now roots.now)) }
+    ensures order { IfOk result
+        (λ order. trees_of forest.now order.items ≡ completed (trees_of forest.now roots.now)) }
     ensures within { IfOk result (λ order. All (λ n. n < length forest.now) order.items) }
-    ensures few { IfOk result (λ order. count_in part (trees_of forest.now order.items) ≤ MAX_INSTRUCTIONS) }
+    ensures few { IfOk result
+        (λ order. count_in part (trees_of forest.now order.items) ≤ MAX_INSTRUCTIONS) }
     ensures too_many { result ≡ Err GraphFault.TooManyNodes
         → MAX_INSTRUCTIONS < count_in part (completed (trees_of forest.now roots.now)) }
 {
@@ -87,16 +89,20 @@ impl Walk {
     ) -> Result<(), GraphFault>
         requires forest { IsForest forest.now }
         requires walk { IsWalk forest.now self.old.order.items self.old.done.items }
-        requires counted { self.old.count ≡ count_in part (trees_of forest.now self.old.order.items) }
+        requires counted { self.old.count
+            ≡ count_in part (trees_of forest.now self.old.order.items) }
         requires few { self.old.count ≤ MAX_INSTRUCTIONS }
         requires there { root < length forest.now }
         ensures walk { OnOk result (IsWalk forest.now self.new.order.items self.new.done.items) }
         ensures visited { OnOk result (trees_of forest.now self.new.order.items
-            ≡ add_tree (tree_at (trees forest.now) root) (trees_of forest.now self.old.order.items)) }
-        ensures counted { OnOk result (self.new.count ≡ count_in part (trees_of forest.now self.new.order.items)) }
+            ≡ add_tree (tree_at (trees forest.now) root)
+            (trees_of forest.now self.old.order.items)) }
+        ensures counted { OnOk result
+            (self.new.count ≡ count_in part (trees_of forest.now self.new.order.items)) }
         ensures few { OnOk result (self.new.count ≤ MAX_INSTRUCTIONS) }
         ensures too_many { result ≡ Err GraphFault.TooManyNodes → MAX_INSTRUCTIONS
-            < count_in part (add_tree (tree_at (trees forest.now) root) (trees_of forest.now self.old.order.items)) }
+            < count_in part (add_tree (tree_at (trees forest.now) root)
+            (trees_of forest.now self.old.order.items)) }
     {
         if self.done[root] {
             return Ok(());
@@ -121,17 +127,21 @@ impl Walk {
     ) -> Result<(), AllocError>
         requires forest { IsForest forest.now }
         requires walk { IsWalk forest.now self.old.order.items self.old.done.items }
-        requires counted { self.old.count ≡ count_in part (trees_of forest.now self.old.order.items) }
+        requires counted { self.old.count
+            ≡ count_in part (trees_of forest.now self.old.order.items) }
         requires few { self.old.count ≤ MAX_INSTRUCTIONS }
         requires stack { IsStack forest.now self.old.done.items stack.old.items }
         requires top { (below : List ℕ) × (stack.old.items ≡ below ++ top ∷ []) }
         ensures walk { OnOk result (IsWalk forest.now self.new.order.items self.new.done.items) }
-        ensures counted { OnOk result (self.new.count ≡ count_in part (trees_of forest.now self.new.order.items)) }
+        ensures counted { OnOk result
+            (self.new.count ≡ count_in part (trees_of forest.now self.new.order.items)) }
         ensures stack { OnOk result (IsStack forest.now self.new.done.items stack.new.items) }
         ensures goal { OnOk result (
             finish (trees_of forest.now stack.new.items) (trees_of forest.now self.new.order.items)
-            ≡ finish (trees_of forest.now stack.old.items) (trees_of forest.now self.old.order.items)) }
-        ensures less { OnOk result (work self.new.done.items stack.new.items < work self.old.done.items stack.old.items) }
+            ≡ finish (trees_of forest.now stack.old.items)
+            (trees_of forest.now self.old.order.items)) }
+        ensures less { OnOk result
+            (work self.new.done.items stack.new.items < work self.old.done.items stack.old.items) }
     {
         let item = forest.get(top);
         match first_open(item.operands(), &self.done) {
