@@ -16,6 +16,7 @@ pub data Known : Type 0 where
   fields : List (List ℕ) → Known
   value : Value → Known
 
+-- an environment: what each name stands for
 abbrev pub Env : Type 0
 Env = List ℕ → Known
 
@@ -27,12 +28,13 @@ no_names x = nothing
 abbrev pub bind : List ℕ → Value → Env → Env
 bind x v env y = if bytes_eq y x then value v else env y
 
--- a name is declared: one that is known already keeps its meaning
+-- what a name stands for already; where it stands for nothing, something else
 abbrev pub or_else : Known → Known → Known
 or_else nothing k = k
 or_else (fields xs) k = fields xs
 or_else (value v) k = value v
 
+-- a name is declared: one that is known already keeps its meaning
 abbrev pub declare : List ℕ → Known → Env → Env
 declare x k env y = or_else (env y) (if bytes_eq y x then k else nothing)
 
@@ -41,12 +43,13 @@ abbrev pub signal_value : Bool → ℕ → Value
 signal_value true n = leaf (formula (atom (is_true n))) 1
 signal_value false n = leaf (number (column n)) 1
 
--- the value that a name stands for, and the fields of the struct: of other names nothing is asked
+-- the value that a name stands for: of other names nothing is asked
 abbrev pub value_in : Known → Value
 value_in (value v) = v
 value_in (fields xs) = truth_value false
 value_in nothing = truth_value false
 
+-- the fields of the struct that a name stands for: other names have none
 abbrev pub fields_in : Known → List (List ℕ)
 fields_in (fields xs) = xs
 fields_in (value v) = []

@@ -45,6 +45,7 @@ abbrev mutual
 abbrev pub Holds : Unfolding → Stored → Value → Type 0
 Holds u s v = Stores u.nodes u.parts s v
 
+-- within an unfolding, stored values stand for values in order
 abbrev pub HoldAll : Unfolding → List Stored → Values → Type 0
 HoldAll u ss vs = StoreAll u.nodes u.parts ss vs
 

@@ -274,10 +274,12 @@ impl Unfolding {
         ensures light { IfOk result (λ s. s.weight ≤ room) }
         ensures holds { (env : Env) → Fits self.old scope.now env
             → IfOk result (λ s. Holds self.new s
-            (joined_all op (map (λ v. value_of (shape body.now) (bind name.now v env)) (members (value_of (shape set.now) env))))) }
+            (joined_all op (map (λ v. value_of (shape body.now) (bind name.now v env))
+            (members (value_of (shape set.now) env))))) }
         ensures heavy { (env : Env) → Fits self.old scope.now env
             → IfErr result (λ why. why ≡ Heavy → room < weight
-            (joined_all op (map (λ v. value_of (shape body.now) (bind name.now v env)) (members (value_of (shape set.now) env))))) }
+            (joined_all op (map (λ v. value_of (shape body.now) (bind name.now v env))
+            (members (value_of (shape set.now) env))))) }
     {
         let levels = deeper(levels)?;
         let set = self.head(levels, scope, set)?;
@@ -347,10 +349,12 @@ impl Unfolding {
         ensures light { IfOk result (λ s. s.weight ≤ room) }
         ensures holds { (env : Env) → Fits self.old scope.now env
             → IfOk result (λ s. Holds self.new s
-            (counted op number (map (λ v. value_of (shape body.now) (bind name.now v env)) (members (value_of (shape set.now) env))))) }
+            (counted op number (map (λ v. value_of (shape body.now) (bind name.now v env))
+            (members (value_of (shape set.now) env))))) }
         ensures heavy { (env : Env) → Fits self.old scope.now env
             → IfErr result (λ why. why ≡ Heavy → room < weight
-            (counted op number (map (λ v. value_of (shape body.now) (bind name.now v env)) (members (value_of (shape set.now) env))))) }
+            (counted op number (map (λ v. value_of (shape body.now) (bind name.now v env))
+            (members (value_of (shape set.now) env))))) }
     {
         let levels = deeper(levels)?;
         let set = self.head(levels, scope, set)?;

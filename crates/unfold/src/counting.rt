@@ -49,7 +49,8 @@ impl Unfolding {
         requires formulas { AreFormulas self.old.nodes bodies.now }
         ensures later { OnOk result (IsLater self.old self.new) }
         ensures has { (ps : Seq Formula) → HaveFormulas self.old.nodes bodies.now ps
-            → IfOk result (λ n. Has self.new.nodes n (formula (counted_formula ps (counting op (length ps) number)))) }
+            → IfOk result (λ n. Has self.new.nodes n
+            (formula (counted_formula ps (counting op (length ps) number)))) }
     {
         let count = bodies.len() as u32;
         let number = number.min(u64::from(count) + 1) as u32;

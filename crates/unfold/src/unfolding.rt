@@ -141,7 +141,8 @@ impl Unfolding {
         ensures stands { (env : Env) → StandsFor self.old env
             → OnOk result (StandsFor self.new env) }
         ensures has { (env : Env) → StandsFor self.old env
-            → IfOk result (λ r. Has (nodes_of self.new) r.node (formula (formula_of (value_of (shape e.now) env)))) }
+            → IfOk result (λ r. Has (nodes_of self.new) r.node
+            (formula (formula_of (value_of (shape e.now) env)))) }
         ensures weight { (env : Env) → StandsFor self.old env
             → IfOk result (λ r. r.weight ≡ weight (value_of (shape e.now) env)) }
         ensures light { IfOk result (λ r. r.weight ≤ room) }
