@@ -37,20 +37,22 @@ start = record { declared = nothing; labels = []; values = no_names; total = 0 }
 abbrev pub not_wide : ℕ → ℕ → Checked State → Checked State
 not_wide line w rest = if nat_le w MAX_WEIGHT then rest else Err (fault.Wide line)
 
--- whole numbers that have ranges
+-- the fault of a line with a whole number that has no range
 abbrev pub range_fault : ℕ → NoRange → TypeFault
 range_fault line divisor = fault.Divisor line
 range_fault line wide = fault.Range line
 
+-- whole numbers that have ranges
 abbrev pub ranged : ℕ → Option NoRange → Checked State → Checked State
 ranged line None rest = rest
 ranged line (Some why) rest = Err (range_fault line why)
 
--- whether a formula has an operator of the other tense than its engine's
+-- whether the tense that isn't an engine's occurs: the past for future time, the future for past time
 abbrev pub other_tense : Engine → Bool → Bool → Bool
 other_tense Ft past future = past
 other_tense Pt past future = future
 
+-- whether a formula has an operator of the other tense than its engine's
 abbrev pub is_mixed : Engine → Formula → Bool
 is_mixed engine p = other_tense engine (has_past p) (has_future p)
 
@@ -82,26 +84,31 @@ abbrev pub two_out : ℕ → Engine → Labels → Value → Value → State →
 two_out line engine labels v w s = with_out line labels (weight v + weight w) (or_later (formula_fault (formula_of v)) (formula_fault (formula_of w)))
     (is_mixed engine (formula_of v) || is_mixed engine (formula_of w)) s
 
--- one more item of each sort
+-- what is known behind one more struct, or its first fault
 abbrev pub struct_step : ℕ → List ℕ → List FieldShape → State → Checked State
 struct_step line x fs s = with_struct line x fs s.declared >>= λ d.
     Ok (record { declared = d; labels = s.labels; values = declare x (fields (map (λ f. f.name) fs)) s.values; total = s.total })
 
+-- what is known behind one more declaration of signals, or its first fault
 abbrev pub input_step : ℕ → List (List ℕ) → TypeShape → State → Checked State
 input_step line xs t s = with_input line xs t s.declared >>= λ d. let n = length s.declared.signals in
     Ok (record { declared = d; labels = s.labels; values = with_signals n (drop n d.signals) s.values; total = s.total })
 
+-- what is known behind one more definition, or its first fault
 abbrev pub define_step : ℕ → List ℕ → Shape → State → Checked State
 define_step line x e s = define_kind line x e s.declared >>= λ k. defined line x (with_value x k s.declared) (value_of e s.values) s
 
+-- what is known behind one more output with a formula, or its first fault
 abbrev pub formula_step : ℕ → Engine → Option (List ℕ) → Shape → State → Checked State
 formula_step line engine label e s = with_label line label s.labels >>= λ labels. formula_kind line e s.declared >>= λ _.
     one_out line engine labels (value_of e s.values) s
 
+-- what is known behind one more output with a contract, or its first fault
 abbrev pub contract_step : ℕ → Engine → Option (List ℕ) → Shape → Shape → State → Checked State
 contract_step line engine label e f s = with_label line label s.labels >>= λ labels. contract_kind line e f s.declared >>= λ _.
     two_out line engine labels (value_of e s.values) (value_of f s.values) s
 
+-- what is known behind one more item of any sort on a line, or its first fault
 abbrev pub body_step : ℕ → BodyShape → State → Checked State
 body_step line (structure x fs) s = struct_step line x fs s
 body_step line (input xs t) s = input_step line xs t s
@@ -109,6 +116,7 @@ body_step line (define x e) s = define_step line x e s
 body_step line (formula engine label e) s = formula_step line engine label e s
 body_step line (contract engine label e f) s = contract_step line engine label e f s
 
+-- what is known behind one more item, or its first fault
 abbrev pub item_step : ItemShape → State → Checked State
 item_step item s = body_step item.line item.body s
 
@@ -116,6 +124,7 @@ item_step item s = body_step item.line item.body s
 unfoldable pub checked : List ItemShape → Checked State
 checked items = in_turn item_step items start
 
+-- the fault that a check has found, if any
 abbrev pub fault_of : {X : Type 0} → Checked X → Option TypeFault
 fault_of (Ok x) = None
 fault_of (Err fault) = Some fault

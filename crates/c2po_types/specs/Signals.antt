@@ -11,6 +11,7 @@ abbrev pub is_bool : TypeShape → Bool
 is_bool (type_named x) = bytes_eq x (codes "bool")
 is_bool (set_of t) = false
 
+-- the signals that one item declares: those of an INPUT item in order, else none
 abbrev pub body_signals : BodyShape → List Signal
 body_signals (input xs t) = map (λ x. record { name = x; truth = is_bool t }) xs
 body_signals _ = []

@@ -247,7 +247,8 @@ fn put_formula(
 ) -> Result<Progress, TypeFault>
     requires { progress.total ≤ MAX_WEIGHT }
     ensures reached { (env : Env) → StandsFor progress.values env
-        → Reaches result (one_out line engine progress.labels (value_of (shape expr.now) env) (state_of progress env)) }
+        → Reaches result (one_out line engine progress.labels
+        (value_of (shape expr.now) env) (state_of progress env)) }
     ensures light { IfOk result (λ p. p.total ≤ MAX_WEIGHT) }
 {
     let mut progress = progress;
@@ -292,7 +293,8 @@ fn put_right(
 ) -> Result<Progress, TypeFault>
     requires { progress.total + left.weight ≤ MAX_WEIGHT }
     ensures reached { (env : Env) (v : Value) → StandsFor progress.values env → Unfolds left v
-        → Reaches result (two_out line engine progress.labels v (value_of (shape right.now) env) (state_of progress env)) }
+        → Reaches result (two_out line engine progress.labels
+        v (value_of (shape right.now) env) (state_of progress env)) }
     ensures light { IfOk result (λ p. p.total ≤ MAX_WEIGHT) }
 {
     let mut progress = progress;
@@ -318,7 +320,8 @@ fn put_contract(
 ) -> Result<Progress, TypeFault>
     requires { progress.total ≤ MAX_WEIGHT }
     ensures reached { (env : Env) → StandsFor progress.values env
-        → Reaches result (two_out line engine progress.labels (value_of (shape left.now) env) (value_of (shape right.now) env) (state_of progress env)) }
+        → Reaches result (two_out line engine progress.labels (value_of (shape left.now) env)
+        (value_of (shape right.now) env) (state_of progress env)) }
     ensures light { IfOk result (λ p. p.total ≤ MAX_WEIGHT) }
 {
     let mut progress = progress;
@@ -341,7 +344,8 @@ fn step_contract(
 ) -> Result<Progress, TypeFault>
     requires { progress.total ≤ MAX_WEIGHT }
     ensures reached { (env : Env) → StandsFor progress.values env
-        → Reaches result (contract_step line engine label.now (shape left.now) (shape right.now) (state_of progress env)) }
+        → Reaches result (contract_step line engine label.now
+        (shape left.now) (shape right.now) (state_of progress env)) }
     ensures light { IfOk result (λ p. p.total ≤ MAX_WEIGHT) }
 {
     let progress = add_label(alloc, progress, line, label)?;
