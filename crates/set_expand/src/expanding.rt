@@ -57,7 +57,8 @@ pub fn expand(alloc: Global, spec: &TypedSpec) -> Result<Expanded, AllocError>
 
     // What the check of the specification promises of its outputs.
     ensures ranged { IfOk result (λ expanded. All HasRanges (asked expanded)) }
-    ensures kinds { IfOk result (λ expanded. All (ReadsSignals (kinds_of (signals_of (spec_shape spec.now)))) (asked expanded)) }
+    ensures kinds { IfOk result (λ expanded.
+        All (ReadsSignals (kinds_of (signals_of (spec_shape spec.now)))) (asked expanded)) }
     ensures named { IfOk result (λ expanded. All HasPlainName (asked expanded)) }
 
     // A counting quantifier that is unfolded counts its bodies, equal ones each.

@@ -141,8 +141,10 @@ fn put_contract(
     left: &Expr,
     right: &Expr,
 ) -> Result<Progress, UnfoldFault>
-    ensures puts { Puts (contract engine label.now (shape left.now) (shape right.now)) progress result }
-    ensures only { WantsMemory (contract engine label.now (shape left.now) (shape right.now)) progress result }
+    ensures puts { Puts
+        (contract engine label.now (shape left.now) (shape right.now)) progress result }
+    ensures only { WantsMemory
+        (contract engine label.now (shape left.now) (shape right.now)) progress result }
 {
     let mut progress = progress;
     let name = output_name(progress.outs.len(), label);
