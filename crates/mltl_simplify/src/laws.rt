@@ -43,7 +43,8 @@ pub fn simplified_formulas_keep_their_form()
     ensures past { (p : Formula) → IsPast p → IsPast (simp p) }
     ensures future { (p : Formula) → IsFuture p → IsFuture (simp p) }
     ensures atoms { (p : Formula) (a : Atom) → HasAtom (simp p) a → HasAtom p a }
-    ensures kinds { (kinds : List Bool) (p : Formula) → ReadsKinds kinds p → ReadsKinds kinds (simp p) }
+    ensures kinds { (kinds : List Bool) (p : Formula) →
+        ReadsKinds kinds p → ReadsKinds kinds (simp p) }
     ensures over { (columns : List ℕ) (p : Formula) →
         formula_over columns (simp p) ≡ simp (formula_over columns p) }
 {}
