@@ -8,17 +8,19 @@ use Rattle.core_graph.specs.Limits.{AreFew, AreMany}
 use Rattle.obs_build.specs.declared.fault.BuildFault.{BuildFault}
 use Rattle.obs_build.specs.declared.fault.BuildFault.TheVariants.{TooManyNodes, TooLate, TooManySlots, Memory}
 
--- the worst-case delays of the future-time instructions of outputs, and all slots and boxes that outputs need
+-- the worst-case delays of the future-time instructions of outputs
 abbrev pub delays_of : List Asked → List ℕ
 delays_of outs = worst_delays (ft_list outs)
 
+-- all slots and boxes that outputs need
 abbrev pub slots_of : List Asked → ℕ
 slots_of outs = slot_count (ft_list outs) (pt_list outs) (out_list outs)
 
--- no instruction is later than the limit, or one is
+-- no instruction is later than the limit
 abbrev pub AreInTime : List Asked → Type 0
 AreInTime outs = All (λ rows. rows ≤ MAX_DELAY) (delays_of outs)
 
+-- an instruction is later than the limit
 abbrev pub IsLate : List Asked → Type 0
 IsLate outs = Any (λ rows. MAX_DELAY < rows) (delays_of outs)
 

@@ -42,7 +42,8 @@ pub fn build(
     requires below { All (λ column. column < columns.now.width) columns.now.of_signal }
     requires different { AreDifferent columns.now.of_signal }
     requires narrow { columns.now.width ≤ MAX_SIGNALS }
-    ensures image { IfOk result (λ checked. IsImageOf signals.now columns.now (asked spec.now) checked) }
+    ensures image { IfOk result
+        (λ checked. IsImageOf signals.now columns.now (asked spec.now) checked) }
     ensures within { OnOk result (IsWithinLimits (asked_in columns.now.of_signal spec.now)) }
     ensures refused { IfErr result (IsReason (asked_in columns.now.of_signal spec.now)) }
 {
@@ -67,7 +68,8 @@ pub fn build(
 fn graph_of(alloc: Global, spec: &Expanded, columns: &Columns) -> Result<Graph, BuildFault>
     requires nodes { AreSound (length columns.now.of_signal) spec.now.nodes }
     requires outs { All (NamesFormulas (trees spec.now.nodes)) spec.now.outs }
-    ensures graph { IfOk result (λ graph. IsGraphOf (asked_in columns.now.of_signal spec.now) graph) }
+    ensures graph { IfOk result
+        (λ graph. IsGraphOf (asked_in columns.now.of_signal spec.now) graph) }
     ensures few { OnOk result (AreFew (asked_in columns.now.of_signal spec.now)) }
     ensures refused { IfErr result (IsReason (asked_in columns.now.of_signal spec.now)) }
 {
@@ -85,7 +87,8 @@ fn sizes_of(alloc: Global, graph: &Graph) -> Result<Sizes, BuildFault>
     requires in_order { AreInOrder graph.now.ft }
     requires bounded { All (HasBounds MAX_BOUND) graph.now.ft }
     requires bounded_past { All (HasPastBounds MAX_BOUND) graph.now.pt }
-    requires named { All (NamesInstructions (length graph.now.ft) (length graph.now.pt)) graph.now.outs }
+    requires named { All
+        (NamesInstructions (length graph.now.ft) (length graph.now.pt)) graph.now.outs }
     ensures ft { IfOk result (λ sizes. sizes.ft ≡ queue_lengths graph.now.ft graph.now.outs) }
     ensures pt { IfOk result (λ sizes. sizes.pt ≡ box_counts graph.now.pt) }
     ensures in_time { OnOk result (All (λ rows. rows ≤ MAX_DELAY) (worst_delays graph.now.ft)) }

@@ -20,13 +20,16 @@ ghost use Rattle.obs_build.specs.Limits.{IsWithinLimits};
 /// A specification that can be built within the limits has one image, in which the verifier finds no fault.
 #[tactic(auto, using(crate::proofs::Building::image_well_formed, crate::proofs::Building::image_once))]
 pub fn images_are_well_formed()
-    ensures well_formed { (spec : Spec) (signals : Members Input) (columns : Places) (program : Observer)
+    ensures well_formed { (spec : Spec) (signals : Members Input) (columns : Places)
+        (program : Observer)
         → IsBuildable spec signals columns → IsWithinLimits (asked_in columns.of_signal spec)
         → IsImageOf signals columns (asked spec) program → IsWellFormed program }
-    ensures layout { (spec : Spec) (signals : Members Input) (columns : Places) (program : Observer)
+    ensures layout { (spec : Spec) (signals : Members Input) (columns : Places)
+        (program : Observer)
         → IsBuildable spec signals columns → IsWithinLimits (asked_in columns.of_signal spec)
         → IsImageOf signals columns (asked spec) program → HasLayout program }
-    ensures one { (signals : Members Input) (columns : Places) (outs : Members Asked) (p q : Observer)
+    ensures one { (signals : Members Input) (columns : Places) (outs : Members Asked)
+        (p q : Observer)
         → IsImageOf signals columns outs p → IsImageOf signals columns outs q → p ≡ q }
 {}
 
@@ -34,12 +37,19 @@ pub fn images_are_well_formed()
 /// the same of all rows.
 #[tactic(auto, using(crate::proofs::Tenses::image_unfolds, crate::proofs::Tenses::image_names, crate::proofs::Tenses::image_tells))]
 pub fn images_tell_their_outputs()
-    ensures outputs { (signals : Members Input) (columns : Places) (outs : Members Asked) (program : Observer)
+    ensures outputs { (signals : Members Input) (columns : Places) (outs : Members Asked)
+        (program : Observer)
         → All IsTensed outs → IsImageOf signals columns outs program
-        → outputs program ≡ map (λ out. core_output out.output) (map (asked_over columns.of_signal) outs) }
-    ensures names { (signals : Members Input) (columns : Places) (outs : Members Asked) (program : Observer)
-        → IsImageOf signals columns outs program → output_names program ≡ map (λ out. out.name) outs }
-    ensures reports { (style : Form) (signals : Members Input) (columns : Places) (outs : Members Asked) (program : Observer) (rows : Members Row)
+        → outputs program
+        ≡ map (λ out. core_output out.output) (map (asked_over columns.of_signal) outs) }
+    ensures names { (signals : Members Input) (columns : Places) (outs : Members Asked)
+        (program : Observer)
+        → IsImageOf signals columns outs program
+        → output_names program ≡ map (λ out. out.name) outs }
+    ensures reports { (style : Form) (signals : Members Input) (columns : Places)
+        (outs : Members Asked) (program : Observer) (rows : Members Row)
         → All IsTensed outs → IsImageOf signals columns outs program
-        → reports style (outputs program) rows ≡ reports style (map (λ out. out.output) (map (asked_over columns.of_signal) outs)) rows }
+        → reports style (outputs program) rows
+        ≡ reports style (map (λ out. out.output)
+        (map (asked_over columns.of_signal) outs)) rows }
 {}
