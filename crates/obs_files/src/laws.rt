@@ -11,10 +11,12 @@ ghost use Rattle.obs_files.specs.Names.{NamesFit};
 /// The bytes of a well-formed program are opened as that program.
 #[tactic(auto, using(crate::proofs::Opening::found_again))]
 pub fn images_open()
-    ensures { (program : Observer) → Fits program → IsWellFormed program → opened (spelling program) ≡ Ok program }
+    ensures { (program : Observer) → Fits program → IsWellFormed program
+        → opened (spelling program) ≡ Ok program }
 {}
 
 /// The names of a program can be written in version 2 too.
 pub fn upgraded_names_fit()
-    ensures { (program : Observer) → IsWellFormed program → NamesFit program → NamesFit (up program) }
+    ensures { (program : Observer) → IsWellFormed program → NamesFit program
+        → NamesFit (up program) }
 {}
