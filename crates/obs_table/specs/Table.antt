@@ -27,20 +27,23 @@ blank = []
 abbrev pub columns : List Field
 columns = codes "engine" ∷ codes "number" ∷ codes "operation" ∷ codes "left" ∷ codes "right" ∷ codes "low" ∷ codes "high" ∷ codes "best" ∷ codes "worst" ∷ codes "size" ∷ []
 
--- The fields from operation to high: the name of an instruction, its operands, and the bounds of its interval.
+-- the fields from operation to high of an instruction without operands: its name, and blanks
 abbrev pub bare : Field → List Field
 bare name = name ∷ blank ∷ blank ∷ blank ∷ blank ∷ []
 
+-- the fields from operation to high of an instruction with one operand
 abbrev pub unary : Field → Field → List Field
 unary name left = name ∷ left ∷ blank ∷ blank ∷ blank ∷ []
 
+-- the fields from operation to high of an instruction with two operands
 abbrev pub binary : Field → ℕ → ℕ → List Field
 binary name left right = name ∷ decimal left ∷ decimal right ∷ blank ∷ blank ∷ []
 
+-- the fields from operation to high of an instruction with two operands and the bounds of an interval
 abbrev pub temporal : Field → ℕ → ℕ → Interval → List Field
 temporal name left right window = name ∷ decimal left ∷ decimal right ∷ decimal window.lo ∷ decimal window.hi ∷ []
 
--- those fields of each instruction; a constant shows its value as its left operand
+-- the fields from operation to high of a Booleanizer instruction; a constant shows its value as its left operand
 unfoldable pub bz_fields : BzOp → List Field
 bz_fields (bz.Column c) = unary (codes "column") (decimal c)
 bz_fields (bz.IsTrue c) = unary (codes "istrue") (decimal c)
@@ -55,6 +58,7 @@ bz_fields (bz.Eq a b) = binary (codes "eq") a b
 bz_fields (bz.Lt a b) = binary (codes "lt") a b
 bz_fields (bz.Le a b) = binary (codes "le") a b
 
+-- the fields from operation to high of a future-time instruction
 unfoldable pub ft_fields : FtOp → List Field
 ft_fields ft.True = bare (codes "true")
 ft_fields (ft.Load a) = unary (codes "load") (decimal a)
@@ -62,6 +66,7 @@ ft_fields (ft.Not g) = unary (codes "not") (decimal g)
 ft_fields (ft.And l r) = binary (codes "and") l r
 ft_fields (ft.Until l r window) = temporal (codes "until") l r window
 
+-- the fields from operation to high of a past-time instruction
 unfoldable pub pt_fields : PtOp → List Field
 pt_fields pt.True = bare (codes "true")
 pt_fields (pt.Load a) = unary (codes "load") (decimal a)
@@ -69,21 +74,24 @@ pt_fields (pt.Not g) = unary (codes "not") (decimal g)
 pt_fields (pt.And l r) = binary (codes "and") l r
 pt_fields (pt.Since l r window) = temporal (codes "since") l r window
 
--- the best delay, the worst delay and the size of an instruction
+-- the best delay, the worst delay and the size of future-time instruction i
 abbrev pub ft_figure_fields : Program → ℕ → List Field
 ft_figure_fields program i =
     decimal (slice_index (best_delays program.ft) i) ∷ decimal (slice_index (worst_delays program.ft) i) ∷ decimal (slice_index program.sizes.ft i) ∷ []
 
+-- the size of past-time instruction i, which has no delays: their fields are blank
 abbrev pub pt_figure_fields : Program → ℕ → List Field
 pt_figure_fields program i = blank ∷ blank ∷ decimal (slice_index program.sizes.pt i) ∷ []
 
--- the record of instruction i: its engine, its number, and the fields above
+-- the record of Booleanizer instruction i: its engine, its number, and the fields above
 abbrev pub bz_record : ℕ → BzOp → List Field
 bz_record i op = codes "bz" ∷ decimal i ∷ bz_fields op ++ (blank ∷ blank ∷ blank ∷ [])
 
+-- the record of future-time instruction i: its engine, its number, and the fields above
 abbrev pub ft_record : Program → ℕ → FtOp → List Field
 ft_record program i op = codes "ft" ∷ decimal i ∷ ft_fields op ++ ft_figure_fields program i
 
+-- the record of past-time instruction i: its engine, its number, and the fields above
 abbrev pub pt_record : Program → ℕ → PtOp → List Field
 pt_record program i op = codes "pt" ∷ decimal i ∷ pt_fields op ++ pt_figure_fields program i
 

@@ -14,7 +14,8 @@ use std::alloc::{AllocError, Global};
 /// Puts a number behind the fields of a row; an empty field where there is none.
 fn push_number<I: Integer>(row: &mut ByteRecord, number: Option<I>) -> Result<(), AllocError>
     requires { partial_of row.old ≡ [] }
-    ensures fields { OnOk result (fields_of row.new ≡ fields_of row.old ++ field_of I.text number ∷ []) }
+    ensures fields { OnOk result
+        (fields_of row.new ≡ fields_of row.old ++ field_of I.text number ∷ []) }
     ensures partial { OnOk result (partial_of row.new ≡ []) }
 {
     match number {
@@ -31,7 +32,8 @@ fn fill(
     shown: Shown,
     figures: Figures,
 ) -> Result<(), AllocError>
-    ensures { OnOk result (fields_of row.new ≡ engine.now ∷ decimal number ∷ shown_fields shown ++ figure_fields figures) }
+    ensures { OnOk result (fields_of row.new
+        ≡ engine.now ∷ decimal number ∷ shown_fields shown ++ figure_fields figures) }
 {
     row.clear();
     row.push_field(engine.as_bytes())?;
@@ -67,7 +69,8 @@ impl Lines {
 
     /// Writes the names of the columns.
     pub(crate) fn head(&mut self) -> Result<(), AllocError>
-        ensures { (text : List ℕ) → HasText self.old text → OnOk result (HasText self.new (text ++ row_text default_writer columns)) }
+        ensures { (text : List ℕ) → HasText self.old text
+            → OnOk result (HasText self.new (text ++ row_text default_writer columns)) }
     {
         let names: [&[u8]; 10] = [
             b"engine",
@@ -95,7 +98,9 @@ impl Lines {
         shown: Shown,
         figures: Figures,
     ) -> Result<(), AllocError>
-        ensures { (text : List ℕ) → HasText self.old text → OnOk result (HasText self.new (text ++ row_text default_writer (engine.now ∷ decimal number ∷ shown_fields shown ++ figure_fields figures))) }
+        ensures { (text : List ℕ) → HasText self.old text
+            → OnOk result (HasText self.new (text ++ row_text default_writer
+            (engine.now ∷ decimal number ∷ shown_fields shown ++ figure_fields figures))) }
     {
         fill(&mut self.row, engine, number, shown, figures)?;
         match self.writer.write_byte_record(&self.row) {

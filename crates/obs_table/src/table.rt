@@ -61,7 +61,8 @@ fn pt_figures(checked: &Checked, i: usize) -> Figures
 }
 
 fn put_bz(lines: &mut Lines, checked: &Checked) -> Result<(), AllocError>
-    ensures { (text : List ℕ) → HasText lines.old text → OnOk result (HasText lines.new (text ++ lines_of (numbered bz_record checked.now.bz))) }
+    ensures { (text : List ℕ) → HasText lines.old text
+        → OnOk result (HasText lines.new (text ++ lines_of (numbered bz_record checked.now.bz))) }
 {
     for (i, op) in checked.program().bz.as_slice().iter().enumerate() {
         lines.put("bz", i, Shown::bz(*op), NO_FIGURES)?;
@@ -70,7 +71,9 @@ fn put_bz(lines: &mut Lines, checked: &Checked) -> Result<(), AllocError>
 }
 
 fn put_ft(lines: &mut Lines, checked: &Checked) -> Result<(), AllocError>
-    ensures { (text : List ℕ) → HasText lines.old text → OnOk result (HasText lines.new (text ++ lines_of (numbered (ft_record checked.now) checked.now.ft))) }
+    ensures { (text : List ℕ) → HasText lines.old text
+        → OnOk result (HasText lines.new
+        (text ++ lines_of (numbered (ft_record checked.now) checked.now.ft))) }
 {
     for (i, op) in checked.program().ft.as_slice().iter().enumerate() {
         lines.put("ft", i, Shown::ft(*op), ft_figures(checked, i))?;
@@ -79,7 +82,9 @@ fn put_ft(lines: &mut Lines, checked: &Checked) -> Result<(), AllocError>
 }
 
 fn put_pt(lines: &mut Lines, checked: &Checked) -> Result<(), AllocError>
-    ensures { (text : List ℕ) → HasText lines.old text → OnOk result (HasText lines.new (text ++ lines_of (numbered (pt_record checked.now) checked.now.pt))) }
+    ensures { (text : List ℕ) → HasText lines.old text
+        → OnOk result (HasText lines.new
+        (text ++ lines_of (numbered (pt_record checked.now) checked.now.pt))) }
 {
     for (i, op) in checked.program().pt.as_slice().iter().enumerate() {
         lines.put("pt", i, Shown::pt(*op), pt_figures(checked, i))?;
