@@ -15,10 +15,11 @@ use Rattle.spec_compile.specs.Front.{items_in, first_refusal}
 use Rattle.spec_compile.specs.Limits.{limit_refusal}
 use Rattle.spec_compile.specs.Image.{over_columns, image}
 
--- the signals that a text declares, and its outputs by the numbers of signals
+-- the signals that a text declares
 abbrev pub signals_in : List ℕ → List Signal
 signals_in text = signals_of (items_in text)
 
+-- the outputs of a text by the numbers of signals
 abbrev pub outputs_in : List ℕ → List Asked
 outputs_in text = outputs_of (items_in text)
 

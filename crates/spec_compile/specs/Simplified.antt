@@ -58,10 +58,11 @@ unfoldable pub simple_image_of_text : List ℕ → Option (List ℕ) → Result 
 simple_image_of_text text header =
     simplified (signals_in text) (outputs_in text) (columns_by (signals_in text) header) (image_of_text text header)
 
--- the image of a text in simplified form over columns of its signals, and the same whose signals are moved to further ones
+-- the image of a text in simplified form over columns of its signals
 abbrev pub simple_image_in : List ℕ → Columns → Program
 simple_image_in text columns = simple_image columns (signals_in text) (outputs_in text)
 
+-- the same image, whose signals are moved to further columns
 abbrev pub moved_simple_image : List ℕ → Columns → Columns → Program
 moved_simple_image text old new = bound (simple_image_in text old) new.width new.of_signal
 

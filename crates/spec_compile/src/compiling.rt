@@ -53,9 +53,12 @@ pub fn columns_of(
 ) -> Result<Columns, CompileFault>
     requires line { ForSome header_line (λ line. length line.now ≤ 65535) }
     ensures columns { IfOk result (λ columns.
-        columns_by (declared (spec_shape spec.now)) (option_copied header_line.entry) ≡ Ok columns) }
+        columns_by (declared (spec_shape spec.now)) (option_copied header_line.entry)
+        ≡ Ok columns) }
     ensures fault { IfErr result (λ fault. fault ≢ CompileFault.Memory →
-        refusal_in header_refusal (columns_by (declared (spec_shape spec.now)) (option_copied header_line.entry)) ≡ Some fault) }
+        refusal_in header_refusal
+        (columns_by (declared (spec_shape spec.now)) (option_copied header_line.entry))
+        ≡ Some fault) }
     ensures serve { IfOk result (AreColumnsFor (length (declared (spec_shape spec.now)))) }
 {
     match header_line {
@@ -67,9 +70,11 @@ pub fn columns_of(
 /// The columns that a header line names.
 fn columns_named(alloc: Global, spec: &TypedSpec, line: &[u8]) -> Result<Columns, CompileFault>
     requires { length line.now ≤ 65535 }
-    ensures columns { IfOk result (λ columns. columns_by (declared (spec_shape spec.now)) (Some line.now) ≡ Ok columns) }
+    ensures columns { IfOk result
+        (λ columns. columns_by (declared (spec_shape spec.now)) (Some line.now) ≡ Ok columns) }
     ensures fault { IfErr result (λ fault. fault ≢ CompileFault.Memory →
-        refusal_in header_refusal (columns_by (declared (spec_shape spec.now)) (Some line.now)) ≡ Some fault) }
+        refusal_in header_refusal (columns_by (declared (spec_shape spec.now)) (Some line.now))
+        ≡ Some fault) }
     ensures serve { IfOk result (AreColumnsFor (length (declared (spec_shape spec.now)))) }
 {
     let columns = header(alloc, line, signals_of(spec))?;
@@ -78,7 +83,8 @@ fn columns_named(alloc: Global, spec: &TypedSpec, line: &[u8]) -> Result<Columns
 
 /// The columns without a header line.
 fn columns_in_order(alloc: Global, spec: &TypedSpec) -> Result<Columns, CompileFault>
-    ensures columns { IfOk result (λ columns. columns_by (declared (spec_shape spec.now)) None ≡ Ok columns) }
+    ensures columns { IfOk result
+        (λ columns. columns_by (declared (spec_shape spec.now)) None ≡ Ok columns) }
     ensures only { IfErr result (λ fault. fault ≡ CompileFault.Memory) }
     ensures serve { IfOk result (AreColumnsFor (length (declared (spec_shape spec.now)))) }
 {

@@ -35,7 +35,8 @@ fn signal_bytes(signals: &[StoredSignal]) -> u64
 pub fn are_countable(program: &Program) -> bool
     requires outs { length program.now.outs < 2 ^ 32 }
     requires signals { length program.now.signals < 2 ^ 32 }
-    ensures { IsTrue result ↔ ((length (out_names program.now) < 2 ^ 32) × (length (signal_names program.now) < 2 ^ 32)) }
+    ensures { IsTrue result ↔ ((length (out_names program.now) < 2 ^ 32)
+        × (length (signal_names program.now) < 2 ^ 32)) }
 {
     let outs = output_bytes(program.outs.as_slice());
     let signals = signal_bytes(program.signals.as_slice());

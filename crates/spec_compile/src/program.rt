@@ -31,9 +31,11 @@ pub fn back(alloc: Global, spec: &TypedSpec, columns: &Columns) -> Result<Checke
     requires columns { AreColumnsFor (length (declared (spec_shape spec.now))) columns.now }
     ensures image { IfOk result (λ checked. checked
         ≡ image columns.now (declared (spec_shape spec.now)) (outputs_of (spec_shape spec.now))) }
-    ensures within { OnOk result (limit_refusal (over_columns columns.now (outputs_of (spec_shape spec.now))) ≡ None) }
+    ensures within { OnOk result
+        (limit_refusal (over_columns columns.now (outputs_of (spec_shape spec.now))) ≡ None) }
     ensures refused { IfErr result (λ fault.
-        IsFirstRefusal (limit_refusal (over_columns columns.now (outputs_of (spec_shape spec.now)))) fault) }
+        IsFirstRefusal
+        (limit_refusal (over_columns columns.now (outputs_of (spec_shape spec.now)))) fault) }
     ensures names { IfOk result NamesFit }
 {
     let expanded = expand(alloc, spec)?;

@@ -49,10 +49,13 @@ pub fn back_simple(
 ) -> Result<Checked, CompileFault>
     requires columns { AreColumnsFor (length (declared (spec_shape spec.now))) columns.now }
     ensures image { IfOk result (λ checked. checked
-        ≡ simple_image columns.now (declared (spec_shape spec.now)) (outputs_of (spec_shape spec.now))) }
-    ensures within { OnOk result (limit_refusal (over_columns columns.now (outputs_of (spec_shape spec.now))) ≡ None) }
+        ≡ simple_image columns.now
+        (declared (spec_shape spec.now)) (outputs_of (spec_shape spec.now))) }
+    ensures within { OnOk result
+        (limit_refusal (over_columns columns.now (outputs_of (spec_shape spec.now))) ≡ None) }
     ensures refused { IfErr result (λ fault.
-        IsFirstRefusal (limit_refusal (over_columns columns.now (outputs_of (spec_shape spec.now)))) fault) }
+        IsFirstRefusal
+        (limit_refusal (over_columns columns.now (outputs_of (spec_shape spec.now)))) fault) }
     ensures names { IfOk result NamesFit }
 {
     let expanded = expand(alloc, spec)?;
