@@ -21,12 +21,15 @@ use Rattle.obs_binary.specs.declared.header.Header.{Header}
 
 -- ---- numbers and entries
 
+-- a 16-bit number in two bytes
 unfoldable pub u16_bytes : ℕ → List ℕ
 u16_bytes n = to_le_bytes w16 n
 
+-- a 32-bit number in four bytes
 unfoldable pub u32_bytes : ℕ → List ℕ
 u32_bytes n = to_le_bytes w32 n
 
+-- a signed 64-bit number in eight bytes, as two's complement
 unfoldable pub i64_bytes : ℤ → List ℕ
 i64_bytes z = to_le_bytes w64 (cast_unsigned w64 z)
 
@@ -35,17 +38,19 @@ i64_bytes z = to_le_bytes w64 (cast_unsigned w64 z)
 abbrev pub entry : ℕ → ℕ → List ℕ → List ℕ
 entry opcode second numbers = (opcode ∷ second ∷ 0 ∷ 0 ∷ []) ++ flat_map u32_bytes numbers
 
--- an instruction of the Booleanizer: one or two operands, which are columns or earlier instructions
+-- an instruction of the Booleanizer with one operand: a column or an earlier instruction
 abbrev pub unary : ℕ → ℕ → List ℕ
 unary opcode a = entry opcode 0 (a ∷ 0 ∷ 0 ∷ 0 ∷ 0 ∷ [])
 
+-- an instruction of the Booleanizer with two operands: earlier instructions
 abbrev pub binary : ℕ → ℕ → ℕ → List ℕ
 binary opcode a b = entry opcode 0 (a ∷ b ∷ 0 ∷ 0 ∷ 0 ∷ [])
 
--- a constant has its value in bytes 8 to 15
+-- a constant of the Booleanizer, which has its value in bytes 8 to 15
 abbrev pub constant : ℤ → List ℕ
 constant value = (0x03 ∷ 0 ∷ 0 ∷ 0 ∷ []) ++ (u32_bytes 0 ++ (i64_bytes value ++ (u32_bytes 0 ++ u32_bytes 0)))
 
+-- the bytes of a Booleanizer instruction
 unfoldable pub bz_entry : BzOp → List ℕ
 bz_entry (bz.Column c) = unary 0x01 c
 bz_entry (bz.IsTrue c) = unary 0x02 c
@@ -60,7 +65,7 @@ bz_entry (bz.Eq a b) = binary 0x0a a b
 bz_entry (bz.Lt a b) = binary 0x0b a b
 bz_entry (bz.Le a b) = binary 0x0c a b
 
--- an instruction of an engine, with its size
+-- the bytes of a future-time instruction, with its size
 unfoldable pub ft_entry : FtOp × ℕ → List ℕ
 ft_entry (ft.True, size) = entry 0x10 0 (0 ∷ 0 ∷ 0 ∷ 0 ∷ size ∷ [])
 ft_entry (ft.Load a, size) = entry 0x11 0 (a ∷ 0 ∷ 0 ∷ 0 ∷ size ∷ [])
@@ -68,6 +73,7 @@ ft_entry (ft.Not a, size) = entry 0x12 0 (a ∷ 0 ∷ 0 ∷ 0 ∷ size ∷ [])
 ft_entry (ft.And a b, size) = entry 0x13 0 (a ∷ b ∷ 0 ∷ 0 ∷ size ∷ [])
 ft_entry (ft.Until a b i, size) = entry 0x14 0 (a ∷ b ∷ i.lo ∷ i.hi ∷ size ∷ [])
 
+-- the bytes of a past-time instruction, with its size
 unfoldable pub pt_entry : PtOp × ℕ → List ℕ
 pt_entry (pt.True, size) = entry 0x20 0 (0 ∷ 0 ∷ 0 ∷ 0 ∷ size ∷ [])
 pt_entry (pt.Load a, size) = entry 0x21 0 (a ∷ 0 ∷ 0 ∷ 0 ∷ size ∷ [])
@@ -75,10 +81,12 @@ pt_entry (pt.Not a, size) = entry 0x22 0 (a ∷ 0 ∷ 0 ∷ 0 ∷ size ∷ [])
 pt_entry (pt.And a b, size) = entry 0x23 0 (a ∷ b ∷ 0 ∷ 0 ∷ size ∷ [])
 pt_entry (pt.Since a b i, size) = entry 0x24 0 (a ∷ b ∷ i.lo ∷ i.hi ∷ size ∷ [])
 
+-- the byte that stands for an engine
 abbrev pub engine_code : Engine → ℕ
 engine_code Ft = 0
 engine_code Pt = 1
 
+-- the opcode of an output: that of a formula, or that of a contract, which has a right instruction
 abbrev pub out_opcode : Option ℕ → ℕ
 out_opcode None = 0x30
 out_opcode (Some right) = 0x31
@@ -93,6 +101,7 @@ signal_entry s = u32_bytes s.column ++ ((if s.truth then 1 else 0) ∷ s.name_le
 
 -- ---- headers
 
+-- the number of bytes of a header of this version
 abbrev pub header_len : ℕ → ℕ
 header_len version = if version == 2 then 40 else 32
 
@@ -100,6 +109,7 @@ header_len version = if version == 2 then 40 else 32
 abbrev pub signal_counts : Header → List ℕ
 signal_counts h = if h.version == 2 then flat_map u32_bytes (h.signals ∷ h.signal_bytes ∷ []) else []
 
+-- the bytes of a header: the letters MLTL, the version, two bytes 0, and its numbers
 unfoldable pub header_bytes : Header → List ℕ
 header_bytes h =
     codes "MLTL" ++ (u16_bytes h.version ++ ((0 ∷ 0 ∷ [])
@@ -111,23 +121,28 @@ body_len h = 24 * h.bz + 24 * h.ft + 24 * h.pt + 24 * h.outs + 8 * h.signals + h
 
 -- ---- programs
 
+-- the fields of an output's entry, with the length of its name
 abbrev pub out_head : Out → OutHead
 out_head (Formula engine a name) = record { engine = engine; left = a; right = None; name_len = length name }
 out_head (Contract engine a b name) = record { engine = engine; left = a; right = Some b; name_len = length name }
 
+-- the name of a signal
 abbrev pub signal_name : StoredSignal → List ℕ
 signal_name s = s.name
 
+-- the fields of a signal's entry, with the length of its name
 abbrev pub signal_head : StoredSignal → SignalHead
 signal_head s = record { column = s.column; truth = s.truth; name_len = length s.name }
 
--- the names of the outputs, and those of the signals, in order and without anything between
+-- the names of the outputs, in order and without anything between
 abbrev pub out_names : Program → List ℕ
 out_names p = flat_map name_of p.outs
 
+-- the names of the signals, in order and without anything between
 abbrev pub signal_names : Program → List ℕ
 signal_names p = flat_map signal_name p.signals
 
+-- the header of a program: its version, its width, and the numbers of its members and of their name bytes
 abbrev pub header_of : Program → Header
 header_of p = record {
   version = p.version;
@@ -178,7 +193,7 @@ pub record HasLayout (p : Program) : Type 0 where
   pub out_letters : IsTrue (list_all is_letter (out_names p))
   pub signal_letters : IsTrue (list_all is_letter (signal_names p))
 
--- what the fields of an instruction can hold
+-- a Booleanizer instruction fits the fields of its entry
 abbrev pub FitsBz : BzOp → Type 0
 FitsBz (bz.Column c) = c < 2 ^ 32
 FitsBz (bz.IsTrue c) = c < 2 ^ 32
@@ -193,6 +208,7 @@ FitsBz (bz.Eq a b) = (a < 2 ^ 32) × (b < 2 ^ 32)
 FitsBz (bz.Lt a b) = (a < 2 ^ 32) × (b < 2 ^ 32)
 FitsBz (bz.Le a b) = (a < 2 ^ 32) × (b < 2 ^ 32)
 
+-- a future-time instruction fits the fields of its entry
 abbrev pub FitsFt : FtOp → Type 0
 FitsFt ft.True = Unit {0}
 FitsFt (ft.Load a) = a < 2 ^ 32
@@ -200,6 +216,7 @@ FitsFt (ft.Not a) = a < 2 ^ 32
 FitsFt (ft.And a b) = (a < 2 ^ 32) × (b < 2 ^ 32)
 FitsFt (ft.Until a b i) = (a < 2 ^ 32) × (b < 2 ^ 32) × (i.lo < 2 ^ 32) × (i.hi < 2 ^ 32)
 
+-- a past-time instruction fits the fields of its entry
 abbrev pub FitsPt : PtOp → Type 0
 FitsPt pt.True = Unit {0}
 FitsPt (pt.Load a) = a < 2 ^ 32
@@ -207,13 +224,16 @@ FitsPt (pt.Not a) = a < 2 ^ 32
 FitsPt (pt.And a b) = (a < 2 ^ 32) × (b < 2 ^ 32)
 FitsPt (pt.Since a b i) = (a < 2 ^ 32) × (b < 2 ^ 32) × (i.lo < 2 ^ 32) × (i.hi < 2 ^ 32)
 
+-- a name has 1 to 64 bytes
 abbrev pub FitsName : List ℕ → Type 0
 FitsName name = (1 ≤ length name) × (length name ≤ 64)
 
+-- an output fits the fields of its entry
 abbrev pub FitsOut : Out → Type 0
 FitsOut (Formula engine a name) = (a < 2 ^ 32) × FitsName name
 FitsOut (Contract engine a b name) = (a < 2 ^ 32) × (b < 2 ^ 32) × FitsName name
 
+-- a signal fits the fields of its entry
 abbrev pub FitsSignal : StoredSignal → Type 0
 FitsSignal s = (s.column < 2 ^ 32) × FitsName s.name
 

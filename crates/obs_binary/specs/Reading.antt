@@ -25,28 +25,32 @@ use Rattle.obs_binary.specs.Layout.{bz_entry, ft_entry, pt_entry, out_entry, sig
 
 -- ---- numbers
 
+-- the 16-bit number at place k
 abbrev pub short_at : List ℕ → ℕ → ℕ
 short_at bytes k = from_le_bytes w16 (take 2 (drop k bytes))
 
+-- the 32-bit number at place k
 abbrev pub number_at : List ℕ → ℕ → ℕ
 number_at bytes k = from_le_bytes w32 (take 4 (drop k bytes))
 
+-- the signed 64-bit number at place k
 abbrev pub signed_at : List ℕ → ℕ → ℤ
 signed_at bytes k = cast_signed w64 (from_le_bytes w64 (take 8 (drop k bytes)))
 
 -- ---- reading
 
--- what a call answered, seen by `view`, is what reading gives, unless memory ran out
+-- reading gives this fault; want of memory says nothing of the bytes
 abbrev pub Fails : {Y : Type 0} → ReadFault → Result Y ReadFault → Type 0
 Fails Memory read = Unit {0}
 Fails fault read = read ≡ Err fault
 
+-- what a call answered, seen by `view`, is what reading gives, unless memory ran out
 abbrev pub Gives : {X Y : Type 0} → (X → Y) → Result X ReadFault → Result Y ReadFault → Type 0
 Gives view (Ok x) read = read ≡ Ok (view x)
 Gives view (Err fault) read = Fails fault read
 
--- one step after another, up to the first fault
 infixl 10 ◌>>=◌
+-- one step after another, up to the first fault
 abbrev pub ◌>>=◌ : {A B : Type 0} → Result A ReadFault → (A → Result B ReadFault) → Result B ReadFault
 (Ok x) >>= f = f x
 (Err fault) >>= f = Err fault
@@ -57,11 +61,12 @@ first_other place [] bytes = None
 first_other place (must ∷ musts) [] = Some place
 first_other place (must ∷ musts) (byte ∷ bytes) = if byte == must then first_other (suc place) musts bytes else Some place
 
--- an entry that holds x, with the bytes behind it
+-- what was read, unless a byte of its entry isn't as it must be
 abbrev pub unless_other : {A : Type 0} → Option ℕ → A → Result A ReadFault
 unless_other None x = Ok x
 unless_other (Some place) x = Err (Reserved place)
 
+-- an entry that holds x, with the bytes behind it; without x its opcode is at fault
 abbrev pub as_spelled : {X : Type 0} → ℕ → (X → List ℕ) → ℕ → List ℕ → Option X → Result (X × List ℕ) ReadFault
 as_spelled len spelled place bytes None = Err (Opcode place)
 as_spelled len spelled place bytes (Some x) = unless_other (first_other place (spelled x) (take len bytes)) (x, drop len bytes)
@@ -82,6 +87,7 @@ each_at read (suc n) bytes = do
 
 -- ---- what the opcode and the fields of an entry say
 
+-- the Booleanizer instruction that an entry says, if its opcode is that of one
 unfoldable pub bz_content : List ℕ → Option BzOp
 bz_content bytes =
     let opcode = slice_index bytes 0 in
@@ -101,9 +107,11 @@ bz_content bytes =
     else if opcode == 0x0c then Some (bz.Le a b)
     else None
 
+-- the interval of a temporal operator's entry
 abbrev pub interval_at : List ℕ → Interval
 interval_at bytes = record { lo = number_at bytes 12; hi = number_at bytes 16 }
 
+-- the future-time instruction that an entry says, with its size, if its opcode is that of one
 unfoldable pub ft_content : List ℕ → Option (FtOp × ℕ)
 ft_content bytes =
     let opcode = slice_index bytes 0 in
@@ -117,6 +125,7 @@ ft_content bytes =
     else if opcode == 0x14 then Some (ft.Until a b (interval_at bytes), size)
     else None
 
+-- the past-time instruction that an entry says, with its size, if its opcode is that of one
 unfoldable pub pt_content : List ℕ → Option (PtOp × ℕ)
 pt_content bytes =
     let opcode = slice_index bytes 0 in
@@ -130,12 +139,15 @@ pt_content bytes =
     else if opcode == 0x24 then Some (pt.Since a b (interval_at bytes), size)
     else None
 
+-- the engine that an output's entry names
 abbrev pub engine_at : List ℕ → Engine
 engine_at bytes = if slice_index bytes 1 == 1 then Pt else Ft
 
+-- the fields of an output's entry, with the right instruction that a contract has
 abbrev pub out_at : List ℕ → Option ℕ → OutHead
 out_at bytes right = record { engine = engine_at bytes; left = number_at bytes 4; right = right; name_len = number_at bytes 12 }
 
+-- what an output's entry says, if its opcode is that of a formula or of a contract
 unfoldable pub out_content : List ℕ → Option OutHead
 out_content bytes =
     let opcode = slice_index bytes 0 in
@@ -163,15 +175,19 @@ named len_of with_name fault k (head ∷ heads) bytes =
     then (named len_of with_name fault (suc k) heads (drop (len_of head) bytes) >>= λ others. Ok (with_name head (take (len_of head) bytes) ∷ others))
     else Err (fault k)
 
+-- the output that has these fields and this name
 abbrev pub out_of : OutHead → List ℕ → Out
 out_of head name = option_map_or (λ right. Contract head.engine head.left right name) head.right (Formula head.engine head.left name)
 
+-- the signal that has these fields and this name
 abbrev pub signal_of : SignalHead → List ℕ → StoredSignal
 signal_of head name = record { name = name; truth = head.truth; column = head.column }
 
+-- the outputs that have these fields, with their names, or a fault of the names
 abbrev pub outs_named : List OutHead → List ℕ → Result (List Out) ReadFault
 outs_named heads bytes = named (λ h. h.name_len) out_of NameBytes 0 heads bytes
 
+-- the signals that have these fields, with their names, or a fault of the names
 abbrev pub signals_named : List SignalHead → List ℕ → Result (List StoredSignal) ReadFault
 signals_named heads bytes = named (λ h. h.name_len) signal_of SignalBytes 0 heads bytes
 
@@ -195,6 +211,7 @@ header_fields version bytes = record {
 abbrev pub said_len : Header → ℕ
 said_len h = header_len h.version + body_len h
 
+-- the header of a file, whose length is the one that it says, or the first fault
 unfoldable pub header_at : List ℕ → Result Header ReadFault
 header_at bytes =
     let version = short_at bytes 4 in

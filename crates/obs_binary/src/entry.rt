@@ -77,7 +77,8 @@ pub(crate) fn first_other(place: u64, musts: &[u8], bytes: &[u8]) -> Option<u64>
 fn read_entry<X: Entry>(size: usize, rest: &[u8]) -> Result<(X, &[u8]), ReadFault>
     requires enough { X.LEN ≤ length rest.now }
     requires within { length rest.now ≤ size }
-    ensures read { Gives (λ x. (x.0, x.1.now)) result (entry_at X.LEN X.spelled X.content size rest.now) }
+    ensures read { Gives (λ x. (x.0, x.1.now)) result
+        (entry_at X.LEN X.spelled X.content size rest.now) }
     ensures left { IfOk result (λ x. length x.1.now + X.LEN ≡ length rest.now) }
 {
     let place = (size - rest.len()) as u64;

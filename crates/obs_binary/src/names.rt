@@ -73,7 +73,8 @@ pub(crate) fn named<H: Head>(
     names: &[u8],
 ) -> Result<List<H::Whole>, ReadFault>
     requires { length heads.now < 2 ^ 32 }
-    ensures { Gives (λ wholes. wholes) result (named H.name_len H.with_name H.fault 0 heads.now names.now) }
+    ensures { Gives (λ wholes. wholes) result
+        (named H.name_len H.with_name H.fault 0 heads.now names.now) }
 {
     let mut wholes = List::new(alloc);
     let mut rest = names;

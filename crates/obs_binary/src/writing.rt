@@ -25,7 +25,8 @@ fn put_bz(out: &mut Vec<u8>, ops: &[BzOp]) -> Result<(), AllocError>
 #[tactic(auto, using(crate::proofs::Fitting::all_more, crate::proofs::Fitting::all_below))]
 fn put_ft(out: &mut Vec<u8>, ops: &[FtOp], sizes: &[u32]) -> Result<(), AllocError>
     requires { length sizes.now ≡ length ops.now }
-    ensures written { OnOk result (out.new.items ≡ out.old.items ++ flat_map ft_entry (zip ops.now sizes.now)) }
+    ensures written { OnOk result (out.new.items
+        ≡ out.old.items ++ flat_map ft_entry (zip ops.now sizes.now)) }
     ensures fits { OnOk result (AllByRecursion FitsFt ops.now) }
     ensures sizes { OnOk result (AllByRecursion (λ n. n < 2 ^ 32) sizes.now) }
 {
@@ -38,7 +39,8 @@ fn put_ft(out: &mut Vec<u8>, ops: &[FtOp], sizes: &[u32]) -> Result<(), AllocErr
 #[tactic(auto, using(crate::proofs::Fitting::all_more, crate::proofs::Fitting::all_below))]
 fn put_pt(out: &mut Vec<u8>, ops: &[PtOp], sizes: &[u32]) -> Result<(), AllocError>
     requires { length sizes.now ≡ length ops.now }
-    ensures written { OnOk result (out.new.items ≡ out.old.items ++ flat_map pt_entry (zip ops.now sizes.now)) }
+    ensures written { OnOk result (out.new.items
+        ≡ out.old.items ++ flat_map pt_entry (zip ops.now sizes.now)) }
     ensures fits { OnOk result (AllByRecursion FitsPt ops.now) }
     ensures sizes { OnOk result (AllByRecursion (λ n. n < 2 ^ 32) sizes.now) }
 {
@@ -70,7 +72,8 @@ fn head_of(whole: &Out) -> OutHead
 
 #[tactic(auto, using(crate::proofs::Fitting::all_more))]
 fn put_outs(out: &mut Vec<u8>, outs: &[Out]) -> Result<(), AllocError>
-    ensures written { OnOk result (out.new.items ≡ out.old.items ++ flat_map (λ o. out_entry (out_head o)) outs.now) }
+    ensures written { OnOk result (out.new.items
+        ≡ out.old.items ++ flat_map (λ o. out_entry (out_head o)) outs.now) }
     ensures fits { OnOk result (AllByRecursion FitsOut outs.now) }
 {
     for whole in outs {
@@ -97,7 +100,8 @@ fn head_of_signal(signal: &StoredSignal) -> SignalHead
 
 #[tactic(auto, using(crate::proofs::Fitting::all_more))]
 fn put_signals(out: &mut Vec<u8>, signals: &[StoredSignal]) -> Result<(), AllocError>
-    ensures written { OnOk result (out.new.items ≡ out.old.items ++ flat_map (λ s. signal_entry (signal_head s)) signals.now) }
+    ensures written { OnOk result (out.new.items
+        ≡ out.old.items ++ flat_map (λ s. signal_entry (signal_head s)) signals.now) }
     ensures fits { OnOk result (AllByRecursion FitsSignal signals.now) }
 {
     for signal in signals {
