@@ -15,11 +15,12 @@ pub record Cutting : Type 0 where
   pub ended : Bool
   pub number : ℕ
 
--- a newline is the byte 10, a carriage return the byte 13
+-- no byte is a newline; a newline is the byte 10, a carriage return the byte 13
 abbrev pub HasNoNewline : List ℕ → Type 0
 HasNoNewline [] = Unit {0}
 HasNoNewline (byte ∷ bytes) = ((byte == 10) ≡ false) × HasNoNewline bytes
 
+-- whether one of the bytes is a newline
 abbrev pub has_newline : List ℕ → Bool
 has_newline [] = false
 has_newline (byte ∷ bytes) = (byte == 10) || has_newline bytes
@@ -30,9 +31,11 @@ pub record EndsLine (raw : List ℕ) : Type 0 where
   pub is : raw ≡ body ++ 10 ∷ []
   pub one : HasNoNewline body
 
+-- whether a byte is the last of these
 abbrev pub ends_in : ℕ → List ℕ → Bool
 ends_in byte bytes = nat_lt 0 (length bytes) && (slice_index bytes (length bytes - 1) == byte)
 
+-- the bytes without their last one, where it is this one
 abbrev pub without_end : ℕ → List ℕ → List ℕ
 without_end byte bytes = if ends_in byte bytes then take (length bytes - 1) bytes else bytes
 
@@ -118,6 +121,7 @@ pub record GivesNone (all : List ℕ) (old new : Cutting) : Type 0 where
   pub kept : new.kept ≡ false
   pub no_newline : HasNoNewline all
 
+-- what each answer tells of the cut: a row, the end, a line that is too long, or a read that failed
 abbrev pub Answer : line.Line → List ℕ → Cutting → Cutting → Type 0
 Answer line.TheVariants.Row all old new = (raw : List ℕ) × GivesRow all old new raw
 Answer line.TheVariants.End all old new = GivesNone all old new × (all ≡ []) × (new.ended ≡ true)

@@ -22,6 +22,7 @@ pub record Readings : Type 0 where
   pub program : Option Reading
   pub trace : Option Reading
 
+-- files in memory, and what each place reads of them
 pub record Stored : Type 0 where
   pub files : List NamedBytes
   pub readings : Readings

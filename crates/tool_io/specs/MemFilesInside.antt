@@ -26,6 +26,7 @@ readings_of files cursors = record {
   trace = option_map (reading_of files) cursors.trace;
 }
 
+-- the files that are kept so, and what each place reads of them
 abbrev pub stored_of : Inside → Stored
 stored_of inside = record { files = inside.files.items; readings = readings_of inside.files.items inside.cursors }
 
@@ -34,10 +35,11 @@ pub record IsWithin (files : List NamedBytes) (cursor : Cursor) : Type 0 where
   pub file : cursor.file < length files
   pub left : cursor.left ≤ length (file_at files cursor.file).bytes
 
--- so does each cursor that stands anywhere
+-- so does a cursor, where there is one
 abbrev pub FitsIn : List NamedBytes → Option Cursor → Type 0
 FitsIn files None = Unit {0}
 FitsIn files (Some cursor) = IsWithin files cursor
 
+-- the cursor of each place that has one names a file, and has no more bytes left than that file has
 abbrev pub IsStored : Inside → Type 0
 IsStored inside = (place : Place) → FitsIn inside.files.items (cursor_at inside.cursors place)

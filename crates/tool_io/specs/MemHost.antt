@@ -28,13 +28,15 @@ pub record Held : Type 0 where
 abbrev pub new_host : ℕ → ℕ → Held
 new_host events bytes = record { store = no_files; tape = new_tape events bytes; calls = no_counts; faults = no_counts; listed = []; block = None }
 
--- what the host tells: its counts of faults, its log, and what a place has still to read
+-- the count of a place's faults, as the host tells it
 abbrev pub faults_of : Held → Place → ℕ
 faults_of host place = count_at host.faults place
 
+-- the log, as the host tells it
 abbrev pub log_of : Held → Option (List Event)
 log_of host = Some host.tape.events
 
+-- what a place has still to read, as the host tells it, where the place is attached
 abbrev pub left_in : Held → Place → Option (List ℕ)
 left_in host place = left_of host.store place
 
@@ -76,6 +78,7 @@ stands host place name = record host { store = opened host.store place name }
 abbrev pub attach_fails : Held → Place → List ℕ → Bool
 attach_fails host place name = is_listed host place || not (has_room host.tape (length name)) || is_missing host place name
 
+-- what an attach answers: it failed, or the place stands ready
 abbrev pub attach_answer : Held → Place → List ℕ → attached.Attached
 attach_answer host place name = if attach_fails host place name then attached.TheVariants.Failed else attached.TheVariants.Ready
 
@@ -103,6 +106,7 @@ read_fails host place room = is_listed host place || is_none (left_of host.store
 abbrev pub gives : ℕ → got.Got
 gives count = if count == 0 then got.TheVariants.End else got.TheVariants.Bytes count
 
+-- what a read answers: it failed, or the end is met, or so many bytes are given
 abbrev pub read_answer : Held → Place → ℕ → got.Got
 read_answer host place room = if read_fails host place room then got.TheVariants.Failed else gives (length (read_bytes host place room))
 
@@ -124,6 +128,7 @@ read_into host place into =
 abbrev pub write_fails : Held → Place → List ℕ → Bool
 write_fails host place piece = is_listed host place || not (has_room host.tape (length piece))
 
+-- what a write answers: it failed, or the whole piece is taken
 abbrev pub write_answer : Held → Place → List ℕ → put.Put
 write_answer host place piece = if write_fails host place piece then put.TheVariants.Failed else put.TheVariants.Wrote (length piece)
 

@@ -43,6 +43,7 @@ opened edge Err = edge
 abbrev pub faulted : Edge → Place → Edge
 faulted edge place = record edge { faults = raised edge.faults place }
 
+-- the count of a place's faults
 abbrev pub faults_of : Edge → Place → ℕ
 faults_of edge place = count_at edge.faults place
 
@@ -54,15 +55,18 @@ no_log edge = None
 abbrev pub none_left : Edge → Place → Option (List ℕ)
 none_left edge place = None
 
+-- the host after an attach: its place is attached, or one more fault is counted
 abbrev pub after_attach : Edge → Place → attached.Attached → Edge
 after_attach edge place attached.TheVariants.Ready = opened edge place
 after_attach edge place attached.TheVariants.Failed = faulted edge place
 
+-- the host after a read: one more fault is counted where it failed
 abbrev pub after_read : Edge → Place → got.Got → Edge
 after_read edge place got.TheVariants.Failed = faulted edge place
 after_read edge place got.TheVariants.End = edge
 after_read edge place (got.TheVariants.Bytes count) = edge
 
+-- the host after a write: one more fault is counted where it failed
 abbrev pub after_write : Edge → Place → put.Put → Edge
 after_write edge place put.TheVariants.Failed = faulted edge place
 after_write edge place (put.TheVariants.Wrote count) = edge

@@ -152,7 +152,8 @@ impl Host for RealHost {
         ensures range { ReadRange result into.new }
         ensures cause { ReadCause result (faults_of self.old) (faults_of self.new) place }
         ensures log { ReadLog result (no_log self.old) (no_log self.new) place into.new }
-        ensures left { ReadLeft result (none_left self.old place) (none_left self.new place) into.new }
+        ensures left { ReadLeft result
+            (none_left self.old place) (none_left self.new place) into.new }
         ensures elsewhere { LeftElsewhere (none_left self.old) (none_left self.new) place }
     {
         let stream = match place {
