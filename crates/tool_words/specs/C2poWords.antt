@@ -75,10 +75,11 @@ ask_of_texts words = if is_help words then help else option_map_or asked_in (fou
 abbrev pub ask : List Text → Asked
 ask words = if are_texts words then ask_of_texts words else nothing
 
--- what an answer tells
+-- the compilation that an answer tells
 abbrev pub compile_of : told.Compile → CompileAsked
 compile_of c = record { header = option_map (λ name. name.now) c.header; out = option_map (λ name. name.now) c.out; table = c.table; simplify = c.simplify; spec = c.spec.now }
 
+-- what an answer tells
 abbrev pub asked_of : c2po_ask.C2poAsk → Asked
 asked_of c2po_ask.TheVariants.Help = help
 asked_of (c2po_ask.TheVariants.Compile c) = compile (compile_of c)

@@ -62,6 +62,7 @@ abbrev pub is_demo_alone : List Row → Bool
 is_demo_alone found = not (is_set (codes "source") found) && (not (is_set (codes "runs") found) && (not (is_set (codes "timed") found)
     && (not (is_some (first_of (codes "mission-time") found)) && not (is_some (first_of (codes "file") found)))))
 
+-- a demo, where both its seed and its number of rows could be read
 abbrev pub demo_with : Option ℕ → Option ℕ → Asked
 demo_with (Some seed) (Some rows) = demo seed rows
 demo_with seed rows = nothing
@@ -83,10 +84,11 @@ ask_of_texts words = if is_help words then help else option_map_or asked_in (fou
 abbrev pub ask : List Text → Asked
 ask words = if are_texts words then ask_of_texts words else nothing
 
--- what an answer tells
+-- the run that an answer tells
 abbrev pub run_of : told.Run → RunAsked
 run_of r = record { source = r.source; style = r.style; timed = r.timed; mission = r.mission; file = r.file.now; trace = r.trace.now }
 
+-- what an answer tells
 abbrev pub asked_of : r2u2_ask.R2u2Ask → Asked
 asked_of r2u2_ask.TheVariants.Help = help
 asked_of (r2u2_ask.TheVariants.Run r) = run (run_of r)

@@ -60,7 +60,8 @@ pub(crate) fn matches_in<'a>(
     words: &'a Words,
 ) -> Result<Option<ArgMatches<'a>>, AllocError>
     requires { is_simple_and_free (app_of command) ≡ true }
-    ensures { IfOk result (λ found. option_map reading.rows found ≡ reading.found_in (app_of command.entry) (map text_of words.now)) }
+    ensures { IfOk result (λ found. option_map reading.rows found
+        ≡ reading.found_in (app_of command.entry) (map text_of words.now)) }
 {
     match command.try_get_matches_from(words.as_slice()) {
         Ok(matches) => Ok(Some(matches)),
@@ -83,7 +84,8 @@ pub(crate) fn is_set(matches: &ArgMatches<'_>, name: &str) -> bool
 
 /// The value of an option or a positional, where it was given.
 pub(crate) fn value_of<'a>(matches: &ArgMatches<'a>, name: &str) -> Option<&'a str>
-    ensures { option_map (λ value. value.now) result ≡ first_of name.now (reading.rows matches.now) }
+    ensures { option_map (λ value. value.now) result
+        ≡ first_of name.now (reading.rows matches.now) }
 {
     matches.get_str(name)
 }
