@@ -31,7 +31,8 @@ pub fn read_file<H: Host>(
     host: &mut H,
 ) -> Result<Vec<u8>, Status>
     ensures cause { PhaseCause result (H.faults host.old) (H.faults host.new) }
-    ensures log { OnLog (H.log host.old) (H.log host.new) (FileLog result (file_place source) (file_limit source) name.now) }
+    ensures log { OnLog (H.log host.old) (H.log host.new)
+        (FileLog result (file_place source) (file_limit source) name.now) }
     ensures within { IfOk result (λ bytes. length bytes.items ≤ file_limit source) }
 {
     let (place, limit) = place_of(source);

@@ -26,7 +26,8 @@ pub fn give_help<H: Host>(tool: Tool, host: &mut H) -> Status
 /// Tells the user on `Err` how the run ended; nothing where help was given.
 pub fn tell_user<H: Host>(tool: Tool, status: &Status, host: &mut H) -> Put
     ensures cause { WriteCause result (H.faults host.old) (H.faults host.new) Err }
-    ensures log { OnLog (H.log host.old) (H.log host.new) (PutAllLog result Err (told_to_user tool status.now)) }
+    ensures log { OnLog (H.log host.old) (H.log host.new)
+        (PutAllLog result Err (told_to_user tool status.now)) }
 {
     if let Status::Helped = status {
         return Put::Wrote(0);
