@@ -17,7 +17,8 @@ ghost use Rattle.r2u2_runs.specs.Settled.{TellsText};
 pub fn images_tell_their_texts()
     ensures image { (style : Form) (text file : Seq ℕ) (own : Places) (header : Maybe (Seq ℕ))
         (program : Observer) (rows : Seq Row) → IsImageFile text own file →
-        program_by Bool.false file header ≡ Ok program → TellsImage style text own header program rows }
+        program_by Bool.false file header ≡ Ok program →
+        TellsImage style text own header program rows }
     ensures first_image { (style : Form) (text file : Seq ℕ) (own : Places) (header : Maybe (Seq ℕ))
         (program : Observer) (rows : Seq Row) → IsFirstImageFile text own file →
         program_by Bool.false file header ≡ Ok program → TellsText style text own program rows }

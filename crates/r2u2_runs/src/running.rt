@@ -128,7 +128,9 @@ fn watch_asked<H: Host>(
     requires numbered { cut.old.number ≤ 1 }
     ensures cause { WatchCause result (H.faults host.old) (H.faults host.new) }
     ensures log { OnLog (H.log host.old) (H.log host.new)
-        (IsWatch (program_of monitor.old) asked.now.style (rows_by (run_of asked.now) (program_of monitor.old) (first_of cut.old)) cut.old cut.new monitor.new result) }
+        (IsWatch (program_of monitor.old) asked.now.style
+        (rows_by (run_of asked.now) (program_of monitor.old) (first_of cut.old))
+        cut.old cut.new monitor.new result) }
     ensures program { program_of monitor.new ≡ program_of monitor.old }
 {
     if asked.timed {
