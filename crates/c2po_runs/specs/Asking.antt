@@ -33,6 +33,7 @@ compile_asked asked = record {
   out = asked.out;
 }
 
+-- the upgrade of a program, into a named file
 abbrev pub upgrade_asked : List ℕ → List ℕ → MakeAsked
 upgrade_asked out program = record { product = Upgrade; file = program; header = None; out = Some out }
 
@@ -44,6 +45,7 @@ served (words.upgrade out program) = make (upgrade_asked out program)
 served (words.show out program) = nothing
 served words.nothing = nothing
 
+-- what the words ask for
 unfoldable pub ask : List (List ℕ) → Ask
 ask list = served (words.ask list)
 
@@ -57,10 +59,11 @@ abbrev pub place_named : Place → Option (List ℕ) → List (Place × List ℕ
 place_named p None = []
 place_named p (Some name) = (p, name) ∷ []
 
--- the places that are to be attached, with their names, in order: those that are read, and the output
+-- the places that are read, with their names, in order
 abbrev pub read_names : MakeAsked → List (Place × List ℕ)
 read_names asked = (file_place (from_text asked.product), asked.file) ∷ place_named Header asked.header
 
+-- the places that are to be attached, with their names, in order: those that are read, and the output
 abbrev pub asked_names : Ask → List (Place × List ℕ)
 asked_names help = []
 asked_names (make asked) = read_names asked ++ place_named Out asked.out

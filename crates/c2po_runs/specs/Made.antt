@@ -39,6 +39,7 @@ abbrev pub written_as : Bool → Program → List ℕ
 written_as true program = table program
 written_as false program = spelling program
 
+-- what is written of a specification, or the status of a run that does not compile it
 abbrev pub compiled_bytes : Bool → Result Program CompileFault → Result (List ℕ) Status
 compiled_bytes tabled (Ok program) = Ok (written_as tabled program)
 compiled_bytes tabled (Err fault) = Err (compile_status fault)
@@ -57,29 +58,32 @@ program_by true text header = simple_image_of_text text header
 abbrev pub text_bytes : Form → List ℕ → Option (List ℕ) → Result (List ℕ) Status
 text_bytes form text header = compiled_bytes form.table (program_by form.simplify text header)
 
--- what is written of a program file: the bytes of its program in version 2, unless one column is read in both ways
+-- the bytes of a program in version 2, unless one column is read in both ways
 abbrev pub raised_bytes : Program → Option ℕ → Result (List ℕ) Status
 raised_bytes program None = Ok (spelling (up program))
 raised_bytes program (Some i) = Err (BadProgram (Operand Bz i))
 
+-- what is written of a program file: the bytes of its program in version 2, or the first that refuses it
 abbrev pub upgraded_bytes : Result Program FileFault → Result (List ℕ) Status
 upgraded_bytes (Ok program) = raised_bytes program (clash_of program)
 upgraded_bytes (Err fault) = Err (file_status fault)
 
--- the first line of a header file, and whether it is too long; a file without a line has an empty one
+-- the first line of a header file; a file without a line has an empty one
 abbrev pub first_line : List (List ℕ) → List ℕ
 first_line [] = []
 first_line (raw ∷ raws) = line_text raw
 
+-- whether the first line of a header file is too long
 abbrev pub begins_long : List (List ℕ) → Bool
 begins_long [] = false
 begins_long (raw ∷ raws) = is_long raw
 
--- what was made, unless the first line is too long, or unless the text is refused before
+-- what was made, unless the first line is too long
 abbrev pub unless_long : Bool → Result (List ℕ) Status → Result (List ℕ) Status
 unless_long true made = Err (TextTooLong Header)
 unless_long false made = made
 
+-- what was made, unless the text is refused before
 abbrev pub unless_refused : Option CompileFault → Result (List ℕ) Status → Result (List ℕ) Status
 unless_refused None made = made
 unless_refused (Some fault) made = Err (compile_status fault)
@@ -96,5 +100,6 @@ abbrev pub made_as : Product → Option (List ℕ) → List ℕ → List (List �
 made_as (Compiled form) header file lines = made_of_text form header file lines
 made_as Upgrade header file lines = upgraded_bytes (opened file)
 
+-- what is made of a file and the lines of its header file, or the status of what refuses them
 unfoldable pub made : MakeAsked → List ℕ → List (List ℕ) → Result (List ℕ) Status
 made asked file lines = made_as asked.product asked.header file lines

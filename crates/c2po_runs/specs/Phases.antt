@@ -82,6 +82,7 @@ abbrev pub FileMadeLog : Product → Result (Vec ℕ Global) status.Status → O
 FileMadeLog (Compiled form) result header file events = TextLog result form header file events
 FileMadeLog Upgrade result header file events = MadeLog result (upgraded_bytes (opened file)) events
 
+-- behind the bytes of the file that the words ask for
 abbrev pub BehindLog : Result (Vec ℕ Global) status.Status → MakeAsked → List ℕ → List Event → Type 0
 BehindLog result asked file events = FileMadeLog asked.product result asked.header file events
 
@@ -110,6 +111,7 @@ pub record NotGathered (asked : MakeAsked) (answer : status.Status) (events : Li
   pub tries : is_tried place.TheVariants.Header (names_of events) ≡ true → IsFaultless asked (seen asked events)
   pub opened : OpensAsTold answer events
 
+-- the log up to the bytes that are to be written, or to what failed or was refused
 abbrev pub GatherLog : Result (Vec ℕ Global) status.Status → MakeAsked → List Event → Type 0
 GatherLog (Ok bytes) asked events = Gathered asked bytes.items events
 GatherLog (Err answer) asked events = NotGathered asked answer events
@@ -135,6 +137,7 @@ PutOutcome (status.TheVariants.WriteFault place.TheVariants.Out) out bytes sent 
 PutOutcome (status.TheVariants.OpenFault place.TheVariants.Out) out bytes sent attached = (is_some out ≡ true) × (sent ≡ []) × (attached ≡ false)
 PutOutcome answer out bytes sent attached = ⊥
 
+-- the log of writing bytes, into a file where one is named
 pub record PutLog (answer : status.Status) (out : Option (List ℕ)) (bytes : List ℕ) (events : List Event) : Type 0 where
   pub names : IsFront (names_of events) (place_named place.TheVariants.Out out)
   pub only : OnlyOut events

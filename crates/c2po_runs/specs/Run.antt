@@ -26,9 +26,11 @@ pub record Seen : Type 0 where
   pub out : List ℕ
   pub attached : Bool
 
+-- the place at which the file is read
 abbrev pub place_of : MakeAsked → place.Place
 place_of asked = file_place (from_text asked.product)
 
+-- what a log says of such a run
 abbrev pub seen : MakeAsked → List Event → Seen
 seen asked events = record {
   names = names_of events;
@@ -39,10 +41,11 @@ seen asked events = record {
   attached = is_attached place.TheVariants.Out events;
 }
 
--- the bytes of the file that were taken, and what they give with the header's lines
+-- the bytes of the file that were taken
 abbrev pub file_in : MakeAsked → List Event → List ℕ
 file_in asked events = taken (place_of asked) events
 
+-- what the bytes that were taken give, with the header's lines
 abbrev pub made_in : MakeAsked → List Event → Result (List ℕ) status.Status
 made_in asked events = made asked (file_in asked events) (seen asked events).header
 
@@ -70,17 +73,19 @@ pub record TriesInTurn (asked : MakeAsked) (run : Seen) : Type 0 where
   pub header : is_tried place.TheVariants.Header run.names ≡ true → IsFaultless asked run
   pub out : is_tried place.TheVariants.Out run.names ≡ true → (bytes : List ℕ) × Makes asked run (Ok bytes)
 
--- the bytes are out: all of them, a front that misses some, or none; Out was attached exactly where a file is named
+-- all bytes are out; Out was attached exactly where a file is named
 pub record IsWritten (asked : MakeAsked) (run : Seen) : Type 0 where
   pub bytes : Makes asked run (Ok run.out)
   pub attached : run.attached ≡ is_some asked.out
 
+-- a front of the bytes that misses some is out; Out was attached exactly where a file is named
 pub record IsPartlyWritten (asked : MakeAsked) (run : Seen) : Type 0 where
   pub whole : List ℕ
   pub bytes : Makes asked run (Ok whole)
   pub front : IsProperFront run.out whole
   pub attached : run.attached ≡ is_some asked.out
 
+-- the bytes exist and a file is named for them, but none are out
 pub record IsUnwritten (asked : MakeAsked) (run : Seen) : Type 0 where
   pub whole : List ℕ
   pub bytes : Makes asked run (Ok whole)
@@ -171,6 +176,7 @@ CompletesBy (make asked) answer events =
 CompletesBy help answer events = (answer ≡ status.TheVariants.Helped) ⊎ (answer ≡ status.TheVariants.Memory)
 CompletesBy nothing answer events = Unit {0}
 
+-- the run completes where no call failed but those at Err
 abbrev pub Complete : Ask → status.Status → (place.Place → ℕ) → (place.Place → ℕ) → List Event → Type 0
 Complete asked answer before now events = NoOtherRose before now → CompletesBy asked answer events
 

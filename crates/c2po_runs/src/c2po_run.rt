@@ -21,7 +21,8 @@ use tool_words::{C2poAsk, Words, c2po_ask};
 fn make<H: Host>(alloc: Global, asked: &Make<'_>, host: &mut H) -> Status
     requires header { asked.now.product ≡ Product.Upgrade → asked.now.header ≡ None }
     ensures cause { RunCause result (H.faults host.old) (H.faults host.new) }
-    ensures log { OnLog (H.log host.old) (H.log host.new) (Ran (made_so (make_of asked.now)) result) }
+    ensures log { OnLog (H.log host.old) (H.log host.new)
+        (Ran (made_so (make_of asked.now)) result) }
 {
     match gather(alloc, asked, host) {
         Ok(bytes) => write_out(asked.out, &bytes, host),
@@ -32,7 +33,8 @@ fn make<H: Host>(alloc: Global, asked: &Make<'_>, host: &mut H) -> Status
 /// Does what was asked for.
 fn run_asked<H: Host>(alloc: Global, asked: C2poAsk<'_>, host: &mut H) -> Status
     ensures cause { RunCause result (H.faults host.old) (H.faults host.new) }
-    ensures log { OnLog (H.log host.old) (H.log host.new) (Ran (served (asked_of asked.entry)) result) }
+    ensures log { OnLog (H.log host.old) (H.log host.new)
+        (Ran (served (asked_of asked.entry)) result) }
 {
     match asked {
         C2poAsk::Help => give_help(Tool::C2po, host),
@@ -64,8 +66,10 @@ fn run<H: Host>(alloc: Global, words: &Words, host: &mut H) -> Status
 pub fn c2po_main<H: Host>(alloc: Global, words: &Words, host: &mut H) -> Status
     ensures usage { result ≢ Status.Memory → (result ≡ Status.Usage) ↔ (ask words.now ≡ nothing) }
     ensures helped { result ≡ Status.Helped → ask words.now ≡ help }
-    ensures cause { (p : Where) → p ≢ Err → CauseAt result p (H.faults host.old p) (H.faults host.new p) }
-    ensures log { OnLog (H.log host.old) (H.log host.new) (IsMade (ask words.now) result (H.faults host.old) (H.faults host.new)) }
+    ensures cause { (p : Where) → p ≢ Err
+        → CauseAt result p (H.faults host.old p) (H.faults host.new p) }
+    ensures log { OnLog (H.log host.old) (H.log host.new)
+        (IsMade (ask words.now) result (H.faults host.old) (H.faults host.new)) }
 {
     let status = run(alloc, words, host);
     let _ = tell_user(Tool::C2po, &status, host);

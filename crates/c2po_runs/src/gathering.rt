@@ -28,7 +28,8 @@ fn of_spec<H: Host>(
 ) -> Result<Vec<u8>, Status>
     ensures cause { PhaseCause result (H.faults host.old) (H.faults host.new) }
     ensures log { (text : Seq ℕ) → first_refusal text ≡ None → spec_shape spec.now ≡ items_in text
-        → OnLog (H.log host.old) (H.log host.new) (SpecLog result form (option_map (λ name. name.now) header.entry) text) }
+        → OnLog (H.log host.old) (H.log host.new)
+        (SpecLog result form (option_map (λ name. name.now) header.entry) text) }
 {
     match header {
         None => compiled_bytes(alloc, spec, None, form),
@@ -46,7 +47,8 @@ fn of_text<H: Host>(
 ) -> Result<Vec<u8>, Status>
     requires within { length text.now ≤ 1048576 }
     ensures cause { PhaseCause result (H.faults host.old) (H.faults host.new) }
-    ensures log { OnLog (H.log host.old) (H.log host.new) (TextLog result form (option_map (λ name. name.now) header.entry) text.now) }
+    ensures log { OnLog (H.log host.old) (H.log host.new)
+        (TextLog result form (option_map (λ name. name.now) header.entry) text.now) }
 {
     match front(alloc, text) {
         Ok(spec) => of_spec(alloc, &spec, header, form, host),
@@ -63,7 +65,8 @@ fn of_file<H: Host>(
 ) -> Result<Vec<u8>, Status>
     requires within { length bytes.now ≤ file_limit (is_text asked.now.product) }
     ensures cause { PhaseCause result (H.faults host.old) (H.faults host.new) }
-    ensures log { OnLog (H.log host.old) (H.log host.new) (BehindLog result (make_of asked.now) bytes.now) }
+    ensures log { OnLog (H.log host.old) (H.log host.new)
+        (BehindLog result (make_of asked.now) bytes.now) }
 {
     match asked.product {
         Product::Compiled(form) => of_text(alloc, bytes, asked.header, form, host),

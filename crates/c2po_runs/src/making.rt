@@ -51,10 +51,13 @@ fn program_of(
 ) -> Result<Checked, CompileFault>
     requires columns { AreColumnsFor (length (signals_of (spec_shape spec.now))) columns.now }
     ensures image { IfOk result (λ checked. checked
-        ≡ image_by simplify columns.now (signals_of (spec_shape spec.now)) (outputs_of (spec_shape spec.now))) }
-    ensures within { OnOk result (limit_refusal (over_columns columns.now (outputs_of (spec_shape spec.now))) ≡ None) }
+        ≡ image_by simplify columns.now
+        (signals_of (spec_shape spec.now)) (outputs_of (spec_shape spec.now))) }
+    ensures within { OnOk result
+        (limit_refusal (over_columns columns.now (outputs_of (spec_shape spec.now))) ≡ None) }
     ensures refused { IfErr result (λ fault.
-        IsFirstRefusal (limit_refusal (over_columns columns.now (outputs_of (spec_shape spec.now)))) fault) }
+        IsFirstRefusal
+        (limit_refusal (over_columns columns.now (outputs_of (spec_shape spec.now)))) fault) }
     ensures names { IfOk result NamesFit }
 {
     if simplify {
@@ -72,9 +75,11 @@ pub(crate) fn compiled_bytes(
     form: Form,
 ) -> Result<Vec<u8>, Status>
     requires line { ForSome header (λ line. length line.now ≤ 65535) }
-    ensures made { IfOk result (λ bytes. (text : Seq ℕ) → first_refusal text ≡ None → spec_shape spec.now ≡ items_in text →
+    ensures made { IfOk result (λ bytes.
+        (text : Seq ℕ) → first_refusal text ≡ None → spec_shape spec.now ≡ items_in text →
         text_bytes form text (option_copied header.entry) ≡ Ok bytes.items) }
-    ensures refused { IfErr result (λ status. status ≢ Status.Memory → (text : Seq ℕ) → first_refusal text ≡ None → spec_shape spec.now ≡ items_in text →
+    ensures refused { IfErr result (λ status. status ≢ Status.Memory →
+        (text : Seq ℕ) → first_refusal text ≡ None → spec_shape spec.now ≡ items_in text →
         text_bytes form text (option_copied header.entry) ≡ Err status) }
     ensures refuses { IfErr result Refuses }
 {
@@ -92,7 +97,8 @@ pub(crate) fn compiled_bytes(
 fn raised(alloc: Global, checked: Checked) -> Result<Vec<u8>, Status>
     requires names { NamesFit checked }
     ensures made { IfOk result (λ made. bytes_of_program (Ok checked) ≡ Ok made.items) }
-    ensures refused { IfErr result (λ status. status ≢ Status.Memory → bytes_of_program (Ok checked) ≡ Err status) }
+    ensures refused { IfErr result (λ status. status ≢ Status.Memory
+        → bytes_of_program (Ok checked) ≡ Err status) }
     ensures refuses { IfErr result Refuses }
 {
     upgraded_names_fit();
@@ -109,7 +115,8 @@ fn raised(alloc: Global, checked: Checked) -> Result<Vec<u8>, Status>
 /// What is written of the bytes of a program.
 pub(crate) fn upgraded_bytes(alloc: Global, bytes: &[u8]) -> Result<Vec<u8>, Status>
     ensures made { IfOk result (λ made. bytes_of_program (opened bytes.now) ≡ Ok made.items) }
-    ensures refused { IfErr result (λ status. status ≢ Status.Memory → bytes_of_program (opened bytes.now) ≡ Err status) }
+    ensures refused { IfErr result (λ status. status ≢ Status.Memory
+        → bytes_of_program (opened bytes.now) ≡ Err status) }
     ensures refuses { IfErr result Refuses }
 {
     match open(alloc, bytes) {

@@ -22,7 +22,8 @@ fn give<H: Host>(bytes: &[u8], host: &mut H) -> Status
 /// Writes the bytes into the file of this name, which is attached before.
 fn give_to<H: Host>(name: &str, bytes: &[u8], host: &mut H) -> Status
     ensures cause { RunCause result (H.faults host.old) (H.faults host.new) }
-    ensures log { OnLog (H.log host.old) (H.log host.new) (PutLog result (Some name.now) bytes.now) }
+    ensures log { OnLog (H.log host.old) (H.log host.new)
+        (PutLog result (Some name.now) bytes.now) }
 {
     if let Attached::Failed = host.attach(Place::Out, name) {
         return Status::OpenFault(Place::Out);
@@ -33,7 +34,8 @@ fn give_to<H: Host>(name: &str, bytes: &[u8], host: &mut H) -> Status
 /// Writes the bytes into the file of this name, or without a name to the standard output.
 pub(crate) fn write_out<H: Host>(out: Option<&str>, bytes: &[u8], host: &mut H) -> Status
     ensures cause { RunCause result (H.faults host.old) (H.faults host.new) }
-    ensures log { OnLog (H.log host.old) (H.log host.new) (PutLog result (option_map (λ name. name.now) out.entry) bytes.now) }
+    ensures log { OnLog (H.log host.old) (H.log host.new)
+        (PutLog result (option_map (λ name. name.now) out.entry) bytes.now) }
 {
     match out {
         None => give(bytes, host),
