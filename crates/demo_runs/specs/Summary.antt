@@ -25,25 +25,29 @@ pub record Listed : Type 0 where
   pub name : List ℕ
   pub words : List Word
 
+-- the words that a formula's reports may have
 abbrev pub formula_words : List Word
 formula_words = True ∷ False ∷ []
 
+-- the words that a contract's reports may have
 abbrev pub contract_words : List Word
 contract_words = Inactive ∷ Invalid ∷ Verified ∷ []
 
--- an output of a specification
+-- the words that the reports of a specification's output may have
 abbrev pub words_of : Output → List Word
 words_of (formula p) = formula_words
 words_of (contract p q) = contract_words
 
+-- an output of a specification, as the summary lists it
 abbrev pub listed : Asked → Listed
 listed asked = record { name = asked.name; words = words_of asked.output }
 
--- and one of a program
+-- the words that the reports of a program's output may have
 abbrev pub out_words : Out → List Word
 out_words (out.Formula engine i name) = formula_words
 out_words (out.Contract engine i j name) = contract_words
 
+-- an output of a program, as the summary lists it
 abbrev pub listed_out : Out → Listed
 listed_out o = record { name = name_of o; words = out_words o }
 
@@ -72,5 +76,6 @@ demo_rows seed rows = map (demo_row seed) (range_with_len 0 rows)
 abbrev pub demo_reports : ℕ → ℕ → List Report
 demo_reports seed rows = reports Each (plain_outputs (columns_in_order 3) (outputs_in demo_text)) (demo_rows seed rows)
 
+-- the summary of so many rows that are made from a seed
 unfoldable pub demo_summary : ℕ → ℕ → List ℕ
 demo_summary seed rows = summary_of rows (map listed (outputs_in demo_text)) (demo_reports seed rows)

@@ -11,12 +11,15 @@ use Rattle.mltl_base.specs.Subformulas.{Asked}
 abbrev pub demo_text : List ℕ
 demo_text = codes "INPUT a, b: bool; x: int;\nFTSPEC resp: a -> F[0,3] b; low: G[0,2] (x < 0); agc: a => F[0,1] b;\nPTSPEC once: O[0,4] a;\n"
 
+-- the formula a: the first signal is true
 abbrev pub a : Formula
 a = atom (is_true 0)
 
+-- the formula b: the second signal is true
 abbrev pub b : Formula
 b = atom (is_true 1)
 
+-- the outputs of the text, in its order
 abbrev pub demo_outputs : List Asked
 demo_outputs =
     record { engine = Ft; name = codes "resp"; output = formula (implication a (finally (record { lo = 0; hi = 3 }) b)) }

@@ -31,7 +31,8 @@ pub struct Demo {
 /// only for want of memory: the text is never refused.
 pub fn run_demo(alloc: Global, seed: u32, rows: u32) -> Result<Demo, AllocError>
     ensures summary { IfOk result (λ demo. demo.summary.items ≡ demo_summary seed rows) }
-    ensures program { IfOk result (λ demo. image_of_text DEMO_TEXT.now None ≡ Ok (program_of demo.monitor)) }
+    ensures program { IfOk result (λ demo.
+        image_of_text DEMO_TEXT.now None ≡ Ok (program_of demo.monitor)) }
     ensures stands { IfOk result (λ demo. Stands demo.monitor (demo_rows seed rows)) }
     ensures drained { IfOk result (λ demo. IsDrained demo.monitor) }
 {
@@ -45,7 +46,8 @@ pub fn run_demo(alloc: Global, seed: u32, rows: u32) -> Result<Demo, AllocError>
 
 /// A monitor of the demo's text that has taken no rows.
 fn demo_monitor(alloc: Global) -> Result<Monitor, AllocError>
-    ensures program { IfOk result (λ monitor. image_of_text DEMO_TEXT.now None ≡ Ok (program_of monitor)) }
+    ensures program { IfOk result (λ monitor.
+        image_of_text DEMO_TEXT.now None ≡ Ok (program_of monitor)) }
     ensures taken { IfOk result (λ monitor. taken_by monitor ≡ 0) }
     ensures stands { IfOk result (λ monitor. Stands monitor []) }
     ensures drained { IfOk result (λ monitor. IsDrained monitor) }
@@ -88,12 +90,14 @@ fn play_row(monitor: &mut Monitor, tallies: &mut [Tally], seed: u32, k: u32)
 
 /// Gives all reports that a monitor has still to give, and counts them.
 fn drain(monitor: &mut Monitor, tallies: &mut [Tally])
-    requires counted { (rows : Seq Row) × Stands monitor.old rows × AreCounted tallies.old monitor.old rows }
+    requires counted { (rows : Seq Row) × Stands monitor.old rows
+        × AreCounted tallies.old monitor.old rows }
     ensures program { program_of monitor.new ≡ program_of monitor.old }
     ensures taken { taken_by monitor.new ≡ taken_by monitor.old }
     ensures stands { (rows : Seq Row) → Stands monitor.old rows → Stands monitor.new rows }
     ensures drained { IsDrained monitor.new }
-    ensures counted { (rows : Seq Row) → Stands monitor.old rows → AreCounted tallies.old monitor.old rows
+    ensures counted { (rows : Seq Row) → Stands monitor.old rows
+        → AreCounted tallies.old monitor.old rows
         → AreCounted tallies.new monitor.new rows }
 {
     while let Some(report) = monitor.next_report() {

@@ -35,7 +35,8 @@ pub(crate) fn summary_of(
 
 /// Adds the line of an output.
 fn add_line(text: &mut Vec<u8>, out: &Out, tally: &Tally) -> Result<(), AllocError>
-    ensures { OnOk result (text.new.items ≡ text.old.items ++ line_text (listed_out out.now) (count_in tally.now)) }
+    ensures { OnOk result (text.new.items
+        ≡ text.old.items ++ line_text (listed_out out.now) (count_in tally.now)) }
 {
     text.extend_from_slice(out.name().bytes())?;
     text.extend_from_slice(b":")?;
@@ -56,7 +57,8 @@ fn add_line(text: &mut Vec<u8>, out: &Out, tally: &Tally) -> Result<(), AllocErr
 
 /// Adds how often a word was told.
 fn add_count(text: &mut Vec<u8>, word: Word, tally: &Tally) -> Result<(), AllocError>
-    ensures { OnOk result (text.new.items ≡ text.old.items ++ count_text word (count_in tally.now word)) }
+    ensures { OnOk result (text.new.items
+        ≡ text.old.items ++ count_text word (count_in tally.now word)) }
 {
     text.extend_from_slice(b" ")?;
     text.extend_from_slice(word.text().as_bytes())?;

@@ -34,7 +34,8 @@ impl Tally {
     /// The tally with a word once more.
     pub(crate) fn with(self, word: Word) -> Tally
         requires room { count_in self word < 2 ^ 63 }
-        ensures { (w : Told) → count_in result w ≡ count_in self w + (if same_word word w then 1 else 0) }
+        ensures { (w : Told)
+            → count_in result w ≡ count_in self w + (if same_word word w then 1 else 0) }
     {
         let mut tally = self;
         match word {
