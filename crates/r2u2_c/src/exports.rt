@@ -123,7 +123,8 @@ pub extern "C" fn r2u2_outputs(it: &mut R2u2, alloc: Global) -> u32
 /// Writes the name of output `k`, counted from 0, to the front of a buffer, and answers its length.
 #[unsafe(no_mangle)]
 pub extern "C" fn r2u2_name(it: &mut R2u2, alloc: Global, k: u32, buffer: &mut [u8]) -> u32
-    ensures named { 0 < result → slice_get (names_of it.old.value) k ≡ Some (take result buffer.new) }
+    ensures named { 0 < result
+        → slice_get (names_of it.old.value) k ≡ Some (take result buffer.new) }
     ensures rest { drop result buffer.new ≡ drop result buffer.old }
     ensures enough { k < length (names_of it.old.value) → 64 ≤ length buffer.old
         → 0 < result }

@@ -64,7 +64,8 @@ impl R2u2 {
 
     /// Takes the monitor out, if one is open.
     pub(crate) fn take(&mut self, alloc: Global) -> Option<Box<Monitor>>
-        ensures taken { MatchOption result (self.old.value ≡ None) (λ b. self.old.value ≡ Some b.value) }
+        ensures taken { MatchOption result
+            (self.old.value ≡ None) (λ b. self.old.value ≡ Some b.value) }
         ensures emptied { self.new.value ≡ None }
     {
         mem::replace(self, R2u2::empty()).into_box(alloc)

@@ -65,7 +65,8 @@ pub(crate) fn open_under(
 /// A program with its signals in the columns that a header names.
 fn bind(alloc: Global, checked: Checked, header: &[u8]) -> Result<Checked, Refusal>
     ensures bound { IfOk result (λ bound. bound_by header.now checked ≡ Ok bound) }
-    ensures refused { IfErr result (λ why. why ≢ Refusal.Memory → bound_by header.now checked ≡ Err why) }
+    ensures refused { IfErr result (λ why. why ≢ Refusal.Memory
+        → bound_by header.now checked ≡ Err why) }
 {
     if checked.program().version != 2 {
         return Err(Refusal::NoSignals);
