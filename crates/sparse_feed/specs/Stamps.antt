@@ -8,10 +8,11 @@ use Rattle.mltl_base.specs.Blanks.{is_blank_line}
 use Rattle.sparse_feed.specs.declared.stamp.Stamp.{Stamp}
 use Rattle.sparse_feed.specs.declared.stamp.Stamp.TheVariants.{At, Blank, Bad, Order, Late}
 
--- the digits at the front of a text, as many as can be, and what is behind them
+-- the digits at the front of a text, as many as can be
 abbrev pub digits_at_front : List ℕ → List ℕ
 digits_at_front text = take (prefix_len is_ascii_digit text) text
 
+-- what is behind the digits at the front of a text
 abbrev pub behind_digits : List ℕ → List ℕ
 behind_digits text = drop (prefix_len is_ascii_digit text) text
 
@@ -24,10 +25,11 @@ ends_stamp (byte ∷ bytes) = byte == 44
 abbrev pub has_stamp : List ℕ → Bool
 has_stamp line = (slice_index line 0 == 64) && (nat_lt 0 (prefix_len is_ascii_digit (drop 1 line)) && ends_stamp (behind_digits (drop 1 line)))
 
--- the digits of a stamp, and the time that they write
+-- the digits of a stamp
 unfoldable pub stamp_digits : List ℕ → List ℕ
 stamp_digits line = digits_at_front (drop 1 line)
 
+-- the time that a stamp's digits write
 abbrev pub time_of : List ℕ → ℕ
 time_of line = digits_value 10 (stamp_digits line)
 
