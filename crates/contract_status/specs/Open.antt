@@ -22,6 +22,7 @@ open_of style program rows places = left_open style rows 0 (outputs program) pla
 abbrev pub known_counts : List Row → List Output → List ℕ
 known_counts rows outs = map (λ o. length (words rows o)) outs
 
+-- the same of all outputs of a program
 abbrev pub known_counts_of : Program → List Row → List ℕ
 known_counts_of program rows = known_counts rows (outputs program)
 

@@ -40,16 +40,19 @@ CanReport engines (out.TheVariants.Contract engine i j name) from = CanRead engi
 abbrev pub AreReadable : Program → Engines → List ℕ → Type 0
 AreReadable program engines places = (k : ℕ) (out : out.Out) → slice_get program.outs k ≡ Some out → CanReport engines out (slice_index places k)
 
--- the verdicts of an instruction that are known after the rows, the words of a formula, of a contract and of an output
+-- the verdicts of an instruction that are known after the rows
 abbrev pub known_verdicts : Program → List Row → engine.Engine → ℕ → List Bool
 known_verdicts program rows engine i = verdicts rows (plain (formula_at program engine i))
 
+-- the known words of the formula of an instruction
 abbrev pub formula_words : Program → List Row → engine.Engine → ℕ → List Word
 formula_words program rows engine i = words rows (formula (plain (formula_at program engine i)))
 
+-- the known words of a contract over two instructions, the assumption and the guarantee
 abbrev pub contract_words : Program → List Row → engine.Engine → ℕ → ℕ → List Word
 contract_words program rows engine i j = words rows (contract (plain (formula_at program engine i)) (plain (formula_at program engine j)))
 
+-- the known words of an output
 abbrev pub known_words : Program → List Row → out.Out → List Word
 known_words program rows out = words rows (output_of program out)
 

@@ -7,12 +7,15 @@ use Rattle.scq_ring.specs.Runs.{Belongs, Spans}
 use Rattle.ft_slab.specs.declared.slab.Queues.{Queues}
 use Rattle.ft_slab.specs.State.{AreSound}
 
+-- that runs follow one another without a gap has one proof at most
 pub Spans-prop : (low : ℕ) (runs : List Slot) (end : ℕ) → IsProp (Spans low runs end)
 Spans-prop low [] end = hlevel props
 Spans-prop low (r ∷ rs) end = hlevel (props, Spans-prop (r.upto + 1) rs end)
 
+-- that slots are those of a ring has one proof at most
 pub Belongs-prop : (ring : Ring) (slots : List Slot) → IsProp (Belongs ring slots)
 Belongs-prop ring slots = hlevel (props, Spans-prop)
 
+-- that each ring of the queues has its own slots has one proof at most
 pub AreSound-prop : (queues : Queues) → IsProp (AreSound queues)
 AreSound-prop queues = hlevel (props, Belongs-prop)

@@ -29,6 +29,7 @@ IsSeated plan i (Until l r window) =
     × (plan.worst i ≡ max (plan.worst l) (plan.worst r) + window.hi)
     × (plan.worst i ≤ plan.widest l + window.hi) × (plan.worst i ≤ plan.widest r + window.hi)
 
+-- the delays of an instruction follow from those of its operands, the best is at most the worst, and its queue is wide enough
 pub record IsPlanned (plan : Plan) (i : ℕ) (op : FtOp) : Type 0 where
   pub seated : IsSeated plan i op
   pub ordered : plan.best i ≤ plan.worst i

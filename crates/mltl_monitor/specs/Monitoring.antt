@@ -13,10 +13,11 @@ use Rattle.pt_boxes.specs.Standing.{room_total}
 use Rattle.mltl_monitor.specs.declared.state.State.{State}
 use Rattle.mltl_monitor.specs.Running as running
 
--- the program that the monitor was loaded with, and the number of rows that it has taken
+-- the program that the monitor was loaded with
 abbrev pub program_of : State → Program
 program_of monitor = monitor.running.checked
 
+-- the number of rows that the monitor has taken
 abbrev pub taken_by : State → ℕ
 taken_by monitor = monitor.running.taken
 
@@ -28,17 +29,19 @@ places_of monitor = monitor.running.outs
 abbrev pub slots_of : State → List ℕ
 slots_of monitor = map (slots_at monitor.running.ft) (range_with_len 0 (instruction_count monitor.running.ft))
 
--- the slots of all future-time instructions together, and the room for boxes of all past-time ones
+-- the slots of all future-time instructions together
 abbrev pub slot_total_of : State → ℕ
 slot_total_of monitor = slot_total monitor.running.ft
 
+-- the room for boxes of all past-time instructions together
 abbrev pub room_total_of : State → ℕ
 room_total_of monitor = room_total monitor.running.pt
 
--- the last row that it has taken, and the row that it has read
+-- the last row that the monitor has taken
 abbrev pub last_of : State → Row
 last_of monitor = monitor.last.items
 
+-- the row that the monitor has read, to be taken next
 abbrev pub read_of : State → Row
 read_of monitor = monitor.read.items
 

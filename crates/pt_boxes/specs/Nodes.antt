@@ -15,17 +15,19 @@ use Rattle.pt_boxes.specs.Spans.{AreApart}
 abbrev pub op_at : List PtOp → ℕ → PtOp
 op_at ops i = slice_index_or ops i True
 
--- node i, one without boxes past the last one
+-- a node without boxes, which stands past the end of a list of nodes
 abbrev pub no_node : Node
 no_node = record { boxes = no_boxes; truth = false; start = 0; size = 0 }
 
+-- node i, one without boxes past the last one
 abbrev pub node_at : List Node → ℕ → Node
 node_at nodes i = slice_index_or nodes i no_node
 
--- the part of the slab that belongs to a node, and the boxes in it
+-- the part of the slab that belongs to a node
 abbrev pub part : List Span → Node → List Span
 part slab node = take node.size (drop node.start slab)
 
+-- the boxes of a node, oldest first
 abbrev pub boxes_in : List Span → Node → List Span
 boxes_in slab node = kept node.boxes (part slab node)
 

@@ -28,10 +28,11 @@ first_record text = fields_in (next_record default_config state.StartRecord [] [
 abbrev pub names_of : List ℕ → List (List ℕ)
 names_of line = map trimmed (first_record (drop 1 line))
 
--- how many columns have a name, and which is the first that has it
+-- how many columns have a name
 abbrev pub times : List (List ℕ) → List ℕ → ℕ
 times names name = count_by (bytes_eq name) names
 
+-- the first column that has a name
 abbrev pub first_place : List (List ℕ) → List ℕ → ℕ
 first_place names name = position_or_len (bytes_eq name) names
 

@@ -16,10 +16,11 @@ use Rattle.trace_feed.specs.declared.fields.Reading.{Reading}
 use Rattle.trace_feed.specs.declared.fields.Reading.TheVariants.{Unread, Whole, Truth}
 use Rattle.trace_feed.specs.declared.rows.RowAnswer as answer
 
--- the fields of a line stand between its commas
+-- a comma ends a field
 abbrev pub is_comma : ℕ → Bool
 is_comma byte = byte == 44
 
+-- the fields of a line stand between its commas
 abbrev pub fields_of : List ℕ → List (List ℕ)
 fields_of line = slice_split is_comma line
 
@@ -35,10 +36,11 @@ has_32_bits n = int_le (neg_ℤ (pos 2147483648)) n && int_le n (pos 2147483647)
 abbrev pub is_bit : ℤ → Bool
 is_bit n = int_eq n (pos 0) || int_eq n (pos 1)
 
--- the number that a field writes, where it writes one, and one of the range
+-- a number of the range, else the fault that it is out of it
 abbrev pub in_range : (ℤ → Bool) → ℤ → Result ℤ FieldFault
 in_range range n = if range n then Ok n else Err OutOfRange
 
+-- the number that a field writes, where it writes one, and one of the range
 abbrev pub number_in : (ℤ → Bool) → List ℕ → Result ℤ FieldFault
 number_in range field = if is_numeral field then in_range range (signed_digits_value 10 field) else Err NotWhole
 
