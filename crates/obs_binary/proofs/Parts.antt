@@ -28,37 +28,37 @@ ok_is x y e = cc
 eqb-refl : (a : ℕ) → eqb a a ≡ true
 eqb-refl a = grind arith
 
-pub first_other-none : (place : ℕ) (musts : List ℕ) → first_other place musts musts ≡ None
+pub first_other-none : (offset : ℕ) (musts : List ℕ) → first_other offset musts musts ≡ None
 unfolding first_other
-first_other-none place [] = refl
-first_other-none place (m ∷ ms) = rw (eqb-refl m) (first_other-none (suc place) ms)
+first_other-none offset [] = refl
+first_other-none offset (m ∷ ms) = rw (eqb-refl m) (first_other-none (suc offset) ms)
 
-first_step : (b : Bool) (rest : Option ℕ) (place : ℕ) → cond b rest (Some place) ≡ None → (b ≡ true) × (rest ≡ None)
-first_step true rest place e = (refl, e)
-first_step false rest place e = absurd cc
+first_step : (b : Bool) (rest : Option ℕ) (offset : ℕ) → cond b rest (Some offset) ≡ None → (b ≡ true) × (rest ≡ None)
+first_step true rest offset e = (refl, e)
+first_step false rest offset e = absurd cc
 
 -- bytes that are nowhere other than they must be are what they must be
-pub same-from_none : (place : ℕ) (musts bytes : List ℕ) → length bytes ≤ length musts → first_other place musts bytes ≡ None → bytes ≡ musts
+pub same-from_none : (offset : ℕ) (musts bytes : List ℕ) → length bytes ≤ length musts → first_other offset musts bytes ≡ None → bytes ≡ musts
 unfolding first_other
-same-from_none place [] [] le e = refl
-same-from_none place [] (b ∷ bytes) le e = absurd (omega arith)
-same-from_none place (m ∷ musts) [] le e = absurd cc
-same-from_none place (m ∷ musts) (b ∷ bytes) le e =
-    let step = first_step (eqb b m) (first_other (suc place) musts bytes) place e in
+same-from_none offset [] [] le e = refl
+same-from_none offset [] (b ∷ bytes) le e = absurd (omega arith)
+same-from_none offset (m ∷ musts) [] le e = absurd cc
+same-from_none offset (m ∷ musts) (b ∷ bytes) le e =
+    let step = first_step (eqb b m) (first_other (suc offset) musts bytes) offset e in
     let same : b ≡ m = eqb-true b m step.0 in
-    let rest : bytes ≡ musts = same-from_none (suc place) musts bytes (omega arith) step.1 in
+    let rest : bytes ≡ musts = same-from_none (suc offset) musts bytes (omega arith) step.1 in
     cc
 
 unless_ok : {A : Type 0} (o : Option ℕ) (x y : A) → unless_other o x ≡ Ok y → (o ≡ None) × (x ≡ y)
 unless_ok None x y e = (refl, ok_is x y e)
-unless_ok (Some place) x y e = absurd cc
+unless_ok (Some offset) x y e = absurd cc
 
 module _ {X : Type 0} (len : ℕ) (spelled : X → List ℕ) (content : List ℕ → Option X) (Holds : X → Type 0) (entries : AreEntries len spelled content Holds) (size : ℕ) where
-  as_spelled-takes : (place : ℕ) (bytes : List ℕ) (held : Option X) (y : X × List ℕ) → as_spelled len spelled place bytes held ≡ Ok y → (held ≡ Some y.0) × (take len bytes ≡ spelled y.0) × (drop len bytes ≡ y.1)
-  as_spelled-takes place bytes None y e = absurd cc
-  as_spelled-takes place bytes (Some x) y e =
-      let u = unless_ok (first_other place (spelled x) (take len bytes)) (x, drop len bytes) y e in
-      let same = same-from_none place (spelled x) (take len bytes) (omega (arith, length-take len bytes, entries.len_is x)) u.0 in
+  as_spelled-takes : (offset : ℕ) (bytes : List ℕ) (held : Option X) (y : X × List ℕ) → as_spelled len spelled offset bytes held ≡ Ok y → (held ≡ Some y.0) × (take len bytes ≡ spelled y.0) × (drop len bytes ≡ y.1)
+  as_spelled-takes offset bytes None y e = absurd cc
+  as_spelled-takes offset bytes (Some x) y e =
+      let u = unless_ok (first_other offset (spelled x) (take len bytes)) (x, drop len bytes) y e in
+      let same = same-from_none offset (spelled x) (take len bytes) (omega (arith, length-take len bytes, entries.len_is x)) u.0 in
       let x-is : x ≡ y.0 = ap (λ p. p.0) u.1 in
       (ap (λ z. Some z) x-is, same ∙ ap spelled x-is, ap (λ p. p.1) u.1)
 

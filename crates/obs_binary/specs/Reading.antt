@@ -25,15 +25,15 @@ use Rattle.obs_binary.specs.Layout.{bz_entry, ft_entry, pt_entry, out_entry, sig
 
 -- ---- numbers
 
--- the 16-bit number at place k
+-- the 16-bit number at offset k
 abbrev pub short_at : List ℕ → ℕ → ℕ
 short_at bytes k = from_le_bytes w16 (take 2 (drop k bytes))
 
--- the 32-bit number at place k
+-- the 32-bit number at offset k
 abbrev pub number_at : List ℕ → ℕ → ℕ
 number_at bytes k = from_le_bytes w32 (take 4 (drop k bytes))
 
--- the signed 64-bit number at place k
+-- the signed 64-bit number at offset k
 abbrev pub signed_at : List ℕ → ℕ → ℤ
 signed_at bytes k = cast_signed w64 (from_le_bytes w64 (take 8 (drop k bytes)))
 
@@ -55,25 +55,25 @@ abbrev pub ◌>>=◌ : {A B : Type 0} → Result A ReadFault → (A → Result B
 (Ok x) >>= f = f x
 (Err fault) >>= f = Err fault
 
--- the first place, counted from `place` on, where the bytes of an entry aren't as they must be
+-- the first offset, counted from `offset` on, where the bytes of an entry aren't as they must be
 unfoldable pub first_other : ℕ → List ℕ → List ℕ → Option ℕ
-first_other place [] bytes = None
-first_other place (must ∷ musts) [] = Some place
-first_other place (must ∷ musts) (byte ∷ bytes) = if byte == must then first_other (suc place) musts bytes else Some place
+first_other offset [] bytes = None
+first_other offset (must ∷ musts) [] = Some offset
+first_other offset (must ∷ musts) (byte ∷ bytes) = if byte == must then first_other (suc offset) musts bytes else Some offset
 
 -- what was read, unless a byte of its entry isn't as it must be
 abbrev pub unless_other : {A : Type 0} → Option ℕ → A → Result A ReadFault
 unless_other None x = Ok x
-unless_other (Some place) x = Err (Reserved place)
+unless_other (Some offset) x = Err (Reserved offset)
 
 -- an entry that holds x, with the bytes behind it; without x its opcode is at fault
 abbrev pub as_spelled : {X : Type 0} → ℕ → (X → List ℕ) → ℕ → List ℕ → Option X → Result (X × List ℕ) ReadFault
-as_spelled len spelled place bytes None = Err (Opcode place)
-as_spelled len spelled place bytes (Some x) = unless_other (first_other place (spelled x) (take len bytes)) (x, drop len bytes)
+as_spelled len spelled offset bytes None = Err (Opcode offset)
+as_spelled len spelled offset bytes (Some x) = unless_other (first_other offset (spelled x) (take len bytes)) (x, drop len bytes)
 
 -- The entry of `len` bytes in front of others. `content` is what its opcode and its fields say, if the opcode is of its
--- part. An entry that isn't as its content is spelled has a byte other than 0 in a place without content, or an engine
--- or a kind above 1. The file has `size` bytes, so the place of the entry is the number of those before it.
+-- part. An entry that isn't as its content is spelled has a byte other than 0 at an offset without content, or an engine
+-- or a kind above 1. The file has `size` bytes, so the offset of the entry is the number of those before it.
 unfoldable pub entry_at : {X : Type 0} → ℕ → (X → List ℕ) → (List ℕ → Option X) → ℕ → List ℕ → Result (X × List ℕ) ReadFault
 entry_at len spelled content size bytes = as_spelled len spelled (size - length bytes) bytes (content (take len bytes))
 

@@ -28,11 +28,11 @@ pub(crate) trait Entry: Sized + Drop {
         requires { length bytes.now ≡ LEN }
         ensures { result ≡ content bytes.now };
 
-    /// The first place from `place` on, which is that of the entry, where its bytes aren't as they must be.
-    fn first_other(&self, place: u64, bytes: &[u8]) -> Option<u64>
+    /// The first offset from `offset` on, which is that of the entry, where its bytes aren't as they must be.
+    fn first_other(&self, offset: u64, bytes: &[u8]) -> Option<u64>
         requires len { length bytes.now ≡ LEN }
-        requires place { place + length bytes.now < 2 ^ 64 }
-        ensures { result ≡ first_other place (spelled self.now) bytes.now };
+        requires offset { offset + length bytes.now < 2 ^ 64 }
+        ensures { result ≡ first_other offset (spelled self.now) bytes.now };
 }
 
 /// The bytes of an entry with five numbers.
@@ -58,15 +58,15 @@ pub(crate) fn constant_bytes(value: i64) -> [u8; 24]
     bytes
 }
 
-/// The first place from `place` on where the bytes of an entry aren't as they must be.
-pub(crate) fn first_other(place: u64, musts: &[u8], bytes: &[u8]) -> Option<u64>
+/// The first offset from `offset` on where the bytes of an entry aren't as they must be.
+pub(crate) fn first_other(offset: u64, musts: &[u8], bytes: &[u8]) -> Option<u64>
     requires len { length musts.now ≡ length bytes.now }
-    requires place { place + length bytes.now < 2 ^ 64 }
-    ensures { result ≡ first_other place musts.now bytes.now }
+    requires offset { offset + length bytes.now < 2 ^ 64 }
+    ensures { result ≡ first_other offset musts.now bytes.now }
 {
     for (i, must) in musts.iter().enumerate() {
         if bytes[i] != *must {
-            return Some(place + i as u64);
+            return Some(offset + i as u64);
         }
     }
     None
@@ -81,12 +81,12 @@ fn read_entry<X: Entry>(size: usize, rest: &[u8]) -> Result<(X, &[u8]), ReadFaul
         (entry_at X.LEN X.spelled X.content size rest.now) }
     ensures left { IfOk result (λ x. length x.1.now + X.LEN ≡ length rest.now) }
 {
-    let place = (size - rest.len()) as u64;
+    let offset = (size - rest.len()) as u64;
     let (front, behind) = rest.split_at(X::LEN);
     let Some(held) = X::content(front) else {
-        return Err(ReadFault::Opcode(place));
+        return Err(ReadFault::Opcode(offset));
     };
-    match held.first_other(place, front) {
+    match held.first_other(offset, front) {
         Some(at) => Err(ReadFault::Reserved(at)),
         None => Ok((held, behind)),
     }

@@ -14,9 +14,9 @@ pub enum ReadFault {
     Magic,
     /// The version is neither 1 nor 2.
     Version,
-    /// The byte at this place must be 0 and isn't, or names no engine or no kind.
+    /// The byte at this offset must be 0 and isn't, or names no engine or no kind.
     Reserved(u64),
-    /// The byte at this place is no opcode of its part.
+    /// The byte at this offset is no opcode of its part.
     Opcode(u64),
     /// The bytes are more than the header says.
     Trailing,

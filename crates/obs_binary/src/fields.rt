@@ -5,7 +5,7 @@ ghost use Rattle.obs_binary.specs.Reading.{number_at, signed_at, short_at};
 
 use byteorder::{ByteOrder, LittleEndian};
 
-/// The unsigned number of 32 bits at a place of the bytes.
+/// The unsigned number of 32 bits at an offset of the bytes.
 pub fn u32_at(bytes: &[u8], at: usize) -> u32
     requires { at + 4 ≤ length bytes.now }
     ensures { result ≡ number_at bytes.now at }
@@ -13,7 +13,7 @@ pub fn u32_at(bytes: &[u8], at: usize) -> u32
     LittleEndian::read_u32(&bytes[at..])
 }
 
-/// The signed number of 64 bits at a place of the bytes.
+/// The signed number of 64 bits at an offset of the bytes.
 pub fn i64_at(bytes: &[u8], at: usize) -> i64
     requires { at + 8 ≤ length bytes.now }
     ensures { result ≡ signed_at bytes.now at }
@@ -21,7 +21,7 @@ pub fn i64_at(bytes: &[u8], at: usize) -> i64
     LittleEndian::read_i64(&bytes[at..])
 }
 
-/// The unsigned number of 16 bits at a place of the bytes.
+/// The unsigned number of 16 bits at an offset of the bytes.
 pub(crate) fn u16_at(bytes: &[u8], at: usize) -> u16
     requires { at + 2 ≤ length bytes.now }
     ensures { result ≡ short_at bytes.now at }

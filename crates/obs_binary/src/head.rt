@@ -74,8 +74,8 @@ impl Entry for OutHead {
         })
     }
 
-    fn first_other(&self, place: u64, bytes: &[u8]) -> Option<u64> {
-        first_other(place, &out_bytes(*self), bytes)
+    fn first_other(&self, offset: u64, bytes: &[u8]) -> Option<u64> {
+        first_other(offset, &out_bytes(*self), bytes)
     }
 }
 
@@ -134,8 +134,8 @@ impl Entry for SignalHead {
         })
     }
 
-    fn first_other(&self, place: u64, bytes: &[u8]) -> Option<u64> {
-        first_other(place, &signal_bytes(*self), bytes)
+    fn first_other(&self, offset: u64, bytes: &[u8]) -> Option<u64> {
+        first_other(offset, &signal_bytes(*self), bytes)
     }
 }
 

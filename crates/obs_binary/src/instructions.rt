@@ -60,8 +60,8 @@ impl Entry for BzOp {
         }
     }
 
-    fn first_other(&self, place: u64, bytes: &[u8]) -> Option<u64> {
-        first_other(place, &bz_bytes(*self), bytes)
+    fn first_other(&self, offset: u64, bytes: &[u8]) -> Option<u64> {
+        first_other(offset, &bz_bytes(*self), bytes)
     }
 }
 
@@ -114,8 +114,8 @@ impl Entry for (FtOp, u32) {
         }
     }
 
-    fn first_other(&self, place: u64, bytes: &[u8]) -> Option<u64> {
-        first_other(place, &ft_bytes(self.0, self.1), bytes)
+    fn first_other(&self, offset: u64, bytes: &[u8]) -> Option<u64> {
+        first_other(offset, &ft_bytes(self.0, self.1), bytes)
     }
 }
 
@@ -158,7 +158,7 @@ impl Entry for (PtOp, u32) {
         }
     }
 
-    fn first_other(&self, place: u64, bytes: &[u8]) -> Option<u64> {
-        first_other(place, &pt_bytes(self.0, self.1), bytes)
+    fn first_other(&self, offset: u64, bytes: &[u8]) -> Option<u64> {
+        first_other(offset, &pt_bytes(self.0, self.1), bytes)
     }
 }

@@ -17,8 +17,8 @@ abbrev pub of_reading : ReadFault → FileFault
 of_reading read.Short = file.Program program.Short
 of_reading read.Magic = file.Program program.Magic
 of_reading read.Version = file.Program program.Version
-of_reading (read.Reserved place) = file.Program (program.Reserved place)
-of_reading (read.Opcode place) = file.Program (program.Opcode place)
+of_reading (read.Reserved offset) = file.Program (program.Reserved offset)
+of_reading (read.Opcode offset) = file.Program (program.Opcode offset)
 of_reading read.Trailing = file.Program program.Trailing
 of_reading (read.NameBytes k) = file.Program (program.NameBytes k)
 of_reading (read.SignalBytes k) = file.Program (program.SignalBytes k)

@@ -16,9 +16,9 @@ pub enum ProgramFault {
     Magic,
     /// The version is neither 1 nor 2.
     Version,
-    /// The byte at this place must be 0 and isn't, or names no engine or no kind.
+    /// The byte at this offset must be 0 and isn't, or names no engine or no kind.
     Reserved(u64),
-    /// The byte at this place is no opcode of its part.
+    /// The byte at this offset is no opcode of its part.
     Opcode(u64),
     /// The bytes are more than the header says.
     Trailing,
@@ -65,8 +65,8 @@ impl From<ReadFault> for FileFault {
             ReadFault::Short => ProgramFault::Short,
             ReadFault::Magic => ProgramFault::Magic,
             ReadFault::Version => ProgramFault::Version,
-            ReadFault::Reserved(place) => ProgramFault::Reserved(place),
-            ReadFault::Opcode(place) => ProgramFault::Opcode(place),
+            ReadFault::Reserved(offset) => ProgramFault::Reserved(offset),
+            ReadFault::Opcode(offset) => ProgramFault::Opcode(offset),
             ReadFault::Trailing => ProgramFault::Trailing,
             ReadFault::NameBytes(k) => ProgramFault::NameBytes(k),
             ReadFault::SignalBytes(k) => ProgramFault::SignalBytes(k),

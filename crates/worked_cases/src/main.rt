@@ -6,6 +6,7 @@
 #![tactic(auto)]
 
 mod files;
+mod operands;
 mod outcome;
 mod piece;
 mod plain;

@@ -5,176 +5,20 @@
 
 ghost use Rattle.std.specs.Prelude.{◌^◌, ◌≤◌, length};
 
+use crate::operands::Operands;
 use anyhow::{Context, Error, Result, anyhow, bail};
-use mltl_base::{ArithOp, BetweenOp, CompareOp, Interval, List, LogicOp, Style, WindowOp, Word};
-use mltl_plain::{Atom, Fault, Formula, Output, Term, meaning, reports, verdicts, words};
+use mltl_base::{List, Style};
+use mltl_plain::{Fault, Output, meaning, reports, verdicts, words};
 use std::alloc::Global;
 use std::fmt::Write;
 
-/// Terms and outputs that no operator has taken yet.
-#[derive(Drop)]
-struct Operands {
-    alloc: Global,
-    terms: Vec<Term>,
-    outs: Vec<Output>,
-}
-
-impl Operands {
-    fn formula(&mut self) -> Result<Formula> {
-        match self.outs.pop() {
-            Some(Output::Formula(p)) => Ok(p),
-            _ => bail!("a formula is missing"),
-        }
-    }
-
-    fn put(&mut self, p: Formula) -> Result<()> {
-        self.outs.push(Output::Formula(p))?;
-        Ok(())
-    }
-
-    fn logic(&mut self, op: LogicOp) -> Result<()> {
-        let q = Box::new(self.alloc, self.formula()?)?;
-        let p = Box::new(self.alloc, self.formula()?)?;
-        self.put(Formula::Logic(op, p, q))
-    }
-
-    fn window(&mut self, op: WindowOp, i: Interval) -> Result<()> {
-        let p = Box::new(self.alloc, self.formula()?)?;
-        self.put(Formula::Window(op, i, p))
-    }
-
-    fn between(&mut self, op: BetweenOp, i: Interval) -> Result<()> {
-        let q = Box::new(self.alloc, self.formula()?)?;
-        let p = Box::new(self.alloc, self.formula()?)?;
-        self.put(Formula::Between(op, i, p, q))
-    }
-
-    fn contract(&mut self) -> Result<()> {
-        let q = self.formula()?;
-        let p = self.formula()?;
-        self.outs.push(Output::Contract(p, q))?;
-        Ok(())
-    }
-
-    fn compare(&mut self, op: CompareOp) -> Result<()> {
-        let right = self.terms.pop().context("a number is missing")?;
-        let left = self.terms.pop().context("a number is missing")?;
-        self.put(Formula::Atom(Atom::Compare(op, left, right)))
-    }
-
-    fn remainder(&mut self) -> Result<()> {
-        let right = self.terms.pop().context("a number is missing")?;
-        let left = self.terms.pop().context("a number is missing")?;
-        let left = Box::new(self.alloc, left)?;
-        let right = Box::new(self.alloc, right)?;
-        self.terms.push(Term::Arith(ArithOp::Rem, left, right))?;
-        Ok(())
-    }
-
-    /// Takes an operator with an interval, as `U0,3`, or a whole number.
-    fn take_long(&mut self, word: &str) -> Result<()> {
-        let Some((front, hi)) = word.split_once(',') else {
-            self.terms.push(Term::Constant(word.parse()?))?;
-            return Ok(());
-        };
-        let hi = hi.parse()?;
-        if let Some(lo) = front.strip_prefix('F') {
-            return self.window(
-                WindowOp::F,
-                Interval {
-                    lo: lo.parse()?,
-                    hi,
-                },
-            );
-        }
-        if let Some(lo) = front.strip_prefix('G') {
-            return self.window(
-                WindowOp::G,
-                Interval {
-                    lo: lo.parse()?,
-                    hi,
-                },
-            );
-        }
-        if let Some(lo) = front.strip_prefix('O') {
-            return self.window(
-                WindowOp::O,
-                Interval {
-                    lo: lo.parse()?,
-                    hi,
-                },
-            );
-        }
-        if let Some(lo) = front.strip_prefix('H') {
-            return self.window(
-                WindowOp::H,
-                Interval {
-                    lo: lo.parse()?,
-                    hi,
-                },
-            );
-        }
-        if let Some(lo) = front.strip_prefix('U') {
-            return self.between(
-                BetweenOp::U,
-                Interval {
-                    lo: lo.parse()?,
-                    hi,
-                },
-            );
-        }
-        if let Some(lo) = front.strip_prefix('R') {
-            return self.between(
-                BetweenOp::R,
-                Interval {
-                    lo: lo.parse()?,
-                    hi,
-                },
-            );
-        }
-        if let Some(lo) = front.strip_prefix('S') {
-            return self.between(
-                BetweenOp::S,
-                Interval {
-                    lo: lo.parse()?,
-                    hi,
-                },
-            );
-        }
-        bail!("no such operator: {word}")
-    }
-
-    fn take(&mut self, word: &str) -> Result<()> {
-        match word {
-            "a" => self.put(Formula::Atom(Atom::IsTrue(0))),
-            "b" => self.put(Formula::Atom(Atom::IsTrue(1))),
-            "x" => {
-                self.terms.push(Term::Column(0))?;
-                Ok(())
-            }
-            "&" => self.logic(LogicOp::And),
-            "->" => self.logic(LogicOp::Implies),
-            "<->" => self.logic(LogicOp::Iff),
-            "=>" => self.contract(),
-            "=" => self.compare(CompareOp::Eq),
-            "<" => self.compare(CompareOp::Lt),
-            "%" => self.remainder(),
-            _ => self.take_long(word),
-        }
-    }
-}
-
 /// The outputs of a text: each formula or contract that no operator takes.
 fn outputs_of(alloc: Global, text: &str) -> Result<Vec<Output>> {
-    let mut operands = Operands {
-        alloc,
-        terms: Vec::new(alloc),
-        outs: Vec::new(alloc),
-    };
+    let mut operands = Operands::new(alloc);
     for word in text.split_whitespace() {
         operands.take(word)?;
     }
-    Ok(operands.outs)
+    Ok(operands.into_outputs())
 }
 
 /// The rows of a text; commas part the columns.
@@ -190,16 +34,6 @@ fn rows_of(alloc: Global, text: &str) -> Result<List<List<i64>>> {
     Ok(rows)
 }
 
-fn letter(word: Word) -> &'static str {
-    match word {
-        Word::True => "T",
-        Word::False => "F",
-        Word::Inactive => "inactive",
-        Word::Invalid => "invalid",
-        Word::Verified => "verified",
-    }
-}
-
 /// All that is told after each row: its number, and the output, the time and the word of each report.
 fn told(alloc: Global, style: Style, outs: &[Output], rows: &[List<i64>]) -> Result<String>
     requires few { length outs.now ≤ 2 ^ 32 }
@@ -210,7 +44,7 @@ fn told(alloc: Global, style: Style, outs: &[Output], rows: &[List<i64>]) -> Res
         write!(text, "{row}:")?;
         let all = reports(alloc, style, outs, &rows[..row]).map_err(fault)?;
         for report in all.as_slice() {
-            let (out, time, word) = (report.out, report.time, letter(report.word));
+            let (out, time, word) = (report.out, report.time, report.word.text());
             write!(text, " {out}:{time},{word}")?;
         }
         text.push_str("\n")?;
@@ -224,7 +58,7 @@ fn known(alloc: Global, outs: &[Output], rows: &[List<i64>]) -> Result<String> {
     for output in outs {
         let all = words(alloc, rows, output).map_err(fault)?;
         for word in all.as_slice() {
-            text.push_str(letter(*word))?;
+            text.push_str(word.text())?;
         }
         text.push_str("\n")?;
     }
