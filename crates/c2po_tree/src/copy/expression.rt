@@ -23,9 +23,9 @@ fn copy_all(alloc: Global, exprs: &[Expr]) -> Result<Vec<Expr>, AllocError>
     Ok(copies)
 }
 
-/// A copy of an operand.
+/// A copy of an operand, in a box.
 #[cycle(copying)]
-fn copy_box(alloc: Global, expr: &Expr) -> Result<Box<Expr>, AllocError>
+fn boxed(alloc: Global, expr: &Expr) -> Result<Box<Expr>, AllocError>
     ensures { IfOk result (λ copy. shape copy.value ≡ shape expr.now) }
 {
     let copy = copy_expr(alloc, expr)?;
@@ -47,7 +47,7 @@ fn copy_enclosed(alloc: Global, bracket: Bracket, elements: &[Expr]) -> Result<E
 fn copy_picked(alloc: Global, line: u32, whole: &Expr, field: &Name) -> Result<Expr, AllocError>
     ensures { IfOk result (λ copy. shape copy ≡ pick line (shape whole.now) field.now) }
 {
-    let whole = copy_box(alloc, whole)?;
+    let whole = boxed(alloc, whole)?;
     let node = Node::Pick(whole, field.copy());
     Ok(Expr { line, node })
 }
@@ -57,13 +57,13 @@ fn copy_picked(alloc: Global, line: u32, whole: &Expr, field: &Name) -> Result<E
 fn copy_behind(alloc: Global, prefix: Prefix, operand: &Expr) -> Result<Expr, AllocError>
     ensures { IfOk result (λ copy. shape copy ≡ prefixed prefix (shape operand.now)) }
 {
-    let operand = copy_box(alloc, operand)?;
+    let operand = boxed(alloc, operand)?;
     Ok(prefixed_by(prefix, operand))
 }
 
 /// A copy of an operand, joined by an operator to the one at its left.
 #[cycle(copying)]
-fn copy_joined(
+fn join_copy(
     alloc: Global,
     line: u32,
     binary: Infix,
@@ -73,7 +73,7 @@ fn copy_joined(
     ensures { IfOk result (λ copy. shape copy
         ≡ joined line binary (shape left.value) (shape operand.now)) }
 {
-    let operand = copy_box(alloc, operand)?;
+    let operand = boxed(alloc, operand)?;
     Ok(joined_by(line, binary, left, operand))
 }
 
@@ -91,7 +91,7 @@ fn copy_quantified(
     ensures { IfOk result (λ copy. shape copy
         ≡ quantified line quantifier variable.now (shape set.value) number (shape body.now)) }
 {
-    let body = copy_box(alloc, body)?;
+    let body = boxed(alloc, body)?;
     Ok(quantify(line, quantifier, variable.copy(), set, number, body))
 }
 
@@ -116,34 +116,22 @@ pub(super) fn copy_expr(alloc: Global, expr: &Expr) -> Result<Expr, AllocError>
         Node::Window(op, low, high, a) => {
             copy_behind(alloc, Prefix::Window(line, *op, *low, *high), a)
         }
-        Node::Arith(op, a, b) => {
-            let a = copy_box(alloc, a)?;
-            copy_joined(alloc, line, Infix::Arith(*op), b, a)
-        }
-        Node::Compare(op, a, b) => {
-            let a = copy_box(alloc, a)?;
-            copy_joined(alloc, line, Infix::Compare(*op), b, a)
-        }
-        Node::Logic(op, a, b) => {
-            let a = copy_box(alloc, a)?;
-            copy_joined(alloc, line, Infix::Logic(*op), b, a)
-        }
+        Node::Arith(op, a, b) => join_copy(alloc, line, Infix::Arith(*op), b, boxed(alloc, a)?),
+        Node::Compare(op, a, b) => join_copy(alloc, line, Infix::Compare(*op), b, boxed(alloc, a)?),
+        Node::Logic(op, a, b) => join_copy(alloc, line, Infix::Logic(*op), b, boxed(alloc, a)?),
         Node::Between(op, low, high, a, b) => {
-            let a = copy_box(alloc, a)?;
-            copy_joined(alloc, line, Infix::Between(*op, *low, *high), b, a)
+            let infix = Infix::Between(*op, *low, *high);
+            join_copy(alloc, line, infix, b, boxed(alloc, a)?)
         }
-        Node::Each(name, set, body) => {
-            let set = copy_box(alloc, set)?;
-            copy_quantified(alloc, line, Quantifier::Each, name, 0, body, set)
+        Node::Each(x, set, e) => {
+            copy_quantified(alloc, line, Quantifier::Each, x, 0, e, boxed(alloc, set)?)
         }
-        Node::Exists(name, set, body) => {
-            let set = copy_box(alloc, set)?;
-            copy_quantified(alloc, line, Quantifier::Exists, name, 0, body, set)
+        Node::Exists(x, set, e) => {
+            copy_quantified(alloc, line, Quantifier::Exists, x, 0, e, boxed(alloc, set)?)
         }
-        Node::Count(op, name, set, number, body) => {
-            let set = copy_box(alloc, set)?;
+        Node::Count(op, x, set, n, e) => {
             let quantifier = Quantifier::Count(*op);
-            copy_quantified(alloc, line, quantifier, name, *number, body, set)
+            copy_quantified(alloc, line, quantifier, x, *n, e, boxed(alloc, set)?)
         }
     }
 }
