@@ -1,5 +1,5 @@
 -- Operands one by one.
-use Rattle.std.proofs.Common.{◌≡◌, ℕ, zero, suc, ◌+◌, ◌≤◌, ◌<◌, true, ◌&&◌, List, [], ◌∷◌, ◌++◌, length, drop, get_or, Option, Some, slice_get, option_map, Ok, Err, refl, sym, ap, subst, ◌∙◌, arith, append_assoc, Vec, Global}
+use Rattle.std.proofs.Common.{◌≡◌, ℕ, zero, suc, ◌+◌, ◌≤◌, ◌<◌, true, ◌&&◌, List, [], ◌∷◌, ◌++◌, length, drop, get_or, Some, slice_get, option_map, Ok, Err, refl, sym, ap, subst, ◌∙◌, arith, append_assoc, Vec, Global}
 use Rattle.std.proofs.Math.ListN.{drop_of_length-le}
 use Rattle.std.proofs.Math.Nat.{suc-add}
 use Rattle.std.proofs.lemmas.List.{append-nil}
@@ -11,8 +11,6 @@ use Rattle.c2po_kinds.specs.declared.kind.Kind.{Kind}
 use Rattle.c2po_kinds.specs.declared.fault.TypeFault.{TypeFault}
 use Rattle.name_table.specs.Tables.{Table}
 use Rattle.c2po_kinds.specs.declared.fault.TypeFault.TheVariants.{Memory}
-use Rattle.c2po_kinds.specs.declared.kind.Meaning.{Meaning}
-use Rattle.c2po_kinds.specs.declared.declarations.Declarations.{Declarations}
 use Rattle.c2po_kinds.specs.Checking.{Checked, ◌>>=◌, Fails}
 use Rattle.c2po_kinds.proofs.Turns.{drop-first, fails-bind}
 use Rattle.c2po_kinds.specs.Kinds.{Placed, same_kind, fit, known_built, grouped}
@@ -105,10 +103,10 @@ module _ (e : Expr) (es : Vec Expr Global) (inner : List Expr) (seen : Visible) 
   group-fails fault node h = subst (λ s. Fails fault (kind_of s seen)) (sym (shape_of-Group e es node))
       (fails-bind fault (kinds_of (shapes es.items) seen) _ (subst (λ fs. Fails fault (kinds_of (shapes fs) seen)) same h))
 
-  pub build-kind : (x : List ℕ) (ps qs : List Placed) (d : Declarations) (m : Option Meaning) → e.node ≡ Build x es → kinds_of (shapes inner) seen ≡ Ok qs
-      → ps ≡ qs → d ≡ seen.declared → m ≡ meaning_of x seen → known_built e.line d ps m ≡ kind_of (shape e) seen
-  build-kind x ps qs d m node h p declared meaning =
-      ap (λ y. known_built e.line y ps m) declared ∙ ap (λ y. known_built e.line seen.declared y m) p ∙ ap (known_built e.line seen.declared qs) meaning
+  pub build-kind : (x : List ℕ) (ps qs : List Placed) → e.node ≡ Build x es → kinds_of (shapes inner) seen ≡ Ok qs
+      → ps ≡ qs → known_built e.line seen.declared ps (meaning_of x seen) ≡ kind_of (shape e) seen
+  build-kind x ps qs node h p =
+      ap (λ y. known_built e.line seen.declared y (meaning_of x seen)) p
       ∙ sym (ap (λ s. kind_of s seen) (shape_of-Build e x es node)
       ∙ ap (λ r. r >>= λ ps. known_built e.line seen.declared ps (meaning_of x seen)) (ap (λ fs. kinds_of (shapes fs) seen) (sym same) ∙ h))
 

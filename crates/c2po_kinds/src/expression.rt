@@ -4,8 +4,8 @@ ghost use Rattle.std.specs.Prelude.{◌≡◌};
 ghost use Rattle.c2po_tree.specs.Shape.{shape, shapes};
 ghost use Rattle.c2po_kinds.specs.Checking.{Gives};
 ghost use Rattle.c2po_kinds.specs.Kinds as kinds;
-ghost use Rattle.c2po_kinds.specs.Scopes.{visible};
-ghost use Rattle.c2po_kinds.specs.Expressions.{kind_of as kind_in, kinds_of as kinds_in, within_bounds, quantified};
+ghost use Rattle.c2po_kinds.specs.Scopes.{meaning_of, visible};
+ghost use Rattle.c2po_kinds.specs.Expressions.{kind_of as kind_in, kinds_of as kinds_in, joined, quantified, windowed, within_bounds};
 
 use crate::operand::{
     TRUTH, WHOLE, are_same, build, expect, gather, is_same, member_of, pick, value_of,
@@ -71,6 +71,69 @@ fn quantified(
     expect(line, is_same(kind, TRUTH), TRUTH)
 }
 
+/// The kind of a struct's value, from the name in front of its operands.
+fn built(
+    line: u32,
+    scope: &Scope<'_>,
+    operands: &[(u32, Kind)],
+    name: &Name,
+) -> Result<Kind, TypeFault>
+    ensures { Gives (λ k. k) result (kinds.known_built line (visible scope.now).declared
+        operands.now (meaning_of name.now (visible scope.now))) }
+{
+    build(line, declared_in(scope), operands, meaning(scope, name))
+}
+
+/// The kind that an operator between whole numbers gives, from the kind at its left and its right operand.
+#[cycle(kinds)]
+fn numbers(
+    alloc: Global,
+    scope: &Scope<'_>,
+    line: u32,
+    left: Kind,
+    right: &Expr,
+    given: Kind,
+) -> Result<Kind, TypeFault>
+    ensures { Gives (λ k. k) result
+        (joined line kinds.whole given left (shape right.now) (visible scope.now)) }
+{
+    let right = kind_of(alloc, scope, right)?;
+    expect(line, are_same(left, right, WHOLE), given)
+}
+
+/// The kind of an operator between truths, from the kind at its left and its right operand.
+#[cycle(kinds)]
+fn truths(
+    alloc: Global,
+    scope: &Scope<'_>,
+    line: u32,
+    left: Kind,
+    right: &Expr,
+) -> Result<Kind, TypeFault>
+    ensures { Gives (λ k. k) result
+        (joined line kinds.truth kinds.truth left (shape right.now) (visible scope.now)) }
+{
+    let right = kind_of(alloc, scope, right)?;
+    expect(line, are_same(left, right, TRUTH), TRUTH)
+}
+
+/// The kind of a temporal operator over one operand.
+#[cycle(kinds)]
+fn in_window(
+    alloc: Global,
+    scope: &Scope<'_>,
+    line: u32,
+    low: u64,
+    high: u64,
+    operand: &Expr,
+) -> Result<Kind, TypeFault>
+    ensures { Gives (λ k. k) result
+        (windowed line low high (shape operand.now) (visible scope.now)) }
+{
+    let kind = kind_of(alloc, scope, operand)?;
+    window(line, low, high, is_same(kind, TRUTH))
+}
+
 /// The kind of an expression, at a place where a scope is visible.
 ///
 /// Errors: the first fault of names and kinds, operands first and from the left, with the line of its expression;
@@ -86,64 +149,32 @@ pub fn kind_of(alloc: Global, scope: &Scope<'_>, expr: &Expr) -> Result<Kind, Ty
         Node::Ref(name) => value_of(line, meaning(scope, name)),
         Node::Build(name, arguments) => {
             let kinds = kinds_of(alloc, scope, arguments.as_slice())?;
-            build(
-                line,
-                declared_in(scope),
-                kinds.as_slice(),
-                meaning(scope, name),
-            )
+            built(line, scope, kinds.as_slice(), name)
         }
         Node::Group(elements) => {
             let kinds = kinds_of(alloc, scope, elements.as_slice())?;
             gather(line, kinds.as_slice())
         }
-        Node::Pick(inner, field) => {
-            let kind = kind_of(alloc, scope, inner)?;
-            pick(line, declared_in(scope), field, kind)
-        }
-        Node::Minus(inner) => {
-            let kind = kind_of(alloc, scope, inner)?;
-            expect(line, is_same(kind, WHOLE), WHOLE)
-        }
-        Node::Not(inner) => {
-            let kind = kind_of(alloc, scope, inner)?;
-            expect(line, is_same(kind, TRUTH), TRUTH)
-        }
-        Node::Arith(_, left, right) => {
-            let left = kind_of(alloc, scope, left)?;
-            let right = kind_of(alloc, scope, right)?;
-            expect(line, are_same(left, right, WHOLE), WHOLE)
-        }
-        Node::Compare(_, left, right) => {
-            let left = kind_of(alloc, scope, left)?;
-            let right = kind_of(alloc, scope, right)?;
-            expect(line, are_same(left, right, WHOLE), TRUTH)
-        }
-        Node::Logic(_, left, right) => {
-            let left = kind_of(alloc, scope, left)?;
-            let right = kind_of(alloc, scope, right)?;
-            expect(line, are_same(left, right, TRUTH), TRUTH)
-        }
-        Node::Window(_, low, high, inner) => {
-            let kind = kind_of(alloc, scope, inner)?;
-            window(line, *low, *high, is_same(kind, TRUTH))
-        }
-        Node::Between(_, low, high, left, right) => {
-            let left = kind_of(alloc, scope, left)?;
-            let right = kind_of(alloc, scope, right)?;
+        Node::Pick(a, field) => pick(line, declared_in(scope), field, kind_of(alloc, scope, a)?),
+        Node::Minus(a) => expect(line, is_same(kind_of(alloc, scope, a)?, WHOLE), WHOLE),
+        Node::Not(a) => expect(line, is_same(kind_of(alloc, scope, a)?, TRUTH), TRUTH),
+        Node::Arith(_, a, b) => numbers(alloc, scope, line, kind_of(alloc, scope, a)?, b, WHOLE),
+        Node::Compare(_, a, b) => numbers(alloc, scope, line, kind_of(alloc, scope, a)?, b, TRUTH),
+        Node::Logic(_, a, b) => truths(alloc, scope, line, kind_of(alloc, scope, a)?, b),
+        Node::Window(_, low, high, a) => in_window(alloc, scope, line, *low, *high, a),
+        Node::Between(_, low, high, a, b) => {
+            let left = kind_of(alloc, scope, a)?;
+            let right = kind_of(alloc, scope, b)?;
             window(line, *low, *high, are_same(left, right, TRUTH))
         }
-        Node::Each(variable, set, body) => {
-            let set = kind_of(alloc, scope, set)?;
-            quantified(alloc, scope, line, variable, set, 0, body)
+        Node::Each(x, set, e) => {
+            quantified(alloc, scope, line, x, kind_of(alloc, scope, set)?, 0, e)
         }
-        Node::Exists(variable, set, body) => {
-            let set = kind_of(alloc, scope, set)?;
-            quantified(alloc, scope, line, variable, set, 0, body)
+        Node::Exists(x, set, e) => {
+            quantified(alloc, scope, line, x, kind_of(alloc, scope, set)?, 0, e)
         }
-        Node::Count(_, variable, set, number, body) => {
-            let set = kind_of(alloc, scope, set)?;
-            quantified(alloc, scope, line, variable, set, *number, body)
+        Node::Count(_, x, set, n, e) => {
+            quantified(alloc, scope, line, x, kind_of(alloc, scope, set)?, *n, e)
         }
     }
 }

@@ -24,9 +24,9 @@ kind_of-returns-in_err-kinds-in-Group t c =
 pub kind_of-returns-in_ok-kinds-in-Build : goal.kind_of-returns-in_ok-kinds-in-Build
 kind_of-returns-in_ok-kinds-in-Build t c = record {
   kind =
-      subst (Gives (λ k. k) c.build.result) (build-kind c.args.expr.now c.in-Build.arguments c.as_slice.result.now (visible c.args.scope.now) c.as_slice.ensures.value
-      c.in-Build.name c.as_slice-in-Build.result.now _ c.declared_in.result.now c.meaning-in-Build.result
-      c.in-Build.is c.in_ok-kinds-in-Build.ensures c.as_slice-in-Build.ensures.value c.declared_in.ensures c.meaning-in-Build.ensures) c.build.ensures;
+      subst (Gives (λ k. k) c.built.result) (build-kind c.args.expr.now c.in-Build.arguments c.as_slice.result.now (visible c.args.scope.now) c.as_slice.ensures.value
+      c.in-Build.name c.as_slice-in-Build.result.now _
+      c.in-Build.is c.in_ok-kinds-in-Build.ensures c.as_slice-in-Build.ensures.value) c.built.ensures;
 }
 
 pub kind_of-returns-in_ok-kinds-in-Group : goal.kind_of-returns-in_ok-kinds-in-Group
