@@ -1,7 +1,8 @@
 //! Lengths of the queues of future-time instructions.
 
 ghost use Rattle.std.specs.Prelude.{◌≡◌, ℕ, ◌+◌, ◌-◌, ◌≤◌, ◌<◌, ◌^◌, ◌∷◌, [], length, map, slice_index, max, sum, All, IfOk, OnOk, vec_len};
-ghost use Rattle.mltl_base.specs.Queues.{AreInOrder, IsAfterOperands, HasBounds, HasPastBounds, NamesInstructions, ReportsInstructions, operands, reported, best_delays, worst_delays, delay_beside, widest_beside, widest, readers, queue_lengths as lengths, box_counts as counts, slot_count as slots};
+ghost use Rattle.mltl_base.specs.Queues.{AreInOrder, IsAfterOperands, HasBounds, ReportsInstructions, operands, reported, delay_beside, widest_beside, widest, readers, queue_lengths as lengths, slot_count as slots};
+ghost use Rattle.delay_sizes.specs.Sizing.{AreDelaysOf, AreSizesOf, IsSizable};
 
 use crate::boxes::box_counts;
 use crate::delay_lists::Delays;
@@ -32,18 +33,9 @@ impl From<AllocError> for SizeFault {
 
 /// The length of each queue and the most boxes of each Since.
 pub fn queue_sizes(alloc: Global, graph: &Graph, delays: &Delays) -> Result<Sizes, SizeFault>
-    requires few_ft { length graph.now.ft < 2 ^ 32 }
-    requires few_pt { length graph.now.pt < 2 ^ 32 }
-    requires in_order { AreInOrder graph.now.ft }
-    requires bounded { All (HasBounds MAX_BOUND) graph.now.ft }
-    requires bounded_past { All (HasPastBounds MAX_BOUND) graph.now.pt }
-    requires named { All (NamesInstructions (length graph.now.ft) (length graph.now.pt))
-        graph.now.outs }
-    requires best { delays.now.best ≡ best_delays graph.now.ft }
-    requires worst { delays.now.worst ≡ worst_delays graph.now.ft }
-    requires in_time { All (λ rows. rows ≤ MAX_DELAY) delays.now.worst }
-    ensures ft { IfOk result (λ sizes. sizes.ft ≡ lengths graph.now.ft graph.now.outs) }
-    ensures pt { IfOk result (λ sizes. sizes.pt ≡ counts graph.now.pt) }
+    requires graph { IsSizable graph.now }
+    requires delays { AreDelaysOf graph.now.ft delays.now }
+    ensures sizes { IfOk result (AreSizesOf graph.now) }
     ensures fits { OnOk result (slots graph.now.ft graph.now.pt graph.now.outs ≤ MAX_SLOTS) }
     ensures too_many { result ≡ Err SizeFault.TooManySlots
         → MAX_SLOTS < slots graph.now.ft graph.now.pt graph.now.outs }
@@ -67,9 +59,7 @@ pub fn queue_lengths(
     requires in_order { AreInOrder ft.now }
     requires bounded { All (HasBounds MAX_BOUND) ft.now }
     requires reported { All (ReportsInstructions (length ft.now)) outs.now }
-    requires best { delays.now.best ≡ best_delays ft.now }
-    requires worst { delays.now.worst ≡ worst_delays ft.now }
-    requires in_time { All (λ rows. rows ≤ MAX_DELAY) delays.now.worst }
+    requires delays { AreDelaysOf ft.now delays.now }
     ensures queues { IfOk result (λ sizes. sizes ≡ lengths ft.now outs.now) }
     ensures small { IfOk result (All (λ n. n ≤ MAX_DELAY + 1)) }
 {

@@ -11,4 +11,4 @@ slot_count-requires c =
     let pts : length c.in_ok-pt.pt ≡ length c.args.graph.now.pt = ap length c.in_ok-pt.ensures.counted ∙ length-map c.args.graph.now.pt boxes_of in
     let slots : sum c.in_ok-ft.ft ≤ length c.in_ok-ft.ft * 16777217 = sum_by-le (λ x. x) 16777217 c.in_ok-ft.ft c.in_ok-ft.ensures.small in
     let boxes : sum c.in_ok-pt.pt ≤ length c.in_ok-pt.pt * 1048576 = sum_by-le (λ x. x) 1048576 c.in_ok-pt.pt c.in_ok-pt.ensures.small in
-    omega (arith, fts, pts, slots, boxes, c.requires.few_ft, c.requires.few_pt)
+    omega (arith, fts, pts, slots, boxes, c.requires.graph.few_ft, c.requires.graph.few_pt)
