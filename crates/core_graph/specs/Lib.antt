@@ -5,3 +5,4 @@ pub mod Images
 pub mod Walks
 pub mod Reading
 pub mod Listings
+pub mod CountedWalks

@@ -4,10 +4,11 @@
 
 ghost use Rattle.std.specs.Prelude.{◌≡◌, ℕ, ◌<◌, ◌≤◌, Err, [], ◌∷◌, ◌++◌, List, length, All, MatchOption, OnOk, IfOk};
 ghost use Rattle.mltl_base.specs.declared.limits.TheConstants.{MAX_INSTRUCTIONS};
+ghost use Rattle.core_graph.specs.CountedWalks.{IsCountedWalk};
 ghost use Rattle.core_graph.specs.Items.{AreBelow, IsForest, operands_of, tree_at, trees};
 ghost use Rattle.core_graph.specs.Listings.{count_in};
 ghost use Rattle.core_graph.specs.Trees.{add_tree, completed};
-ghost use Rattle.core_graph.specs.Walks.{AreDone, IsFirstOpen, IsStack, IsWalk, finish, trees_of, work};
+ghost use Rattle.core_graph.specs.Walks.{AreDone, IsFirstOpen, IsStack, finish, trees_of, work};
 
 use crate::forest::Forest;
 use crate::graph::GraphFault;
@@ -87,18 +88,13 @@ impl Walk {
         root: usize,
         part: Part,
     ) -> Result<(), GraphFault>
-        requires forest { IsForest forest.now }
-        requires walk { IsWalk forest.now self.old.order.items self.old.done.items }
-        requires counted { self.old.count
-            ≡ count_in part (trees_of forest.now self.old.order.items) }
+        requires walk { IsCountedWalk part forest.now self.old }
         requires few { self.old.count ≤ MAX_INSTRUCTIONS }
         requires there { root < length forest.now }
-        ensures walk { OnOk result (IsWalk forest.now self.new.order.items self.new.done.items) }
+        ensures walk { OnOk result (IsCountedWalk part forest.now self.new) }
         ensures visited { OnOk result (trees_of forest.now self.new.order.items
             ≡ add_tree (tree_at (trees forest.now) root)
             (trees_of forest.now self.old.order.items)) }
-        ensures counted { OnOk result
-            (self.new.count ≡ count_in part (trees_of forest.now self.new.order.items)) }
         ensures few { OnOk result (self.new.count ≤ MAX_INSTRUCTIONS) }
         ensures too_many { result ≡ Err GraphFault.TooManyNodes → MAX_INSTRUCTIONS
             < count_in part (add_tree (tree_at (trees forest.now) root)
@@ -125,16 +121,11 @@ impl Walk {
         stack: &mut Vec<usize>,
         top: usize,
     ) -> Result<(), AllocError>
-        requires forest { IsForest forest.now }
-        requires walk { IsWalk forest.now self.old.order.items self.old.done.items }
-        requires counted { self.old.count
-            ≡ count_in part (trees_of forest.now self.old.order.items) }
+        requires walk { IsCountedWalk part forest.now self.old }
         requires few { self.old.count ≤ MAX_INSTRUCTIONS }
         requires stack { IsStack forest.now self.old.done.items stack.old.items }
         requires top { (below : List ℕ) × (stack.old.items ≡ below ++ top ∷ []) }
-        ensures walk { OnOk result (IsWalk forest.now self.new.order.items self.new.done.items) }
-        ensures counted { OnOk result
-            (self.new.count ≡ count_in part (trees_of forest.now self.new.order.items)) }
+        ensures walk { OnOk result (IsCountedWalk part forest.now self.new) }
         ensures stack { OnOk result (IsStack forest.now self.new.done.items stack.new.items) }
         ensures goal { OnOk result (
             finish (trees_of forest.now stack.new.items) (trees_of forest.now self.new.order.items)

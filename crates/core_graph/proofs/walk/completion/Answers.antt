@@ -15,16 +15,19 @@ use Rattle.core_graph.proofs.walk.completion.Goals as goal
 
 pub loop-root-init : goal.loop-root-init
 loop-root-init c = record {
-  walk = start_walk c.args.forest.now c.new.result.items c.in_ok-vec.field-0.items c.new.ensures.items
-      (c.in_ok-vec.ensures.items_if_clones_equal (λ y h. h) ∙ ap (λ (n : ℕ). replicate n false) c.len.ensures);
-  counted = ap (λ (ns : List ℕ). count_in c.args.part (trees_of c.args.forest.now ns)) (sym c.new.ensures.items);
+  walk = record {
+    forest = c.requires.forest;
+    walked = start_walk c.args.forest.now c.new.result.items c.in_ok-vec.field-0.items c.new.ensures.items
+        (c.in_ok-vec.ensures.items_if_clones_equal (λ y h. h) ∙ ap (λ (n : ℕ). replicate n false) c.len.ensures);
+    counted = ap (λ (ns : List ℕ). count_in c.args.part (trees_of c.args.forest.now ns)) (sym c.new.ensures.items);
+  };
   few = omega arith;
   visited = ap (trees_of c.args.forest.now) c.new.ensures.items;
 }
 
 pub returns-clause-within : goal.returns-clause-within
 returns-clause-within c = λ k d l.
-    c.loop-root.invariant.walk.within k (get_or c.loop-root.walk.order.items k d) (slice_get-get_or c.loop-root.walk.order.items k d l)
+    c.loop-root.invariant.walk.walked.within k (get_or c.loop-root.walk.order.items k d) (slice_get-get_or c.loop-root.walk.order.items k d l)
 
 pub returns-in_err-visit-clause-too_many : goal.returns-in_err-visit-clause-too_many
 returns-in_err-visit-clause-too_many c = λ e.

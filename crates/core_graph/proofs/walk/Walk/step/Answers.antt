@@ -15,18 +15,18 @@ get-item-requires c = top_inside c.args.forest.now c.args.self.now.done.items c.
 pub first_open-requires : goal.first_open-requires
 first_open-requires c =
     let inside : c.args.top < length c.args.forest.now = top_inside c.args.forest.now c.args.self.now.done.items c.args.stack.now.items c.requires.top.0 c.args.top c.requires.stack c.requires.top.1 in
-    let below : AreBelow c.args.top (operands_of c.get-item.result) = c.requires.forest.over c.args.top c.get-item.result c.get-item.ensures in
-    let size : length c.deref.result.now ≡ length c.args.forest.now = ap length c.deref.ensures.value ∙ c.requires.walk.count in
+    let below : AreBelow c.args.top (operands_of c.get-item.result) = c.requires.walk.forest.over c.args.top c.get-item.result c.get-item.ensures in
+    let size : length c.deref.result.now ≡ length c.args.forest.now = ap length c.deref.ensures.value ∙ c.requires.walk.walked.count in
     subst (λ (o : Operands). AreBelow (length c.deref.result.now) o) (sym c.operands.ensures)
     (subst (λ (n : ℕ). AreBelow n (operands_of c.get-item.result)) (sym size) (below_length c.args.top (length c.args.forest.now) (operands_of c.get-item.result) inside below))
 
 pub index_mut-requires : goal.index_mut-requires
 index_mut-requires c =
     let inside : c.args.top < length c.args.forest.now = top_inside c.args.forest.now c.args.self.now.done.items c.args.stack.now.items c.requires.top.0 c.args.top c.requires.stack c.requires.top.1 in
-    omega (arith, c.requires.walk.count)
+    omega (arith, c.requires.walk.walked.count)
 
 at_some : (c : In_ok-push-in-Some) → IsAt c.args.forest.now c.args.self.now.order.items c.args.self.now.done.items c.args.stack.now.items c.args.top c.get-item.result c.requires.top.0
-at_some c = record { forest = c.requires.forest; walk = c.requires.walk; waiting = c.requires.stack; latest = c.requires.top.1; there = c.get-item.ensures }
+at_some c = record { forest = c.requires.walk.forest; walk = c.requires.walk.walked; waiting = c.requires.stack; latest = c.requires.top.1; there = c.get-item.ensures }
 
 first : (c : In_ok-push-in-Some) → IsFirstOpen c.args.self.now.done.items (operands_of c.get-item.result) c.in-Some.operand
 first c =
@@ -49,7 +49,7 @@ returns-in_ok-push-in-Some-clause-less c =
     c.in-Some.operand c.push.new.self.items (at_some c) (first c) c.in_ok-push-in-Some.ensures.items
 
 at_none : (c : After-pop-top) → IsAt c.args.forest.now c.args.self.now.order.items c.args.self.now.done.items c.args.stack.now.items c.args.top c.get-item.result c.requires.top.0
-at_none c = record { forest = c.requires.forest; walk = c.requires.walk; waiting = c.requires.stack; latest = c.requires.top.1; there = c.get-item.ensures }
+at_none c = record { forest = c.requires.walk.forest; walk = c.requires.walk.walked; waiting = c.requires.stack; latest = c.requires.top.1; there = c.get-item.ensures }
 
 all_done : (c : After-pop-top) → AreDone c.args.self.now.done.items (operands_of c.get-item.result)
 all_done c =
@@ -60,14 +60,13 @@ rest : (c : After-pop-top) → c.requires.top.0 ≡ c.pop-top.new.self.items
 rest c = popped c.args.stack.now.items c.requires.top.0 c.pop-top.new.self.items c.args.top (vec_len c.args.stack.now) c.requires.top.1 (omega arith) c.pop-top.ensures.rest
 
 pub returns-in_ok-push-in-None-clause-walk : goal.returns-in_ok-push-in-None-clause-walk
-returns-in_ok-push-in-None-clause-walk c =
-    complete_walk c.args.forest.now c.args.self.now.order.items c.args.self.now.done.items c.args.stack.now.items c.args.top c.get-item.result c.requires.top.0
-    c.push-in-None.new.self.items (set c.args.self.now.done.items c.args.top true) (at_none c) (all_done c) c.in_ok-push-in-None.ensures.items refl
-
-pub returns-in_ok-push-in-None-clause-counted : goal.returns-in_ok-push-in-None-clause-counted
-returns-in_ok-push-in-None-clause-counted c =
-    counted_push c.args.part c.args.forest.now c.args.self.now.order.items c.push-in-None.new.self.items c.args.top c.get-item.result c.args.self.now.count c.from.result
-    c.requires.forest c.get-item.ensures c.in_ok-push-in-None.ensures.items c.requires.counted (c.from.ensures ∙ ap bool_byte c.is_in.ensures)
+returns-in_ok-push-in-None-clause-walk c = record {
+  forest = c.requires.walk.forest;
+  walked = complete_walk c.args.forest.now c.args.self.now.order.items c.args.self.now.done.items c.args.stack.now.items c.args.top c.get-item.result c.requires.top.0
+      c.push-in-None.new.self.items (set c.args.self.now.done.items c.args.top true) (at_none c) (all_done c) c.in_ok-push-in-None.ensures.items refl;
+  counted = counted_push c.args.part c.args.forest.now c.args.self.now.order.items c.push-in-None.new.self.items c.args.top c.get-item.result c.args.self.now.count c.from.result
+      c.requires.walk.forest c.get-item.ensures c.in_ok-push-in-None.ensures.items c.requires.walk.counted (c.from.ensures ∙ ap bool_byte c.is_in.ensures);
+}
 
 pub returns-in_ok-push-in-None-clause-stack : goal.returns-in_ok-push-in-None-clause-stack
 returns-in_ok-push-in-None-clause-stack c =

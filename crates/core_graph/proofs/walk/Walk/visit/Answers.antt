@@ -14,21 +14,20 @@ use Rattle.core_graph.proofs.walk.Walk.visit.Goals as goal
 pub returns-then-index-clause-visited : goal.returns-then-index-clause-visited
 returns-then-index-clause-visited c =
     let done : List Bool = c.args.self.now.done.items in
-    let inside : c.args.root < length done = omega (arith, c.requires.walk.count) in
+    let inside : c.args.root < length done = omega (arith, c.requires.walk.walked.count) in
     let read : slice_get done c.args.root ≡ Some c.index.result.now = slice_get_read done (length done) c.args.root c.index.result.now refl inside c.index.ensures in
-    done_already c.args.forest.now c.args.self.now.order.items done c.args.root c.requires.walk c.requires.there (read ∙ ap Some c.if-index.true)
+    done_already c.args.forest.now c.args.self.now.order.items done c.args.root c.requires.walk.walked c.requires.there (read ∙ ap Some c.if-index.true)
 
 pub loop-top-init : goal.loop-top-init
 loop-top-init c =
     let done : List Bool = c.args.self.now.done.items in
-    let inside : c.args.root < length done = omega (arith, c.requires.walk.count) in
+    let inside : c.args.root < length done = omega (arith, c.requires.walk.walked.count) in
     let read : slice_get done c.args.root ≡ Some c.index.result.now = slice_get_read done (length done) c.args.root c.index.result.now refl inside c.index.ensures in
     let stack : List ℕ = c.in_ok-stack.stack.items in
     let alone : stack ≡ c.args.root ∷ [] = c.in_ok-stack.ensures.items_if_clones_equal (λ y h. h) in
     record {
       walk = c.requires.walk;
       waiting = start_stack c.args.forest.now done stack c.args.root alone c.requires.there (read ∙ ap Some c.if-index.false);
-      counted = c.requires.counted;
       few = c.requires.few;
       goal = start_goal c.args.forest.now stack c.args.root (trees_of c.args.forest.now c.args.self.now.order.items) alone;
     }
@@ -48,6 +47,6 @@ returns-then-self-clause-too_many c = λ e.
     let end : count_in c.args.part (finish (trees_of items c.step.new.stack.items) sofar)
     ≡ count_in c.args.part (add_tree (tree_at (trees items) c.args.root) (trees_of items c.args.self.now.order.items))
     = ap (count_in c.args.part) (c.in_ok-step.ensures.goal ∙ c.loop-top.invariant.goal) in
-    let counted : c.step.new.self.count ≡ count_in c.args.part sofar = c.in_ok-step.ensures.counted in
+    let counted : c.step.new.self.count ≡ count_in c.args.part sofar = c.in_ok-step.ensures.walk.counted in
     let past : MAX_INSTRUCTIONS < c.step.new.self.count = c.if-self.true in
     omega arith
