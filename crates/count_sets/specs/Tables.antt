@@ -1,11 +1,19 @@
 -- The table of `least`, a row at a time: what its cells stand for.
 
-use Rattle.std.specs.Prelude.{◌≡◌, ℕ, ◌+◌, ◌*◌, ◌<◌, ◌≤◌, min, List, length, slice_get, slice_index, Some}
+use Rattle.std.specs.Prelude.{◌≡◌, ℕ, ◌+◌, ◌*◌, ◌^◌, ◌<◌, ◌≤◌, min, List, length, slice_get, slice_index, Some}
 use Rattle.count_sets.specs.declared.gate.Gate.{Gate}
 use Rattle.count_sets.specs.declared.gate.Gate.TheVariants.{Body, Not}
 use Rattle.count_sets.specs.declared.table.Plan.{Plan}
 use Rattle.count_sets.specs.Counting.{Counted, least}
 use Rattle.count_sets.specs.Gates.{formulas, formula_at, IsNetwork, IsShared}
+
+-- a plan of thresholds that a table can hold: the lowest is within the bodies, the highest is not below it and at least 1,
+-- and the numbers of gates have 32 bits
+pub record IsPlan (plan : Plan) : Type 0 where
+  pub asked : plan.lowest ≤ plan.bodies
+  pub order : plan.lowest ≤ plan.highest
+  pub some : 1 ≤ plan.highest
+  pub capped : plan.highest + plan.bodies < 2 ^ 31
 
 -- gate i is there and unfolds to a formula
 pub record Stands (gates : List Gate) (i : ℕ) (formula : Counted) : Type 0 where

@@ -15,8 +15,6 @@ use std::alloc::{AllocError, Global};
 /// The only error is want of memory.
 pub fn network(alloc: Global, op: CountOp, n: u32, m: u32) -> Result<List<Gate>, AllocError>
     requires some { 1 ≤ n }
-    requires bodies { n ≤ 65536 }
-    requires number { m ≤ 65536 }
     requires weight { 2 * n * (min m n + 1) + 4 ≤ 65536 }
     // over any truths of the bodies the last gate says how the number of true ones compares to m
     ensures counts { IfOk result (λ gates. (bodies : Seq Bool) → length bodies ≡ n

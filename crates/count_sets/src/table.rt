@@ -1,7 +1,7 @@
 //! The table of thresholds: the gate of "at least j of the first k bodies" in row k and column j.
 
 ghost use Rattle.std.specs.Prelude.{◌≡◌, ℕ, ◌+◌, ◌*◌, ◌^◌, ◌<◌, ◌≤◌, [], ◌∷◌, ◌++◌, length, OnOk, IfOk};
-ghost use Rattle.count_sets.specs.Tables.{IsTable, IsRising};
+ghost use Rattle.count_sets.specs.Tables.{IsPlan, IsRising, IsTable};
 
 use crate::gate::Gate;
 use mltl_base::List;
@@ -48,10 +48,7 @@ impl Table {
     /// Goes from row `k` to row `k + 1`, by the cells that the plan asks for.
     fn extend(&mut self, plan: Plan, k: u32) -> Result<(), AllocError>
         requires next { k < plan.bodies }
-        requires asked { plan.lowest ≤ plan.bodies }
-        requires order { plan.lowest ≤ plan.highest }
-        requires some { 1 ≤ plan.highest }
-        requires capped { plan.highest + plan.bodies < 2 ^ 31 }
+        requires plan { IsPlan plan }
         requires room { length self.old.gates + 2 * plan.highest + 1 < 2 ^ 32 }
         requires table { IsTable plan k self.old.gates self.old.row.items }
         requires rising { IsRising plan k self.old.gates self.old.row.items }
@@ -73,11 +70,8 @@ impl Table {
 
     /// The whole table of a plan.
     pub fn of(alloc: Global, plan: Plan) -> Result<Table, AllocError>
-        requires some_bodies { 1 ≤ plan.bodies }
-        requires asked { plan.lowest ≤ plan.bodies }
-        requires order { plan.lowest ≤ plan.highest }
-        requires some { 1 ≤ plan.highest }
-        requires capped { plan.highest + plan.bodies < 2 ^ 31 }
+        requires some { 1 ≤ plan.bodies }
+        requires plan { IsPlan plan }
         requires room { plan.bodies * (1 + 2 * plan.highest) < 2 ^ 31 }
         ensures table { IfOk result (λ table.
             IsTable plan plan.bodies table.gates table.row.items) }

@@ -13,11 +13,11 @@ loop-j-init c =
     = get_or_read c.args.self.now.row.items (c.max-first.result - 1) c.index-fewer.result.now inside c.index-fewer.ensures 0 in (
       begun c.args.plan c.args.k c.max-first.result c.in_ok-body.body c.index-fewer.result.now
           c.args.self.now.gates c.add.new.gates c.args.self.now.row.items
-          c.requires.table c.requires.next c.requires.asked c.requires.order c.requires.some
+          c.requires.table c.requires.next c.requires.plan.asked c.requires.plan.order c.requires.plan.some
           first c.in_ok-body.ensures.added c.in_ok-body.ensures.number read,
       shares_begun c.args.plan c.args.k c.max-first.result c.index-fewer.result.now
           c.args.self.now.gates c.add.new.gates c.args.self.now.row.items
-          c.requires.rising c.requires.order c.requires.some c.requires.next c.requires.asked
+          c.requires.rising c.requires.plan.order c.requires.plan.some c.requires.next c.requires.plan.asked
           first c.in_ok-body.ensures.added read,
     )
 
@@ -47,7 +47,7 @@ returns-clause-table c =
     let at : c.loop-j.j ≡ min (c.args.k + 1) c.args.plan.highest + 1 = omega arith in
     ended c.args.plan c.args.k c.max-first.result (length c.args.self.now.gates) c.in_ok-body.body c.loop-j.j
     c.loop-j.self.gates c.loop-j.self.row.items c.loop-j.fewer
-    c.loop-j.invariant.0 first at c.requires.next c.requires.asked c.requires.order c.requires.some c.requires.table.size
+    c.loop-j.invariant.0 first at c.requires.next c.requires.plan.asked c.requires.plan.order c.requires.plan.some c.requires.table.size
 
 pub returns-clause-rising : goal.returns-clause-rising
 returns-clause-rising c =
