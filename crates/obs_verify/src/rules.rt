@@ -3,6 +3,7 @@
 ghost use Rattle.std.specs.Prelude.{◌≡◌, ◌≤◌, ◌<◌, ◌^◌, All, IfOk, length};
 ghost use Rattle.mltl_base.specs.Queues.{AreInOrder, HasBounds, HasPastBounds, ReportsInstructions, best_delays, box_counts as boxes, queue_lengths as lengths, worst_delays};
 ghost use Rattle.mltl_base.specs.declared.interval.Part.TheVariants.{Ft, Pt};
+ghost use Rattle.delay_sizes.specs.Sizing.{AreDelaysOf};
 ghost use Rattle.obs_verify.specs.Layout.{HasLayout};
 ghost use Rattle.obs_verify.specs.WellFormed.{IsAnswer, first_fault, first_in, late_fault, or_else, size_fault, slots_fault};
 
@@ -58,9 +59,7 @@ fn check_sizes(alloc: Global, program: &Program, found: &Delays) -> Result<(), V
     requires bounded { All (HasBounds MAX_BOUND) program.now.ft }
     requires bounded_past { All (HasPastBounds MAX_BOUND) program.now.pt }
     requires reported { All (ReportsInstructions (length program.now.ft)) program.now.outs }
-    requires best { found.now.best ≡ best_delays program.now.ft }
-    requires worst { found.now.worst ≡ worst_delays program.now.ft }
-    requires in_time { All (λ rows. rows ≤ MAX_DELAY) found.now.worst }
+    requires delays { AreDelaysOf program.now.ft found.now }
     ensures { IsAnswer result (or_else (slots_fault program.now)
         (or_else
         (first_in (size_fault Ft (lengths program.now.ft program.now.outs)) 0 program.now.sizes.ft)
