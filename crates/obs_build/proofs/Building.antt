@@ -1,6 +1,6 @@
 -- The image of sound outputs within the limits is well-formed.
 
-use Rattle.std.proofs.Common.{◌≡◌, ◌≢◌, ℕ, ◌<◌, ◌≤◌, ◌^◌, true, None, List, [], All, Any, length, slice_index_or, refl, sym, ap, ap₂, subst, ◌∙◌, arith, inr}
+use Rattle.std.proofs.Common.{◌≡◌, ℕ, ◌<◌, ◌≤◌, ◌^◌, true, None, List, [], All, Any, length, slice_index_or, refl, sym, ap, ap₂, subst, ◌∙◌, arith, inr}
 use Rattle.std.proofs.lemmas.Bool.{le-leb, ltb-true}
 use Rattle.std.proofs.lemmas.List.{length-map}
 use Rattle.std.proofs.lemmas.List.FromFn.{length-map-range_with_len}
@@ -18,7 +18,7 @@ use Rattle.mltl_base.specs.declared.program.Program.{Program}
 use Rattle.mltl_base.specs.declared.program.StoredSignal.{StoredSignal}
 use Rattle.mltl_base.specs.Formula.{Core, ctrue, catom, cnot, cand, cuntil, csince}
 use Rattle.mltl_base.specs.Programs.{expressions}
-use Rattle.mltl_base.specs.Queues.{AreInOrder, HasBounds, HasPastBounds, NamesInstructions, box_counts, boxes_of, queue_length, queue_lengths, slot_count, worst_delays}
+use Rattle.mltl_base.specs.Queues.{NamesInstructions, box_counts, boxes_of, queue_length, queue_lengths, slot_count, worst_delays}
 use Rattle.mltl_base.specs.Subformulas.{Asked, HasListsOf, IsGraphOf, formulas_of, all_cores, cores_for, subformulas, bz_expressions, bz_instruction, ft_instruction, pt_instruction, ft_list, pt_list}
 use Rattle.mltl_base.proofs.Unfolding.{Deep, Each, IsClosedAfter, fold_all, fold_closed}
 use Rattle.mltl_base.proofs.Booleans.{HasAtom, fold_have, fold_whole}
@@ -29,6 +29,7 @@ use Rattle.plain_nodes.specs.Outputs.{asked, asked_by, asked_in, asked_over}
 use Rattle.mltl_base.specs.declared.signal.Signal.{Signal}
 use Rattle.mltl_base.proofs.Picking.{all_listed, cores_atoms, cores_of_engine}
 use Rattle.core_graph.specs.Limits.{AreFew}
+use Rattle.delay_sizes.specs.Sizing.{IsSizable}
 use Rattle.obs_verify.specs.declared.fault.VerifyFault.TheVariants.{Width, TooManySlots}
 use Rattle.obs_verify.specs.Layout.{HasLayout}
 use Rattle.obs_verify.specs.WellFormed.{IsWellFormed, bz_fault, first_in, ft_fault, output_fault, pt_fault, reports_within}
@@ -40,7 +41,7 @@ use Rattle.obs_build.specs.declared.fault.BuildFault.TheVariants.{TooManyNodes, 
 use Rattle.mltl_base.specs.Kinds.{kinds_of}
 use Rattle.obs_build.specs.Conditions.{IsBuildable}
 use Rattle.obs_build.specs.Image.{IsImageOf, stored_signals}
-use Rattle.obs_build.specs.Limits.{IsReason, IsWithinLimits, slots_of}
+use Rattle.obs_build.specs.Limits.{IsReason, IsSizeReason, IsWithinLimits, slots_of}
 use Rattle.obs_build.proofs.Parts.{AtCore, fold_expressions_all}
 use Rattle.obs_build.proofs.Cores.{deep_then, each_then}
 use Rattle.obs_build.proofs.Reading.{IsReadable}
@@ -210,18 +211,14 @@ module _ (spec : Expanded) (signals : List Signal) (columns : Columns) (program 
           (both_none _ _ (sizes_none Ft (queue_lengths program.ft program.outs) program.sizes.ft queues)
           (sizes_none Pt (box_counts program.pt) program.sizes.pt boxes)))))))))
 
--- what the sizes of a graph ask of it
-pub record IsSizable (graph : Graph) : Type 0 where
-  pub in_order : AreInOrder graph.ft
-  pub bounded : All (HasBounds 1048576) graph.ft
-  pub bounded_past : All (HasPastBounds 1048576) graph.pt
-  pub named : All (NamesInstructions (length graph.ft) (length graph.pt)) graph.outs
-
-pub sizable : (spec : Expanded) (signals : List Signal) (columns : Columns) (graph : Graph) → IsBuildable spec signals columns → IsGraphOf (asked_in columns.of_signal spec) graph → IsSizable graph
-sizable spec signals columns graph ready h =
+-- the graph of a specification that can be built is fit to be sized
+pub sizable : (spec : Expanded) (signals : List Signal) (columns : Columns) (graph : Graph) → IsBuildable spec signals columns → IsGraphOf (asked_in columns.of_signal spec) graph → AreFew (asked_in columns.of_signal spec) → IsSizable graph
+sizable spec signals columns graph ready h few =
     let program : Program = drafted signals columns graph in
     let draft : IsDraft spec signals columns program = is_draft spec signals columns graph h in
     record {
+      few_ft = omega (arith, few_ft spec signals columns program ready draft few);
+      few_pt = omega (arith, few_pt spec signals columns program ready draft few);
       in_order = in_order program (ft_rule spec signals columns program ready draft);
       bounded = bounded program (ft_rule spec signals columns program ready draft);
       bounded_past = bounded_past program (pt_rule spec signals columns program ready draft);
@@ -243,20 +240,16 @@ built spec signals columns program ready draft few queues boxes in_time fits = r
   image = record { version = draft.version; width = draft.width; lists = draft.lists; queues = queues; boxes = boxes; inputs = draft.kept };
 }
 
--- why a graph has no sizes
-pub reason : (asks : List Asked) (graph : Graph) (fault : BuildFault) → IsGraphOf asks graph → AreFew asks
-    → (fault ≡ TooLate → Any (λ rows. 16777216 < rows) (worst_delays graph.ft))
-    → (fault ≡ TooManySlots' → All (λ rows. rows ≤ 16777216) (worst_delays graph.ft))
-    → (fault ≡ TooManySlots' → 16777216 < slot_count graph.ft graph.pt graph.outs)
-    → fault ≢ TooManyNodes → IsReason asks fault
-reason asks graph TooManyNodes h few late early large known = absurd (known refl)
-reason asks graph TooLate h few late early large known = (few, subst (λ (ops : List FtOp). Any (λ rows. 16777216 < rows) (worst_delays ops)) h.ft (late refl))
-reason asks graph TooManySlots' h few late early large known =
+-- why a graph has no sizes, as a limit of the outputs
+pub reason : (asks : List Asked) (graph : Graph) (fault : BuildFault) → IsGraphOf asks graph → AreFew asks → IsSizeReason graph fault → IsReason asks fault
+reason asks graph TooManyNodes h few none = absurd none
+reason asks graph TooLate h few late = (few, subst (λ (ops : List FtOp). Any (λ rows. 16777216 < rows) (worst_delays ops)) h.ft late)
+reason asks graph TooManySlots' h few large =
     let same : slot_count graph.ft graph.pt graph.outs ≡ slots_of asks =
     ap (λ (ops : List FtOp). slot_count ops graph.pt graph.outs) h.ft
     ∙ (ap (λ (ops : List PtOp). slot_count (ft_list asks) ops graph.outs) h.pt ∙ ap (λ (os : List Out). slot_count (ft_list asks) (pt_list asks) os) h.reports) in
-    (few, subst (λ (ops : List FtOp). All (λ rows. rows ≤ 16777216) (worst_delays ops)) h.ft (early refl), subst (λ (n : ℕ). 16777216 < n) same (large refl))
-reason asks graph Memory h few late early large known = tt
+    (few, subst (λ (ops : List FtOp). All (λ rows. rows ≤ 16777216) (worst_delays ops)) h.ft large.0, subst (λ (n : ℕ). 16777216 < n) same large.1)
+reason asks graph Memory h few none = tt
 
 -- the image of what can be built within the limits keeps the verifier's rules
 pub image_built : (spec : Expanded) (signals : List Signal) (columns : Columns) (program : Program) → IsBuildable spec signals columns → IsWithinLimits (asked_in columns.of_signal spec) → IsImageOf signals columns (asked spec) program

@@ -1,24 +1,23 @@
 //! The back of the compiler: graph, sizes, stored signals, and the verifier.
 
-ghost use Rattle.std.specs.Prelude.{◌≡◌, ◌≢◌, ◌≤◌, ◌<◌, ◌^◌, All, Any, Err, IfErr, IfOk, OnOk, length};
-ghost use Rattle.mltl_base.specs.Queues.{AreInOrder, HasBounds, HasPastBounds, NamesInstructions, box_counts, queue_lengths, slot_count, worst_delays};
+ghost use Rattle.std.specs.Prelude.{◌≡◌, ◌≤◌, All, IfErr, IfOk, OnOk, length};
+ghost use Rattle.mltl_base.specs.Queues.{slot_count, worst_delays};
 ghost use Rattle.mltl_base.specs.Subformulas.{IsGraphOf};
-ghost use Rattle.plain_nodes.specs.Faults.{HasRanges};
 ghost use Rattle.plain_nodes.specs.Nodes.{AreSound, trees};
-ghost use Rattle.plain_nodes.specs.Outputs.{IsSound, NamesFormulas, asked, asked_in};
+ghost use Rattle.plain_nodes.specs.Outputs.{NamesFormulas, asked, asked_in};
 ghost use Rattle.core_graph.specs.Limits.{AreFew};
-ghost use Rattle.obs_verify.specs.Bound.{AreDifferent};
+ghost use Rattle.delay_sizes.specs.Sizing.{AreSizesOf, IsSizable};
 ghost use Rattle.obs_verify.specs.Layout.{HasLayout};
 ghost use Rattle.obs_verify.specs.WellFormed.{IsWellFormed};
-ghost use Rattle.mltl_base.specs.Kinds.{HaveOwnNames, ReadsSignals, kinds_of};
+ghost use Rattle.obs_build.specs.Conditions.{IsBuildable};
 ghost use Rattle.obs_build.specs.Image.{IsImageOf};
-ghost use Rattle.obs_build.specs.Limits.{IsReason, IsWithinLimits};
+ghost use Rattle.obs_build.specs.Limits.{IsReason, IsSizeReason, IsWithinLimits};
 
 use crate::fault::BuildFault;
 use crate::stored::store_signals;
 use core_graph::{GraphFault, to_core};
 use delay_sizes::{DelayFault, SizeFault, delays, queue_sizes};
-use mltl_base::limits::{MAX_BOUND, MAX_DELAY, MAX_SIGNALS, MAX_SLOTS};
+use mltl_base::limits::{MAX_DELAY, MAX_SLOTS};
 use mltl_base::{Columns, Graph, List, Program, Signal, Sizes};
 use obs_verify::{Checked, VerifyFault, verify};
 use plain_nodes::Expanded;
@@ -34,14 +33,7 @@ pub fn build(
     signals: &List<Signal>,
     columns: &Columns,
 ) -> Result<Checked, BuildFault>
-    requires sound { IsSound spec.now (length signals.now) }
-    requires faultless { All HasRanges (asked spec.now) }
-    requires kinds { All (ReadsSignals (kinds_of signals.now)) (asked spec.now) }
-    requires named { HaveOwnNames signals.now }
-    requires one_each { length columns.now.of_signal ≡ length signals.now }
-    requires below { All (λ column. column < columns.now.width) columns.now.of_signal }
-    requires different { AreDifferent columns.now.of_signal }
-    requires narrow { columns.now.width ≤ MAX_SIGNALS }
+    requires { IsBuildable spec.now signals.now columns.now }
     ensures image { IfOk result
         (λ checked. IsImageOf signals.now columns.now (asked spec.now) checked) }
     ensures within { OnOk result (IsWithinLimits (asked_in columns.now.of_signal spec.now)) }
@@ -82,24 +74,11 @@ fn graph_of(alloc: Global, spec: &Expanded, columns: &Columns) -> Result<Graph, 
 
 /// The sizes of a graph, or that it is too late or needs too many slots.
 fn sizes_of(alloc: Global, graph: &Graph) -> Result<Sizes, BuildFault>
-    requires few_ft { length graph.now.ft < 2 ^ 32 }
-    requires few_pt { length graph.now.pt < 2 ^ 32 }
-    requires in_order { AreInOrder graph.now.ft }
-    requires bounded { All (HasBounds MAX_BOUND) graph.now.ft }
-    requires bounded_past { All (HasPastBounds MAX_BOUND) graph.now.pt }
-    requires named { All
-        (NamesInstructions (length graph.now.ft) (length graph.now.pt)) graph.now.outs }
-    ensures ft { IfOk result (λ sizes. sizes.ft ≡ queue_lengths graph.now.ft graph.now.outs) }
-    ensures pt { IfOk result (λ sizes. sizes.pt ≡ box_counts graph.now.pt) }
+    requires { IsSizable graph.now }
+    ensures sizes { IfOk result (AreSizesOf graph.now) }
     ensures in_time { OnOk result (All (λ rows. rows ≤ MAX_DELAY) (worst_delays graph.now.ft)) }
     ensures fits { OnOk result (slot_count graph.now.ft graph.now.pt graph.now.outs ≤ MAX_SLOTS) }
-    ensures late { result ≡ Err BuildFault.TooLate
-        → Any (λ rows. MAX_DELAY < rows) (worst_delays graph.now.ft) }
-    ensures none_late { result ≡ Err BuildFault.TooManySlots
-        → All (λ rows. rows ≤ MAX_DELAY) (worst_delays graph.now.ft) }
-    ensures large { result ≡ Err BuildFault.TooManySlots
-        → MAX_SLOTS < slot_count graph.now.ft graph.now.pt graph.now.outs }
-    ensures few { result ≢ Err BuildFault.TooManyNodes }
+    ensures refused { IfErr result (IsSizeReason graph.now) }
 {
     let delays = match delays(alloc, &graph.ft) {
         Ok(delays) => delays,
