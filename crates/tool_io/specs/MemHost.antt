@@ -1,5 +1,5 @@
 -- What a host in memory holds, when a call of it fails, what it answers, and what it holds afterwards.
-use Rattle.std.specs.Prelude.{◌==◌, ℕ, Bool, false, ◌&&◌, ◌||◌, not, if◌then◌else◌, min, Option, Some, None, List, [], ◌++◌, length, take, drop, unwrap_or}
+use Rattle.std.specs.Prelude.{◌≡◌, ◌==◌, ℕ, Bool, false, ◌&&◌, ◌||◌, not, if◌then◌else◌, min, Option, Some, None, List, [], ◌++◌, length, take, drop, unwrap_or}
 use Rattle.std.specs.Option.{is_none, option_map_or}
 use Rattle.std.specs.List.{list_any}
 use Rattle.tool_io.specs.declared.host.Place.{Place}
@@ -121,6 +121,12 @@ abbrev pub read_into : Held → Place → List ℕ → List ℕ
 read_into host place into =
     if read_fails host place (length into) then into
     else read_bytes host place (length into) ++ drop (length (read_bytes host place (length into))) into
+
+-- a read answers, leaves the host and fills the slice as the files, the room and the listed calls say
+pub record Reads (answer : got.Got) (before now : Held) (place : Place) (slice filled : List ℕ) : Type 0 where
+  pub answers : answer ≡ read_answer before place (length slice)
+  pub after : now ≡ after_read before place (length slice)
+  pub fills : filled ≡ read_into before place slice
 
 -- ---- write
 

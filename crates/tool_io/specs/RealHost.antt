@@ -1,5 +1,5 @@
 -- What a host over the system shows of itself: its counts of faults, and which places are attached.
-use Rattle.std.specs.Prelude.{ℕ, Bool, true, false, Option, None, List}
+use Rattle.std.specs.Prelude.{◌≡◌, ℕ, Bool, true, false, Option, None, List}
 use Rattle.tool_io.specs.declared.host.Place.{Place}
 use Rattle.tool_io.specs.declared.host.Place.TheVariants.{Spec, Header, Program, Trace, Out, Err}
 use Rattle.tool_io.specs.declared.host.Attached as attached
@@ -65,6 +65,11 @@ abbrev pub after_read : Edge → Place → got.Got → Edge
 after_read edge place got.TheVariants.Failed = faulted edge place
 after_read edge place got.TheVariants.End = edge
 after_read edge place (got.TheVariants.Bytes count) = edge
+
+-- a read of a place that isn't attached fails, and each failed one counts one more fault
+pub record Reads (answer : got.Got) (before now : Edge) (place : Place) : Type 0 where
+  pub after : now ≡ after_read before place answer
+  pub unattached : is_open before place ≡ false → answer ≡ got.TheVariants.Failed
 
 -- the host after a write: one more fault is counted where it failed
 abbrev pub after_write : Edge → Place → put.Put → Edge

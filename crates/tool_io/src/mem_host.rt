@@ -4,7 +4,7 @@ ghost use Rattle.std.specs.Prelude.{◌≡◌, ◌≢◌, ◌≤◌, ◌<◌, �
 ghost use Rattle.tool_io.specs.Host.{IsSource, IsSink, AttachCause, AttachLog, ReadRange, ReadCause, ReadLog, ReadLeft, WriteRange, WriteCause, WriteLog, LeftElsewhere, LeftAlone};
 ghost use Rattle.tool_io.specs.Log.{given};
 ghost use Rattle.tool_io.specs.MemFiles.{file_of, IsUnread};
-ghost use Rattle.tool_io.specs.MemHost.{new_host, faults_of, log_of, left_in, is_listed, is_missing, counted, failed, stands, at_most, attach_answer, after_attach, read_answer, after_read, read_into, write_answer, after_write};
+ghost use Rattle.tool_io.specs.MemHost.{new_host, faults_of, log_of, left_in, is_listed, is_missing, counted, failed, stands, at_most, attach_answer, after_attach, Reads, write_answer, after_write};
 
 use crate::counts::Counts;
 use crate::host::{Attached, Got, Host, Place, Put};
@@ -176,9 +176,7 @@ impl MemHost {
     /// What `read` does; a read into some room may give some bytes.
     fn read_piece(&mut self, place: Place, into: &mut [u8]) -> Got
         requires { 0 < length into.old }
-        ensures answer { result ≡ read_answer self.old place (length into.old) }
-        ensures after { self.new ≡ after_read self.old place (length into.old) }
-        ensures into { into.new ≡ read_into self.old place into.old }
+        ensures reads { Reads result self.old self.new place into.old into.new }
         ensures some { 0 < at_most self.old.block (length into.old) }
     {
         let listed = self.begin(place);
@@ -246,9 +244,7 @@ impl Host for MemHost {
     fn read(&mut self, place: Place, into: &mut [u8]) -> Got
         requires source { IsSource place }
         requires room { 0 < length into.old }
-        ensures answer { result ≡ read_answer self.old place (length into.old) }
-        ensures after { self.new ≡ after_read self.old place (length into.old) }
-        ensures into { into.new ≡ read_into self.old place into.old }
+        ensures reads { Reads result self.old self.new place into.old into.new }
         ensures range { ReadRange result into.new }
         ensures cause { ReadCause result (faults_of self.old) (faults_of self.new) place }
         ensures log { ReadLog result (log_of self.old) (log_of self.new) place into.new }

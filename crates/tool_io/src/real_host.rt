@@ -1,9 +1,9 @@
 //! The host over files and the standard streams: the edge at which the system is trusted.
 
-ghost use Rattle.std.specs.Prelude.{◌≡◌, ◌<◌, false, length, IfOk, ◌≤◌};
+ghost use Rattle.std.specs.Prelude.{◌≡◌, ◌<◌, length, IfOk, ◌≤◌};
 ghost use Rattle.std.specs.Io.{ReadsAtMost, WritesAtMost};
 ghost use Rattle.tool_io.specs.Host.{IsSource, IsSink, AttachCause, AttachLog, ReadRange, ReadCause, ReadLog, ReadLeft, WriteRange, WriteCause, WriteLog, LeftElsewhere, LeftAlone};
-ghost use Rattle.tool_io.specs.RealHost.{new_edge, faults_of, no_log, none_left, is_open, after_attach, after_read, after_write};
+ghost use Rattle.tool_io.specs.RealHost.{new_edge, faults_of, no_log, none_left, after_attach, Reads, after_write};
 
 use crate::counts::Counts;
 use crate::host::{Attached, Got, Host, Place, Put};
@@ -147,8 +147,7 @@ impl Host for RealHost {
     fn read(&mut self, place: Place, into: &mut [u8]) -> Got
         requires source { IsSource place }
         requires room { 0 < length into.old }
-        ensures after { self.new ≡ after_read self.old place result }
-        ensures unattached { is_open self.old place ≡ false → result ≡ Got.Failed }
+        ensures reads { Reads result self.old self.new place }
         ensures range { ReadRange result into.new }
         ensures cause { ReadCause result (faults_of self.old) (faults_of self.new) place }
         ensures log { ReadLog result (no_log self.old) (no_log self.new) place into.new }
