@@ -8,3 +8,4 @@ pub mod PlaceLaws
 pub mod CsvLaws
 pub mod ColumnLaws
 pub mod StoredLaws
+pub mod PassedFields

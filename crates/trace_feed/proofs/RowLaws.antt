@@ -1,14 +1,15 @@
 -- Rows that are read from left to right.
-use Rattle.std.proofs.Common.{◌≡◌, ◌<◌, ◌≤◌, ◌+◌, ◌-◌, ℕ, ℤ, pos, suc, true, false, cond, List, [], ◌∷◌, ◌++◌, length, take, drop, Ok, Err, refl, arith, sym, ◌∙◌, ap, subst, inl, inr}
-use Rattle.std.specs.Prelude.{nat_lt}
+use Rattle.std.proofs.Common.{◌≡◌, ◌<◌, ◌≤◌, ◌+◌, ◌-◌, ℕ, ℤ, pos, suc, true, false, cond, zero, List, [], ◌∷◌, ◌++◌, length, take, drop, Ok, Err, refl, arith, sym, ◌∙◌, ap, subst, inl, inr}
+use Rattle.std.specs.Prelude.{nat_lt, replicate}
 use Rattle.std.specs.List.{before_first, position_or_len}
 use Rattle.std.proofs.lemmas.Bool.{cases_lt, lt-ltb, le-ltb}
 use Rattle.std.proofs.lemmas.List.{drop-drop, length-drop}
 use Rattle.std.proofs.lemmas.List.Splits.{slice_split_first}
-use Rattle.trace_feed.specs.Rows.{LineMeaning, Tells, row, blank, not_whole, out_of_range, too_few, put_in_front, joined, row_from, value_of, is_comma, fields_of}
+use Rattle.trace_feed.specs.Rows.{LineMeaning, Tells, row, blank, not_whole, out_of_range, too_few, put_in_front, joined, row_from, value_of, is_comma, fields_from, fields_of}
 use Rattle.trace_feed.specs.Readings.{fields_meaning}
 use Rattle.trace_feed.specs.declared.fields.FieldFault.TheVariants.{NotWhole, OutOfRange}
 use Rattle.trace_feed.specs.declared.fields.Reading.{Reading}
+use Rattle.trace_feed.specs.declared.fields.Reading.TheVariants.{Unread}
 use Rattle.trace_feed.specs.declared.rows.RowAnswer as answer
 use Rattle.mltl_base.specs.Atoms.{Row}
 use Rattle.trace_feed.proofs.Splits.{split_alone, first_alone}
@@ -53,10 +54,6 @@ pub onto_out_of_range : (ns : List ℤ) (c : ℕ) → onto ns (out_of_range c) �
 unfolding onto
 onto_out_of_range [] c = refl
 onto_out_of_range (n ∷ ns) c = ap (put_in_front n) (onto_out_of_range ns c)
-
--- the fields from a place on, of which there are none past the end
-abbrev pub fields_from : List ℕ → ℕ → List (List ℕ)
-fields_from line at = cond (nat_lt (length line) at) [] (fields_of (drop at line))
 
 pub no_field : (line : List ℕ) (at : ℕ) → length line < at → fields_from line at ≡ []
 no_field line at past = let is : nat_lt (length line) at ≡ true = lt-ltb (length line) at past in rw is refl
@@ -140,6 +137,60 @@ says_next reading c width at size line ns v m more inside is good so_far =
     ∙ ap (onto ns) (sym step)
     ∙ so_far
 
+-- fields that are too few
+pub fault_few : (reading : ℕ → Reading) (c left : ℕ) (fields : List (List ℕ)) → length fields < left → fields_meaning reading c left fields ≡ too_few
+fault_few reading c left fields few = let is : nat_lt (length fields) left ≡ true = lt-ltb (length fields) left few in rw is refl
+
+-- numbers in two parts
+pub onto_append : (ns ms : List ℤ) (m : LineMeaning) → onto (ns ++ ms) m ≡ onto ns (onto ms m)
+unfolding onto
+onto_append [] ms m = refl
+onto_append (n ∷ ns) ms m = ap (put_in_front n) (onto_append ns ms m)
+
+onto_more : (n : ℤ) (ns : List ℤ) (m : LineMeaning) → onto (n ∷ ns) m ≡ put_in_front n (onto ns m)
+unfolding onto
+onto_more n ns m = refl
+
+-- columns that aren't read, before one that is left, say 0 each
+unread_fields : (reading : ℕ → Reading) (n c left : ℕ) (fields : List (List ℕ)) → n < left → ((k : ℕ) → k < n → reading (c + k) ≡ Unread)
+    → onto (replicate n (pos 0)) (fields_meaning reading (c + n) (left - n) (drop n fields)) ≡ fields_meaning reading c left fields
+unread_fields reading zero c left fields more unread =
+    let here : c + 0 ≡ c = omega arith in
+    let all : left - 0 ≡ left = omega arith in
+    onto_nil (fields_meaning reading (c + 0) (left - 0) fields)
+    ∙ ap (λ k. fields_meaning reading k (left - 0) fields) here
+    ∙ ap (λ m. fields_meaning reading c m fields) all
+unread_fields reading (suc n) c left [] more unread =
+    ap (onto (replicate (suc n) (pos 0))) (fault_few reading (c + suc n) (left - suc n) [] (omega arith))
+    ∙ onto_too_few (replicate (suc n) (pos 0))
+    ∙ sym (fault_few reading c left [] (omega arith))
+unread_fields reading (suc n) c left (field ∷ fields) more unread =
+    let some : left ≡ suc (left - 1) = omega arith in
+    let start : c + 0 ≡ c = omega arith in
+    let place : c + suc n ≡ suc c + n = omega arith in
+    let size : left - suc n ≡ left - 1 - n = omega arith in
+    let none : reading c ≡ Unread = ap reading (sym start) ∙ unread 0 (omega arith) in
+    let good : value_of (reading c) field ≡ Ok (pos 0) = ap (λ r. value_of r field) none in
+    let rest : onto (replicate n (pos 0)) (fields_meaning reading (suc c + n) (left - 1 - n) (drop n fields)) ≡ fields_meaning reading (suc c) (left - 1) fields =
+    unread_fields reading n (suc c) (left - 1) fields (omega arith) (λ k below. let at : suc c + k ≡ c + suc k = omega arith in ap reading at ∙ unread (suc k) (omega arith)) in
+    ap (λ k. onto (replicate (suc n) (pos 0)) (fields_meaning reading k (left - suc n) (drop n fields))) place
+    ∙ ap (λ m. onto (replicate (suc n) (pos 0)) (fields_meaning reading (suc c + n) m (drop n fields))) size
+    ∙ onto_more (pos 0) (replicate n (pos 0)) (fields_meaning reading (suc c + n) (left - 1 - n) (drop n fields))
+    ∙ ap (put_in_front (pos 0)) rest
+    ∙ sym (field_step reading c (left - 1) field fields (pos 0) good)
+    ∙ ap (λ m. fields_meaning reading c m (field ∷ fields)) (sym some)
+
+pub says_passed : (reading : ℕ → Reading) (c n width at to : ℕ) (line : List ℕ) (ns : List ℤ) (m : LineMeaning) → c + n < width → ((k : ℕ) → k < n → reading (c + k) ≡ Unread)
+    → fields_from line to ≡ drop n (fields_from line at) → Says reading c (width - c) ns line at m → Says reading (c + n) (width - (c + n)) (ns ++ replicate n (pos 0)) line to m
+says_passed reading c n width at to line ns m more unread behind so_far =
+    let size : width - (c + n) ≡ width - c - n = omega arith in
+    let zeros : List ℤ = replicate n (pos 0) in
+    onto_append ns zeros (fields_meaning reading (c + n) (width - (c + n)) (fields_from line to))
+    ∙ ap (λ k. onto ns (onto zeros (fields_meaning reading (c + n) k (fields_from line to)))) size
+    ∙ ap (λ fs. onto ns (onto zeros (fields_meaning reading (c + n) (width - c - n) fs))) behind
+    ∙ ap (onto ns) (unread_fields reading n c (width - c) (fields_from line at) (omega arith) unread)
+    ∙ so_far
+
 -- no number more is wanted
 pub says_row : (reading : ℕ → Reading) (c width at : ℕ) (line : List ℕ) (ns : List ℤ) (m : LineMeaning) → width ≤ c → Says reading c (width - c) ns line at m → m ≡ row ns
 says_row reading c width at line ns m past so_far =
@@ -154,10 +205,7 @@ says_too_few reading c width at line ns m more past so_far =
     wanting : (n : ℕ) → 0 < n → fields_meaning reading c n [] ≡ too_few
     wanting n some = let is : nat_lt 0 n ≡ true = lt-ltb 0 n some in rw is refl
 
--- a faulty field, with too few behind it and with enough
-pub fault_few : (reading : ℕ → Reading) (c left : ℕ) (fields : List (List ℕ)) → length fields < left → fields_meaning reading c left fields ≡ too_few
-fault_few reading c left fields few = let is : nat_lt (length fields) left ≡ true = lt-ltb (length fields) left few in rw is refl
-
+-- a faulty field, with enough behind it
 enough_is : (reading : ℕ → Reading) (c left : ℕ) (rest : List ℕ) → 0 < left → left ≤ length (fields_of rest)
     → (more : LineMeaning) × (fields_meaning reading c left (fields_of rest) ≡ joined c (value_of (reading c) (before_first is_comma rest)) more)
 unfolding row_from

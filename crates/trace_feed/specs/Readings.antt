@@ -1,13 +1,15 @@
 -- How a program reads the columns of a row.
 
-use Rattle.std.specs.Prelude.{ℕ, ◌≡◌, ◌<◌, ℤ, pos, List, length, map, slice_index, slice_index_or, take, cond, ◌==◌, nat_lt, if◌then◌else◌, Result, Ok}
+use Rattle.std.specs.Prelude.{ℕ, ◌≡◌, ◌+◌, ◌-◌, ◌<◌, ◌≤◌, ◌++◌, ℤ, pos, List, length, map, slice_index, slice_index_or, drop, replicate, take, cond, ◌==◌, nat_lt, if◌then◌else◌, Result, Ok}
 use Rattle.std.specs.List.{range_with_len}
 use Rattle.std.specs.Str.Parse.{starts_with_minus}
 use Rattle.mltl_base.specs.declared.program.Program.{Program}
 use Rattle.trace_feed.specs.declared.fields.FieldFault.{FieldFault}
 use Rattle.trace_feed.specs.declared.fields.Reading.{Reading}
 use Rattle.trace_feed.specs.declared.fields.Reading.TheVariants.{Unread, Whole, Truth}
-use Rattle.trace_feed.specs.Rows.{LineMeaning, has_32_bits, in_range, is_bit, reading_of, row_from, too_few}
+use Rattle.mltl_base.specs.Atoms.{Row}
+use Rattle.trace_feed.specs.declared.passing.Spot.{Spot}
+use Rattle.trace_feed.specs.Rows.{LineMeaning, fields_from, has_32_bits, in_range, is_bit, reading_of, row_from, too_few}
 
 -- how the program reads each of its columns
 abbrev pub readings_of : Program → List Reading
@@ -38,3 +40,12 @@ value_at Truth n = in_range is_bit n
 -- what the fields say of column c and those behind it, of which there are n: too few, or the row or its first fault
 abbrev pub fields_meaning : (ℕ → Reading) → ℕ → ℕ → List (List ℕ) → LineMeaning
 fields_meaning reading c n fields = if nat_lt (length fields) n then too_few else row_from reading c (take n fields)
+
+-- columns that aren't read are passed over: their fields, up to a column that is left, and 0 is their number
+pub record PassesOver (readings : List Reading) (line : List ℕ) (old new : Row) (from to : Spot) : Type 0 where
+  pub onward : from.column ≤ to.column
+  pub left : to.column < length readings
+  pub within : to.at ≤ length line + 1
+  pub unread : (k : ℕ) → from.column ≤ k → k < to.column → slice_index_or readings k Unread ≡ Unread
+  pub behind : fields_from line to.at ≡ drop (to.column - from.column) (fields_from line from.at)
+  pub zeros : take to.column new ≡ take from.column old ++ replicate (to.column - from.column) (pos 0)

@@ -1,6 +1,6 @@
 -- What a line of a trace says to a program: a row, nothing, or its first fault.
 
-use Rattle.std.specs.Prelude.{◌≡◌, ℕ, suc, ◌==◌, ℤ, pos, neg_ℤ, int_le, Bool, false, ◌&&◌, ◌||◌, if◌then◌else◌, nat_lt, List, [], ◌∷◌, length, take, Result, Ok, Err}
+use Rattle.std.specs.Prelude.{◌≡◌, ℕ, suc, ◌==◌, ℤ, pos, neg_ℤ, int_le, Bool, false, ◌&&◌, ◌||◌, if◌then◌else◌, nat_lt, List, [], ◌∷◌, length, take, drop, Result, Ok, Err}
 use Rattle.std.specs.Char.{is_ascii_digit}
 use Rattle.std.specs.List.{list_all, list_any, slice_split}
 use Rattle.std.specs.Ordering.{int_eq}
@@ -23,6 +23,10 @@ is_comma byte = byte == 44
 -- the fields of a line stand between its commas
 abbrev pub fields_of : List ℕ → List (List ℕ)
 fields_of line = slice_split is_comma line
+
+-- the fields from a place on, of which there are none past the end
+abbrev pub fields_from : List ℕ → ℕ → List (List ℕ)
+fields_from line at = if nat_lt (length line) at then [] else fields_of (drop at line)
 
 -- a whole number is one or more decimal digits, which one sign may lead
 abbrev pub is_numeral : List ℕ → Bool

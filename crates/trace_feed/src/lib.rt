@@ -10,6 +10,7 @@ mod fields;
 mod header_fault;
 mod laws;
 mod names;
+mod passing;
 mod readings;
 mod rows;
 

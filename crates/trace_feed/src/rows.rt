@@ -10,6 +10,7 @@ ghost use Rattle.trace_feed.specs.Rows.{Tells, fields_of, is_comma, line_meaning
 
 use crate::blanks::is_blank_line;
 use crate::fields::{FieldFault, Reading, first_field};
+use crate::passing::{Spot, pass_unread};
 use crate::readings::Readings;
 use obs_verify::Checked;
 
@@ -55,25 +56,31 @@ fn fault_at(c: u32, fault: FieldFault, rest: &[u8], left: u32) -> RowAnswer
     }
 }
 
-/// Reads the fields of a line from left to right, once. Commas are counted only behind a fault.
+/// Reads the fields of a line from left to right, once, and passes over those that aren't read. Commas are counted only
+/// behind a fault.
 fn read_fields(line: &[u8], width: u32, readings: &[Reading], fields: &mut [i64]) -> RowAnswer
     requires wide { length fields.old ≡ width }
     requires one_each { length readings.now ≡ width }
     ensures { (reading : ℕ → Way) → AreReadings reading readings.now
         → Tells result fields.new (fields_meaning reading 0 width (fields_of line.now)) }
 {
-    let mut at = 0;
-    for c in 0..width {
-        if line.len() < at {
+    let mut spot = Spot { column: 0, at: 0 };
+    'columns: while spot.column < width {
+        spot = pass_unread(line, readings, fields, spot);
+        let c = spot.column;
+        if line.len() < spot.at {
             return RowAnswer::Width;
         }
-        let rest = &line[at..];
+        let rest = &line[spot.at..];
         let field = first_field(readings[c as usize], rest);
         match field.value {
             Ok(value) => fields[c as usize] = value,
             Err(fault) => return fault_at(c, fault, rest, width - c),
         }
-        at += field.size + 1;
+        spot = Spot {
+            column: c + 1,
+            at: spot.at + field.size + 1,
+        };
     }
     RowAnswer::Good
 }

@@ -1,0 +1,21 @@
+use Rattle.std.proofs.Common.{◌≡◌, ◌+◌, ◌-◌, ◌∙◌, ℕ, ℤ, pos, List, ◌++◌, arith, sym, ap, take, drop}
+use Rattle.std.specs.Prelude.{replicate, slice_index_or}
+use Rattle.trace_feed.specs.Rows.{fields_from}
+use Rattle.trace_feed.specs.declared.fields.Reading.TheVariants.{Unread}
+use Rattle.trace_feed.proofs.passing.pass_unread.Goals as goal
+
+pub returns-clause-passes : goal.returns-clause-passes
+returns-clause-passes c =
+    let from : ℕ = c.args.spot.column in
+    let count : ℕ = c.min-count.result in
+    let many : count ≡ from + count - from = omega arith in
+    record {
+      onward = omega arith;
+      left = omega (arith, c.min-count.ensures);
+      within = c.behind_fields.ensures.within;
+      unread = λ k past below.
+          let at : from + (k - from) ≡ k = omega arith in
+          ap (λ j. slice_index_or c.args.readings.now j Unread) (sym at) ∙ c.unread_from.ensures.unread (k - from) (omega (arith, c.min-count.ensures));
+      behind = c.behind_fields.ensures.behind ∙ ap (λ n. drop n (fields_from c.args.line.now c.args.spot.at)) many;
+      zeros = c.clear.ensures.zeros ∙ ap (λ n. take from c.args.fields.now ++ replicate n (pos 0)) many;
+    }
