@@ -2,12 +2,12 @@
 
 ghost use Rattle.std.specs.Prelude.{◌≡◌, ◌+◌, ◌^◌, ◌<◌, ◌≤◌, ◌++◌, length, decimal, slice_get, Some};
 ghost use Rattle.arrayvec.specs.ArrayVec.{array_vec_len};
-ghost use Rattle.mltl_base.specs.Lines.{line};
+ghost use Rattle.mltl_base.specs.Lines.{line, word_text};
 ghost use Rattle.mltl_base.specs.Programs.{output_names};
 
 use arrayvec::ArrayVec;
 use itoa::Buffer;
-use mltl_base::Report;
+use mltl_base::{Report, Word};
 use obs_verify::Checked;
 
 /// The bytes of a line, at most 88 of them: a name, a time of at most 13 digits, a word and three signs.
@@ -32,13 +32,13 @@ pub fn put_line(text: &mut ArrayVec<u8, 128>, report: &Report, checked: &Checked
     ensures line { text.new.items ≡ line (output_names checked.now) report.now }
     ensures short { array_vec_len text.new ≤ 88 }
 {
-    text.clear();
+    *text = ArrayVec::new();
     let out = checked.program().outs.get(report.out as usize);
     add(text, out.name().bytes());
     text.push(b':');
     add_number(text, report.time);
     text.push(b',');
-    add(text, report.word.text().as_bytes());
+    add_word(text, report.word);
     text.push(b'\n');
 }
 
@@ -49,6 +49,19 @@ fn add(text: &mut Line, piece: &[u8])
     ensures len { array_vec_len text.new ≡ array_vec_len text.old + length piece.now }
 {
     let _ = text.try_extend_from_slice(piece);
+}
+
+/// Puts a word behind a line that has room for it. The words of formulas have one byte.
+fn add_word(text: &mut Line, word: Word)
+    requires room { array_vec_len text.old + 8 ≤ 128 }
+    ensures items { text.new.items ≡ text.old.items ++ word_text word }
+    ensures len { array_vec_len text.new ≤ array_vec_len text.old + 8 }
+{
+    match word {
+        Word::True => text.push(b'T'),
+        Word::False => text.push(b'F'),
+        _ => add(text, word.text().as_bytes()),
+    }
 }
 
 fn add_number(text: &mut Line, n: u64)

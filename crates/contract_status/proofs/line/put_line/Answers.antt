@@ -23,7 +23,6 @@ returns-clause-line c =
     let out = c.get-out.result.now in
     let outs = c.args.checked.now.outs in
     let there : slice_get outs report.out ≡ Some out = ap (λ (program : Program). slice_get program.outs report.out) (sym c.program.ensures.program) ∙ c.get-out.ensures in
-    let name : c.add.new.text.items ≡ name_of out = c.add.ensures.items ∙ ap (λ bytes. bytes ++ c.bytes.result.now) c.clear.ensures ∙ c.bytes.ensures.bytes ∙ c.name.ensures.name in
-    let word : c.add-2.new.text.items ≡ c.push-2.new.self.items ++ word_text report.word = c.add-2.ensures.items ∙ ap (λ text. c.push-2.new.self.items ++ text) (c.as_bytes.ensures.value ∙ c.text.ensures.text) in
-    pieces (name_of out) report _ _ _ _ _ _ name c.push.ensures.items c.add_number.ensures.items c.push-2.ensures.items word c.push-3.ensures.items
+    let name : c.add.new.text.items ≡ name_of out = c.add.ensures.items ∙ ap (λ bytes. bytes ++ c.bytes.result.now) c.new.ensures ∙ c.bytes.ensures.bytes ∙ c.name.ensures.name in
+    pieces (name_of out) report _ _ _ _ _ _ name c.push.ensures.items c.add_number.ensures.items c.push-2.ensures.items c.add_word.ensures.items c.push-3.ensures.items
     ∙ ap (λ bytes. line_with bytes report) (sym (name_among outs report.out out there))

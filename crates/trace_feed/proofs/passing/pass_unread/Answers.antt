@@ -1,4 +1,4 @@
-use Rattle.std.proofs.Common.{◌≡◌, ◌+◌, ◌-◌, ◌∙◌, ℕ, ℤ, pos, List, ◌++◌, arith, sym, ap, take, drop}
+use Rattle.std.proofs.Common.{◌≡◌, ◌+◌, ◌-◌, ◌∙◌, ℕ, pos, ◌++◌, arith, sym, ap, take, drop}
 use Rattle.std.specs.Prelude.{replicate, slice_index_or}
 use Rattle.trace_feed.specs.Rows.{fields_from}
 use Rattle.trace_feed.specs.declared.fields.Reading.TheVariants.{Unread}
