@@ -1,0 +1,16 @@
+//! An observer program as the text of a specification.
+#![tactic(auto)]
+
+mod fault;
+mod lines;
+mod names;
+mod naming;
+mod operation;
+mod references;
+mod showing;
+mod text;
+mod weights;
+
+pub use fault::ShowFault;
+pub use showing::show;
+pub use weights::weight;

@@ -1,0 +1,287 @@
+//! The lines of a program.
+
+ghost use Rattle.std.specs.Prelude.{◌≡◌, ◌++◌, ◌<◌, ℕ, OnOk, codes, length, slice_index};
+ghost use Rattle.mltl_base.specs.declared.program.Program.{Program as Observer};
+ghost use Rattle.obs_show.specs.Naming.{numbered_name};
+ghost use Rattle.obs_show.specs.Showing.{NamesAll, reference_at, written_form, written_line};
+ghost use Rattle.obs_show.specs.Text.{bz_form, bz_line, ft_form, ft_line, interval_text, label_of, label_text, line_text, output_line, pt_form, pt_line, reference_in, reference_text, section_text, signal_line, spaced};
+
+use crate::names::add_number;
+use crate::naming::Naming;
+use crate::operation::Instruction;
+use crate::references::{add_defined_name, add_reference};
+use itoa::Buffer;
+use mltl_base::{BzOp, Engine, FtOp, Interval, Name, Out, Part, Program, PtOp, StoredSignal};
+use std::alloc::AllocError;
+
+/// Adds the line of a signal.
+pub(crate) fn add_signal(text: &mut Vec<u8>, signal: &StoredSignal) -> Result<(), AllocError>
+    ensures { OnOk result (text.new.items ≡ text.old.items ++ line_text (signal_line signal.now)) }
+{
+    text.extend_from_slice(b"INPUT ")?;
+    text.extend_from_slice(signal.name.bytes())?;
+    if signal.truth {
+        text.extend_from_slice(b": bool;\n")
+    } else {
+        text.extend_from_slice(b": int;\n")
+    }
+}
+
+/// Adds what stands before the form of operation `k`.
+fn begin_define(text: &mut Vec<u8>, naming: &Naming, k: usize) -> Result<(), AllocError>
+    ensures { OnOk result (text.new.items ≡ text.old.items
+        ++ (codes "DEFINE " ++ numbered_name (slice_index naming.now.numbers.items k) ++ codes " := ")) }
+{
+    text.extend_from_slice(b"DEFINE ")?;
+    add_defined_name(text, naming, k)?;
+    text.extend_from_slice(b" := ")
+}
+
+/// Adds a sign and the reference behind it.
+fn add_prefixed(
+    text: &mut Vec<u8>,
+    program: &Program,
+    naming: &Naming,
+    sign: &[u8],
+    part: Part,
+    i: u32,
+) -> Result<(), AllocError>
+    requires { NamesAll program.now naming.now }
+    ensures { OnOk result (text.new.items ≡ text.old.items ++ (sign.now ++ reference_text (reference_at program.now part i))) }
+{
+    text.extend_from_slice(sign)?;
+    add_reference(text, program, naming, part, i)
+}
+
+/// Adds an operator between two references.
+fn add_spaced(
+    text: &mut Vec<u8>,
+    program: &Program,
+    naming: &Naming,
+    part: Part,
+    x: u32,
+    operator: &[u8],
+    y: u32,
+) -> Result<(), AllocError>
+    requires { NamesAll program.now naming.now }
+    ensures { OnOk result (text.new.items ≡ text.old.items
+        ++ spaced (reference_at program.now part x) operator.now (reference_at program.now part y)) }
+{
+    add_reference(text, program, naming, part, x)?;
+    text.extend_from_slice(b" ")?;
+    text.extend_from_slice(operator)?;
+    text.extend_from_slice(b" ")?;
+    add_reference(text, program, naming, part, y)
+}
+
+/// Adds an interval.
+fn add_interval(text: &mut Vec<u8>, window: Interval) -> Result<(), AllocError>
+    ensures { OnOk result (text.new.items ≡ text.old.items ++ interval_text window) }
+{
+    text.extend_from_slice(b"[")?;
+    add_number(text, window.lo)?;
+    text.extend_from_slice(b",")?;
+    add_number(text, window.hi)?;
+    text.extend_from_slice(b"]")
+}
+
+/// Adds an operator with its interval between two references.
+fn add_ranged(
+    text: &mut Vec<u8>,
+    program: &Program,
+    naming: &Naming,
+    part: Part,
+    x: u32,
+    letter: &[u8],
+    window: Interval,
+    y: u32,
+) -> Result<(), AllocError>
+    requires { NamesAll program.now naming.now }
+    ensures { OnOk result (text.new.items ≡ text.old.items
+        ++ spaced (reference_at program.now part x) (letter.now ++ interval_text window) (reference_at program.now part y)) }
+{
+    add_reference(text, program, naming, part, x)?;
+    text.extend_from_slice(b" ")?;
+    text.extend_from_slice(letter)?;
+    add_interval(text, window)?;
+    text.extend_from_slice(b" ")?;
+    add_reference(text, program, naming, part, y)
+}
+
+fn add_bz_form(
+    text: &mut Vec<u8>,
+    program: &Program,
+    naming: &Naming,
+    op: BzOp,
+) -> Result<(), AllocError>
+    requires { NamesAll program.now naming.now }
+    ensures { OnOk result (text.new.items ≡ text.old.items ++ written_form (bz_form program.now op)) }
+{
+    match op {
+        BzOp::Column(_) | BzOp::IsTrue(_) | BzOp::Const(_) => Ok(()),
+        BzOp::Neg(a) => add_prefixed(text, program, naming, b"-", Part::Bz, a),
+        BzOp::Add(a, b) => add_spaced(text, program, naming, Part::Bz, a, b"+", b),
+        BzOp::Sub(a, b) => add_spaced(text, program, naming, Part::Bz, a, b"-", b),
+        BzOp::Mul(a, b) => add_spaced(text, program, naming, Part::Bz, a, b"*", b),
+        BzOp::Div(a, b) => add_spaced(text, program, naming, Part::Bz, a, b"/", b),
+        BzOp::Rem(a, b) => add_spaced(text, program, naming, Part::Bz, a, b"%", b),
+        BzOp::Eq(a, b) => add_spaced(text, program, naming, Part::Bz, a, b"==", b),
+        BzOp::Lt(a, b) => add_spaced(text, program, naming, Part::Bz, a, b"<", b),
+        BzOp::Le(a, b) => add_spaced(text, program, naming, Part::Bz, a, b"<=", b),
+    }
+}
+
+fn add_ft_form(
+    text: &mut Vec<u8>,
+    program: &Program,
+    naming: &Naming,
+    op: FtOp,
+) -> Result<(), AllocError>
+    requires { NamesAll program.now naming.now }
+    ensures { OnOk result (text.new.items ≡ text.old.items ++ written_form (ft_form program.now op)) }
+{
+    match op {
+        FtOp::True | FtOp::Load(_) => Ok(()),
+        FtOp::Not(g) => add_prefixed(text, program, naming, b"!", Part::Ft, g),
+        FtOp::And(l, r) => add_spaced(text, program, naming, Part::Ft, l, b"&&", r),
+        FtOp::Until(l, r, window) => {
+            add_ranged(text, program, naming, Part::Ft, l, b"U", window, r)
+        }
+    }
+}
+
+fn add_pt_form(
+    text: &mut Vec<u8>,
+    program: &Program,
+    naming: &Naming,
+    op: PtOp,
+) -> Result<(), AllocError>
+    requires { NamesAll program.now naming.now }
+    ensures { OnOk result (text.new.items ≡ text.old.items ++ written_form (pt_form program.now op)) }
+{
+    match op {
+        PtOp::True | PtOp::Load(_) => Ok(()),
+        PtOp::Not(g) => add_prefixed(text, program, naming, b"!", Part::Pt, g),
+        PtOp::And(l, r) => add_spaced(text, program, naming, Part::Pt, l, b"&&", r),
+        PtOp::Since(l, r, window) => {
+            add_ranged(text, program, naming, Part::Pt, l, b"S", window, r)
+        }
+    }
+}
+
+/// Adds the line of an instruction of the Booleanizer, if it is an operation.
+pub(crate) fn add_bz_line(
+    text: &mut Vec<u8>,
+    program: &Program,
+    naming: &Naming,
+    i: usize,
+    op: BzOp,
+) -> Result<(), AllocError>
+    requires names { NamesAll program.now naming.now }
+    requires there { i < length program.now.bz }
+    ensures { OnOk result (text.new.items ≡ text.old.items ++ written_line (bz_line program.now i op)) }
+{
+    if !op.is_operation() {
+        return Ok(());
+    }
+    begin_define(text, naming, naming.bz[i])?;
+    add_bz_form(text, program, naming, op)?;
+    text.extend_from_slice(b";\n")
+}
+
+/// Adds the line of an instruction of future time, if it is an operation.
+pub(crate) fn add_ft_line(
+    text: &mut Vec<u8>,
+    program: &Program,
+    naming: &Naming,
+    i: usize,
+    op: FtOp,
+) -> Result<(), AllocError>
+    requires names { NamesAll program.now naming.now }
+    requires there { i < length program.now.ft }
+    ensures { OnOk result (text.new.items ≡ text.old.items ++ written_line (ft_line program.now i op)) }
+{
+    if !op.is_operation() {
+        return Ok(());
+    }
+    begin_define(text, naming, naming.ft[i])?;
+    add_ft_form(text, program, naming, op)?;
+    text.extend_from_slice(b";\n")
+}
+
+/// Adds the line of an instruction of past time, if it is an operation.
+pub(crate) fn add_pt_line(
+    text: &mut Vec<u8>,
+    program: &Program,
+    naming: &Naming,
+    i: usize,
+    op: PtOp,
+) -> Result<(), AllocError>
+    requires names { NamesAll program.now naming.now }
+    requires there { i < length program.now.pt }
+    ensures { OnOk result (text.new.items ≡ text.old.items ++ written_line (pt_line program.now i op)) }
+{
+    if !op.is_operation() {
+        return Ok(());
+    }
+    begin_define(text, naming, naming.pt[i])?;
+    add_pt_form(text, program, naming, op)?;
+    text.extend_from_slice(b";\n")
+}
+
+/// Adds the section of an output, and its label where its name isn't its number.
+fn begin_output(
+    text: &mut Vec<u8>,
+    engine: Engine,
+    k: usize,
+    name: &Name,
+) -> Result<(), AllocError>
+    ensures { OnOk result (text.new.items ≡ text.old.items ++ (section_text engine ++ codes " " ++ label_text (label_of k name.now))) }
+{
+    match engine {
+        Engine::Ft => text.extend_from_slice(b"FTSPEC ")?,
+        Engine::Pt => text.extend_from_slice(b"PTSPEC ")?,
+    }
+    let mut buffer = Buffer::new();
+    if name.bytes() == buffer.format(k).as_bytes() {
+        return Ok(());
+    }
+    text.extend_from_slice(name.bytes())?;
+    text.extend_from_slice(b": ")
+}
+
+/// The part of a program whose instructions an engine evaluates.
+fn part_of(engine: Engine) -> Part
+    ensures { (program : Observer) (i : ℕ) → reference_at program result i ≡ reference_in program engine i }
+{
+    match engine {
+        Engine::Ft => Part::Ft,
+        Engine::Pt => Part::Pt,
+    }
+}
+
+/// Adds the line of output `k`.
+pub(crate) fn add_output(
+    text: &mut Vec<u8>,
+    program: &Program,
+    naming: &Naming,
+    k: usize,
+    output: &Out,
+) -> Result<(), AllocError>
+    requires { NamesAll program.now naming.now }
+    ensures { OnOk result (text.new.items ≡ text.old.items ++ line_text (output_line program.now k output.now)) }
+{
+    match output {
+        Out::Formula(engine, i, name) => {
+            begin_output(text, *engine, k, name)?;
+            add_reference(text, program, naming, part_of(*engine), *i)?;
+        }
+        Out::Contract(engine, i, j, name) => {
+            begin_output(text, *engine, k, name)?;
+            add_reference(text, program, naming, part_of(*engine), *i)?;
+            text.extend_from_slice(b" => ")?;
+            add_reference(text, program, naming, part_of(*engine), *j)?;
+        }
+    }
+    text.extend_from_slice(b";\n")
+}
