@@ -19,7 +19,7 @@ use Rattle.tool_runs.specs.Reading.{FileLog}
 use Rattle.tool_runs.proofs.AttachLaws.{is_attached-append, ReadsAttached-append, no_reads_none, missed_none, or_true}
 use Rattle.c2po_runs.specs.declared.make.Form.{Form}
 use Rattle.c2po_runs.specs.declared.make.Product.{Product}
-use Rattle.c2po_runs.specs.declared.make.Product.TheVariants.{Compiled, Upgrade}
+use Rattle.c2po_runs.specs.declared.make.Product.TheVariants.{Compiled, Upgrade, Show}
 use Rattle.c2po_runs.specs.Asking.{MakeAsked, from_text, place_named, read_names}
 use Rattle.c2po_runs.specs.Made.{made, made_of_text}
 use Rattle.c2po_runs.specs.Run.{Seen, seen, place_of, is_tried, IsFaultless, Makes, MakeOutcome}
@@ -154,6 +154,7 @@ refusal_outcome : (answer : status.Status) (asked : MakeAsked) (run : Seen) → 
 refusal_outcome (answers.Refused line why) asked run speaks none untried makes = record { refused = makes; none_out = none }
 refusal_outcome (answers.BadProgram fault) asked run speaks none untried makes = record { refused = makes; none_out = none }
 refusal_outcome (answers.BadHeader why) asked run speaks none untried makes = record { refused = makes; none_out = none }
+refusal_outcome (answers.TextTooLong at.Out) asked run speaks none untried makes = record { refused = makes; none_out = none }
 refusal_outcome answers.Memory asked run speaks none untried makes = (none, untried)
 refusal_outcome answer asked run speaks none untried makes = absurd speaks
 
@@ -267,7 +268,7 @@ module _ (asked : MakeAsked) (bytes : List ℕ) (first second : List Event) (rea
   text_made form result is_made (inr is) = spec_made asked.header form result refl is_made is.0 is.1
 
 -- by what is made
-file_made : (product : Product) (name : List ℕ) (header out : Option (List ℕ)) (bytes : List ℕ) (result : Result (Vec ℕ Global) status.Status) (first second : List Event) → (product ≡ Upgrade → header ≡ None)
+file_made : (product : Product) (name : List ℕ) (header out : Option (List ℕ)) (bytes : List ℕ) (result : Result (Vec ℕ Global) status.Status) (first second : List Event) → (from_text product ≡ false → header ≡ None)
     → HasRead (file_place (from_text product)) name bytes true first → length bytes ≤ file_limit (from_text product) → FileMadeLog product result header bytes second
     → GatherLog result (record { product = product; file = name; header = header; out = out }) (first ++ second)
 unfolding made
@@ -275,8 +276,10 @@ file_made (Compiled form) name header out bytes result first second no_header re
     text_made (record { product = Compiled form; file = name; header = header; out = out }) bytes first second read within form result (λ lines. refl) is
 file_made Upgrade name header out bytes result first second no_header read within is =
     made_alone (record { product = Upgrade; file = name; header = header; out = out }) bytes first second read within result (ap (place_named at.Header) (no_header refl)) is
+file_made Show name header out bytes result first second no_header read within is =
+    made_alone (record { product = Show; file = name; header = header; out = out }) bytes first second read within result (ap (place_named at.Header) (no_header refl)) is
 
-pub gather_behind : (asked : MakeAsked) (bytes : Vec ℕ Global) (result : Result (Vec ℕ Global) status.Status) (first second : List Event) → (asked.product ≡ Upgrade → asked.header ≡ None)
+pub gather_behind : (asked : MakeAsked) (bytes : Vec ℕ Global) (result : Result (Vec ℕ Global) status.Status) (first second : List Event) → (from_text asked.product ≡ false → asked.header ≡ None)
     → FileLog (Ok bytes) (place_of asked) (file_limit (from_text asked.product)) asked.file first → BehindLog result asked bytes.items second → GatherLog result asked (first ++ second)
 gather_behind asked bytes result first second no_header read is =
     let was = subst (HasRead (place_of asked) asked.file bytes.items true) (sym read.1) (has_read (place_of asked) asked.file bytes.items true read.0 (file_source (from_text asked.product)) read.2) in
@@ -316,14 +319,17 @@ module _ (asked : MakeAsked) where
 open_outcome : (product : Product) (asked : MakeAsked) (run : Seen) → asked.product ≡ product → run.file ≡ [] → run.out ≡ [] → MakeOutcome (answers.OpenFault (file_place (from_text product))) asked run
 open_outcome (Compiled form) asked run is none silent = (ap (λ p. file_place (from_text p)) (sym is), none, silent)
 open_outcome Upgrade asked run is none silent = (ap (λ p. file_place (from_text p)) (sym is), none, silent)
+open_outcome Show asked run is none silent = (ap (λ p. file_place (from_text p)) (sym is), none, silent)
 
 read_outcome : (product : Product) (asked : MakeAsked) (run : Seen) → asked.product ≡ product → length run.file ≤ file_limit (from_text asked.product) → run.out ≡ [] → MakeOutcome (answers.ReadFault (file_place (from_text product))) asked run
 read_outcome (Compiled form) asked run is within silent = (ap (λ p. file_place (from_text p)) (sym is), within, silent)
 read_outcome Upgrade asked run is within silent = (ap (λ p. file_place (from_text p)) (sym is), within, silent)
+read_outcome Show asked run is within silent = (ap (λ p. file_place (from_text p)) (sym is), within, silent)
 
 long_outcome : (product : Product) (asked : MakeAsked) (run : Seen) → asked.product ≡ product → file_limit (from_text asked.product) < length run.file → run.out ≡ [] → MakeOutcome (answers.TextTooLong (file_place (from_text product))) asked run
 long_outcome (Compiled form) asked run is long silent = (ap (λ p. file_place (from_text p)) (sym is), long, silent)
 long_outcome Upgrade asked run is long silent = (ap (λ p. file_place (from_text p)) (sym is), long, silent)
+long_outcome Show asked run is long silent = (ap (λ p. file_place (from_text p)) (sym is), long, silent)
 
 file_attached_so : (text : Bool) (name : List ℕ) (log : List Event) → is_attached (file_place text) (Attached (file_place text) name ∷ log) ≡ true
 file_attached_so true name log = refl

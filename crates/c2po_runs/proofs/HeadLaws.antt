@@ -4,7 +4,7 @@ use Rattle.std.proofs.Common.{◌≡◌, ◌≢◌, ℕ, ◌≤◌, Bool, true, 
 use Rattle.std.specs.declared.alloc.Global.{Global}
 use Rattle.std.specs.List.{concat}
 use Rattle.std.proofs.lemmas.List.{append-nil}
-use Rattle.tool_io.specs.declared.host.Place.TheVariants.{Header}
+use Rattle.tool_io.specs.declared.host.Place.TheVariants.{Header, Out}
 use Rattle.tool_io.specs.declared.line_cut.Line as line
 use Rattle.tool_io.specs.Log.{Event, Attached}
 use Rattle.tool_io.specs.Whole.{Takes}
@@ -71,6 +71,7 @@ module _ (cut : Cutting) (events : List Event) where
     row_made (Err (answers.Refused line why)) cuts made = (tt, line_makes (Err (answers.Refused line why)) cuts (made.1 (λ e. cc)))
     row_made (Err (answers.BadProgram fault)) cuts made = (tt, line_makes (Err (answers.BadProgram fault)) cuts (made.1 (λ e. cc)))
     row_made (Err (answers.BadHeader why)) cuts made = (tt, line_makes (Err (answers.BadHeader why)) cuts (made.1 (λ e. cc)))
+    row_made (Err (answers.TextTooLong Out)) cuts made = (tt, line_makes (Err (answers.TextTooLong Out)) cuts (made.1 (λ e. cc)))
     row_made (Err answer) cuts made = absurd made.0
 
     -- there is no line
@@ -134,6 +135,7 @@ made_log found (Err answers.Memory) made = refl
 made_log found (Err (answers.Refused line why)) made = (refl, tt, made.1 (λ e. cc))
 made_log found (Err (answers.BadProgram fault)) made = (refl, tt, made.1 (λ e. cc))
 made_log found (Err (answers.BadHeader why)) made = (refl, tt, made.1 (λ e. cc))
+made_log found (Err (answers.TextTooLong Out)) made = (refl, tt, made.1 (λ e. cc))
 made_log found (Err answer) made = absurd made.0
 
 pub program_made : (found : Result (List ℕ) status.Status) (result : Result (Vec ℕ Global) status.Status) → IfOk result (λ made. found ≡ Ok made.items) → IfErr result (λ answer. answer ≢ answers.Memory → found ≡ Err answer) → IfErr result Refuses → MadeLog result found []

@@ -42,6 +42,7 @@ make_complete (answers.ReadFault p) asked run before between now cause same none
 make_complete (answers.WriteFault at.Err) asked run before between now cause same none bytes within makes is = absurd cause
 make_complete (answers.WriteFault p) asked run before between now cause same none bytes within makes is = absurd (rose_at before between now p cause same none (λ e. cc))
 make_complete (answers.TextTooLong at.Header) asked run before between now cause same none bytes within makes is = absurd (not_refused _ bytes _ makes is.refused.is)
+make_complete (answers.TextTooLong at.Out) asked run before between now cause same none bytes within makes is = absurd (not_refused _ bytes _ makes is.refused.is)
 make_complete (answers.TextTooLong p) asked run before between now cause same none bytes within makes is = absurd (let long = is.1 in omega (arith, long, within))
 make_complete (answers.Refused line why) asked run before between now cause same none bytes within makes is = absurd (not_refused _ bytes _ makes is.refused.is)
 make_complete (answers.BadProgram fault) asked run before between now cause same none bytes within makes is = absurd (not_refused _ bytes _ makes is.refused.is)

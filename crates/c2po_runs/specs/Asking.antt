@@ -7,11 +7,11 @@ use Rattle.tool_words.specs.C2poWords.{Asked, CompileAsked}
 use Rattle.tool_words.specs.C2poWords as words
 use Rattle.tool_runs.specs.Files.{file_place}
 use Rattle.c2po_runs.specs.declared.make.Product.{Product}
-use Rattle.c2po_runs.specs.declared.make.Product.TheVariants.{Compiled, Upgrade}
+use Rattle.c2po_runs.specs.declared.make.Product.TheVariants.{Compiled, Upgrade, Show}
 use Rattle.c2po_runs.specs.declared.make.Make as told
 
 -- what is made of a file: of a specification its image or its table in one of two forms, maybe under a header; of a
--- program its upgrade; and the file into which it is written, where one is named
+-- program its upgrade or its text; and the file into which it is written, where one is named
 pub record MakeAsked : Type 0 where
   pub product : Product
   pub file : List ℕ
@@ -33,16 +33,20 @@ compile_asked asked = record {
   out = asked.out;
 }
 
--- the upgrade of a program, into a named file
+-- a program in version 2
 abbrev pub upgrade_asked : List ℕ → List ℕ → MakeAsked
 upgrade_asked out program = record { product = Upgrade; file = program; header = None; out = Some out }
 
--- of what words may ask for; texts aren't served
+-- a program as text, on the standard output where no file is named
+abbrev pub show_asked : Option (List ℕ) → List ℕ → MakeAsked
+show_asked out program = record { product = Show; file = program; header = None; out = out }
+
+-- of what words may ask for
 abbrev pub served : Asked → Ask
 served words.help = help
 served (words.compile asked) = make (compile_asked asked)
 served (words.upgrade out program) = make (upgrade_asked out program)
-served (words.show out program) = nothing
+served (words.show out program) = make (show_asked out program)
 served words.nothing = nothing
 
 -- what the words ask for
@@ -53,6 +57,7 @@ ask list = served (words.ask list)
 abbrev pub from_text : Product → Bool
 from_text (Compiled form) = true
 from_text Upgrade = false
+from_text Show = false
 
 -- a place with the name of a file, where one is named
 abbrev pub place_named : Place → Option (List ℕ) → List (Place × List ℕ)

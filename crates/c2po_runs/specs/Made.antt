@@ -6,16 +6,21 @@ use Rattle.mltl_base.specs.declared.program.Columns.{Columns}
 use Rattle.mltl_base.specs.declared.program.Program.{Program}
 use Rattle.mltl_base.specs.declared.signal.Signal.{Signal}
 use Rattle.mltl_base.specs.Subformulas.{Asked}
-use Rattle.tool_io.specs.declared.host.Place.TheVariants.{Header}
+use Rattle.tool_io.specs.declared.host.Place.TheVariants.{Header, Out}
 use Rattle.tool_io.specs.Cutting.{line_text, is_long}
 use Rattle.obs_binary.specs.Layout.{spelling}
 use Rattle.obs_verify.specs.Upgrade.{up, clash_of}
 use Rattle.obs_files.specs.declared.fault.FileFault.{FileFault}
 use Rattle.obs_files.specs.declared.fault.ProgramFault.TheVariants.{Operand}
 use Rattle.obs_files.specs.Faults.{opened}
+use Rattle.obs_show.specs.declared.fault.ShowFault.{ShowFault}
+use Rattle.obs_show.specs.declared.fault.ShowFault.TheVariants as show_fault
+use Rattle.obs_show.specs.Limits.{show_fault as limit_of_text}
+use Rattle.obs_show.specs.Text.{text as text_of}
 use Rattle.obs_table.specs.Table.{table}
 use Rattle.spec_compile.specs.declared.fault.CompileFault.{CompileFault}
 use Rattle.spec_compile.specs.declared.fault.CompileFault.TheVariants as compile_fault
+use Rattle.spec_compile.specs.declared.fault.Refusal.TheVariants.{Wide}
 use Rattle.spec_compile.specs.Front.{first_refusal}
 use Rattle.spec_compile.specs.Compiled.{image_of_text}
 use Rattle.spec_compile.specs.Image.{image}
@@ -25,7 +30,7 @@ use Rattle.tool_runs.specs.declared.status.Status.TheVariants.{Refused, BadProgr
 use Rattle.tool_runs.specs.Files.{file_status}
 use Rattle.c2po_runs.specs.declared.make.Form.{Form}
 use Rattle.c2po_runs.specs.declared.make.Product.{Product}
-use Rattle.c2po_runs.specs.declared.make.Product.TheVariants.{Compiled, Upgrade}
+use Rattle.c2po_runs.specs.declared.make.Product.TheVariants.{Compiled, Upgrade, Show}
 use Rattle.c2po_runs.specs.Asking.{MakeAsked}
 
 -- the status of a run whose specification isn't compiled
@@ -58,15 +63,38 @@ program_by true text header = simple_image_of_text text header
 abbrev pub text_bytes : Form → List ℕ → Option (List ℕ) → Result (List ℕ) Status
 text_bytes form text header = compiled_bytes form.table (program_by form.simplify text header)
 
--- the bytes of a program in version 2, unless one column is read in both ways
-abbrev pub raised_bytes : Program → Option ℕ → Result (List ℕ) Status
-raised_bytes program None = Ok (spelling (up program))
-raised_bytes program (Some i) = Err (BadProgram (Operand Bz i))
+-- what is made of a program: bytes, or a refusal
+abbrev pub Making : Type 0
+Making = Program → Result (List ℕ) Status
 
--- what is written of a program file: the bytes of its program in version 2, or the first that refuses it
-abbrev pub upgraded_bytes : Result Program FileFault → Result (List ℕ) Status
-upgraded_bytes (Ok program) = raised_bytes program (clash_of program)
-upgraded_bytes (Err fault) = Err (file_status fault)
+-- what a program gives in version 2, unless one column is read in both ways: then the instruction that shows it
+abbrev pub raised_as : Making → Program → Option ℕ → Result (List ℕ) Status
+raised_as gives program None = gives (up program)
+raised_as gives program (Some i) = Err (BadProgram (Operand Bz i))
+
+-- what the program of a file gives in version 2, unless the file is refused before
+abbrev pub opened_as : Making → Result Program FileFault → Result (List ℕ) Status
+opened_as gives (Ok program) = raised_as gives program (clash_of program)
+opened_as gives (Err fault) = Err (file_status fault)
+
+-- the bytes of a program
+abbrev pub bytes_of : Making
+bytes_of program = Ok (spelling program)
+
+-- the status of a run whose program has no text
+abbrev pub show_status : ShowFault → Status
+show_status show_fault.TooLong = TextTooLong Out
+show_status show_fault.Wide = Refused 0 Wide
+show_status show_fault.Memory = Memory
+
+-- the text of a program, or the limit that it is past
+abbrev pub unless_past : Option ShowFault → List ℕ → Result (List ℕ) Status
+unless_past None text = Ok text
+unless_past (Some fault) text = Err (show_status fault)
+
+-- the text of a program, unless that is too long, or else its outputs weigh too much
+abbrev pub text_within : Making
+text_within program = unless_past (limit_of_text program) (text_of program)
 
 -- the first line of a header file; a file without a line has an empty one
 abbrev pub first_line : List (List ℕ) → List ℕ
@@ -98,7 +126,8 @@ made_of_text form (Some name) text lines =
 -- what a file gives, with the lines of the header file that were read
 abbrev pub made_as : Product → Option (List ℕ) → List ℕ → List (List ℕ) → Result (List ℕ) Status
 made_as (Compiled form) header file lines = made_of_text form header file lines
-made_as Upgrade header file lines = upgraded_bytes (opened file)
+made_as Upgrade header file lines = opened_as bytes_of (opened file)
+made_as Show header file lines = opened_as text_within (opened file)
 
 -- what is made of a file and the lines of its header file, or the status of what refuses them
 unfoldable pub made : MakeAsked → List ℕ → List (List ℕ) → Result (List ℕ) Status

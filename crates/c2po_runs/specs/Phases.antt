@@ -12,17 +12,18 @@ use Rattle.tool_runs.specs.declared.status.Status as status
 use Rattle.tool_runs.specs.Attaching.{is_attached, ReadsAttached, OpensAsTold}
 use Rattle.c2po_runs.specs.declared.make.Form.{Form}
 use Rattle.c2po_runs.specs.declared.make.Product.{Product}
-use Rattle.c2po_runs.specs.declared.make.Product.TheVariants.{Compiled, Upgrade}
+use Rattle.c2po_runs.specs.declared.make.Product.TheVariants.{Compiled, Upgrade, Show}
 use Rattle.c2po_runs.specs.Asking.{MakeAsked, read_names, place_named}
-use Rattle.c2po_runs.specs.Made.{upgraded_bytes, made_of_text}
+use Rattle.c2po_runs.specs.Made.{bytes_of, made_of_text, opened_as, text_within}
 use Rattle.obs_files.specs.Faults.{opened}
 use Rattle.c2po_runs.specs.Run.{seen, is_tried, IsFaultless, Makes, MakeOutcome, WritesAttached}
 
--- a status by which a file, a header or a limit refuses, or memory is wanting
+-- a status by which a file, a header or a limit refuses, that of a text that is to be written too, or memory is wanting
 abbrev pub Refuses : status.Status → Type 0
 Refuses (status.TheVariants.Refused line refusal) = Unit {0}
 Refuses (status.TheVariants.BadProgram fault) = Unit {0}
 Refuses (status.TheVariants.BadHeader why) = Unit {0}
+Refuses (status.TheVariants.TextTooLong place.TheVariants.Out) = Unit {0}
 Refuses status.TheVariants.Memory = Unit {0}
 Refuses answer = ⊥
 
@@ -80,7 +81,8 @@ TextLog result form header text events =
 -- behind the bytes of a file
 abbrev pub FileMadeLog : Product → Result (Vec ℕ Global) status.Status → Option (List ℕ) → List ℕ → List Event → Type 0
 FileMadeLog (Compiled form) result header file events = TextLog result form header file events
-FileMadeLog Upgrade result header file events = MadeLog result (upgraded_bytes (opened file)) events
+FileMadeLog Upgrade result header file events = MadeLog result (opened_as bytes_of (opened file)) events
+FileMadeLog Show result header file events = MadeLog result (opened_as text_within (opened file)) events
 
 -- behind the bytes of the file that the words ask for
 abbrev pub BehindLog : Result (Vec ℕ Global) status.Status → MakeAsked → List ℕ → List Event → Type 0

@@ -111,6 +111,7 @@ MakeOutcome (status.TheVariants.OpenFault place.TheVariants.Out) asked run = IsU
 MakeOutcome (status.TheVariants.OpenFault place.TheVariants.Header) asked run = IsUnheaded asked run
 MakeOutcome (status.TheVariants.ReadFault place.TheVariants.Header) asked run = IsUnheaded asked run
 MakeOutcome (status.TheVariants.TextTooLong place.TheVariants.Header) asked run = IsRefused (status.TheVariants.TextTooLong place.TheVariants.Header) asked run
+MakeOutcome (status.TheVariants.TextTooLong place.TheVariants.Out) asked run = IsRefused (status.TheVariants.TextTooLong place.TheVariants.Out) asked run
 MakeOutcome (status.TheVariants.OpenFault p) asked run = (p ≡ place_of asked) × (run.file ≡ []) × (run.out ≡ [])
 MakeOutcome (status.TheVariants.ReadFault p) asked run =
     (p ≡ place_of asked) × (length run.file ≤ file_limit (from_text asked.product)) × (run.out ≡ [])

@@ -1,16 +1,16 @@
 //! The top call of the compiler.
 
-ghost use Rattle.std.specs.Prelude.{◌≡◌, ◌≢◌, ◌↔◌, None};
+ghost use Rattle.std.specs.Prelude.{◌≡◌, ◌≢◌, ◌↔◌, None, false};
 ghost use Rattle.tool_io.specs.Log.{OnLog};
 ghost use Rattle.tool_io.specs.declared.host.Place.{Place as Where};
 ghost use Rattle.tool_io.specs.declared.host.Place.TheVariants.{Err};
 ghost use Rattle.tool_words.specs.C2poWords.{asked_of};
 ghost use Rattle.tool_runs.specs.Causes.{CauseAt, RunCause};
-ghost use Rattle.c2po_runs.specs.Asking.{ask, help, make as made_so, make_of, nothing, served};
+ghost use Rattle.c2po_runs.specs.Asking.{ask, from_text as is_text, help, make as made_so, make_of, nothing, served};
 ghost use Rattle.c2po_runs.specs.Run.{IsMade, Ran};
 
 use crate::gathering::gather;
-use crate::make::{Make, Product, compilation, upgrading};
+use crate::make::{Make, compilation, showing, upgrading};
 use crate::writing::write_out;
 use std::alloc::Global;
 use tool_io::Host;
@@ -19,7 +19,7 @@ use tool_words::{C2poAsk, Words, c2po_ask};
 
 /// Makes what was asked for, and writes it.
 fn make<H: Host>(alloc: Global, asked: &Make<'_>, host: &mut H) -> Status
-    requires header { asked.now.product ≡ Product.Upgrade → asked.now.header ≡ None }
+    requires header { is_text asked.now.product ≡ false → asked.now.header ≡ None }
     ensures cause { RunCause result (H.faults host.old) (H.faults host.new) }
     ensures log { OnLog (H.log host.old) (H.log host.new)
         (Ran (made_so (make_of asked.now)) result) }
@@ -40,7 +40,7 @@ fn run_asked<H: Host>(alloc: Global, asked: C2poAsk<'_>, host: &mut H) -> Status
         C2poAsk::Help => give_help(Tool::C2po, host),
         C2poAsk::Compile(asked) => make(alloc, &compilation(&asked), host),
         C2poAsk::Upgrade { out, program } => make(alloc, &upgrading(out, program), host),
-        C2poAsk::Show { .. } => Status::Usage,
+        C2poAsk::Show { out, program } => make(alloc, &showing(out, program), host),
         C2poAsk::Nothing => Status::Usage,
     }
 }
@@ -60,9 +60,9 @@ fn run<H: Host>(alloc: Global, words: &Words, host: &mut H) -> Status
 
 /// The top call of c2po: does what the words ask for, and tells the user on `Err` what went wrong.
 ///
-/// It writes the image of a specification or its instruction table, maybe in simplified form, or a program of version 1
-/// in version 2; or it gives help. Programs as text are asked for by words that are `Usage` yet. The output is attached,
-/// and written, only once the bytes stand whole; so an older file stays as it was where something is refused.
+/// It writes the image of a specification or its instruction table, maybe in simplified form; a program in version 2, or
+/// its text; or it gives help. The output is attached, and written, only once the bytes stand whole; so an older file
+/// stays as it was where something is refused.
 pub fn c2po_main<H: Host>(alloc: Global, words: &Words, host: &mut H) -> Status
     ensures usage { result ≢ Status.Memory → (result ≡ Status.Usage) ↔ (ask words.now ≡ nothing) }
     ensures helped { result ≡ Status.Helped → ask words.now ≡ help }

@@ -1,6 +1,6 @@
 //! What a run reads, and the bytes that it makes of it.
 
-ghost use Rattle.std.specs.Prelude.{◌≡◌, ◌≤◌, List as Seq, None, ℕ, length, option_map};
+ghost use Rattle.std.specs.Prelude.{◌≡◌, ◌≤◌, List as Seq, None, ℕ, false, length, option_map};
 ghost use Rattle.c2po_tree.specs.ItemShape.{spec_shape};
 ghost use Rattle.spec_compile.specs.Front.{first_refusal, items_in};
 ghost use Rattle.tool_io.specs.Log.{OnLog};
@@ -11,7 +11,8 @@ ghost use Rattle.c2po_runs.specs.Phases.{BehindLog, GatherLog, SpecLog, TextLog}
 
 use crate::heading::under_header;
 use crate::make::{Form, Make, Product};
-use crate::making::{compiled_bytes, status_of_compile, upgraded_bytes};
+use crate::making::{compiled_bytes, status_of_compile};
+use crate::raising::{shown_text, upgraded_bytes};
 use c2po_types::TypedSpec;
 use spec_compile::front;
 use std::alloc::Global;
@@ -71,6 +72,7 @@ fn of_file<H: Host>(
     match asked.product {
         Product::Compiled(form) => of_text(alloc, bytes, asked.header, form, host),
         Product::Upgrade => upgraded_bytes(alloc, bytes),
+        Product::Show => shown_text(alloc, bytes),
     }
 }
 
@@ -80,7 +82,7 @@ pub(crate) fn gather<H: Host>(
     asked: &Make<'_>,
     host: &mut H,
 ) -> Result<Vec<u8>, Status>
-    requires header { asked.now.product ≡ Product.Upgrade → asked.now.header ≡ None }
+    requires header { is_text asked.now.product ≡ false → asked.now.header ≡ None }
     ensures cause { PhaseCause result (H.faults host.old) (H.faults host.new) }
     ensures log { OnLog (H.log host.old) (H.log host.new) (GatherLog result (make_of asked.now)) }
 {

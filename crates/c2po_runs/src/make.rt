@@ -1,8 +1,8 @@
 //! What the words ask to be made.
 
-ghost use Rattle.std.specs.Prelude.{◌≡◌, ◌≢◌, None};
+ghost use Rattle.std.specs.Prelude.{◌≡◌, None, option_map, true};
 ghost use Rattle.tool_words.specs.C2poWords.{compile_of};
-ghost use Rattle.c2po_runs.specs.Asking.{compile_asked, from_text as is_text, make_of, upgrade_asked};
+ghost use Rattle.c2po_runs.specs.Asking.{compile_asked, from_text as is_text, make_of, show_asked, upgrade_asked};
 
 use tool_words::Compile;
 
@@ -20,6 +20,8 @@ pub(crate) enum Product {
     Compiled(Form),
     /// A program in version 2.
     Upgrade,
+    /// A program in version 2, as the text of a specification.
+    Show,
 }
 
 impl Product {
@@ -29,7 +31,7 @@ impl Product {
     {
         match self {
             Product::Compiled(_) => true,
-            Product::Upgrade => false,
+            Product::Upgrade | Product::Show => false,
         }
     }
 }
@@ -48,7 +50,7 @@ pub(crate) struct Make<'a> {
 /// The image or the table of a specification.
 pub(crate) fn compilation<'a>(asked: &Compile<'a>) -> Make<'a>
     ensures made { make_of result ≡ compile_asked (compile_of asked.now) }
-    ensures compiles { result.product ≢ Product.Upgrade }
+    ensures compiles { is_text result.product ≡ true }
 {
     let form = Form {
         table: asked.table,
@@ -72,5 +74,18 @@ pub(crate) fn upgrading<'a>(out: &'a str, program: &'a str) -> Make<'a>
         file: program,
         header: None,
         out: Some(out),
+    }
+}
+
+/// A program as text.
+pub(crate) fn showing<'a>(out: Option<&'a str>, program: &'a str) -> Make<'a>
+    ensures made { make_of result ≡ show_asked (option_map (λ name. name.now) out.entry) program.entry.now }
+    ensures no_header { result.header ≡ None }
+{
+    Make {
+        product: Product::Show,
+        file: program,
+        header: None,
+        out,
     }
 }

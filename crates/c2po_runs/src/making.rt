@@ -1,9 +1,8 @@
-//! From a specification, or from the bytes of a program, to the bytes that are written.
+//! From a specification to the bytes that are written.
 
 ghost use Rattle.std.specs.Prelude.{◌≡◌, ◌≢◌, ◌≤◌, Err, IfErr, IfOk, List as Seq, None, Ok, OnOk, ℕ, length};
 ghost use Rattle.std.specs.Option.{ForSome, option_copied};
 ghost use Rattle.c2po_tree.specs.ItemShape.{spec_shape};
-ghost use Rattle.obs_files.specs.Faults.{opened};
 ghost use Rattle.obs_files.specs.Names.{NamesFit};
 ghost use Rattle.c2po_types.specs.Signals.{signals_of};
 ghost use Rattle.set_expand.specs.Outputs.{outputs_of};
@@ -11,22 +10,21 @@ ghost use Rattle.spec_compile.specs.Front.{first_refusal, items_in};
 ghost use Rattle.spec_compile.specs.Image.{AreColumnsFor, over_columns};
 ghost use Rattle.spec_compile.specs.Limits.{limit_refusal};
 ghost use Rattle.spec_compile.specs.Refusals.{IsFirstRefusal};
-ghost use Rattle.tool_runs.specs.Files.{file_status};
 ghost use Rattle.c2po_runs.specs.Phases.{Refuses};
-ghost use Rattle.c2po_runs.specs.Made.{compile_status, image_by, text_bytes, upgraded_bytes as bytes_of_program, written_as};
+ghost use Rattle.c2po_runs.specs.Made.{compile_status, image_by, text_bytes, written_as};
 
 use crate::make::Form;
 use c2po_types::TypedSpec;
-use mltl_base::{Columns, Part};
-use obs_files::{FileFault, ProgramFault, image, open, upgraded_names_fit};
+use mltl_base::Columns;
+use obs_files::image;
 use obs_table::instruction_table;
-use obs_verify::{Checked, UpgradeFault, upgrade};
+use obs_verify::Checked;
 use spec_compile::{CompileFault, back, back_simple, columns_of};
 use std::alloc::Global;
 use tool_runs::Status;
 
 /// The table of a program, or its bytes.
-fn written(alloc: Global, table: bool, checked: &Checked) -> Result<Vec<u8>, Status>
+pub(crate) fn written(alloc: Global, table: bool, checked: &Checked) -> Result<Vec<u8>, Status>
     requires names { NamesFit checked.now }
     ensures bytes { IfOk result (λ bytes. bytes.items ≡ written_as table checked.now) }
     ensures memory { IfErr result (λ status. status ≡ Status.Memory) }
@@ -93,38 +91,6 @@ pub(crate) fn compiled_bytes(
     }
 }
 
-/// The bytes of a program in version 2.
-fn raised(alloc: Global, checked: Checked) -> Result<Vec<u8>, Status>
-    requires names { NamesFit checked }
-    ensures made { IfOk result (λ made. bytes_of_program (Ok checked) ≡ Ok made.items) }
-    ensures refused { IfErr result (λ status. status ≢ Status.Memory
-        → bytes_of_program (Ok checked) ≡ Err status) }
-    ensures refuses { IfErr result Refuses }
-{
-    upgraded_names_fit();
-    let _program = checked.program();
-    match upgrade(alloc, checked) {
-        Ok(checked) => written(alloc, false, &checked),
-        Err(UpgradeFault::Both(i)) => {
-            Err(Status::BadProgram(ProgramFault::Operand(Part::Bz, i)))
-        }
-        Err(UpgradeFault::Memory) => Err(Status::Memory),
-    }
-}
-
-/// What is written of the bytes of a program.
-pub(crate) fn upgraded_bytes(alloc: Global, bytes: &[u8]) -> Result<Vec<u8>, Status>
-    ensures made { IfOk result (λ made. bytes_of_program (opened bytes.now) ≡ Ok made.items) }
-    ensures refused { IfErr result (λ status. status ≢ Status.Memory
-        → bytes_of_program (opened bytes.now) ≡ Err status) }
-    ensures refuses { IfErr result Refuses }
-{
-    match open(alloc, bytes) {
-        Ok(checked) => raised(alloc, checked),
-        Err(fault) => Err(status_of_file(fault)),
-    }
-}
-
 pub(crate) fn status_of_compile(fault: CompileFault) -> Status
     ensures status { result ≡ compile_status fault }
     ensures refuses { Refuses result }
@@ -133,15 +99,5 @@ pub(crate) fn status_of_compile(fault: CompileFault) -> Status
         CompileFault::Refused(line, why) => Status::Refused(line, why),
         CompileFault::BadHeader(why) => Status::BadHeader(why),
         CompileFault::Memory => Status::Memory,
-    }
-}
-
-fn status_of_file(fault: FileFault) -> Status
-    ensures status { result ≡ file_status fault }
-    ensures refuses { Refuses result }
-{
-    match fault {
-        FileFault::Program(fault) => Status::BadProgram(fault),
-        FileFault::Memory => Status::Memory,
     }
 }

@@ -22,7 +22,9 @@ returns-in-Upgrade-clause-log g c =
     (λ events ran. subst (λ asked. Ran (served (asked_of asked)) c.make-in-Upgrade.result events) (sym c.in-Upgrade.is) (subst (λ made. Ran (make made) c.make-in-Upgrade.result events) c.upgrading.ensures.made ran))
 
 pub returns-in-Show-clause-log : goal.returns-in-Show-clause-log
-returns-in-Show-clause-log g c = OnLog-none _ _ (run_nothing (served (asked_of c.args.asked)) (ap (λ asked. served (asked_of asked)) c.in-Show.is))
+returns-in-Show-clause-log g c =
+    OnLog-map _ _ _ c.make-in-Show.ensures.log
+    (λ events ran. subst (λ asked. Ran (served (asked_of asked)) c.make-in-Show.result events) (sym c.in-Show.is) (subst (λ made. Ran (make made) c.make-in-Show.result events) c.showing.ensures.made ran))
 
 pub returns-in-Nothing-clause-log : goal.returns-in-Nothing-clause-log
 returns-in-Nothing-clause-log g c = OnLog-none _ _ (run_nothing (served (asked_of c.args.asked)) (ap (λ asked. served (asked_of asked)) c.in-Nothing.is))

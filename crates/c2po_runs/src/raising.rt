@@ -1,0 +1,113 @@
+//! From the bytes of a program file to what is written of its program in version 2: the bytes, or the text.
+
+ghost use Rattle.std.specs.Prelude.{◌≡◌, ◌≢◌, Err, IfErr, IfOk, Ok};
+ghost use Rattle.obs_files.specs.Faults.{opened};
+ghost use Rattle.obs_files.specs.Names.{NamesFit};
+ghost use Rattle.obs_verify.specs.Upgrade.{clash_of};
+ghost use Rattle.tool_runs.specs.Files.{file_status};
+ghost use Rattle.c2po_runs.specs.Made.{Making, bytes_of, opened_as, raised_as, show_status, text_within};
+ghost use Rattle.c2po_runs.specs.Phases.{Refuses};
+
+use crate::making::written;
+use mltl_base::Part;
+use obs_files::{FileFault, ProgramFault, open, upgraded_names_fit};
+use obs_show::{ShowFault, show};
+use obs_verify::{Checked, UpgradeFault, upgrade};
+use spec_compile::Refusal;
+use std::alloc::Global;
+use tool_io::Place;
+use tool_runs::Status;
+
+/// A program in version 2.
+fn raised(alloc: Global, checked: Checked) -> Result<Checked, Status>
+    requires names { NamesFit checked }
+    ensures made { IfOk result (λ raised. (gives : Making) → raised_as gives checked (clash_of checked) ≡ gives raised) }
+    ensures version { IfOk result (λ raised. raised.version ≡ 2) }
+    ensures names { IfOk result NamesFit }
+    ensures refused { IfErr result (λ status. status ≢ Status.Memory →
+        (gives : Making) → raised_as gives checked (clash_of checked) ≡ Err status) }
+    ensures refuses { IfErr result Refuses }
+{
+    upgraded_names_fit();
+    let _program = checked.program();
+    match upgrade(alloc, checked) {
+        Ok(checked) => Ok(checked),
+        Err(UpgradeFault::Both(i)) => {
+            Err(Status::BadProgram(ProgramFault::Operand(Part::Bz, i)))
+        }
+        Err(UpgradeFault::Memory) => Err(Status::Memory),
+    }
+}
+
+/// The program of a file, in version 2.
+fn program_in(alloc: Global, bytes: &[u8]) -> Result<Checked, Status>
+    ensures made { IfOk result (λ checked. (gives : Making) → opened_as gives (opened bytes.now) ≡ gives checked) }
+    ensures version { IfOk result (λ checked. checked.version ≡ 2) }
+    ensures names { IfOk result NamesFit }
+    ensures refused { IfErr result (λ status. status ≢ Status.Memory →
+        (gives : Making) → opened_as gives (opened bytes.now) ≡ Err status) }
+    ensures refuses { IfErr result Refuses }
+{
+    match open(alloc, bytes) {
+        Ok(checked) => raised(alloc, checked),
+        Err(fault) => Err(status_of_file(fault)),
+    }
+}
+
+/// The bytes of the program of a file, in version 2.
+pub(crate) fn upgraded_bytes(alloc: Global, bytes: &[u8]) -> Result<Vec<u8>, Status>
+    ensures made { IfOk result (λ made. opened_as bytes_of (opened bytes.now) ≡ Ok made.items) }
+    ensures refused { IfErr result (λ status. status ≢ Status.Memory → opened_as bytes_of (opened bytes.now) ≡ Err status) }
+    ensures refuses { IfErr result Refuses }
+{
+    match program_in(alloc, bytes) {
+        Ok(checked) => written(alloc, false, &checked),
+        Err(status) => Err(status),
+    }
+}
+
+/// The text of the program of a file, in version 2.
+pub(crate) fn shown_text(alloc: Global, bytes: &[u8]) -> Result<Vec<u8>, Status>
+    ensures made { IfOk result (λ made. opened_as text_within (opened bytes.now) ≡ Ok made.items) }
+    ensures refused { IfErr result (λ status. status ≢ Status.Memory → opened_as text_within (opened bytes.now) ≡ Err status) }
+    ensures refuses { IfErr result Refuses }
+{
+    match program_in(alloc, bytes) {
+        Ok(checked) => text_of(alloc, &checked),
+        Err(status) => Err(status),
+    }
+}
+
+/// The text of a program.
+fn text_of(alloc: Global, checked: &Checked) -> Result<Vec<u8>, Status>
+    requires version { checked.now.version ≡ 2 }
+    ensures made { IfOk result (λ made. text_within checked.now ≡ Ok made.items) }
+    ensures refused { IfErr result (λ status. status ≢ Status.Memory → text_within checked.now ≡ Err status) }
+    ensures refuses { IfErr result Refuses }
+{
+    match show(alloc, checked) {
+        Ok(text) => Ok(text),
+        Err(fault) => Err(status_of_show(fault)),
+    }
+}
+
+fn status_of_file(fault: FileFault) -> Status
+    ensures status { result ≡ file_status fault }
+    ensures refuses { Refuses result }
+{
+    match fault {
+        FileFault::Program(fault) => Status::BadProgram(fault),
+        FileFault::Memory => Status::Memory,
+    }
+}
+
+fn status_of_show(fault: ShowFault) -> Status
+    ensures status { result ≡ show_status fault }
+    ensures refuses { Refuses result }
+{
+    match fault {
+        ShowFault::TooLong => Status::TextTooLong(Place::Out),
+        ShowFault::Wide => Status::Refused(0, Refusal::Wide),
+        ShowFault::Memory => Status::Memory,
+    }
+}
