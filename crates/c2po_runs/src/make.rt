@@ -79,7 +79,8 @@ pub(crate) fn upgrading<'a>(out: &'a str, program: &'a str) -> Make<'a>
 
 /// A program as text.
 pub(crate) fn showing<'a>(out: Option<&'a str>, program: &'a str) -> Make<'a>
-    ensures made { make_of result ≡ show_asked (option_map (λ name. name.now) out.entry) program.entry.now }
+    ensures made { make_of result
+        ≡ show_asked (option_map (λ name. name.now) out.entry) program.entry.now }
     ensures no_header { result.header ≡ None }
 {
     Make {

@@ -21,7 +21,8 @@ use tool_runs::Status;
 /// A program in version 2.
 fn raised(alloc: Global, checked: Checked) -> Result<Checked, Status>
     requires names { NamesFit checked }
-    ensures made { IfOk result (λ raised. (gives : Making) → raised_as gives checked (clash_of checked) ≡ gives raised) }
+    ensures made { IfOk result (λ raised. (gives : Making)
+        → raised_as gives checked (clash_of checked) ≡ gives raised) }
     ensures version { IfOk result (λ raised. raised.version ≡ 2) }
     ensures names { IfOk result NamesFit }
     ensures refused { IfErr result (λ status. status ≢ Status.Memory →
@@ -41,7 +42,8 @@ fn raised(alloc: Global, checked: Checked) -> Result<Checked, Status>
 
 /// The program of a file, in version 2.
 fn program_in(alloc: Global, bytes: &[u8]) -> Result<Checked, Status>
-    ensures made { IfOk result (λ checked. (gives : Making) → opened_as gives (opened bytes.now) ≡ gives checked) }
+    ensures made { IfOk result (λ checked. (gives : Making)
+        → opened_as gives (opened bytes.now) ≡ gives checked) }
     ensures version { IfOk result (λ checked. checked.version ≡ 2) }
     ensures names { IfOk result NamesFit }
     ensures refused { IfErr result (λ status. status ≢ Status.Memory →
@@ -57,7 +59,8 @@ fn program_in(alloc: Global, bytes: &[u8]) -> Result<Checked, Status>
 /// The bytes of the program of a file, in version 2.
 pub(crate) fn upgraded_bytes(alloc: Global, bytes: &[u8]) -> Result<Vec<u8>, Status>
     ensures made { IfOk result (λ made. opened_as bytes_of (opened bytes.now) ≡ Ok made.items) }
-    ensures refused { IfErr result (λ status. status ≢ Status.Memory → opened_as bytes_of (opened bytes.now) ≡ Err status) }
+    ensures refused { IfErr result (λ status. status ≢ Status.Memory
+        → opened_as bytes_of (opened bytes.now) ≡ Err status) }
     ensures refuses { IfErr result Refuses }
 {
     match program_in(alloc, bytes) {
@@ -69,7 +72,8 @@ pub(crate) fn upgraded_bytes(alloc: Global, bytes: &[u8]) -> Result<Vec<u8>, Sta
 /// The text of the program of a file, in version 2.
 pub(crate) fn shown_text(alloc: Global, bytes: &[u8]) -> Result<Vec<u8>, Status>
     ensures made { IfOk result (λ made. opened_as text_within (opened bytes.now) ≡ Ok made.items) }
-    ensures refused { IfErr result (λ status. status ≢ Status.Memory → opened_as text_within (opened bytes.now) ≡ Err status) }
+    ensures refused { IfErr result (λ status. status ≢ Status.Memory
+        → opened_as text_within (opened bytes.now) ≡ Err status) }
     ensures refuses { IfErr result Refuses }
 {
     match program_in(alloc, bytes) {
@@ -82,7 +86,8 @@ pub(crate) fn shown_text(alloc: Global, bytes: &[u8]) -> Result<Vec<u8>, Status>
 fn text_of(alloc: Global, checked: &Checked) -> Result<Vec<u8>, Status>
     requires version { checked.now.version ≡ 2 }
     ensures made { IfOk result (λ made. text_within checked.now ≡ Ok made.items) }
-    ensures refused { IfErr result (λ status. status ≢ Status.Memory → text_within checked.now ≡ Err status) }
+    ensures refused { IfErr result (λ status. status ≢ Status.Memory
+        → text_within checked.now ≡ Err status) }
     ensures refuses { IfErr result Refuses }
 {
     match show(alloc, checked) {

@@ -30,7 +30,8 @@ pub(crate) fn add_signal(text: &mut Vec<u8>, signal: &StoredSignal) -> Result<()
 /// Adds what stands before the form of operation `k`.
 fn begin_define(text: &mut Vec<u8>, naming: &Naming, k: usize) -> Result<(), AllocError>
     ensures { OnOk result (text.new.items ≡ text.old.items
-        ++ (codes "DEFINE " ++ numbered_name (slice_index naming.now.numbers.items k) ++ codes " := ")) }
+        ++ (codes "DEFINE " ++ numbered_name (slice_index naming.now.numbers.items k)
+        ++ codes " := ")) }
 {
     text.extend_from_slice(b"DEFINE ")?;
     add_defined_name(text, naming, k)?;
@@ -47,7 +48,8 @@ fn add_prefixed(
     i: u32,
 ) -> Result<(), AllocError>
     requires { NamesAll program.now naming.now }
-    ensures { OnOk result (text.new.items ≡ text.old.items ++ (sign.now ++ reference_text (reference_at program.now part i))) }
+    ensures { OnOk result (text.new.items ≡ text.old.items
+        ++ (sign.now ++ reference_text (reference_at program.now part i))) }
 {
     text.extend_from_slice(sign)?;
     add_reference(text, program, naming, part, i)
@@ -65,7 +67,8 @@ fn add_spaced(
 ) -> Result<(), AllocError>
     requires { NamesAll program.now naming.now }
     ensures { OnOk result (text.new.items ≡ text.old.items
-        ++ spaced (reference_at program.now part x) operator.now (reference_at program.now part y)) }
+        ++ spaced (reference_at program.now part x) operator.now
+        (reference_at program.now part y)) }
 {
     add_reference(text, program, naming, part, x)?;
     text.extend_from_slice(b" ")?;
@@ -98,7 +101,8 @@ fn add_ranged(
 ) -> Result<(), AllocError>
     requires { NamesAll program.now naming.now }
     ensures { OnOk result (text.new.items ≡ text.old.items
-        ++ spaced (reference_at program.now part x) (letter.now ++ interval_text window) (reference_at program.now part y)) }
+        ++ spaced (reference_at program.now part x) (letter.now ++ interval_text window)
+        (reference_at program.now part y)) }
 {
     add_reference(text, program, naming, part, x)?;
     text.extend_from_slice(b" ")?;
@@ -115,7 +119,8 @@ fn add_bz_form(
     op: BzOp,
 ) -> Result<(), AllocError>
     requires { NamesAll program.now naming.now }
-    ensures { OnOk result (text.new.items ≡ text.old.items ++ written_form (bz_form program.now op)) }
+    ensures { OnOk result (text.new.items ≡ text.old.items
+        ++ written_form (bz_form program.now op)) }
 {
     match op {
         BzOp::Column(_) | BzOp::IsTrue(_) | BzOp::Const(_) => Ok(()),
@@ -138,7 +143,8 @@ fn add_ft_form(
     op: FtOp,
 ) -> Result<(), AllocError>
     requires { NamesAll program.now naming.now }
-    ensures { OnOk result (text.new.items ≡ text.old.items ++ written_form (ft_form program.now op)) }
+    ensures { OnOk result (text.new.items ≡ text.old.items
+        ++ written_form (ft_form program.now op)) }
 {
     match op {
         FtOp::True | FtOp::Load(_) => Ok(()),
@@ -157,7 +163,8 @@ fn add_pt_form(
     op: PtOp,
 ) -> Result<(), AllocError>
     requires { NamesAll program.now naming.now }
-    ensures { OnOk result (text.new.items ≡ text.old.items ++ written_form (pt_form program.now op)) }
+    ensures { OnOk result (text.new.items ≡ text.old.items
+        ++ written_form (pt_form program.now op)) }
 {
     match op {
         PtOp::True | PtOp::Load(_) => Ok(()),
@@ -179,7 +186,8 @@ pub(crate) fn add_bz_line(
 ) -> Result<(), AllocError>
     requires names { NamesAll program.now naming.now }
     requires there { i < length program.now.bz }
-    ensures { OnOk result (text.new.items ≡ text.old.items ++ written_line (bz_line program.now i op)) }
+    ensures { OnOk result (text.new.items ≡ text.old.items
+        ++ written_line (bz_line program.now i op)) }
 {
     if !op.is_operation() {
         return Ok(());
@@ -199,7 +207,8 @@ pub(crate) fn add_ft_line(
 ) -> Result<(), AllocError>
     requires names { NamesAll program.now naming.now }
     requires there { i < length program.now.ft }
-    ensures { OnOk result (text.new.items ≡ text.old.items ++ written_line (ft_line program.now i op)) }
+    ensures { OnOk result (text.new.items ≡ text.old.items
+        ++ written_line (ft_line program.now i op)) }
 {
     if !op.is_operation() {
         return Ok(());
@@ -219,7 +228,8 @@ pub(crate) fn add_pt_line(
 ) -> Result<(), AllocError>
     requires names { NamesAll program.now naming.now }
     requires there { i < length program.now.pt }
-    ensures { OnOk result (text.new.items ≡ text.old.items ++ written_line (pt_line program.now i op)) }
+    ensures { OnOk result (text.new.items ≡ text.old.items
+        ++ written_line (pt_line program.now i op)) }
 {
     if !op.is_operation() {
         return Ok(());
@@ -236,7 +246,8 @@ fn begin_output(
     k: usize,
     name: &Name,
 ) -> Result<(), AllocError>
-    ensures { OnOk result (text.new.items ≡ text.old.items ++ (section_text engine ++ codes " " ++ label_text (label_of k name.now))) }
+    ensures { OnOk result (text.new.items ≡ text.old.items
+        ++ (section_text engine ++ codes " " ++ label_text (label_of k name.now))) }
 {
     match engine {
         Engine::Ft => text.extend_from_slice(b"FTSPEC ")?,
@@ -252,7 +263,8 @@ fn begin_output(
 
 /// The part of a program whose instructions an engine evaluates.
 fn part_of(engine: Engine) -> Part
-    ensures { (program : Observer) (i : ℕ) → reference_at program result i ≡ reference_in program engine i }
+    ensures { (program : Observer) (i : ℕ)
+        → reference_at program result i ≡ reference_in program engine i }
 {
     match engine {
         Engine::Ft => Part::Ft,
@@ -269,7 +281,8 @@ pub(crate) fn add_output(
     output: &Out,
 ) -> Result<(), AllocError>
     requires { NamesAll program.now naming.now }
-    ensures { OnOk result (text.new.items ≡ text.old.items ++ line_text (output_line program.now k output.now)) }
+    ensures { OnOk result (text.new.items ≡ text.old.items
+        ++ line_text (output_line program.now k output.now)) }
 {
     match output {
         Out::Formula(engine, i, name) => {

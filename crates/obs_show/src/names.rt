@@ -27,7 +27,8 @@ pub(crate) fn add_name(text: &mut Vec<u8>, n: usize) -> Result<(), AllocError>
 
 /// The names of signals.
 fn signal_names(alloc: Global, signals: &[StoredSignal]) -> Result<HashSet<Vec<u8>>, AllocError>
-    ensures { IfOk result (λ names. (name : List ℕ) → has_name names name ≡ is_signal_name signals.now name) }
+    ensures { IfOk result (λ names. (name : List ℕ)
+        → has_name names name ≡ is_signal_name signals.now name) }
 {
     let mut names = HashSet::new(alloc);
     for signal in signals {

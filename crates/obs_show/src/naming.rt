@@ -51,7 +51,8 @@ fn signals_by_column(
 ) -> Result<Vec<Option<u32>>, AllocError>
     requires few { length signals.now < 2 ^ 32 }
     requires within { All (λ signal. signal.column < width) signals.now }
-    ensures { IfOk result (λ table. (c : ℕ) → IsNamed signals.now (name_in signals.now c) (slice_index_or table.items c None)) }
+    ensures { IfOk result (λ table. (c : ℕ)
+        → IsNamed signals.now (name_in signals.now c) (slice_index_or table.items c None)) }
 {
     let mut table = vec![in alloc; None; width as usize]?;
     let mut k = signals.len();

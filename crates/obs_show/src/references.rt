@@ -20,7 +20,8 @@ pub(crate) fn add_reference(
     i: u32,
 ) -> Result<(), AllocError>
     requires { NamesAll program.now naming.now }
-    ensures { OnOk result (text.new.items ≡ text.old.items ++ reference_text (reference_at program.now part i)) }
+    ensures { OnOk result (text.new.items ≡ text.old.items
+        ++ reference_text (reference_at program.now part i)) }
 {
     match part {
         Part::Bz => add_bz(text, program, naming, i as usize),
@@ -36,7 +37,8 @@ fn add_bz(
     i: usize,
 ) -> Result<(), AllocError>
     requires { NamesAll program.now naming.now }
-    ensures { OnOk result (text.new.items ≡ text.old.items ++ reference_text (bz_reference program.now i)) }
+    ensures { OnOk result (text.new.items ≡ text.old.items
+        ++ reference_text (bz_reference program.now i)) }
 {
     match program.bz.as_slice().get(i) {
         Some(op) => add_bz_call(text, program, naming, i, *op),
@@ -54,7 +56,8 @@ fn add_bz_call(
 ) -> Result<(), AllocError>
     requires names { NamesAll program.now naming.now }
     requires there { slice_get program.now.bz i ≡ Some op }
-    ensures { OnOk result (text.new.items ≡ text.old.items ++ reference_text (bz_called program.now i (Some op))) }
+    ensures { OnOk result (text.new.items ≡ text.old.items
+        ++ reference_text (bz_called program.now i (Some op))) }
 {
     match op {
         BzOp::Column(c) | BzOp::IsTrue(c) => add_signal_name(text, program, naming, c),
@@ -78,7 +81,8 @@ fn add_ft(
     i: usize,
 ) -> Result<(), AllocError>
     requires { NamesAll program.now naming.now }
-    ensures { OnOk result (text.new.items ≡ text.old.items ++ reference_text (ft_reference program.now i)) }
+    ensures { OnOk result (text.new.items ≡ text.old.items
+        ++ reference_text (ft_reference program.now i)) }
 {
     match program.ft.as_slice().get(i) {
         Some(op) => add_ft_call(text, program, naming, i, *op),
@@ -96,7 +100,8 @@ fn add_ft_call(
 ) -> Result<(), AllocError>
     requires names { NamesAll program.now naming.now }
     requires there { slice_get program.now.ft i ≡ Some op }
-    ensures { OnOk result (text.new.items ≡ text.old.items ++ reference_text (ft_called program.now i (Some op))) }
+    ensures { OnOk result (text.new.items ≡ text.old.items
+        ++ reference_text (ft_called program.now i (Some op))) }
 {
     match op {
         FtOp::True => text.extend_from_slice(b"true"),
@@ -114,7 +119,8 @@ fn add_pt(
     i: usize,
 ) -> Result<(), AllocError>
     requires { NamesAll program.now naming.now }
-    ensures { OnOk result (text.new.items ≡ text.old.items ++ reference_text (pt_reference program.now i)) }
+    ensures { OnOk result (text.new.items ≡ text.old.items
+        ++ reference_text (pt_reference program.now i)) }
 {
     match program.pt.as_slice().get(i) {
         Some(op) => add_pt_call(text, program, naming, i, *op),
@@ -132,7 +138,8 @@ fn add_pt_call(
 ) -> Result<(), AllocError>
     requires names { NamesAll program.now naming.now }
     requires there { slice_get program.now.pt i ≡ Some op }
-    ensures { OnOk result (text.new.items ≡ text.old.items ++ reference_text (pt_called program.now i (Some op))) }
+    ensures { OnOk result (text.new.items ≡ text.old.items
+        ++ reference_text (pt_called program.now i (Some op))) }
 {
     match op {
         PtOp::True => text.extend_from_slice(b"true"),
@@ -168,7 +175,8 @@ pub(crate) fn add_defined_name(
     naming: &Naming,
     k: usize,
 ) -> Result<(), AllocError>
-    ensures { OnOk result (text.new.items ≡ text.old.items ++ numbered_name (slice_index naming.now.numbers.items k)) }
+    ensures { OnOk result (text.new.items ≡ text.old.items
+        ++ numbered_name (slice_index naming.now.numbers.items k)) }
 {
     let number = match naming.numbers.get(k) {
         Some(number) => *number,

@@ -21,7 +21,8 @@ pub fn show(alloc: Global, checked: &Checked) -> Result<Vec<u8>, ShowFault>
     requires version { checked.now.version ≡ 2 }
     ensures text { IfOk result (λ bytes. bytes.items ≡ text_of checked.now) }
     ensures fits { OnOk result (show_fault checked.now ≡ None) }
-    ensures fault { IfErr result (λ fault. fault ≢ ShowFault.Memory → show_fault checked.now ≡ Some fault) }
+    ensures fault { IfErr result (λ fault. fault ≢ ShowFault.Memory
+        → show_fault checked.now ≡ Some fault) }
 {
     let bytes = write(alloc, checked.program())?;
     if weight(alloc, checked)? > MAX_WEIGHT {

@@ -20,7 +20,8 @@ pub(crate) fn write(alloc: Global, program: &Program) -> Result<Vec<u8>, ShowFau
     requires within { All (λ signal. signal.column < program.now.width) program.now.signals }
     ensures text { IfOk result (λ bytes. bytes.items ≡ text_of program.now) }
     ensures short { OnOk result (length (text_of program.now) ≤ MAX_SHOWN_BYTES) }
-    ensures fault { IfErr result (λ fault. fault ≢ Memory → (fault ≡ TooLong) × (MAX_SHOWN_BYTES < length (text_of program.now))) }
+    ensures fault { IfErr result (λ fault. fault ≢ Memory
+        → (fault ≡ TooLong) × (MAX_SHOWN_BYTES < length (text_of program.now))) }
 {
     let naming = Naming::of(alloc, program)?;
     let mut text = Vec::new(alloc);
@@ -34,7 +35,8 @@ pub(crate) fn write(alloc: Global, program: &Program) -> Result<Vec<u8>, ShowFau
 
 fn add_signals(text: &mut Vec<u8>, program: &Program) -> Result<(), ShowFault>
     requires { length text.old.items ≤ MAX_SHOWN_BYTES }
-    ensures { Adds text.old.items result text.new.items (written signal_bytes 0 program.now.signals) }
+    ensures { Adds text.old.items result text.new.items
+        (written signal_bytes 0 program.now.signals) }
 {
     for signal in program.signals.as_slice() {
         add_signal(text, signal)?;
@@ -48,7 +50,8 @@ fn add_signals(text: &mut Vec<u8>, program: &Program) -> Result<(), ShowFault>
 fn add_bz(text: &mut Vec<u8>, program: &Program, naming: &Naming) -> Result<(), ShowFault>
     requires names { NamesAll program.now naming.now }
     requires short { length text.old.items ≤ MAX_SHOWN_BYTES }
-    ensures { Adds text.old.items result text.new.items (written (bz_bytes program.now) 0 program.now.bz) }
+    ensures { Adds text.old.items result text.new.items
+        (written (bz_bytes program.now) 0 program.now.bz) }
 {
     for (i, op) in program.bz.as_slice().iter().enumerate() {
         add_bz_line(text, program, naming, i, *op)?;
@@ -62,7 +65,8 @@ fn add_bz(text: &mut Vec<u8>, program: &Program, naming: &Naming) -> Result<(), 
 fn add_ft(text: &mut Vec<u8>, program: &Program, naming: &Naming) -> Result<(), ShowFault>
     requires names { NamesAll program.now naming.now }
     requires short { length text.old.items ≤ MAX_SHOWN_BYTES }
-    ensures { Adds text.old.items result text.new.items (written (ft_bytes program.now) 0 program.now.ft) }
+    ensures { Adds text.old.items result text.new.items
+        (written (ft_bytes program.now) 0 program.now.ft) }
 {
     for (i, op) in program.ft.as_slice().iter().enumerate() {
         add_ft_line(text, program, naming, i, *op)?;
@@ -76,7 +80,8 @@ fn add_ft(text: &mut Vec<u8>, program: &Program, naming: &Naming) -> Result<(), 
 fn add_pt(text: &mut Vec<u8>, program: &Program, naming: &Naming) -> Result<(), ShowFault>
     requires names { NamesAll program.now naming.now }
     requires short { length text.old.items ≤ MAX_SHOWN_BYTES }
-    ensures { Adds text.old.items result text.new.items (written (pt_bytes program.now) 0 program.now.pt) }
+    ensures { Adds text.old.items result text.new.items
+        (written (pt_bytes program.now) 0 program.now.pt) }
 {
     for (i, op) in program.pt.as_slice().iter().enumerate() {
         add_pt_line(text, program, naming, i, *op)?;
@@ -90,7 +95,8 @@ fn add_pt(text: &mut Vec<u8>, program: &Program, naming: &Naming) -> Result<(), 
 fn add_outputs(text: &mut Vec<u8>, program: &Program, naming: &Naming) -> Result<(), ShowFault>
     requires names { NamesAll program.now naming.now }
     requires short { length text.old.items ≤ MAX_SHOWN_BYTES }
-    ensures { Adds text.old.items result text.new.items (written (output_bytes program.now) 0 program.now.outs) }
+    ensures { Adds text.old.items result text.new.items
+        (written (output_bytes program.now) 0 program.now.outs) }
 {
     for (k, output) in program.outs.as_slice().iter().enumerate() {
         add_output(text, program, naming, k, output)?;
