@@ -240,12 +240,7 @@ pub(crate) fn add_pt_line(
 }
 
 /// Adds the section of an output, and its label where its name isn't its number.
-fn begin_output(
-    text: &mut Vec<u8>,
-    engine: Engine,
-    k: usize,
-    name: &Name,
-) -> Result<(), AllocError>
+fn begin_output(text: &mut Vec<u8>, engine: Engine, k: usize, name: &Name) -> Result<(), AllocError>
     ensures { OnOk result (text.new.items ≡ text.old.items
         ++ (section_text engine ++ codes " " ++ label_text (label_of k name.now))) }
 {
