@@ -1,9 +1,8 @@
 -- Text that grows by the lines of members, one member at a time.
-use Rattle.std.proofs.Common.{◌≡◌, ℕ, zero, suc, ◌+◌, ◌<◌, ◌≤◌, Option, Some, None, List, [], ◌∷◌, ◌++◌, map, length, take, drop, get_or, refl, ap, sym, ◌∙◌, subst, arith, append_assoc, length-append}
+use Rattle.std.proofs.Common.{◌≡◌, ℕ, ◌+◌, ◌<◌, ◌≤◌, Option, Some, None, List, [], ◌∷◌, ◌++◌, map, length, take, drop, get_or, refl, ap, sym, ◌∙◌, arith, append_assoc, length-append}
 use Rattle.std.specs.Prelude.{filter_map, Err}
-use Rattle.std.specs.List.{enumerate_from, flat_map, cons_option}
+use Rattle.std.specs.List.{enumerate_from, cons_option}
 use Rattle.std.proofs.lemmas.List.{append-nil, length-take, take_more, take-append-drop}
-use Rattle.mltl_base.specs.declared.program.Out.{Out}
 use Rattle.mltl_base.specs.declared.program.Program.{Program}
 use Rattle.mltl_base.specs.declared.program.StoredSignal.{StoredSignal}
 use Rattle.obs_show.specs.declared.fault.ShowFault.{ShowFault}
@@ -11,7 +10,7 @@ use Rattle.obs_show.specs.declared.fault.ShowFault.TheVariants.{TooLong, Wide, M
 use Rattle.obs_show.specs.Lines.{Line}
 use Rattle.obs_show.specs.Showing.{written_line}
 use Rattle.obs_show.specs.Writing.{Adds, bz_bytes, ft_bytes, output_bytes, pt_bytes, signal_bytes, written}
-use Rattle.obs_show.specs.Text.{bz_line, ft_line, line_text, lines, lines_by, lines_text, output_line, output_lines, pt_line, signal_line, text}
+use Rattle.obs_show.specs.Text.{bz_line, ft_line, line_text, lines_by, lines_text, output_line, output_lines, pt_line, signal_line, text}
 use Rattle.std.proofs.lemmas.Grind.{flat_map-append}
 
 first_line : (line : Option Line) (ls : List Line) → lines_text (cons_option line ls) ≡ written_line line ++ lines_text ls

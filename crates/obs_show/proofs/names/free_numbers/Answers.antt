@@ -1,5 +1,4 @@
-use Rattle.std.proofs.Common.{◌≡◌, ℕ, Bool, true, false, not, cond, List, [], ◌∷◌, ◌++◌, ap, ◌∙◌, sym, filter, refl}
-use Rattle.std.specs.List.{range_with_len}
+use Rattle.std.proofs.Common.{◌≡◌, ℕ, Bool, true, false, not, [], ◌∷◌, ◌++◌, ap, ◌∙◌, sym}
 use Rattle.obs_verify.specs.Kinds.{has_name}
 use Rattle.obs_show.specs.Naming.{is_signal_name, numbered_name}
 use Rattle.obs_show.proofs.NameLaws.{filter_kept, filter_left}

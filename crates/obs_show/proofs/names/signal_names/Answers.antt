@@ -1,8 +1,7 @@
-use Rattle.std.proofs.Common.{◌≡◌, ℕ, List, ap, ◌∙◌, sym, take, get_or}
+use Rattle.std.proofs.Common.{◌≡◌, ℕ, List, ap, ◌∙◌, get_or}
 use Rattle.std.specs.Prelude.{◌||◌}
 use Rattle.std.specs.Str.{bytes_eq}
 use Rattle.obs_verify.specs.Kinds.{has_name}
-use Rattle.obs_show.specs.Naming.{is_signal_name}
 use Rattle.obs_show.proofs.NameLaws.{inserted, one_more_name}
 use Rattle.obs_show.proofs.names.signal_names.Goals as goal
 

@@ -1,4 +1,4 @@
-use Rattle.std.proofs.Common.{◌≡◌, ◌+◌, ℕ, take}
+use Rattle.std.proofs.Common.{◌≡◌, ◌+◌, take}
 use Rattle.std.specs.Prelude.{count_by}
 use Rattle.obs_show.specs.Showing.{HasNumbers}
 use Rattle.obs_show.proofs.naming.operations_before.Given as goal

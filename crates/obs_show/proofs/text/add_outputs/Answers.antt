@@ -1,4 +1,4 @@
-use Rattle.std.proofs.Common.{◌≡◌, ℕ, ◌+◌, ◌<◌, List, ◌++◌, length, take, get_or, arith, subst, ap, ◌∙◌}
+use Rattle.std.proofs.Common.{◌≡◌, ℕ, ◌+◌, ◌<◌, List, ◌++◌, length, take, arith, subst, ap, ◌∙◌}
 use Rattle.mltl_base.specs.declared.program.Out.{Out}
 use Rattle.obs_show.specs.Writing.{output_bytes, written}
 use Rattle.obs_show.proofs.TextLaws.{begun, grown, over_limit}
