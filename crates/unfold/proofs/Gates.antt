@@ -19,17 +19,21 @@ use Rattle.plain_nodes.specs.declared.nodes.Plain.TheVariants as plain
 use Rattle.plain_nodes.specs.Nodes.{Tree, number, formula, formula_at as nodes_formula_at, constant_formula, tree_of, trees, Has, Grows, IsFormula}
 use Rattle.plain_nodes.proofs.Pushing.{formula_in_place}
 use Rattle.plain_nodes.proofs.Places.{at_push}
-use Rattle.c2po_tree.specs.declared.tree.Expr.{Expr}
+use Rattle.c2po_tree.specs.Shape.{shape}
+use Rattle.unfold.specs.declared.values.Stored.{Stored}
 use Rattle.unfold.specs.declared.scope.Scope.{Scope}
 use Rattle.unfold.specs.declared.scope.Head.{Head}
+use Rattle.unfold.specs.declared.scope.Quantifier.{Quantifier}
 use Rattle.unfold.specs.declared.unfolding.Unfolding.{Unfolding}
-use Rattle.unfold.specs.Values.{Value, weight, formula_of, counted_formula}
-use Rattle.unfold.specs.Environment.{Env}
-use Rattle.unfold.specs.Stands.{Fits, IsLater}
+use Rattle.unfold.specs.Values.{Value, weight, formula_of, members, truth_value, counted_formula}
+use Rattle.unfold.specs.Environment.{Env, bind, value_of}
+use Rattle.unfold.specs.Stands.{Fits, Holds, IsLater}
 use Rattle.unfold.specs.Heads.{Heads}
+use Rattle.unfold.specs.Operators.{bodies_over}
 use Rattle.unfold.specs.Bodies.{AreFormulas, HaveFormulas}
-use Rattle.unfold.proofs.Later.{later_same, later_then}
-use Rattle.unfold.proofs.Loops.{bodies_of, take_next}
+use Rattle.unfold.proofs.Later.{later_same, later_then, fits_later, heads_later}
+use Rattle.unfold.proofs.Members.{holds_weight}
+use Rattle.unfold.proofs.Loops.{take_next, member_at, body_at, sum_next}
 
 -- formulas stay formulas
 is_formula_by : (o : Option Tree) (old new : List Plain) (n : ℕ) → slice_get (trees old) n ≡ o → Grows old new → IsFormula o →
@@ -80,15 +84,15 @@ pub are_none : (nodes : List Plain) → AreFormulas nodes []
 are_none nodes = record { each = λ i n e. cc }
 
 -- the bodies so far of a counting quantifier
-pub record CountedSoFar (old now : Unfolding) (scope : Scope) (set : Head) (body : Expr) (name : List ℕ) (room i : ℕ) (nodes : List ℕ) (left : ℕ) : Type 0 where
+pub record CountedSoFar (old now : Unfolding) (scope : Scope) (set : Head) (q : Quantifier) (room i : ℕ) (nodes : List ℕ) (left : ℕ) : Type 0 where
   pub later : IsLater old now
   pub inside : left ≤ room
   pub count : length nodes ≡ i
   pub are : AreFormulas now.nodes nodes
   pub have : (env : Env) (s : Value) → Fits old scope env → Heads old set s →
-      HaveFormulas now.nodes nodes (map formula_of (take i (bodies_of body name env s)))
+      HaveFormulas now.nodes nodes (map formula_of (take i (bodies_over q env s)))
   pub weight : (env : Env) (s : Value) → Fits old scope env → Heads old set s →
-      room ≡ left + sum_by weight (take i (bodies_of body name env s))
+      room ≡ left + sum_by weight (take i (bodies_over q env s))
 
 pub have_next : (nodes : List Plain) (ns : List ℕ) (vs : List Value) (i n : ℕ) (v : Value) → slice_get vs i ≡ Some v →
     HaveFormulas nodes ns (map formula_of (take i vs)) → Has nodes n (formula (formula_of v)) →
@@ -97,6 +101,38 @@ have_next nodes ns vs i n v e h k =
     subst (λ xs. HaveFormulas nodes (ns ++ n ∷ []) xs)
     (sym (ap (map formula_of) (take_next vs i v e) ∙ map-append formula_of (take i vs) (v ∷ [])))
     (have_push nodes ns (map formula_of (take i vs)) n (formula_of v) h k)
+
+-- and one more
+pub counted_more : (old now mid new : Unfolding) (scope : Scope) (set : Head) (q : Quantifier) (room i : ℕ) (nodes : List ℕ) (left : ℕ) (next : Stored) (node : ℕ) →
+    CountedSoFar old now scope set q room i nodes left → IsLater now mid → IsLater now new → next.weight ≤ left →
+    IsFormula (slice_get (trees new.nodes) node) → ((s : Value) → Heads old set s → i < length (members s)) →
+    ((env : Env) (s v : Value) → Fits now scope env → Heads now set s → slice_get (members s) i ≡ Some v →
+    Holds mid next (value_of (shape q.body.now) (bind q.name.now v env))) →
+    ((v : Value) → Holds mid next v → Has new.nodes node (formula (formula_of v))) →
+    CountedSoFar old new scope set q room (i + 1) (nodes ++ node ∷ []) (left - next.weight)
+counted_more old now mid new scope set q room i nodes left next node c middle later light is inside holds has = record {
+  later = later_then old now new c.later later;
+  inside = omega (arith, c.inside);
+  count = omega (arith, length_push nodes node, c.count);
+  are = are_push new.nodes nodes node (are_grows now.nodes new.nodes nodes later.keeps.nodes c.are) is;
+  have = λ env s h heads.
+      let v = get_or (members s) i (truth_value false) in
+      let at : slice_get (members s) i ≡ Some v = member_at (members s) i (length (members s)) refl (inside s heads) in
+      have_next new.nodes nodes (bodies_over q env s) i node (value_of (shape q.body.now) (bind q.name.now v env)) (body_at q env s v i at)
+      (have_grows now.nodes new.nodes nodes (map formula_of (take i (bodies_over q env s))) later.keeps.nodes (c.have env s h heads))
+      (has (value_of (shape q.body.now) (bind q.name.now v env))
+      (holds env s v (fits_later scope old now env c.later h) (heads_later set old now s c.later heads) at));
+  weight = λ env s h heads.
+      let v = get_or (members s) i (truth_value false) in
+      let at : slice_get (members s) i ≡ Some v = member_at (members s) i (length (members s)) refl (inside s heads) in
+      omega (
+        arith,
+        c.weight env s h heads,
+        sum_next (bodies_over q env s) i (value_of (shape q.body.now) (bind q.name.now v env)) (body_at q env s v i at),
+        holds_weight (value_of (shape q.body.now) (bind q.name.now v env)) mid next
+            (holds env s v (fits_later scope old now env c.later h) (heads_later set old now s c.later heads) at),
+      );
+}
 
 -- thresholds above the number of bodies are the same
 counting_big : (op : CountOp) (n m : ℕ) → n < m → counting.counting op n m ≡ counting.counting op n (n + 1)

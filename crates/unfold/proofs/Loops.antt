@@ -1,6 +1,6 @@
 -- What the loops of unfolding keep.
 
-use Rattle.std.proofs.Common.{◌≡◌, ℕ, false, ◌+◌, ◌-◌, ◌<◌, ◌≤◌, Some, List, [], ◌∷◌, ◌++◌, map, fold, take, length, get_or, slice_get, sum_by, option_map, refl, sym, subst, ap, ◌∙◌, arith}
+use Rattle.std.proofs.Common.{◌≡◌, ℕ, zero, suc, Bool, false, nat_eq, ◌+◌, ◌-◌, ◌<◌, ◌≤◌, Some, List, [], ◌∷◌, ◌++◌, map, fold, take, length, get_or, slice_get, sum_by, option_map, refl, sym, subst, ap, ◌∙◌, arith}
 use Rattle.std.proofs.lemmas.List.{take_more, take-map, map-append, length-map, length-take-le}
 use Rattle.std.proofs.lemmas.List.Sums.{fold_push, sum_by_push, sum_by-cons, sum_by_more_le}
 use Rattle.std.proofs.lemmas.Option.{slice_get_within, get_or_from_slice_get, slice_get-get_or, slice_get-map}
@@ -12,11 +12,15 @@ use Rattle.c2po_tree.specs.Shape.{shape, shapes}
 use Rattle.unfold.specs.declared.values.Stored.{Stored}
 use Rattle.unfold.specs.declared.scope.Scope.{Scope}
 use Rattle.unfold.specs.declared.scope.Head.{Head}
+use Rattle.unfold.specs.declared.scope.Quantifier.{Quantifier}
+use Rattle.unfold.specs.declared.operators.BinaryOp.{BinaryOp}
+use Rattle.unfold.specs.declared.operators.BinaryOp.TheVariants as binary
 use Rattle.unfold.specs.declared.unfolding.Unfolding.{Unfolding}
 use Rattle.unfold.specs.Values.{Value, leaf, list_of, weight, formula_of, members, joined, joined_all, counted, counted_some, counting_weight, truth_value}
 use Rattle.unfold.specs.Environment.{Env, bind, value_of, values_of}
 use Rattle.unfold.specs.Stands.{Holds, HoldAll, Fits, IsLater}
 use Rattle.unfold.specs.Heads.{Heads}
+use Rattle.unfold.specs.Operators.{binary_value, bodies_over}
 use Rattle.unfold.proofs.Later.{later_same, later_then, hold_all_later, fits_later}
 use Rattle.unfold.proofs.Members.{holds_weight, list_values, value_at}
 
@@ -112,24 +116,25 @@ joined_within op vs i v h some =
 pub joined_first : (op : LogicOp) (vs : List Value) (v : Value) → slice_get vs 0 ≡ Some v → weight v ≤ weight (joined_all op vs)
 joined_first op vs v h = omega (arith, joined_weight op vs, sum_within vs 0 v h)
 
--- the bodies of a quantifier
-abbrev pub bodies_of : Expr → List ℕ → Env → Value → List Value
-bodies_of body name env s = map (λ v. value_of (shape body) (bind name v env)) (members s)
+-- the values of a body, one for each member of a set that a name stands for
+abbrev pub values_over : Expr → List ℕ → Env → Value → List Value
+values_over body name env s = map (λ v. value_of (shape body) (bind name v env)) (members s)
 
-pub record JoinedSoFar (old now : Unfolding) (scope : Scope) (set : Head) (body : Expr) (name : List ℕ) (op : LogicOp) (room i : ℕ) (all : Stored) : Type 0 where
+-- the bodies of a quantifier that are joined so far
+pub record JoinedSoFar (old now : Unfolding) (scope : Scope) (set : Head) (q : Quantifier) (op : LogicOp) (room i : ℕ) (all : Stored) : Type 0 where
   pub later : IsLater old now
   pub light : all.weight ≤ room
-  pub holds : (env : Env) (s : Value) → Fits old scope env → Heads old set s → Holds now all (joined_all op (take i (bodies_of body name env s)))
+  pub holds : (env : Env) (s : Value) → Fits old scope env → Heads old set s → Holds now all (joined_all op (take i (bodies_over q env s)))
 
 -- a member of a set, and the body with it
 pub member_at : (ms : List Value) (i n : ℕ) → n ≡ length ms → i < n → slice_get ms i ≡ Some (get_or ms i (truth_value false))
 member_at ms i n count inside = slice_get-get_or ms i (truth_value false) (omega arith)
 
-pub body_at : (body : Expr) (name : List ℕ) (env : Env) (s v : Value) (i : ℕ) → slice_get (members s) i ≡ Some v →
-    slice_get (bodies_of body name env s) i ≡ Some (value_of (shape body) (bind name v env))
-body_at body name env s v i h =
-    slice_get-map (λ x. value_of (shape body) (bind name x env)) (members s) i
-    ∙ ap (option_map (λ x. value_of (shape body) (bind name x env))) h
+pub body_at : (q : Quantifier) (env : Env) (s v : Value) (i : ℕ) → slice_get (members s) i ≡ Some v →
+    slice_get (bodies_over q env s) i ≡ Some (value_of (shape q.body.now) (bind q.name.now v env))
+body_at q env s v i h =
+    slice_get-map (λ x. value_of (shape q.body.now) (bind q.name.now x env)) (members s) i
+    ∙ ap (option_map (λ x. value_of (shape q.body.now) (bind q.name.now x env))) h
 
 pub none_left : {A : Type 0} (xs : List A) (n : ℕ) → n ≡ length xs → n ≡ 0 → xs ≡ []
 none_left [] n e z = refl
@@ -146,8 +151,8 @@ joined_next op vs i v h some =
     let count : length (take i vs) ≡ i = length-take-le i vs (omega arith) in
     sym (ap (joined_all op) (take_next vs i v h) ∙ joined_push op (take i vs) v (omega arith))
 
-pub bodies_count : (body : Expr) (name : List ℕ) (env : Env) (s : Value) → length (bodies_of body name env s) ≡ length (members s)
-bodies_count body name env s = length-map (members s) (λ v. value_of (shape body) (bind name v env))
+pub bodies_count : (q : Quantifier) (env : Env) (s : Value) → length (bodies_over q env s) ≡ length (members s)
+bodies_count q env s = length-map (members s) (λ v. value_of (shape q.body.now) (bind q.name.now v env))
 
 pub sum_next : (vs : List Value) (i : ℕ) (v : Value) → slice_get vs i ≡ Some v → sum_by weight (take (i + 1) vs) ≡ sum_by weight (take i vs) + weight v
 sum_next vs i v h = ap (sum_by weight) (take_next vs i v h) ∙ sum_by_push weight (take i vs) v
@@ -159,3 +164,15 @@ counted_is_some op m (v ∷ vs) h = refl
 
 pub counted_weight : (op : CountOp) (m : ℕ) (vs : List Value) → 0 < length vs → weight (counted op m vs) ≡ sum_by weight vs + counting_weight (length vs) m
 counted_weight op m vs h = ap weight (counted_is_some op m vs h)
+
+-- a number that is not 0
+pub some_left : (n : ℕ) (b : Bool) → b ≡ nat_eq n 0 → b ≡ false → 0 < n
+some_left zero b e f = cc
+some_left (suc n) b e f = omega arith
+
+-- the weight of an operator over two operands
+pub binary_weight : (op : BinaryOp) (v w : Value) → weight (binary_value op v w) ≡ 1 + weight v + weight w
+binary_weight (binary.Arith op) v w = refl
+binary_weight (binary.Compare op) v w = refl
+binary_weight (binary.Logic op) v w = refl
+binary_weight (binary.Between op a b) v w = refl

@@ -28,24 +28,6 @@ is_operator (tree.group line es) = false
 is_operator (tree.pick line e x) = false
 is_operator _ = true
 
--- an operator of two operands or a quantifier
-abbrev pub is_wide : Shape → Bool
-is_wide (tree.arith line op e f) = true
-is_wide (tree.compare line op e f) = true
-is_wide (tree.logic line op e f) = true
-is_wide (tree.between line op a b e f) = true
-is_wide (tree.each line x s e) = true
-is_wide (tree.exists line x s e) = true
-is_wide (tree.count line op x s m e) = true
-is_wide _ = false
-
--- a quantifier
-abbrev pub is_quantifier : Shape → Bool
-is_quantifier (tree.each line x s e) = true
-is_quantifier (tree.exists line x s e) = true
-is_quantifier (tree.count line op x s m e) = true
-is_quantifier _ = false
-
 -- stored values are the members of a set; nothing else has any
 abbrev pub HoldMembers : Unfolding → List Stored → Value → Type 0
 HoldMembers u ss (set vs w) = HoldAll u ss vs

@@ -2,6 +2,7 @@ pub mod Values
 pub mod Environment
 pub mod Stands
 pub mod Heads
+pub mod Operators
 pub mod Leaves
 pub mod Bodies
 pub mod Faults

@@ -1,15 +1,19 @@
 //! Nodes of whole numbers and of formulas.
 
-ghost use Rattle.std.specs.Prelude.{◌≡◌, ◌+◌, ◌^◌, ◌<◌, ℕ, [], ◌∷◌, ◌++◌, length, slice_get, IfOk, OnOk};
+ghost use Rattle.std.specs.Prelude.{◌≡◌, ◌+◌, ◌^◌, ◌<◌, ◌≤◌, ℕ, [], ◌∷◌, ◌++◌, length, slice_get, IfOk, IfErr, OnOk};
 ghost use Rattle.mltl_base.specs.declared.limits.TheConstants.{MAX_BOUND};
 ghost use Rattle.plain_nodes.specs.Nodes.{Has, IsBounded, IsFormed, IsFormula, IsNumber, constant_formula, formula, number, tree_of, trees};
+ghost use Rattle.unfold.specs.declared.fault.UnfoldFault.TheVariants.{Heavy};
 ghost use Rattle.unfold.specs.declared.values.Place.TheVariants.{Node};
 ghost use Rattle.unfold.specs.Leaves.{node_sort, sort_of};
+ghost use Rattle.unfold.specs.Operators.{binary_value, unary_value};
 ghost use Rattle.unfold.specs.Stands.{Holds, IsLater};
-ghost use Rattle.unfold.specs.Values.{Value, compared, computed, formula_of, interval, inverted, leaf, joined, number_value, opposite, ranged_value, term_of, weight, windowed_value};
+ghost use Rattle.unfold.specs.Values.{Value, compared, computed, formula_of, interval, inverted, leaf, joined, opposite, ranged_value, term_of, weight, windowed_value};
 
-use crate::Unfolding;
+use crate::fault::less;
+use crate::operators::{BinaryOp, UnaryOp};
 use crate::values::{Place, Stored};
+use crate::{UnfoldFault, Unfolding};
 use mltl_base::limits::MAX_BOUND;
 use mltl_base::{ArithOp, BetweenOp, CompareOp, Interval, LogicOp, WindowOp};
 use plain_nodes::{Nodes, Plain};
@@ -127,13 +131,18 @@ impl Unfolding {
         self.place(Plain::Truth(false))
     }
 
-    /// A number.
-    pub(crate) fn number_leaf(&mut self, n: i64) -> Result<Stored, AllocError>
+    /// A number or a truth, which weighs one.
+    pub(crate) fn token(&mut self, node: Plain, room: u32) -> Result<Stored, UnfoldFault>
+        requires formed { (signals : ℕ) → IsFormed signals (trees self.old.nodes) node }
         ensures later { OnOk result (IsLater self.old self.new) }
-        ensures weight { IfOk result (λ s. s.weight ≡ 1) }
-        ensures holds { IfOk result (λ s. Holds self.new s (number_value n)) }
+        ensures light { IfOk result (λ s. s.weight ≤ room) }
+        ensures holds { IfOk result
+            (λ s. Holds self.new s (leaf (tree_of (trees self.old.nodes) node) 1)) }
+        ensures heavy { IfErr result (λ why. why ≡ Heavy → room < 1) }
     {
-        self.leaf(Plain::Number(n), 1)
+        let _left = less(room, 1)?;
+        let value = self.leaf(node, 1)?;
+        Ok(value)
     }
 
     /// A truth with a weight.
@@ -161,8 +170,44 @@ impl Unfolding {
         })
     }
 
+    /// An operator over one operand.
+    pub(crate) fn over_one(&mut self, op: UnaryOp, a: Stored) -> Result<Stored, AllocError>
+        requires { a.weight + 1 < 2 ^ 32 }
+        ensures later { OnOk result (IsLater self.old self.new) }
+        ensures weight { IfOk result (λ s. s.weight ≡ a.weight + 1) }
+        ensures holds { (v : Value) → Holds self.old a v
+            → IfOk result (λ s. Holds self.new s (unary_value op v)) }
+    {
+        match op {
+            UnaryOp::Minus => self.opposite(a),
+            UnaryOp::Not => self.inverted(a),
+            UnaryOp::Window(op, low, high) => self.windowed(op, low, high, a),
+        }
+    }
+
+    /// An operator over two operands.
+    pub(crate) fn over_two(
+        &mut self,
+        op: BinaryOp,
+        a: Stored,
+        b: Stored,
+    ) -> Result<Stored, AllocError>
+        requires { a.weight + b.weight + 1 < 2 ^ 32 }
+        ensures later { OnOk result (IsLater self.old self.new) }
+        ensures weight { IfOk result (λ s. s.weight ≡ a.weight + b.weight + 1) }
+        ensures holds { (v w : Value) → Holds self.old a v → Holds self.old b w
+            → IfOk result (λ s. Holds self.new s (binary_value op v w)) }
+    {
+        match op {
+            BinaryOp::Arith(op) => self.computed(op, a, b),
+            BinaryOp::Compare(op) => self.compared(op, a, b),
+            BinaryOp::Logic(op) => self.joined(op, a, b),
+            BinaryOp::Between(op, low, high) => self.ranged(op, low, high, a, b),
+        }
+    }
+
     /// The negation of a whole number.
-    pub(crate) fn opposite(&mut self, a: Stored) -> Result<Stored, AllocError>
+    fn opposite(&mut self, a: Stored) -> Result<Stored, AllocError>
         requires { a.weight + 1 < 2 ^ 32 }
         ensures later { OnOk result (IsLater self.old self.new) }
         ensures weight { IfOk result (λ s. s.weight ≡ a.weight + 1) }
@@ -174,7 +219,7 @@ impl Unfolding {
     }
 
     /// The negation of a formula.
-    pub(crate) fn inverted(&mut self, a: Stored) -> Result<Stored, AllocError>
+    fn inverted(&mut self, a: Stored) -> Result<Stored, AllocError>
         requires { a.weight + 1 < 2 ^ 32 }
         ensures later { OnOk result (IsLater self.old self.new) }
         ensures weight { IfOk result (λ s. s.weight ≡ a.weight + 1) }
@@ -186,12 +231,7 @@ impl Unfolding {
     }
 
     /// Two whole numbers under an operator.
-    pub(crate) fn computed(
-        &mut self,
-        op: ArithOp,
-        a: Stored,
-        b: Stored,
-    ) -> Result<Stored, AllocError>
+    fn computed(&mut self, op: ArithOp, a: Stored, b: Stored) -> Result<Stored, AllocError>
         requires { a.weight + b.weight + 1 < 2 ^ 32 }
         ensures later { OnOk result (IsLater self.old self.new) }
         ensures weight { IfOk result (λ s. s.weight ≡ a.weight + b.weight + 1) }
@@ -205,12 +245,7 @@ impl Unfolding {
     }
 
     /// A comparison of two whole numbers.
-    pub(crate) fn compared(
-        &mut self,
-        op: CompareOp,
-        a: Stored,
-        b: Stored,
-    ) -> Result<Stored, AllocError>
+    fn compared(&mut self, op: CompareOp, a: Stored, b: Stored) -> Result<Stored, AllocError>
         requires { a.weight + b.weight + 1 < 2 ^ 32 }
         ensures later { OnOk result (IsLater self.old self.new) }
         ensures weight { IfOk result (λ s. s.weight ≡ a.weight + b.weight + 1) }
@@ -238,7 +273,7 @@ impl Unfolding {
     }
 
     /// A temporal operator over a formula.
-    pub(crate) fn windowed(
+    fn windowed(
         &mut self,
         op: WindowOp,
         low: u64,
@@ -256,7 +291,7 @@ impl Unfolding {
     }
 
     /// A temporal operator between formulas.
-    pub(crate) fn ranged(
+    fn ranged(
         &mut self,
         op: BetweenOp,
         low: u64,

@@ -11,6 +11,7 @@ pub mod fault;
 pub mod heads;
 pub mod laws;
 pub mod leaves;
+pub mod operators;
 pub mod scope;
 pub mod unfolding;
 pub mod values;

@@ -3,6 +3,7 @@
 use crate::values::Stored;
 use c2po_tree::Expr;
 use mltl_base::Name;
+use std::alloc::Global;
 
 /// The variables around an expression, the innermost first.
 #[derive(Clone, Copy)]
@@ -21,6 +22,22 @@ pub enum Scope<'a> {
         stored: Stored,
         outer: &'a Scope<'a>,
     },
+}
+
+/// Where an expression is unfolded: the variables around it, and how deep it may still be nested.
+#[derive(Clone, Copy)]
+pub struct Site<'a> {
+    pub alloc: Global,
+    pub depth: u32,
+    pub scope: &'a Scope<'a>,
+}
+
+/// The bodies of a quantifier: one for each member of a set, which a variable stands for.
+#[derive(Clone, Copy)]
+pub struct Quantifier<'a> {
+    pub name: &'a Name,
+    pub set: &'a Expr,
+    pub body: &'a Expr,
 }
 
 /// What a name stands for.

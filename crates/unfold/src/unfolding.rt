@@ -18,7 +18,7 @@ ghost use Rattle.unfold.specs.Stands.{HoldAll, Holds, IsLater, Means, StandsFor,
 ghost use Rattle.unfold.specs.Values.{Value, Values, formula_of, set, structure, weight};
 
 use crate::UnfoldFault;
-use crate::scope::Scope;
+use crate::scope::{Scope, Site};
 use crate::values::{Entry, Parts, Place, Stored, Whole};
 use c2po_tree::Expr;
 use mltl_base::{List, Name};
@@ -27,8 +27,8 @@ use name_table::NameTable;
 use plain_nodes::{Nodes, Plain, Tenses, first_fault};
 use std::alloc::{AllocError, Global};
 
-/// The levels that an expression may be nested: more than any stack has.
-const LEVELS: u32 = u32::MAX;
+/// How deep an expression may be nested: deeper than any stack is.
+const DEPTH: u32 = u32::MAX;
 
 /// What the names of a specification stand for, and the nodes that their values unfold to.
 #[derive(Drop)]
@@ -130,7 +130,12 @@ impl Unfolding {
         ensures sound { (signals : ℕ) → AreSound signals (nodes_of self.old)
             → OnOk result (AreSound signals (nodes_of self.new)) }
     {
-        let stored = self.build(alloc, LEVELS, &Scope::Top, e, room)?;
+        let at = Site {
+            alloc,
+            depth: DEPTH,
+            scope: &Scope::Top,
+        };
+        let stored = self.build(at, e, room)?;
         self.declare(alloc, name, Entry::Value(stored))?;
         Ok(stored.fault)
     }
@@ -161,7 +166,12 @@ impl Unfolding {
         ensures sound { (signals : ℕ) → AreSound signals (nodes_of self.old)
             → OnOk result (AreSound signals (nodes_of self.new)) }
     {
-        let stored = self.build(alloc, LEVELS, &Scope::Top, e, room)?;
+        let at = Site {
+            alloc,
+            depth: DEPTH,
+            scope: &Scope::Top,
+        };
+        let stored = self.build(at, e, room)?;
         let node = self.formula(stored)?;
         Ok(Unfolded {
             node,

@@ -1,98 +1,98 @@
-use Rattle.std.proofs.Common.{◌≡◌, ◌+◌, ◌-◌, ◌<◌, ℕ, false, Some, List, map, refl, sym, subst, ap, ◌∙◌, take, length, get_or, slice_get, sum_by, arith}
-use Rattle.std.proofs.lemmas.List.{take_all, length_push, length-map}
-use Rattle.std.proofs.lemmas.Option.{slice_get_within}
+use Rattle.std.proofs.Common.{◌≡◌, ◌+◌, ◌-◌, ◌<◌, ℕ, false, Some, IfOk, IfErr, List, map, refl, sym, subst, ap, ◌∙◌, take, length, get_or, slice_get, sum_by, arith}
+use Rattle.std.specs.Vec.{vec_len}
+use Rattle.std.proofs.lemmas.List.{take_all, length-map}
 use Rattle.std.proofs.lemmas.Result.{err_from_is_err_and}
 use Rattle.mltl_base.specs.declared.operators.LogicOp.TheVariants.{And, Or}
 use Rattle.count_sets.specs.Counting.{counting}
 use Rattle.plain_nodes.specs.Nodes.{Has, formula}
 use Rattle.c2po_tree.specs.Shape.{shape, node_shape}
+use Rattle.unfold.specs.declared.fault.UnfoldFault.TheVariants.{Heavy}
 use Rattle.unfold.specs.declared.values.Place.TheVariants.{Node}
 use Rattle.unfold.specs.declared.values.Stored.{Stored}
 use Rattle.unfold.specs.Values.{weight, members, formula_of, truth_value, joined_all, counted, counted_formula, counting_weight}
 use Rattle.unfold.specs.Environment.{value_of, bind}
+use Rattle.unfold.specs.Operators.{bodies_over, bodies_of}
 use Rattle.unfold.specs.Stands.{Holds, IsLater}
 use Rattle.unfold.specs.Bodies.{HaveFormulas}
 use Rattle.unfold.proofs.Later.{holds_later, fits_later, heads_later, later_then}
 use Rattle.unfold.proofs.Members.{holds_weight, found_at}
-use Rattle.unfold.proofs.Loops.{BuiltSoFar, built_more, weight_within, bodies_of, bodies_count, body_at, member_at, joined_first, joined_one, joined_next, joined_within, sum_within, sum_next, counted_is_some, counted_weight}
-use Rattle.unfold.proofs.Gates.{CountedSoFar, are_push, are_grows, have_grows, have_next}
+use Rattle.unfold.proofs.Loops.{BuiltSoFar, built_more, weight_within, values_over, bodies_count, body_at, member_at, joined_first, joined_one, joined_next, joined_within, sum_within, counted_is_some, some_left, binary_weight}
+use Rattle.unfold.proofs.Gates.{CountedSoFar, counted_more}
 use Rattle.unfold.proofs.unfolding.Unfolding.+building.Goals as goal
 
-pub build_two-returns-clause-left : goal.build_two-returns-clause-left
-build_two-returns-clause-left t c = λ env h.
-    holds_later (value_of (shape c.args.a.now) env) c.build.new.self c.build-2.new.self c.in_ok-left.left c.in_ok-right.ensures.later
-    (c.in_ok-left.ensures.holds env h)
-
-pub build_two-returns-clause-right : goal.build_two-returns-clause-right
-build_two-returns-clause-right t c = λ env h.
-    c.in_ok-right.ensures.holds env (fits_later c.args.scope.now c.args.self.now c.build.new.self env c.in_ok-left.ensures.later h)
-
-pub build_two-returns-in_err-right-clause-heavy : goal.build_two-returns-in_err-right-clause-heavy
-build_two-returns-in_err-right-clause-heavy t c = λ env h.
-    let p = err_from_is_err_and c.from_residual-in_err-right.result c.from_residual-in_err-right.ensures.1 in
-    let fits = fits_later c.args.scope.now c.args.self.now c.build.new.self env c.in_ok-left.ensures.later h in
+pub binary-returns-in_err-b-clause-heavy : goal.binary-returns-in_err-b-clause-heavy
+binary-returns-in_err-b-clause-heavy t c = λ env h.
+    let p = err_from_is_err_and c.from_residual-in_err-b.result c.from_residual-in_err-b.ensures.1 in
+    let fits = fits_later c.args.at.scope.now c.args.self.now c.build.new.self env c.in_ok-a.ensures.later h in
     rw (p.1, p.2)
     (λ e. omega (
       arith,
-      c.in_err-right.ensures.heavy env fits e,
-      holds_weight (value_of (shape c.args.a.now) env) c.build.new.self c.in_ok-left.left (c.in_ok-left.ensures.holds env h),
+      c.in_err-b.ensures.heavy env fits e,
+      c.in_ok-left.ensures.left,
+      holds_weight (value_of (shape c.args.a.now) env) c.build.new.self c.in_ok-a.a (c.in_ok-a.ensures.holds env h),
+      binary_weight c.args.op (value_of (shape c.args.a.now) env) (value_of (shape c.args.b.now) env),
     ))
 
-pub quantifier-returns-in_ok-value-in-Each-clause-holds : goal.quantifier-returns-in_ok-value-in-Each-clause-holds
-quantifier-returns-in_ok-value-in-Each-clause-holds t c = λ env h o.
-    let same : value_of (shape c.args.e.now) env ≡ joined_all And (bodies_of c.deref-in-Each.result.now c.in-Each.name env (value_of (shape c.deref.result.now) env)) =
+pub binary-returns-clause-holds : goal.binary-returns-clause-holds
+binary-returns-clause-holds t c = λ env h.
+    let v = value_of (shape c.args.a.now) env in
+    let w = value_of (shape c.args.b.now) env in
+    c.in_ok-over_two.ensures.holds v w
+    (holds_later v c.build.new.self c.build-2.new.self c.in_ok-a.a c.in_ok-b.ensures.later (c.in_ok-a.ensures.holds env h))
+    (c.in_ok-b.ensures.holds env (fits_later c.args.at.scope.now c.args.self.now c.build.new.self env c.in_ok-a.ensures.later h))
+
+pub operator-returns-in-Each-clause-holds : goal.operator-returns-in-Each-clause-holds
+operator-returns-in-Each-clause-holds t c = λ env h o.
+    let same : value_of (shape c.args.e.now) env ≡ joined_all And (values_over c.deref-in-Each-2.result.now c.in-Each.name env (value_of (shape c.deref-in-Each.result.now) env)) =
     ap (λ n. value_of (node_shape c.args.e.now.line n) env) c.in-Each.is
-    ∙ (ap (λ d. joined_all And (bodies_of c.in-Each.body.value c.in-Each.name env (value_of (shape d) env))) (sym c.deref.ensures)
-    ∙ ap (λ d. joined_all And (bodies_of d c.in-Each.name env (value_of (shape c.deref.result.now) env))) (sym c.deref-in-Each.ensures)) in
-    subst (λ w. Holds c.joined_bodies.new.self c.in_ok-value-in-Each.value w) (sym same) (c.in_ok-value-in-Each.ensures.holds env h)
+    ∙ (ap (λ d. joined_all And (values_over c.in-Each.body.value c.in-Each.name env (value_of (shape d) env))) (sym c.deref-in-Each.ensures)
+    ∙ ap (λ d. joined_all And (values_over d c.in-Each.name env (value_of (shape c.deref-in-Each.result.now) env))) (sym c.deref-in-Each-2.ensures)) in
+    subst (λ w. IfOk c.joined_bodies.result (λ s. Holds c.joined_bodies.new.self s w)) (sym same) (c.joined_bodies.ensures.holds env h)
 
-pub quantifier-returns-in_err-value-in-Each-clause-heavy : goal.quantifier-returns-in_err-value-in-Each-clause-heavy
-quantifier-returns-in_err-value-in-Each-clause-heavy t c = λ env h o.
-    let p = err_from_is_err_and c.from_residual-in_err-value-in-Each.result c.from_residual-in_err-value-in-Each.ensures.1 in
-    let same : value_of (shape c.args.e.now) env ≡ joined_all And (bodies_of c.deref-in-Each.result.now c.in-Each.name env (value_of (shape c.deref.result.now) env)) =
+pub operator-returns-in-Each-clause-heavy : goal.operator-returns-in-Each-clause-heavy
+operator-returns-in-Each-clause-heavy t c = λ env h o.
+    let same : value_of (shape c.args.e.now) env ≡ joined_all And (values_over c.deref-in-Each-2.result.now c.in-Each.name env (value_of (shape c.deref-in-Each.result.now) env)) =
     ap (λ n. value_of (node_shape c.args.e.now.line n) env) c.in-Each.is
-    ∙ (ap (λ d. joined_all And (bodies_of c.in-Each.body.value c.in-Each.name env (value_of (shape d) env))) (sym c.deref.ensures)
-    ∙ ap (λ d. joined_all And (bodies_of d c.in-Each.name env (value_of (shape c.deref.result.now) env))) (sym c.deref-in-Each.ensures)) in
-    rw (p.1, p.2) (λ e. subst (λ w. c.args.room < weight w) (sym same) (c.in_err-value-in-Each.ensures.heavy env h e))
+    ∙ (ap (λ d. joined_all And (values_over c.in-Each.body.value c.in-Each.name env (value_of (shape d) env))) (sym c.deref-in-Each.ensures)
+    ∙ ap (λ d. joined_all And (values_over d c.in-Each.name env (value_of (shape c.deref-in-Each.result.now) env))) (sym c.deref-in-Each-2.ensures)) in
+    subst (λ w. IfErr c.joined_bodies.result (λ why. why ≡ Heavy → c.args.room < weight w)) (sym same) (c.joined_bodies.ensures.heavy env h)
 
-pub quantifier-returns-in_ok-value-in-Exists-clause-holds : goal.quantifier-returns-in_ok-value-in-Exists-clause-holds
-quantifier-returns-in_ok-value-in-Exists-clause-holds t c = λ env h o.
-    let same : value_of (shape c.args.e.now) env ≡ joined_all Or (bodies_of c.deref-in-Exists-2.result.now c.in-Exists.name env (value_of (shape c.deref-in-Exists.result.now) env)) =
+pub operator-returns-in-Exists-clause-holds : goal.operator-returns-in-Exists-clause-holds
+operator-returns-in-Exists-clause-holds t c = λ env h o.
+    let same : value_of (shape c.args.e.now) env ≡ joined_all Or (values_over c.deref-in-Exists-2.result.now c.in-Exists.name env (value_of (shape c.deref-in-Exists.result.now) env)) =
     ap (λ n. value_of (node_shape c.args.e.now.line n) env) c.in-Exists.is
-    ∙ (ap (λ d. joined_all Or (bodies_of c.in-Exists.body.value c.in-Exists.name env (value_of (shape d) env))) (sym c.deref-in-Exists.ensures)
-    ∙ ap (λ d. joined_all Or (bodies_of d c.in-Exists.name env (value_of (shape c.deref-in-Exists.result.now) env))) (sym c.deref-in-Exists-2.ensures)) in
-    subst (λ w. Holds c.joined_bodies-in-Exists.new.self c.in_ok-value-in-Exists.value w) (sym same) (c.in_ok-value-in-Exists.ensures.holds env h)
+    ∙ (ap (λ d. joined_all Or (values_over c.in-Exists.body.value c.in-Exists.name env (value_of (shape d) env))) (sym c.deref-in-Exists.ensures)
+    ∙ ap (λ d. joined_all Or (values_over d c.in-Exists.name env (value_of (shape c.deref-in-Exists.result.now) env))) (sym c.deref-in-Exists-2.ensures)) in
+    subst (λ w. IfOk c.joined_bodies-in-Exists.result (λ s. Holds c.joined_bodies-in-Exists.new.self s w)) (sym same) (c.joined_bodies-in-Exists.ensures.holds env h)
 
-pub quantifier-returns-in_err-value-in-Exists-clause-heavy : goal.quantifier-returns-in_err-value-in-Exists-clause-heavy
-quantifier-returns-in_err-value-in-Exists-clause-heavy t c = λ env h o.
-    let p = err_from_is_err_and c.from_residual-in_err-value-in-Exists.result c.from_residual-in_err-value-in-Exists.ensures.1 in
-    let same : value_of (shape c.args.e.now) env ≡ joined_all Or (bodies_of c.deref-in-Exists-2.result.now c.in-Exists.name env (value_of (shape c.deref-in-Exists.result.now) env)) =
+pub operator-returns-in-Exists-clause-heavy : goal.operator-returns-in-Exists-clause-heavy
+operator-returns-in-Exists-clause-heavy t c = λ env h o.
+    let same : value_of (shape c.args.e.now) env ≡ joined_all Or (values_over c.deref-in-Exists-2.result.now c.in-Exists.name env (value_of (shape c.deref-in-Exists.result.now) env)) =
     ap (λ n. value_of (node_shape c.args.e.now.line n) env) c.in-Exists.is
-    ∙ (ap (λ d. joined_all Or (bodies_of c.in-Exists.body.value c.in-Exists.name env (value_of (shape d) env))) (sym c.deref-in-Exists.ensures)
-    ∙ ap (λ d. joined_all Or (bodies_of d c.in-Exists.name env (value_of (shape c.deref-in-Exists.result.now) env))) (sym c.deref-in-Exists-2.ensures)) in
-    rw (p.1, p.2) (λ e. subst (λ w. c.args.room < weight w) (sym same) (c.in_err-value-in-Exists.ensures.heavy env h e))
+    ∙ (ap (λ d. joined_all Or (values_over c.in-Exists.body.value c.in-Exists.name env (value_of (shape d) env))) (sym c.deref-in-Exists.ensures)
+    ∙ ap (λ d. joined_all Or (values_over d c.in-Exists.name env (value_of (shape c.deref-in-Exists.result.now) env))) (sym c.deref-in-Exists-2.ensures)) in
+    subst (λ w. IfErr c.joined_bodies-in-Exists.result (λ why. why ≡ Heavy → c.args.room < weight w)) (sym same) (c.joined_bodies-in-Exists.ensures.heavy env h)
 
-pub quantifier-returns-in_ok-value-in-Count-clause-holds : goal.quantifier-returns-in_ok-value-in-Count-clause-holds
-quantifier-returns-in_ok-value-in-Count-clause-holds t c = λ env h o.
-    let same : value_of (shape c.args.e.now) env ≡ counted c.in-Count.op c.in-Count.number (bodies_of c.deref-in-Count-2.result.now c.in-Count.name env (value_of (shape c.deref-in-Count.result.now) env)) =
+pub operator-returns-in-Count-clause-holds : goal.operator-returns-in-Count-clause-holds
+operator-returns-in-Count-clause-holds t c = λ env h o.
+    let same : value_of (shape c.args.e.now) env ≡ counted c.in-Count.op c.in-Count.number (values_over c.deref-in-Count-2.result.now c.in-Count.name env (value_of (shape c.deref-in-Count.result.now) env)) =
     ap (λ n. value_of (node_shape c.args.e.now.line n) env) c.in-Count.is
-    ∙ (ap (λ d. counted c.in-Count.op c.in-Count.number (bodies_of c.in-Count.body.value c.in-Count.name env (value_of (shape d) env))) (sym c.deref-in-Count.ensures)
-    ∙ ap (λ d. counted c.in-Count.op c.in-Count.number (bodies_of d c.in-Count.name env (value_of (shape c.deref-in-Count.result.now) env))) (sym c.deref-in-Count-2.ensures)) in
-    subst (λ w. Holds c.counted_bodies.new.self c.in_ok-value-in-Count.value w) (sym same) (c.in_ok-value-in-Count.ensures.holds env h)
+    ∙ (ap (λ d. counted c.in-Count.op c.in-Count.number (values_over c.in-Count.body.value c.in-Count.name env (value_of (shape d) env))) (sym c.deref-in-Count.ensures)
+    ∙ ap (λ d. counted c.in-Count.op c.in-Count.number (values_over d c.in-Count.name env (value_of (shape c.deref-in-Count.result.now) env))) (sym c.deref-in-Count-2.ensures)) in
+    subst (λ w. IfOk c.counted_bodies.result (λ s. Holds c.counted_bodies.new.self s w)) (sym same) (c.counted_bodies.ensures.holds env h)
 
-pub quantifier-returns-in_err-value-in-Count-clause-heavy : goal.quantifier-returns-in_err-value-in-Count-clause-heavy
-quantifier-returns-in_err-value-in-Count-clause-heavy t c = λ env h o.
-    let p = err_from_is_err_and c.from_residual-in_err-value-in-Count.result c.from_residual-in_err-value-in-Count.ensures.1 in
-    let same : value_of (shape c.args.e.now) env ≡ counted c.in-Count.op c.in-Count.number (bodies_of c.deref-in-Count-2.result.now c.in-Count.name env (value_of (shape c.deref-in-Count.result.now) env)) =
+pub operator-returns-in-Count-clause-heavy : goal.operator-returns-in-Count-clause-heavy
+operator-returns-in-Count-clause-heavy t c = λ env h o.
+    let same : value_of (shape c.args.e.now) env ≡ counted c.in-Count.op c.in-Count.number (values_over c.deref-in-Count-2.result.now c.in-Count.name env (value_of (shape c.deref-in-Count.result.now) env)) =
     ap (λ n. value_of (node_shape c.args.e.now.line n) env) c.in-Count.is
-    ∙ (ap (λ d. counted c.in-Count.op c.in-Count.number (bodies_of c.in-Count.body.value c.in-Count.name env (value_of (shape d) env))) (sym c.deref-in-Count.ensures)
-    ∙ ap (λ d. counted c.in-Count.op c.in-Count.number (bodies_of d c.in-Count.name env (value_of (shape c.deref-in-Count.result.now) env))) (sym c.deref-in-Count-2.ensures)) in
-    rw (p.1, p.2) (λ e. subst (λ w. c.args.room < weight w) (sym same) (c.in_err-value-in-Count.ensures.heavy env h e))
+    ∙ (ap (λ d. counted c.in-Count.op c.in-Count.number (values_over c.in-Count.body.value c.in-Count.name env (value_of (shape d) env))) (sym c.deref-in-Count.ensures)
+    ∙ ap (λ d. counted c.in-Count.op c.in-Count.number (values_over d c.in-Count.name env (value_of (shape c.deref-in-Count.result.now) env))) (sym c.deref-in-Count-2.ensures)) in
+    subst (λ w. IfErr c.counted_bodies.result (λ why. why ≡ Heavy → c.args.room < weight w)) (sym same) (c.counted_bodies.ensures.heavy env h)
 
 pub build_all-returns-in_err-member-clause-heavy : goal.build_all-returns-in_err-member-clause-heavy
 build_all-returns-in_err-member-clause-heavy t c = λ env h.
     let p = err_from_is_err_and c.from_residual-in_err-member.result c.from_residual-in_err-member.ensures.1 in
-    let fits = fits_later c.args.scope.now c.args.self.now c.loop-e.self env c.loop-e.invariant.later h in
+    let fits = fits_later c.args.at.scope.now c.args.self.now c.loop-e.self env c.loop-e.invariant.later h in
     rw (p.1, p.2)
     (λ e. omega (
       arith,
@@ -103,9 +103,9 @@ build_all-returns-in_err-member-clause-heavy t c = λ env h.
 
 pub build_all-loop-e-preserved : goal.build_all-loop-e-preserved
 build_all-loop-e-preserved t c =
-    subst (λ (done : List Stored). BuiltSoFar c.args.self.now c.build.new.self c.args.scope.now (take (c.loop-e.e-index + 1) c.args.es.now) done c.args.room
+    subst (λ (done : List Stored). BuiltSoFar c.args.self.now c.build.new.self c.args.at.scope.now (take (c.loop-e.e-index + 1) c.args.es.now) done c.args.room
     (c.loop-e.left - c.in_ok-member.member.weight)) (sym c.in_ok-push.ensures.pushed)
-    (built_more c.args.self.now c.loop-e.self c.build.new.self c.args.scope.now c.args.es.now c.loop-e.e-index c.e-item.result c.loop-e.members c.in_ok-member.member
+    (built_more c.args.self.now c.loop-e.self c.build.new.self c.args.at.scope.now c.args.es.now c.loop-e.e-index c.e-item.result c.loop-e.members c.in_ok-member.member
     c.args.room c.loop-e.left c.loop-e.invariant
     (found_at c.args.es.now c.args.es.now c.loop-e.e-index c.e-item.result refl c.loop-e-test.true c.e-item.is)
     c.in_ok-member.ensures.later c.in_ok-member.ensures.holds c.in_ok-member.ensures.light)
@@ -113,7 +113,7 @@ build_all-loop-e-preserved t c =
 pub joined_bodies-returns-in_err-first-clause-heavy : goal.joined_bodies-returns-in_err-first-clause-heavy
 joined_bodies-returns-in_err-first-clause-heavy t c = λ env h.
     let p = err_from_is_err_and c.from_residual-in_err-first.result c.from_residual-in_err-first.ensures.1 in
-    let s = value_of (shape c.args.set.now) env in
+    let s = value_of (shape c.args.bodies.set.now) env in
     let heads = c.in_ok-set.ensures.head env h in
     let v = get_or (members s) 0 (truth_value false) in
     let at : slice_get (members s) 0 ≡ Some v = member_at (members s) 0 c.member_count-count.result (c.member_count-count.ensures s heads) (omega arith) in
@@ -121,8 +121,8 @@ joined_bodies-returns-in_err-first-clause-heavy t c = λ env h.
     (λ e. omega (
       arith,
       c.in_err-first.ensures.heavy env s v h heads at e,
-      joined_first c.args.op (bodies_of c.args.body.now c.args.name.now env s) (value_of (shape c.args.body.now) (bind c.args.name.now v env))
-          (body_at c.args.body.now c.args.name.now env s v 0 at),
+      joined_first c.args.op (bodies_over c.args.bodies env s) (value_of (shape c.args.bodies.body.now) (bind c.args.bodies.name.now v env))
+          (body_at c.args.bodies env s v 0 at),
     ))
 
 pub joined_bodies-loop-i-init : goal.joined_bodies-loop-i-init
@@ -132,9 +132,9 @@ joined_bodies-loop-i-init t c = record {
   holds = λ env s h heads.
       let v = get_or (members s) 0 (truth_value false) in
       let at : slice_get (members s) 0 ≡ Some v = member_at (members s) 0 c.member_count-count.result (c.member_count-count.ensures s heads) (omega arith) in
-      let w = value_of (shape c.args.body.now) (bind c.args.name.now v env) in
+      let w = value_of (shape c.args.bodies.body.now) (bind c.args.bodies.name.now v env) in
       subst (λ x. Holds c.formula_leaf.new.self c.in_ok-all.all x)
-      (joined_one c.args.op (bodies_of c.args.body.now c.args.name.now env s) w (body_at c.args.body.now c.args.name.now env s v 0 at))
+      (joined_one c.args.op (bodies_over c.args.bodies env s) w (body_at c.args.bodies env s v 0 at))
       (c.in_ok-all.ensures.holds w (c.in_ok-first.ensures.holds env s v h heads at));
 }
 
@@ -142,32 +142,32 @@ pub joined_bodies-returns-in_err-left-clause-heavy : goal.joined_bodies-returns-
 joined_bodies-returns-in_err-left-clause-heavy t c = λ env h.
     let p = err_from_is_err_and c.from_residual-in_err-left.result c.from_residual-in_err-left.ensures.1 in
     let i = c.loop-i.i in
-    let s = value_of (shape c.args.set.now) env in
+    let s = value_of (shape c.args.bodies.set.now) env in
     let heads = c.in_ok-set.ensures.head env h in
     let v = get_or (members s) i (truth_value false) in
     let at : slice_get (members s) i ≡ Some v = member_at (members s) i c.member_count-count.result (c.member_count-count.ensures s heads) c.loop-i-test.true in
-    let bodies = bodies_of c.args.body.now c.args.name.now env s in
-    let w = value_of (shape c.args.body.now) (bind c.args.name.now v env) in
+    let bodies = bodies_over c.args.bodies env s in
+    let w = value_of (shape c.args.bodies.body.now) (bind c.args.bodies.name.now v env) in
     rw (p.1, p.2)
     (λ e. omega (
       arith,
       c.in_err-left.ensures.heavy,
       c.loop-i.invariant.light,
       holds_weight (joined_all c.args.op (take i bodies)) c.loop-i.self c.loop-i.all (c.loop-i.invariant.holds env s h heads),
-      joined_within c.args.op bodies i w (body_at c.args.body.now c.args.name.now env s v i at) c.loop-i.auto.i,
+      joined_within c.args.op bodies i w (body_at c.args.bodies env s v i at) c.loop-i.auto.i,
     ))
 
 pub joined_bodies-returns-in_err-next-clause-heavy : goal.joined_bodies-returns-in_err-next-clause-heavy
 joined_bodies-returns-in_err-next-clause-heavy t c = λ env h.
     let p = err_from_is_err_and c.from_residual-in_err-next.result c.from_residual-in_err-next.ensures.1 in
     let i = c.loop-i.i in
-    let s = value_of (shape c.args.set.now) env in
+    let s = value_of (shape c.args.bodies.set.now) env in
     let heads = c.in_ok-set.ensures.head env h in
     let v = get_or (members s) i (truth_value false) in
     let at : slice_get (members s) i ≡ Some v = member_at (members s) i c.member_count-count.result (c.member_count-count.ensures s heads) c.loop-i-test.true in
-    let bodies = bodies_of c.args.body.now c.args.name.now env s in
-    let w = value_of (shape c.args.body.now) (bind c.args.name.now v env) in
-    let fits = fits_later c.args.scope.now c.args.self.now c.loop-i.self env c.loop-i.invariant.later h in
+    let bodies = bodies_over c.args.bodies env s in
+    let w = value_of (shape c.args.bodies.body.now) (bind c.args.bodies.name.now v env) in
+    let fits = fits_later c.args.at.scope.now c.args.self.now c.loop-i.self env c.loop-i.invariant.later h in
     let there = heads_later c.in_ok-set.set c.args.self.now c.loop-i.self s c.loop-i.invariant.later heads in
     rw (p.1, p.2)
     (λ e. omega (
@@ -176,7 +176,7 @@ joined_bodies-returns-in_err-next-clause-heavy t c = λ env h.
       c.in_ok-left.ensures.left,
       c.loop-i.invariant.light,
       holds_weight (joined_all c.args.op (take i bodies)) c.loop-i.self c.loop-i.all (c.loop-i.invariant.holds env s h heads),
-      joined_within c.args.op bodies i w (body_at c.args.body.now c.args.name.now env s v i at) c.loop-i.auto.i,
+      joined_within c.args.op bodies i w (body_at c.args.bodies env s v i at) c.loop-i.auto.i,
     ))
 
 pub joined_bodies-loop-i-preserved : goal.joined_bodies-loop-i-preserved
@@ -191,12 +191,12 @@ joined_bodies-loop-i-preserved t c =
       holds = λ env s h heads.
           let v = get_or (members s) i (truth_value false) in
           let at : slice_get (members s) i ≡ Some v = member_at (members s) i c.member_count-count.result (c.member_count-count.ensures s heads) c.loop-i-test.true in
-          let bodies = bodies_of c.args.body.now c.args.name.now env s in
-          let w = value_of (shape c.args.body.now) (bind c.args.name.now v env) in
-          let fits = fits_later c.args.scope.now c.args.self.now now env c.loop-i.invariant.later h in
+          let bodies = bodies_over c.args.bodies env s in
+          let w = value_of (shape c.args.bodies.body.now) (bind c.args.bodies.name.now v env) in
+          let fits = fits_later c.args.at.scope.now c.args.self.now now env c.loop-i.invariant.later h in
           let there = heads_later c.in_ok-set.set c.args.self.now now s c.loop-i.invariant.later heads in
           subst (λ x. Holds new c.in_ok-joined.joined x)
-          (joined_next c.args.op bodies i w (body_at c.args.body.now c.args.name.now env s v i at) c.loop-i.auto.i)
+          (joined_next c.args.op bodies i w (body_at c.args.bodies env s v i at) c.loop-i.auto.i)
           (c.in_ok-joined.ensures.holds (joined_all c.args.op (take i bodies)) w
           (holds_later (joined_all c.args.op (take i bodies)) now mid c.loop-i.all c.in_ok-next.ensures.later (c.loop-i.invariant.holds env s h heads))
           (c.in_ok-next.ensures.holds env s v fits there at));
@@ -204,109 +204,76 @@ joined_bodies-loop-i-preserved t c =
 
 pub joined_bodies-returns-clause-holds : goal.joined_bodies-returns-clause-holds
 joined_bodies-returns-clause-holds t c = λ env h.
-    let s = value_of (shape c.args.set.now) env in
+    let s = value_of (shape c.args.bodies.set.now) env in
     let heads = c.in_ok-set.ensures.head env h in
-    let bodies = bodies_of c.args.body.now c.args.name.now env s in
+    let bodies = bodies_over c.args.bodies env s in
     let whole : take c.loop-i.i bodies ≡ bodies =
-    take_all c.loop-i.i bodies (omega (arith, bodies_count c.args.body.now c.args.name.now env s, c.member_count-count.ensures s heads)) in
+    take_all c.loop-i.i bodies (omega (arith, bodies_count c.args.bodies env s, c.member_count-count.ensures s heads)) in
     subst (λ vs. Holds c.loop-i.self c.loop-i.all (joined_all c.args.op vs)) whole (c.loop-i.invariant.holds env s h heads)
 
-pub counted_bodies-returns-in_err-next-clause-heavy : goal.counted_bodies-returns-in_err-next-clause-heavy
-counted_bodies-returns-in_err-next-clause-heavy t c = λ env h.
+pub body_nodes-returns-in_err-next-clause-heavy : goal.body_nodes-returns-in_err-next-clause-heavy
+body_nodes-returns-in_err-next-clause-heavy t c = λ env h.
     let p = err_from_is_err_and c.from_residual-in_err-next.result c.from_residual-in_err-next.ensures.1 in
     let i = c.loop-i.i in
-    let s = value_of (shape c.args.set.now) env in
+    let s = value_of (shape c.args.bodies.set.now) env in
     let heads = c.in_ok-set.ensures.head env h in
     let v = get_or (members s) i (truth_value false) in
-    let at : slice_get (members s) i ≡ Some v = member_at (members s) i c.member_count-count.result (c.member_count-count.ensures s heads) c.loop-i-test.true in
-    let bodies = bodies_of c.args.body.now c.args.name.now env s in
-    let w = value_of (shape c.args.body.now) (bind c.args.name.now v env) in
-    let fits = fits_later c.args.scope.now c.args.self.now c.loop-i.self env c.loop-i.invariant.later h in
+    let at : slice_get (members s) i ≡ Some v = member_at (members s) i c.member_count-i-end.result (c.member_count-i-end.ensures s heads) c.loop-i-test.true in
+    let bodies = bodies_over c.args.bodies env s in
+    let w = value_of (shape c.args.bodies.body.now) (bind c.args.bodies.name.now v env) in
+    let fits = fits_later c.args.at.scope.now c.args.self.now c.loop-i.self env c.loop-i.invariant.later h in
     let there = heads_later c.in_ok-set.set c.args.self.now c.loop-i.self s c.loop-i.invariant.later heads in
-    let here = body_at c.args.body.now c.args.name.now env s v i at in
     rw (p.1, p.2)
     (λ e. omega (
       arith,
       c.in_err-next.ensures.heavy env s v fits there at e,
       c.loop-i.invariant.weight env s h heads,
-      sum_within bodies i w here,
-      counted_weight c.args.op c.args.number bodies (omega (arith, slice_get_within bodies i w here)),
+      sum_within bodies i w (body_at c.args.bodies env s v i at),
     ))
 
-pub counted_bodies-loop-i-preserved : goal.counted_bodies-loop-i-preserved
-counted_bodies-loop-i-preserved t c =
+pub body_nodes-loop-i-preserved : goal.body_nodes-loop-i-preserved
+body_nodes-loop-i-preserved t c =
     let i = c.loop-i.i in
     let now = c.loop-i.self in
     let mid = c.body.new.self in
     let new = c.formula.new.self in
     let next : IsLater now new = later_then now mid new c.in_ok-next.ensures.later c.in_ok-node.ensures.later in
-    subst (λ (nodes : List ℕ). CountedSoFar c.args.self.now new c.args.scope.now c.in_ok-set.set c.args.body.now c.args.name.now c.args.room (i + 1) nodes
-    (c.loop-i.left - c.in_ok-next.next.weight)) (sym c.in_ok-push.ensures.items) (record {
-      later = later_then c.args.self.now now new c.loop-i.invariant.later next;
-      inside = omega (arith, c.loop-i.invariant.inside);
-      count = omega (arith, length_push c.loop-i.bodies.items c.in_ok-node.node, c.loop-i.invariant.count);
-      are = are_push new.nodes c.loop-i.bodies.items c.in_ok-node.node
-          (are_grows now.nodes new.nodes c.loop-i.bodies.items next.keeps.nodes c.loop-i.invariant.are) c.in_ok-node.ensures.is;
-      have = λ env s h heads.
-          let v = get_or (members s) i (truth_value false) in
-          let at : slice_get (members s) i ≡ Some v = member_at (members s) i c.member_count-count.result (c.member_count-count.ensures s heads) c.loop-i-test.true in
-          let bodies = bodies_of c.args.body.now c.args.name.now env s in
-          let w = value_of (shape c.args.body.now) (bind c.args.name.now v env) in
-          let fits = fits_later c.args.scope.now c.args.self.now now env c.loop-i.invariant.later h in
-          let there = heads_later c.in_ok-set.set c.args.self.now now s c.loop-i.invariant.later heads in
-          have_next new.nodes c.loop-i.bodies.items bodies i c.in_ok-node.node w (body_at c.args.body.now c.args.name.now env s v i at)
-          (have_grows now.nodes new.nodes c.loop-i.bodies.items (map formula_of (take i bodies)) next.keeps.nodes (c.loop-i.invariant.have env s h heads))
-          (c.in_ok-node.ensures.has w (c.in_ok-next.ensures.holds env s v fits there at));
-      weight = λ env s h heads.
-          let v = get_or (members s) i (truth_value false) in
-          let at : slice_get (members s) i ≡ Some v = member_at (members s) i c.member_count-count.result (c.member_count-count.ensures s heads) c.loop-i-test.true in
-          let bodies = bodies_of c.args.body.now c.args.name.now env s in
-          let w = value_of (shape c.args.body.now) (bind c.args.name.now v env) in
-          let fits = fits_later c.args.scope.now c.args.self.now now env c.loop-i.invariant.later h in
-          let there = heads_later c.in_ok-set.set c.args.self.now now s c.loop-i.invariant.later heads in
-          omega (
-            arith,
-            c.loop-i.invariant.weight env s h heads,
-            sum_next bodies i w (body_at c.args.body.now c.args.name.now env s v i at),
-            holds_weight w mid c.in_ok-next.next (c.in_ok-next.ensures.holds env s v fits there at),
-            c.in_ok-next.ensures.light,
-          );
-    })
+    subst (λ (nodes : List ℕ). CountedSoFar c.args.self.now new c.args.at.scope.now c.in_ok-set.set c.args.bodies c.args.room (i + 1) nodes
+    (c.loop-i.left - c.in_ok-next.next.weight)) (sym c.in_ok-push.ensures.items)
+    (counted_more c.args.self.now now mid new c.args.at.scope.now c.in_ok-set.set c.args.bodies c.args.room i c.loop-i.nodes.items c.loop-i.left
+    c.in_ok-next.next c.in_ok-node.node c.loop-i.invariant c.in_ok-next.ensures.later next c.in_ok-next.ensures.light c.in_ok-node.ensures.is
+    (λ s heads. omega (arith, c.member_count-i-end.ensures s heads, c.loop-i-test.true))
+    c.in_ok-next.ensures.holds c.in_ok-node.ensures.has)
 
-pub counted_bodies-returns-in_err-beside-clause-heavy : goal.counted_bodies-returns-in_err-beside-clause-heavy
-counted_bodies-returns-in_err-beside-clause-heavy t c = λ env h.
-    let p = err_from_is_err_and c.from_residual-in_err-beside.result c.from_residual-in_err-beside.ensures.1 in
-    let s = value_of (shape c.args.set.now) env in
+pub body_nodes-returns-clause-have : goal.body_nodes-returns-clause-have
+body_nodes-returns-clause-have t c = λ env h.
+    let s = value_of (shape c.args.bodies.set.now) env in
     let heads = c.in_ok-set.ensures.head env h in
-    let bodies = bodies_of c.args.body.now c.args.name.now env s in
-    let count : length bodies ≡ c.member_count-count.result = bodies_count c.args.body.now c.args.name.now env s ∙ sym (c.member_count-count.ensures s heads) in
-    let whole : take c.loop-i.i bodies ≡ bodies = take_all c.loop-i.i bodies (omega (arith, count)) in
-    let own : c.len.result ≡ length bodies = omega (arith, count, c.loop-i.invariant.count, c.len.ensures) in
-    let beside : counting_weight c.len.result c.args.number ≡ counting_weight (length bodies) c.args.number = ap (λ n. counting_weight n c.args.number) own in
-    let sum : c.args.room ≡ c.loop-i.left + sum_by weight bodies =
-    subst (λ vs. c.args.room ≡ c.loop-i.left + sum_by weight vs) whole (c.loop-i.invariant.weight env s h heads) in
-    rw (p.1, p.2) (λ e. omega (arith, c.in_err-beside.ensures.heavy, sum, beside, counted_weight c.args.op c.args.number bodies (omega (arith, count))))
+    let whole : take c.loop-i.i (bodies_over c.args.bodies env s) ≡ bodies_over c.args.bodies env s =
+    take_all c.loop-i.i (bodies_over c.args.bodies env s) (omega (arith, bodies_count c.args.bodies env s, c.member_count-i-end.ensures s heads)) in
+    subst (λ vs. HaveFormulas c.loop-i.self.nodes c.loop-i.nodes.items (map formula_of vs)) whole (c.loop-i.invariant.have env s h heads)
 
-pub counted_bodies-returns-clause-later : goal.counted_bodies-returns-clause-later
-counted_bodies-returns-clause-later t c =
-    later_then c.args.self.now c.loop-i.self c.gates.new.self c.loop-i.invariant.later c.in_ok-node-2.ensures.later
+pub body_nodes-returns-clause-weight : goal.body_nodes-returns-clause-weight
+body_nodes-returns-clause-weight t c = λ env h.
+    let s = value_of (shape c.args.bodies.set.now) env in
+    let heads = c.in_ok-set.ensures.head env h in
+    let whole : take c.loop-i.i (bodies_over c.args.bodies env s) ≡ bodies_over c.args.bodies env s =
+    take_all c.loop-i.i (bodies_over c.args.bodies env s) (omega (arith, bodies_count c.args.bodies env s, c.member_count-i-end.ensures s heads)) in
+    subst (λ vs. c.args.room ≡ c.loop-i.left + sum_by weight vs) whole (c.loop-i.invariant.weight env s h heads)
 
 pub counted_bodies-returns-clause-holds : goal.counted_bodies-returns-clause-holds
 counted_bodies-returns-clause-holds t c = λ env h.
-    let s = value_of (shape c.args.set.now) env in
-    let heads = c.in_ok-set.ensures.head env h in
-    let bodies = bodies_of c.args.body.now c.args.name.now env s in
-    let count : length bodies ≡ c.member_count-count.result = bodies_count c.args.body.now c.args.name.now env s ∙ sym (c.member_count-count.ensures s heads) in
-    let whole : take c.loop-i.i bodies ≡ bodies = take_all c.loop-i.i bodies (omega (arith, count)) in
-    let own : c.len.result ≡ length bodies = omega (arith, count, c.loop-i.invariant.count, c.len.ensures) in
+    let bodies = bodies_of c.args.bodies env in
+    let have = c.in_ok-nodes.ensures.have env h in
+    let count : length c.in_ok-nodes.nodes.items ≡ length bodies = have.count ∙ length-map bodies formula_of in
+    let some : 0 < length bodies =
+    omega (arith, count, some_left (vec_len c.in_ok-nodes.nodes) c.is_empty.result c.is_empty.ensures c.if-is_empty.false) in
+    let own : c.len.result ≡ length bodies = omega (arith, count, c.len.ensures) in
     let beside : counting_weight c.len.result c.args.number ≡ counting_weight (length bodies) c.args.number = ap (λ n. counting_weight n c.args.number) own in
-    let sum : c.args.room ≡ c.loop-i.left + sum_by weight bodies =
-    subst (λ vs. c.args.room ≡ c.loop-i.left + sum_by weight vs) whole (c.loop-i.invariant.weight env s h heads) in
-    let have : HaveFormulas c.loop-i.self.nodes c.deref.result.now (map formula_of bodies) =
-    subst (λ ns. HaveFormulas c.loop-i.self.nodes ns (map formula_of bodies)) (sym c.deref.ensures.value)
-    (subst (λ vs. HaveFormulas c.loop-i.self.nodes c.loop-i.bodies.items (map formula_of vs)) whole (c.loop-i.invariant.have env s h heads)) in
-    let has = subst (λ n. Has c.gates.new.self.nodes c.in_ok-node-2.node (formula (counted_formula (map formula_of bodies) (counting c.args.op n c.args.number))))
-    (length-map bodies formula_of) (c.in_ok-node-2.ensures.has (map formula_of bodies) have) in
-    subst (λ x. Holds c.gates.new.self (record { place = Node c.in_ok-node-2.node; weight = (c.args.room - c.loop-i.left) + c.in_ok-beside.beside; fault = c.fault.result }) x)
-    (sym (counted_is_some c.args.op c.args.number bodies (omega (arith, count))))
-    (omega (arith, sum, beside, c.in_ok-beside.ensures.weight), (c.in_ok-node-2.node, refl, has, c.fault.ensures (formula (counted_formula (map formula_of bodies) (counting c.args.op (length bodies) c.args.number))) has))
+    let have_all : HaveFormulas c.body_nodes.new.self.nodes c.deref.result.now (map formula_of bodies) =
+    subst (λ ns. HaveFormulas c.body_nodes.new.self.nodes ns (map formula_of bodies)) (sym c.deref.ensures.value) have in
+    let has = subst (λ n. Has c.gates.new.self.nodes c.in_ok-node.node (formula (counted_formula (map formula_of bodies) (counting c.args.op n c.args.number))))
+    (length-map bodies formula_of) (c.in_ok-node.ensures.has (map formula_of bodies) have_all) in
+    subst (λ x. Holds c.gates.new.self (record { place = Node c.in_ok-node.node; weight = (c.args.room - c.in_ok-nodes.left) + c.in_ok-gates.gates; fault = c.fault.result }) x)
+    (sym (counted_is_some c.args.op c.args.number bodies some))
+    (omega (arith, c.in_ok-nodes.ensures.weight env h, beside, c.in_ok-gates.ensures.weight), (c.in_ok-node.node, refl, has, c.fault.ensures (formula (counted_formula (map formula_of bodies) (counting c.args.op (length bodies) c.args.number))) has))

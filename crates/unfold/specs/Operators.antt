@@ -1,0 +1,36 @@
+-- The values of operators by the number of their operands, and of a quantifier's bodies.
+
+use Rattle.std.specs.Prelude.{List, map}
+use Rattle.c2po_tree.specs.Shape.{shape}
+use Rattle.unfold.specs.declared.operators.UnaryOp.{UnaryOp}
+use Rattle.unfold.specs.declared.operators.UnaryOp.TheVariants as unary
+use Rattle.unfold.specs.declared.operators.BinaryOp.{BinaryOp}
+use Rattle.unfold.specs.declared.operators.BinaryOp.TheVariants as binary
+use Rattle.unfold.specs.declared.scope.Quantifier.{Quantifier}
+use Rattle.unfold.specs.Values.{Value, opposite, inverted, windowed_value, computed, compared, joined, ranged_value, members}
+use Rattle.unfold.specs.Environment.{Env, bind, value_of}
+
+-- the value of an operator over the value of its operand
+abbrev pub unary_value : UnaryOp → Value → Value
+unary_value unary.Minus v = opposite v
+unary_value unary.Not v = inverted v
+unary_value (unary.Window op a b) v = windowed_value op a b v
+
+-- the value of an operator over the values of its two operands
+abbrev pub binary_value : BinaryOp → Value → Value → Value
+binary_value (binary.Arith op) v w = computed op v w
+binary_value (binary.Compare op) v w = compared op v w
+binary_value (binary.Logic op) v w = joined op v w
+binary_value (binary.Between op a b) v w = ranged_value op a b v w
+
+-- the value of a quantifier's body where its variable stands for a value
+abbrev pub body_value : Quantifier → Env → Value → Value
+body_value q env v = value_of (shape q.body.now) (bind q.name.now v env)
+
+-- the values of a quantifier's bodies, one for each member of a set
+abbrev pub bodies_over : Quantifier → Env → Value → List Value
+bodies_over q env s = map (body_value q env) (members s)
+
+-- the values of a quantifier's bodies, one for each member of its own set
+abbrev pub bodies_of : Quantifier → Env → List Value
+bodies_of q env = bodies_over q env (value_of (shape q.set.now) env)
