@@ -7,6 +7,7 @@ use Rattle.mltl_base.specs.Atoms.{Row}
 use Rattle.tool_io.specs.Log.{Event}
 use Rattle.tool_io.specs.Cutting.{Cutting}
 use Rattle.mltl_monitor.specs.declared.state.State.{State}
+use Rattle.mltl_monitor.specs.Monitoring.{taken_by, IsDrained}
 use Rattle.trace_watch.specs.declared.status.Watched as watched
 use Rattle.trace_watch.specs.declared.timed_loop.Clock.{Clock}
 use Rattle.trace_watch.specs.Trace.{is_marked}
@@ -17,6 +18,11 @@ use Rattle.trace_watch.specs.Stamped.{StampedLine, HoldsFrom, Empty, Faulty, Ove
 abbrev pub TellsRows : Bool → Program → Style → List Row → List Row → State → List Event → Type 0
 TellsRows true program style rows more monitor events = TellsAll program style rows more monitor events
 TellsRows false program style rows more monitor events = TellsFront program style rows more monitor events
+
+-- where all went out, the monitor has taken so many more rows, and has nothing to tell
+abbrev pub HasHeld : Bool → ℕ → State → State → Type 0
+HasHeld true times before after = (taken_by after ≡ taken_by before + times) × IsDrained after
+HasHeld false times before after = Unit {0}
 
 -- what a line of this number brought, with so many copies of the last row before a time; else how the loop ends
 abbrev pub Brings : Result (Unit {0}) watched.Watched → StampedLine → Program → Style → List Row → (ℕ → List Row) → ℕ → State → List Event → Type 0

@@ -1,6 +1,6 @@
 -- What the loop over a trace tells in its log, and how it leaves the monitor.
 
-use Rattle.std.specs.Prelude.{◌≡◌, ℕ, Bool, true, false, List, [], ◌∷◌, ◌++◌}
+use Rattle.std.specs.Prelude.{◌≡◌, ◌≤◌, ◌^◌, ℕ, Bool, true, false, List, [], ◌∷◌, ◌++◌}
 use Rattle.mltl_base.specs.declared.report.Style.{Style}
 use Rattle.mltl_base.specs.declared.program.Program.{Program}
 use Rattle.mltl_base.specs.Atoms.{Row}
@@ -51,6 +51,14 @@ Outcome watched.TheVariants.ReadFault program style rows_in ended bytes out moni
     (ended ≡ false) × ((rows_in (lines_of false bytes)).stop ≡ Clean) × IsTold program style rows_in false bytes out monitor
 Outcome watched.TheVariants.WriteFault program style rows_in ended bytes out monitor =
     IsProperFront out (due program style rows_in ended bytes) × HasFront program monitor (rows_in (lines_of ended bytes)).rows
+
+-- a trace can be watched: the monitor has taken no rows and has nothing to tell, no more than one line was cut, and the
+-- mission time is within its limit
+pub record CanWatch (monitor : State) (cut : Cutting) (mission : ℕ) : Type 0 where
+  pub no_rows : Stands monitor []
+  pub drained : IsDrained monitor
+  pub within : mission ≤ 2 ^ 40
+  pub numbered : cut.number ≤ 1
 
 -- the number of the first line that a cut gives next
 abbrev pub first_of : Cutting → ℕ

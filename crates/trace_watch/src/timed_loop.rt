@@ -1,15 +1,15 @@
 //! The loop over a trace of stamped rows.
 
-ghost use Rattle.std.specs.Prelude.{◌≡◌, ℕ, ◌+◌, ◌<◌, ◌≤◌, ◌^◌, ◌++◌, ◌∷◌, [], IsSome, IsTrue, List, Option, replicate};
+ghost use Rattle.std.specs.Prelude.{◌≡◌, ℕ, ◌+◌, ◌<◌, ◌≤◌, ◌^◌, ◌++◌, ◌∷◌, [], IsSome, List, Option, replicate};
 ghost use Rattle.mltl_base.specs.Atoms.{Row};
 ghost use Rattle.mltl_base.specs.Programs.{IsFit};
 ghost use Rattle.tool_io.specs.Log.{OnLog};
 ghost use Rattle.mltl_monitor.specs.Monitoring.{program_of, taken_by, last_of, read_of, IsDrained, Stands};
 ghost use Rattle.trace_feed.specs.Rows.{line_meaning};
-ghost use Rattle.trace_watch.specs.Watch.{IsWatch, WatchCause, first_of};
-ghost use Rattle.trace_watch.specs.Telling.{TellCause, StepCause, IsDrainedIf, Turns};
+ghost use Rattle.trace_watch.specs.Watch.{CanWatch, IsWatch, WatchCause, first_of};
+ghost use Rattle.trace_watch.specs.Telling.{TellCause, StepCause, Turns};
 ghost use Rattle.trace_watch.specs.Stamped.{fields_at, held, stamped_rows, time_of};
-ghost use Rattle.trace_watch.specs.StampedTelling.{Brings, IsLast, StampedSteps, TakesStamped, TellsRows, line_of, times_until};
+ghost use Rattle.trace_watch.specs.StampedTelling.{Brings, HasHeld, IsLast, StampedSteps, TakesStamped, TellsRows, line_of, times_until};
 
 use crate::trace_loop::{is_header, tell};
 use crate::{TraceWhy, Watched};
@@ -47,8 +47,7 @@ fn hold<H: Host, L: Ledger>(
         (replicate times (last_of monitor.old)) monitor.new) }
     ensures read { read_of monitor.new ≡ read_of monitor.old }
     ensures program { program_of monitor.new ≡ program_of monitor.old }
-    ensures taken { IsTrue result → taken_by monitor.new ≡ taken_by monitor.old + times }
-    ensures drained { IsDrainedIf result monitor.new }
+    ensures held { HasHeld result times monitor.old monitor.new }
 {
     for done in 0..times {
         monitor.repeat_last(steps);
@@ -244,10 +243,7 @@ fn timed_turns<H: Host, L: Ledger>(
     requires name { blank.name ≡ L.name }
     requires parts { blank.parts ≡ L.parts }
     requires some_parts { 0 < blank.parts }
-    requires no_rows { Stands monitor.old [] }
-    requires drained { IsDrained monitor.old }
-    requires mission { mission ≤ 2 ^ 40 }
-    requires numbered { cut.old.number ≤ 1 }
+    requires ready { CanWatch monitor.old cut.old mission }
     ensures cause { WatchCause result (H.faults host.old) (H.faults host.new) }
     ensures log { OnLog (H.log host.old) (H.log host.new) (IsWatch (program_of monitor.old) style
         (stamped_rows (program_of monitor.old) mission (first_of cut.old))
@@ -276,10 +272,7 @@ pub fn watch_timed<H: Host>(
     mission: u64,
     style: Style,
 ) -> Watched
-    requires no_rows { Stands monitor.old [] }
-    requires drained { IsDrained monitor.old }
-    requires mission { mission ≤ 2 ^ 40 }
-    requires numbered { cut.old.number ≤ 1 }
+    requires { CanWatch monitor.old cut.old mission }
     ensures cause { WatchCause result (H.faults host.old) (H.faults host.new) }
     ensures log { OnLog (H.log host.old) (H.log host.new) (IsWatch (program_of monitor.old) style
         (stamped_rows (program_of monitor.old) mission (first_of cut.old))

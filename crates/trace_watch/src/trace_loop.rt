@@ -1,13 +1,13 @@
 //! The loop over a trace.
 
-ghost use Rattle.std.specs.Prelude.{◌≡◌, ◌≤◌, ◌<◌, ◌^◌, [], IsSome, List};
+ghost use Rattle.std.specs.Prelude.{◌≡◌, ◌≤◌, ◌<◌, ◌^◌, IsSome, List};
 ghost use Rattle.mltl_base.specs.Atoms.{Row};
 ghost use Rattle.mltl_base.specs.Lines.{lines_of_reports};
 ghost use Rattle.mltl_base.specs.Programs.{output_names};
 ghost use Rattle.tool_io.specs.Log.{OnLog};
 ghost use Rattle.mltl_monitor.specs.Monitoring.{program_of, taken_by, last_of, read_of, IsDrained, Stands, open_of};
 ghost use Rattle.trace_watch.specs.Trace.{is_marked, trace_rows};
-ghost use Rattle.trace_watch.specs.Watch.{IsWatch, WatchCause, first_of};
+ghost use Rattle.trace_watch.specs.Watch.{CanWatch, IsWatch, WatchCause, first_of};
 ghost use Rattle.trace_watch.specs.Telling.{TellCause, StepCause, SendsText, IsDrainedIf, TakesIt, RowSteps, Turns, text_of};
 
 use crate::{TraceWhy, Watched};
@@ -168,10 +168,7 @@ fn turns<H: Host, L: Ledger>(
     requires name { blank.name ≡ L.name }
     requires parts { blank.parts ≡ L.parts }
     requires some_parts { 0 < blank.parts }
-    requires no_rows { Stands monitor.old [] }
-    requires drained { IsDrained monitor.old }
-    requires mission { mission ≤ 2 ^ 40 }
-    requires numbered { cut.old.number ≤ 1 }
+    requires ready { CanWatch monitor.old cut.old mission }
     ensures cause { WatchCause result (H.faults host.old) (H.faults host.new) }
     ensures log { OnLog (H.log host.old) (H.log host.new) (IsWatch (program_of monitor.old) style
         (trace_rows (program_of monitor.old) mission (first_of cut.old))
@@ -202,10 +199,7 @@ pub fn watch<H: Host>(
     mission: u64,
     style: Style,
 ) -> Watched
-    requires no_rows { Stands monitor.old [] }
-    requires drained { IsDrained monitor.old }
-    requires mission { mission ≤ 2 ^ 40 }
-    requires numbered { cut.old.number ≤ 1 }
+    requires { CanWatch monitor.old cut.old mission }
     ensures cause { WatchCause result (H.faults host.old) (H.faults host.new) }
     ensures log { OnLog (H.log host.old) (H.log host.new) (IsWatch (program_of monitor.old) style
         (trace_rows (program_of monitor.old) mission (first_of cut.old))

@@ -14,7 +14,7 @@ loop-now-init g c = record {
   no_fault = λ place. refl;
   last = None;
   timed = refl;
-  log = OnLog-none _ _ (HasStamped-none _ _ _ _ _ c.requires.numbered (record { program_kept = refl; stands = c.requires.no_rows; drained = c.requires.drained }));
+  log = OnLog-none _ _ (HasStamped-none _ _ _ _ _ c.requires.ready.numbered (record { program_kept = refl; stands = c.requires.ready.no_rows; drained = c.requires.ready.drained }));
 }
 
 pub timed_turn-requires-clause-counted : goal.timed_turn-requires-clause-counted
@@ -28,7 +28,7 @@ loop-now-preserved g c =
     let was = c.loop-now.invariant in
     let has = was.log.holds in
     let turn = c.in-Ok.ensures.log has.rows was.last has.kept.stands has.keeps was.timed in
-    let goes = turn_goes _ _ _ _ _ _ _ _ c.loop-now.clock was.last was.timed was.log.events has c.in-Ok.now turn.events was.within c.requires.mission (subst (λ program. Turns (Ok c.in-Ok.now) program c.args.mission c.loop-now.clock.lines has.rows c.loop-now.cut c.timed_turn.new.cut c.timed_turn.new.monitor (StampedSteps (Ok c.in-Ok.now) program c.args.style c.args.mission c.loop-now.clock has.rows was.last c.timed_turn.new.cut c.timed_turn.new.monitor) turn.events) has.kept.program_kept turn.holds) in
+    let goes = turn_goes _ _ _ _ _ _ _ _ c.loop-now.clock was.last was.timed was.log.events has c.in-Ok.now turn.events was.within c.requires.ready.within (subst (λ program. Turns (Ok c.in-Ok.now) program c.args.mission c.loop-now.clock.lines has.rows c.loop-now.cut c.timed_turn.new.cut c.timed_turn.new.monitor (StampedSteps (Ok c.in-Ok.now) program c.args.style c.args.mission c.loop-now.clock has.rows was.last c.timed_turn.new.cut c.timed_turn.new.monitor) turn.events) has.kept.program_kept turn.holds) in
     record {
       within = goes.within;
       program = c.timed_turn.ensures.program ∙ was.program;
@@ -47,7 +47,7 @@ loop-now-smaller g c =
     let was = c.loop-now.invariant in
     let has = was.log.holds in
     let turn = c.in-Ok.ensures.log has.rows was.last has.kept.stands has.keeps was.timed in
-    (turn_goes _ _ _ _ _ _ _ _ c.loop-now.clock was.last was.timed was.log.events has c.in-Ok.now turn.events was.within c.requires.mission (subst (λ program. Turns (Ok c.in-Ok.now) program c.args.mission c.loop-now.clock.lines has.rows c.loop-now.cut c.timed_turn.new.cut c.timed_turn.new.monitor (StampedSteps (Ok c.in-Ok.now) program c.args.style c.args.mission c.loop-now.clock has.rows was.last c.timed_turn.new.cut c.timed_turn.new.monitor) turn.events) has.kept.program_kept turn.holds)).fewer
+    (turn_goes _ _ _ _ _ _ _ _ c.loop-now.clock was.last was.timed was.log.events has c.in-Ok.now turn.events was.within c.requires.ready.within (subst (λ program. Turns (Ok c.in-Ok.now) program c.args.mission c.loop-now.clock.lines has.rows c.loop-now.cut c.timed_turn.new.cut c.timed_turn.new.monitor (StampedSteps (Ok c.in-Ok.now) program c.args.style c.args.mission c.loop-now.clock has.rows was.last c.timed_turn.new.cut c.timed_turn.new.monitor) turn.events) has.kept.program_kept turn.holds)).fewer
 
 pub returns-in-Err-clause-log : goal.returns-in-Err-clause-log
 returns-in-Err-clause-log g c =

@@ -10,7 +10,7 @@ loop-now-init g c = record {
   within = omega arith;
   program = refl;
   no_fault = λ place. refl;
-  log = OnLog-none _ _ (HasRows-none _ _ _ _ _ c.requires.numbered (record { program_kept = refl; stands = c.requires.no_rows; drained = c.requires.drained }));
+  log = OnLog-none _ _ (HasRows-none _ _ _ _ _ c.requires.ready.numbered (record { program_kept = refl; stands = c.requires.ready.no_rows; drained = c.requires.ready.drained }));
 }
 
 pub loop-now-preserved : goal.loop-now-preserved
@@ -18,7 +18,7 @@ loop-now-preserved g c =
     let was = c.loop-now.invariant in
     let has = was.log.holds in
     let turn = c.in-Ok.ensures.log has.rows has.kept.stands in
-    let goes = turn_goes _ _ _ _ _ _ _ _ _ was.log.events has c.in-Ok.now turn.events was.within c.requires.mission (subst (λ program. Turns (Ok c.in-Ok.now) program c.args.mission c.loop-now.before has.rows c.loop-now.cut c.turn.new.cut c.turn.new.monitor (RowSteps (Ok c.in-Ok.now) program c.args.style c.args.mission c.loop-now.before has.rows c.turn.new.cut c.turn.new.monitor) turn.events) has.kept.program_kept turn.holds) in
+    let goes = turn_goes _ _ _ _ _ _ _ _ _ was.log.events has c.in-Ok.now turn.events was.within c.requires.ready.within (subst (λ program. Turns (Ok c.in-Ok.now) program c.args.mission c.loop-now.before has.rows c.loop-now.cut c.turn.new.cut c.turn.new.monitor (RowSteps (Ok c.in-Ok.now) program c.args.style c.args.mission c.loop-now.before has.rows c.turn.new.cut c.turn.new.monitor) turn.events) has.kept.program_kept turn.holds) in
     record {
       within = goes.within;
       program = c.turn.ensures.program ∙ was.program;
@@ -35,7 +35,7 @@ loop-now-smaller g c =
     let was = c.loop-now.invariant in
     let has = was.log.holds in
     let turn = c.in-Ok.ensures.log has.rows has.kept.stands in
-    (turn_goes _ _ _ _ _ _ _ _ _ was.log.events has c.in-Ok.now turn.events was.within c.requires.mission (subst (λ program. Turns (Ok c.in-Ok.now) program c.args.mission c.loop-now.before has.rows c.loop-now.cut c.turn.new.cut c.turn.new.monitor (RowSteps (Ok c.in-Ok.now) program c.args.style c.args.mission c.loop-now.before has.rows c.turn.new.cut c.turn.new.monitor) turn.events) has.kept.program_kept turn.holds)).fewer
+    (turn_goes _ _ _ _ _ _ _ _ _ was.log.events has c.in-Ok.now turn.events was.within c.requires.ready.within (subst (λ program. Turns (Ok c.in-Ok.now) program c.args.mission c.loop-now.before has.rows c.loop-now.cut c.turn.new.cut c.turn.new.monitor (RowSteps (Ok c.in-Ok.now) program c.args.style c.args.mission c.loop-now.before has.rows c.turn.new.cut c.turn.new.monitor) turn.events) has.kept.program_kept turn.holds)).fewer
 
 pub returns-in-Err-clause-log : goal.returns-in-Err-clause-log
 returns-in-Err-clause-log g c =
