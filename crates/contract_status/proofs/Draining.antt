@@ -24,31 +24,31 @@ use Rattle.contract_status.proofs.Placing.{delay_covered, entry_kept, named}
 use Rattle.contract_status.proofs.Stretching.{count_at}
 
 -- nothing is left exactly at the numbers of known words
-all_told : (place : ℕ) (ws : List Word) → place ≤ length ws → drop place ws ≡ [] → place ≡ length ws
-all_told place ws within none = omega (arith, length-drop place ws, ap length none)
+all_told : (next_time : ℕ) (ws : List Word) → next_time ≤ length ws → drop next_time ws ≡ [] → next_time ≡ length ws
+all_told next_time ws within none = omega (arith, length-drop next_time ws, ap length none)
 
-told_counts : (style : Style) (rows : List Row) (n : ℕ) (outs : List Output) (places : List ℕ) → length places ≡ length outs → ((j : ℕ) → j < length outs → slice_index places j ≤ slice_index (known_counts rows outs) j)
-    → left_open style rows n outs places ≡ [] → places ≡ known_counts rows outs
+told_counts : (style : Style) (rows : List Row) (n : ℕ) (outs : List Output) (next_times : List ℕ) → length next_times ≡ length outs → ((j : ℕ) → j < length outs → slice_index next_times j ≤ slice_index (known_counts rows outs) j)
+    → left_open style rows n outs next_times ≡ [] → next_times ≡ known_counts rows outs
 unfolding left_open
 told_counts style rows n [] [] same within none = refl
-told_counts style rows n [] (place ∷ places) same within none = absurd (omega arith)
+told_counts style rows n [] (next_time ∷ next_times) same within none = absurd (omega arith)
 told_counts style rows n (o ∷ outs) [] same within none = absurd (omega arith)
-told_counts style rows n (o ∷ outs) (place ∷ places) same within none =
+told_counts style rows n (o ∷ outs) (next_time ∷ next_times) same within none =
     let ws : List Word = words rows o in
-    let parts = append_none (of_words style n place (drop place ws)) (left_open style rows (suc n) outs places) none in
-    let here : place ≡ length ws = all_told place ws (within 0 (omega arith)) (none_open style n place (drop place ws) parts.0) in
-    let rest : places ≡ known_counts rows outs = told_counts style rows (suc n) outs places (omega arith) (λ j below. within (suc j) (omega arith)) parts.1 in
+    let parts = append_none (of_words style n next_time (drop next_time ws)) (left_open style rows (suc n) outs next_times) none in
+    let here : next_time ≡ length ws = all_told next_time ws (within 0 (omega arith)) (none_open style n next_time (drop next_time ws) parts.0) in
+    let rest : next_times ≡ known_counts rows outs = told_counts style rows (suc n) outs next_times (omega arith) (λ j below. within (suc j) (omega arith)) parts.1 in
     rw (here, rest) refl
 
-pub drained_counts : (style : Style) (program : Program) (rows : List Row) (places : List ℕ) → ArePlaced program rows places → open_of style program rows places ≡ [] → places ≡ known_counts_of program rows
-drained_counts style program rows places placed none =
+pub drained_counts : (style : Style) (program : Program) (rows : List Row) (next_times : List ℕ) → ArePlaced program rows next_times → open_of style program rows next_times ≡ [] → next_times ≡ known_counts_of program rows
+drained_counts style program rows next_times placed none =
     let same : length (outputs program) ≡ length program.outs = length-map program.outs (output_of program) in
-    told_counts style rows 0 (outputs program) places (omega (arith, placed.count)) (λ j below. placed.known j (omega arith)) none
+    told_counts style rows 0 (outputs program) next_times (omega (arith, placed.count)) (λ j below. placed.known j (omega arith)) none
 
 pub counts_drained : (style : Style) (program : Program) (rows : List Row) → open_of style program rows (known_counts_of program rows) ≡ []
 counts_drained style program rows = none_left style rows 0 (outputs program) (known_counts_of program rows) (λ j below. le_refl (slice_index (known_counts_of program rows) j))
 
--- the numbers of known words are places after one more row
+-- the numbers of known words are next times behind one more row
 more_words : (rows more : List Row) (o : Output) → length (words rows o) ≤ length (words (rows ++ more) o)
 more_words rows more o =
     let p = words_begin rows more o in
@@ -77,14 +77,14 @@ placed_after_row program rows row = record {
         let rest : rows ++ row ∷ [] ≡ before ++ last ∷ [] = cc in
         rw (first, same_before rows before row last rest) refl
 
--- in a drained program each place is at least n less the width of each instruction that its output reports
+-- in a drained program each next time is at least n less the width of each instruction that its output reports
 pub drained_wide : (program : Program) (rows : List Row) (k g : ℕ) (output : Out) → IsWellFormed program → slice_get program.outs k ≡ Some output → Contains (reported output) g → length rows ≤ slice_index (known_counts_of program rows) k + width_of program g
 drained_wide program rows k g output formed there among =
     let here : slice_index (reported output) among.0 ≡ g = get_or_default (reported output) among.0 0 g among.1 ∙ among.2 in
     let covered : delay (output_of program output) ≤ width_of program g = subst (λ i. delay (output_of program output) ≤ width_of program i) here (delay_covered program k output among.0 (named program k output formed there) there among.1) in
     omega (arith, covered, count_at program rows k output there, words_in_time rows (output_of program output))
 
--- the entries that an output reads from its place on are kept
+-- the entries that an output reads from its next time on are kept
 future_named : (fts pts g : ℕ) (output : Out) → NamesInstructions fts pts output → Contains (reported output) g → g < fts
 future_named fts pts g (Formula Ft i name) names (zero, inside, is) = omega (arith, is)
 future_named fts pts g (Formula Ft i name) names (suc j, inside, is) = absurd (omega arith)
@@ -94,12 +94,12 @@ future_named fts pts g (Contract Ft l r name) names (suc (suc j), inside, is) = 
 future_named fts pts g (Formula Pt i name) names among = absurd (omega (arith, among.1))
 future_named fts pts g (Contract Pt l r name) names among = absurd (omega (arith, among.1))
 
-pub entries_kept : (program : Program) (rows : List Row) (ft : FutureEngine) (places : List ℕ) (k g : ℕ) (output : Out) → IsWellFormed program → Stands program rows ft → ArePlaced program rows places → slice_get program.outs k ≡ Some output → Contains (reported output) g
-    → lowest_at ft g ≤ slice_index places k
-entries_kept program rows ft places k g output formed stands placed there among =
+pub entries_kept : (program : Program) (rows : List Row) (ft : FutureEngine) (next_times : List ℕ) (k g : ℕ) (output : Out) → IsWellFormed program → Stands program rows ft → ArePlaced program rows next_times → slice_get program.outs k ≡ Some output → Contains (reported output) g
+    → lowest_at ft g ≤ slice_index next_times k
+entries_kept program rows ft next_times k g output formed stands placed there among =
     let here : slice_index (reported output) among.0 ≡ g = get_or_default (reported output) among.0 0 g among.1 ∙ among.2 in
     let exists : g < length program.ft = future_named (length program.ft) (length program.pt) g output (named program k output formed there) among in
-    subst (λ i. lowest_at ft i ≤ slice_index places k) here (entry_kept program rows ft places k output among.0 formed stands placed there among.1 (rw here exists))
+    subst (λ i. lowest_at ft i ≤ slice_index next_times k) here (entry_kept program rows ft next_times k output among.0 formed stands placed there among.1 (rw here exists))
 
 pub entries_kept_after_row : (program : Program) (rows : List Row) (row : Row) (ft : FutureEngine) (k g : ℕ) (output : Out) → IsWellFormed program → Stands program (rows ++ row ∷ []) ft → slice_get program.outs k ≡ Some output → Contains (reported output) g
     → lowest_at ft g ≤ slice_index (known_counts_of program rows) k

@@ -26,48 +26,48 @@ use Rattle.contract_status.specs.Stretches.{AreTold, Covers, FindsOpen, HaveTake
 use Rattle.contract_status.proofs.Opening.{no_other, no_words}
 use Rattle.contract_status.proofs.Stretching.{count_at, lasts_in_rows, lasts_within, more_told}
 
--- nothing is open at a place past all words
-nothing_past : (style : Style) (k place : ℕ) (ws : List Word) → length ws ≤ place → of_words style k place (drop place ws) ≡ []
-nothing_past style k place ws past = ap (of_words style k place) (drop_all place ws past) ∙ no_words style k place
+-- nothing is open at a next time past all words
+nothing_past : (style : Style) (k next_time : ℕ) (ws : List Word) → length ws ≤ next_time → of_words style k next_time (drop next_time ws) ≡ []
+nothing_past style k next_time ws past = ap (of_words style k next_time) (drop_all next_time ws past) ∙ no_words style k next_time
 
-pub none_left : (style : Style) (rows : List Row) (n : ℕ) (outs : List Output) (places : List ℕ) → ((j : ℕ) → j < length outs → slice_index (known_counts rows outs) j ≤ slice_index places j) → left_open style rows n outs places ≡ []
+pub none_left : (style : Style) (rows : List Row) (n : ℕ) (outs : List Output) (next_times : List ℕ) → ((j : ℕ) → j < length outs → slice_index (known_counts rows outs) j ≤ slice_index next_times j) → left_open style rows n outs next_times ≡ []
 unfolding left_open
-none_left style rows n [] places told = refl
+none_left style rows n [] next_times told = refl
 none_left style rows n (o ∷ outs) [] told = refl
-none_left style rows n (o ∷ outs) (place ∷ places) told =
-    rw (nothing_past style n place (words rows o) (told 0 (omega arith))) (none_left style rows (suc n) outs places (λ j below. told (suc j) (omega arith)))
+none_left style rows n (o ∷ outs) (next_time ∷ next_times) told =
+    rw (nothing_past style n next_time (words rows o) (told 0 (omega arith))) (none_left style rows (suc n) outs next_times (λ j below. told (suc j) (omega arith)))
 
 -- where nothing is open before output k, its reports come first
-pub open_from : (style : Style) (rows : List Row) (n k m : ℕ) (outs : List Output) (places : List ℕ) (o : Output) → m ≡ n + k → slice_get outs k ≡ Some o → k < length places
-    → ((j : ℕ) → j < k → slice_index (known_counts rows outs) j ≤ slice_index places j)
-    → left_open style rows n outs places ≡ of_words style m (slice_index places k) (drop (slice_index places k) (words rows o)) ++ left_open style rows (suc m) (drop (suc k) outs) (drop (suc k) places)
+pub open_from : (style : Style) (rows : List Row) (n k m : ℕ) (outs : List Output) (next_times : List ℕ) (o : Output) → m ≡ n + k → slice_get outs k ≡ Some o → k < length next_times
+    → ((j : ℕ) → j < k → slice_index (known_counts rows outs) j ≤ slice_index next_times j)
+    → left_open style rows n outs next_times ≡ of_words style m (slice_index next_times k) (drop (slice_index next_times k) (words rows o)) ++ left_open style rows (suc m) (drop (suc k) outs) (drop (suc k) next_times)
 unfolding left_open
-open_from style rows n k m [] places o e there inside told = cc
+open_from style rows n k m [] next_times o e there inside told = cc
 open_from style rows n k m (x ∷ outs) [] o e there inside told = absurd (omega arith)
-open_from style rows n zero m (x ∷ outs) (place ∷ places) o e there inside told =
+open_from style rows n zero m (x ∷ outs) (next_time ∷ next_times) o e there inside told =
     let first : x ≡ o = cc in
     let same : m ≡ n = omega arith in
     rw (first, same) refl
-open_from style rows n (suc k) m (x ∷ outs) (place ∷ places) o e there inside told =
-    rw (nothing_past style n place (words rows x) (told 0 (omega arith)))
-    (open_from style rows (suc n) k m outs places o (omega arith) there (omega arith) (λ j below. told (suc j) (omega arith)))
+open_from style rows n (suc k) m (x ∷ outs) (next_time ∷ next_times) o e there inside told =
+    rw (nothing_past style n next_time (words rows x) (told 0 (omega arith)))
+    (open_from style rows (suc n) k m outs next_times o (omega arith) there (omega arith) (λ j below. told (suc j) (omega arith)))
 
--- the same of the places with another one for output k
-pub open_moved : (style : Style) (rows : List Row) (k p : ℕ) (outs : List Output) (places : List ℕ) (o : Output) → slice_get outs k ≡ Some o → k < length places
-    → ((j : ℕ) → j < k → slice_index (known_counts rows outs) j ≤ slice_index places j)
-    → left_open style rows 0 outs (slice_set places k p) ≡ of_words style k p (drop p (words rows o)) ++ left_open style rows (suc k) (drop (suc k) outs) (drop (suc k) places)
-open_moved style rows k p outs places o there inside told =
-    let moved : List ℕ = slice_set places k p in
-    let here : slice_index moved k ≡ p = get_or-set_same places k p 0 inside in
-    let after : drop (suc k) moved ≡ drop (suc k) places = drop-set-lt (suc k) places k p (omega arith) in
+-- the same of the next times with another one for output k
+pub open_moved : (style : Style) (rows : List Row) (k p : ℕ) (outs : List Output) (next_times : List ℕ) (o : Output) → slice_get outs k ≡ Some o → k < length next_times
+    → ((j : ℕ) → j < k → slice_index (known_counts rows outs) j ≤ slice_index next_times j)
+    → left_open style rows 0 outs (slice_set next_times k p) ≡ of_words style k p (drop p (words rows o)) ++ left_open style rows (suc k) (drop (suc k) outs) (drop (suc k) next_times)
+open_moved style rows k p outs next_times o there inside told =
+    let moved : List ℕ = slice_set next_times k p in
+    let here : slice_index moved k ≡ p = get_or-set_same next_times k p 0 inside in
+    let after : drop (suc k) moved ≡ drop (suc k) next_times = drop-set-lt (suc k) next_times k p (omega arith) in
     rw (
-      open_from style rows 0 k k outs moved o (omega arith) there (omega (arith, length-set places k p))
-          (λ j below. let other : j ≢ k = omega arith in omega (arith, told j below, get_or-set_other places k j p 0 other)),
+      open_from style rows 0 k k outs moved o (omega arith) there (omega (arith, length-set next_times k p))
+          (λ j below. let other : j ≢ k = omega arith in omega (arith, told j below, get_or-set_other next_times k j p 0 other)),
       here,
       after,
     ) refl
 
--- the first words at a place: a report for each
+-- the first words at a next time: a report for each
 each_first : (k p : ℕ) (ws : List Word) (w : Word) → slice_get ws p ≡ Some w → of_words Each k p (drop p ws) ≡ record { out = k; time = p; word = w } ∷ of_words Each k (p + 1) (drop (p + 1) ws)
 unfolding of_words
 each_first k p ws w there =
@@ -140,112 +140,112 @@ pub words_first : (style : Style) (k p last : ℕ) (ws : List Word) (w : Word) �
 words_first Each k p last ws w h = rw h.ends (each_first k p ws w (h.lasts.alike p (omega arith) h.lasts.upward))
 words_first Runs k p last ws w h = let up : p ≤ last = h.lasts.upward in run_first (last - p) k p last ws w (omega arith) h.lasts.alike h.ends
 
--- the first report is that of the first open output, whose place moves on
+-- the first report is that of the first open output, whose next time moves on
 among_outputs : (program : Program) (k : ℕ) (output : Out) → slice_get program.outs k ≡ Some output → slice_get (outputs program) k ≡ Some (output_of program output)
 among_outputs program k output there = rw (slice_get-map (output_of program) program.outs k, there) refl
 
-gives_first : (style : Style) (program : Program) (rows : List Row) (places : List ℕ) (k last : ℕ) (stretch : Stretch) (output : Out) → slice_get program.outs k ≡ Some output → k < length places → IsFirstOpen program rows places k stretch
-    → Covers style (known_words program rows output) (slice_index places k) last stretch.word
-    → open_of style program rows places ≡ record { out = k; time = last; word = stretch.word } ∷ open_of style program rows (slice_set places k (last + 1))
-gives_first style program rows places k last stretch output named inside first covers =
+gives_first : (style : Style) (program : Program) (rows : List Row) (next_times : List ℕ) (k last : ℕ) (stretch : Stretch) (output : Out) → slice_get program.outs k ≡ Some output → k < length next_times → IsFirstOpen program rows next_times k stretch
+    → Covers style (known_words program rows output) (slice_index next_times k) last stretch.word
+    → open_of style program rows next_times ≡ record { out = k; time = last; word = stretch.word } ∷ open_of style program rows (slice_set next_times k (last + 1))
+gives_first style program rows next_times k last stretch output named inside first covers =
     let o : Output = output_of program output in
     let there = among_outputs program k output named in
-    open_from style rows 0 k k (outputs program) places o (omega arith) there inside first.told
-    ∙ ap (λ reports. reports ++ left_open style rows (suc k) (drop (suc k) (outputs program)) (drop (suc k) places)) (words_first style k (slice_index places k) last (words rows o) stretch.word covers)
-    ∙ ap (λ reports. record { out = k; time = last; word = stretch.word } ∷ reports) (sym (open_moved style rows k (last + 1) (outputs program) places o there inside first.told))
+    open_from style rows 0 k k (outputs program) next_times o (omega arith) there inside first.told
+    ∙ ap (λ reports. reports ++ left_open style rows (suc k) (drop (suc k) (outputs program)) (drop (suc k) next_times)) (words_first style k (slice_index next_times k) last (words rows o) stretch.word covers)
+    ∙ ap (λ reports. record { out = k; time = last; word = stretch.word } ∷ reports) (sym (open_moved style rows k (last + 1) (outputs program) next_times o there inside first.told))
 
-pub gives_none : (style : Style) (program : Program) (rows : List Row) (places : List ℕ) → ((j : ℕ) → j < length program.outs → slice_index (known_counts_of program rows) j ≤ slice_index places j) → open_of style program rows places ≡ []
-gives_none style program rows places told =
-    none_left style rows 0 (outputs program) places (λ j below. told j (omega (arith, length-map program.outs (output_of program))))
+pub gives_none : (style : Style) (program : Program) (rows : List Row) (next_times : List ℕ) → ((j : ℕ) → j < length program.outs → slice_index (known_counts_of program rows) j ≤ slice_index next_times j) → open_of style program rows next_times ≡ []
+gives_none style program rows next_times told =
+    none_left style rows 0 (outputs program) next_times (λ j below. told j (omega (arith, length-map program.outs (output_of program))))
 
--- the places stay within their bounds
-pub placed_moved : (program : Program) (rows : List Row) (places : List ℕ) (k next : ℕ) (output : Out) → ArePlaced program rows places → slice_get program.outs k ≡ Some output → slice_index places k ≤ next → next ≤ length (known_words program rows output)
-    → ArePlaced program rows (slice_set places k next)
-placed_moved program rows places k next output placed there up within =
+-- the next times stay within their bounds
+pub placed_moved : (program : Program) (rows : List Row) (next_times : List ℕ) (k next : ℕ) (output : Out) → ArePlaced program rows next_times → slice_get program.outs k ≡ Some output → slice_index next_times k ≤ next → next ≤ length (known_words program rows output)
+    → ArePlaced program rows (slice_set next_times k next)
+placed_moved program rows next_times k next output placed there up within =
     let exists : k < length program.outs = slice_get_within program.outs k output there in
-    let count : length places ≡ length program.outs = placed.count in
-    let inside : k < length places = omega arith in
-    let here : slice_index (slice_set places k next) k ≡ next = get_or-set_same places k next 0 inside in
+    let count : length next_times ≡ length program.outs = placed.count in
+    let inside : k < length next_times = omega arith in
+    let here : slice_index (slice_set next_times k next) k ≡ next = get_or-set_same next_times k next 0 inside in
     record {
-      count = length-set places k next ∙ placed.count;
+      count = length-set next_times k next ∙ placed.count;
       known = λ j below. elim (cases_eq j k) [
         | inl e ↦ rw (e, here) (omega (arith, count_at program rows k output there))
-        | inr other ↦ rw (get_or-set_other places k j next 0 other) (placed.known j below)
+        | inr other ↦ rw (get_or-set_other next_times k j next 0 other) (placed.known j below)
       ];
       recent = λ before row is j below. elim (cases_eq j k) [
         | inl e ↦ rw (e, here) (omega (arith, placed.recent before row is k exists))
-        | inr other ↦ rw (get_or-set_other places k j next 0 other) (placed.recent before row is j below)
+        | inr other ↦ rw (get_or-set_other next_times k j next 0 other) (placed.recent before row is j below)
       ];
     }
 
 -- fewer times are left
-pub fewer_left : (n : ℕ) (places : List ℕ) (k next : ℕ) → k < length places → slice_index places k < next → next ≤ n → times_left n (slice_set places k next) < times_left n places
-fewer_left n places k next inside up within = omega (arith, sum_by-set (λ place. n - place) places k next 0 inside)
+pub fewer_left : (n : ℕ) (next_times : List ℕ) (k next : ℕ) → k < length next_times → slice_index next_times k < next → next ≤ n → times_left n (slice_set next_times k next) < times_left n next_times
+fewer_left n next_times k next inside up within = omega (arith, sum_by-set (λ next_time. n - next_time) next_times k next 0 inside)
 
 -- the first open output goes by what stands at its number
-pub open_here : (program : Program) (rows : List Row) (places : List ℕ) (k : ℕ) (stretch : Stretch) (output : Out) → slice_get program.outs k ≡ Some output → IsFirstOpen program rows places k stretch
-    → Lasts (known_words program rows output) (slice_index places k) stretch.last stretch.word
-open_here program rows places k stretch output there first =
+pub open_here : (program : Program) (rows : List Row) (next_times : List ℕ) (k : ℕ) (stretch : Stretch) (output : Out) → slice_get program.outs k ≡ Some output → IsFirstOpen program rows next_times k stretch
+    → Lasts (known_words program rows output) (slice_index next_times k) stretch.last stretch.word
+open_here program rows next_times k stretch output there first =
     let same : first.output ≡ output = let named = first.there in cc in
-    subst (λ o. Lasts (known_words program rows o) (slice_index places k) stretch.last stretch.word) same first.here
+    subst (λ o. Lasts (known_words program rows o) (slice_index next_times k) stretch.last stretch.word) same first.here
 
 -- what holds once the report of an output up to this time was given
-pub record IsTold (style : Style) (program : Program) (rows : List Row) (places : List ℕ) (k last : ℕ) (word : Word) : Type 0 where
+pub record IsTold (style : Style) (program : Program) (rows : List Row) (next_times : List ℕ) (k last : ℕ) (word : Word) : Type 0 where
   pub exists : k < length program.outs
-  pub inside : k < length places
-  pub upward : slice_index places k ≤ last
+  pub inside : k < length next_times
+  pub upward : slice_index next_times k ≤ last
   pub early : last < length rows
-  pub first : open_of style program rows places ≡ record { out = k; time = last; word = word } ∷ open_of style program rows (slice_set places k (last + 1))
-  pub placed : ArePlaced program rows (slice_set places k (last + 1))
+  pub first : open_of style program rows next_times ≡ record { out = k; time = last; word = word } ∷ open_of style program rows (slice_set next_times k (last + 1))
+  pub placed : ArePlaced program rows (slice_set next_times k (last + 1))
 
-pub tells : (style : Style) (program : Program) (rows : List Row) (places : List ℕ) (k last : ℕ) (stretch : Stretch) (output : Out) → slice_get program.outs k ≡ Some output → ArePlaced program rows places → IsFirstOpen program rows places k stretch
-    → Covers style (known_words program rows output) (slice_index places k) last stretch.word → IsTold style program rows places k last stretch.word
-tells style program rows places k last stretch output there placed first covers =
+pub tells : (style : Style) (program : Program) (rows : List Row) (next_times : List ℕ) (k last : ℕ) (stretch : Stretch) (output : Out) → slice_get program.outs k ≡ Some output → ArePlaced program rows next_times → IsFirstOpen program rows next_times k stretch
+    → Covers style (known_words program rows output) (slice_index next_times k) last stretch.word → IsTold style program rows next_times k last stretch.word
+tells style program rows next_times k last stretch output there placed first covers =
     let exists : k < length program.outs = slice_get_within program.outs k output there in
-    let inside : k < length places = omega (arith, placed.count) in
-    let up : slice_index places k ≤ last = covers.lasts.upward in
-    let short : last < length (known_words program rows output) = lasts_within (known_words program rows output) (slice_index places k) last stretch.word covers.lasts in
+    let inside : k < length next_times = omega (arith, placed.count) in
+    let up : slice_index next_times k ≤ last = covers.lasts.upward in
+    let short : last < length (known_words program rows output) = lasts_within (known_words program rows output) (slice_index next_times k) last stretch.word covers.lasts in
     record {
       exists = exists;
       inside = inside;
       upward = up;
-      early = lasts_in_rows program rows output (slice_index places k) last stretch.word covers.lasts;
-      first = gives_first style program rows places k last stretch output there inside first covers;
-      placed = placed_moved program rows places k (last + 1) output placed there (omega arith) (omega arith);
+      early = lasts_in_rows program rows output (slice_index next_times k) last stretch.word covers.lasts;
+      first = gives_first style program rows next_times k last stretch output there inside first covers;
+      placed = placed_moved program rows next_times k (last + 1) output placed there (omega arith) (omega arith);
     }
 
 -- the search goes on at the output whose report was given, with what is left of its stretch
-told_moved : (program : Program) (rows : List Row) (places : List ℕ) (k next : ℕ) → AreTold program rows places k → AreTold program rows (slice_set places k next) k
-told_moved program rows places k next told j below =
-    let other : j ≢ k = omega arith in rw (get_or-set_other places k j next 0 other) (told j below)
+told_moved : (program : Program) (rows : List Row) (next_times : List ℕ) (k next : ℕ) → AreTold program rows next_times k → AreTold program rows (slice_set next_times k next) k
+told_moved program rows next_times k next told j below =
+    let other : j ≢ k = omega arith in rw (get_or-set_other next_times k j next 0 other) (told j below)
 
--- places that are known after a report were known before it
-pub known_before : (program : Program) (rows : List Row) (places : List ℕ) (k last : ℕ) → k < length places → slice_index places k ≤ last → AreKnown program rows (slice_set places k (last + 1)) → AreKnown program rows places
-known_before program rows places k last inside up known j below = elim (cases_eq j k) [
-  | inl e ↦ rw e (let moved = get_or-set_same places k (last + 1) 0 inside in omega (arith, known k (omega (arith, e)), moved))
-  | inr other ↦ let same = get_or-set_other places k j (last + 1) 0 other in omega (arith, known j below, same)
+-- next times that are known after a report were known before it
+pub known_before : (program : Program) (rows : List Row) (next_times : List ℕ) (k last : ℕ) → k < length next_times → slice_index next_times k ≤ last → AreKnown program rows (slice_set next_times k (last + 1)) → AreKnown program rows next_times
+known_before program rows next_times k last inside up known j below = elim (cases_eq j k) [
+  | inl e ↦ rw e (let moved = get_or-set_same next_times k (last + 1) 0 inside in omega (arith, known k (omega (arith, e)), moved))
+  | inr other ↦ let same = get_or-set_other next_times k j (last + 1) 0 other in omega (arith, known j below, same)
 ]
 
--- the places that are told at the next output, where the place of this one is past all rows
-told_past : (program : Program) (rows : List Row) (places : List ℕ) (k last : ℕ) (stretch : Stretch) → k < length places → IsFirstOpen program rows places k stretch → last + 1 ≡ length rows → AreTold program rows (slice_set places k (last + 1)) (k + 1)
-told_past program rows places k last stretch inside first end =
-    let moved : slice_index (slice_set places k (last + 1)) k ≡ last + 1 = get_or-set_same places k (last + 1) 0 inside in
+-- the next times that are told at the next output, where the next time of this one is past all rows
+told_past : (program : Program) (rows : List Row) (next_times : List ℕ) (k last : ℕ) (stretch : Stretch) → k < length next_times → IsFirstOpen program rows next_times k stretch → last + 1 ≡ length rows → AreTold program rows (slice_set next_times k (last + 1)) (k + 1)
+told_past program rows next_times k last stretch inside first end =
+    let moved : slice_index (slice_set next_times k (last + 1)) k ≡ last + 1 = get_or-set_same next_times k (last + 1) 0 inside in
     let fit : length (known_words program rows first.output) ≤ length rows = words_fit rows (output_of program first.output) in
-    more_told program rows (slice_set places k (last + 1)) k first.output first.there (told_moved program rows places k (last + 1) first.told) (omega (arith, moved, fit, end))
+    more_told program rows (slice_set next_times k (last + 1)) k first.output first.there (told_moved program rows next_times k (last + 1) first.told) (omega (arith, moved, fit, end))
 
-pub cursor_behind : (program : Program) (rows : List Row) (places : List ℕ) (k last : ℕ) (stretch : Stretch) (cursor : Cursor) → k < length places → slice_index places k ≤ last → IsFirstOpen program rows places k stretch
-    → (cursor.out ≡ k) ⊎ ((cursor.out ≡ k + 1) × (last + 1 ≡ length rows)) → ((left : Stretch) → cursor.stretch ≡ Some left → (cursor.out ≡ k) × (left ≡ stretch) × (last < left.last)) → IsCursor program rows (slice_set places k (last + 1)) cursor
-cursor_behind program rows places k last stretch cursor inside up first here left =
-    let told : AreTold program rows (slice_set places k (last + 1)) k = told_moved program rows places k (last + 1) first.told in
-    let moved : slice_index (slice_set places k (last + 1)) k ≡ last + 1 = get_or-set_same places k (last + 1) 0 inside in
+pub cursor_behind : (program : Program) (rows : List Row) (next_times : List ℕ) (k last : ℕ) (stretch : Stretch) (cursor : Cursor) → k < length next_times → slice_index next_times k ≤ last → IsFirstOpen program rows next_times k stretch
+    → (cursor.out ≡ k) ⊎ ((cursor.out ≡ k + 1) × (last + 1 ≡ length rows)) → ((left : Stretch) → cursor.stretch ≡ Some left → (cursor.out ≡ k) × (left ≡ stretch) × (last < left.last)) → IsCursor program rows (slice_set next_times k (last + 1)) cursor
+cursor_behind program rows next_times k last stretch cursor inside up first here left =
+    let told : AreTold program rows (slice_set next_times k (last + 1)) k = told_moved program rows next_times k (last + 1) first.told in
+    let moved : slice_index (slice_set next_times k (last + 1)) k ≡ last + 1 = get_or-set_same next_times k (last + 1) 0 inside in
     record {
-      told = elim here [ inl same ↦ rw same told | inr next ↦ rw next.0 (told_past program rows places k last stretch inside first next.1) ];
+      told = elim here [ inl same ↦ rw same told | inr next ↦ rw next.0 (told_past program rows next_times k last stretch inside first next.1) ];
       kept = λ found is.
           let at : cursor.out ≡ k = (left found is).0 in
           let same : found ≡ stretch = (left found is).1 in
           let later : last < found.last = (left found is).2 in
           let ends : last < stretch.last = subst (λ (s : Stretch). last < s.last) same later in
-          let rest : IsFirstOpen program rows (slice_set places k (last + 1)) k stretch = record {
+          let rest : IsFirstOpen program rows (slice_set next_times k (last + 1)) k stretch = record {
             output = first.output;
             there = first.there;
             told = told;
@@ -255,25 +255,25 @@ cursor_behind program rows places k last stretch cursor inside up first here lef
     }
 
 -- something is open exactly where the first open output is found
-open_some : (program : Program) (rows : List Row) (places : List ℕ) (k : ℕ) (stretch : Stretch) → ArePlaced program rows places → IsFirstOpen program rows places k stretch → open_of Each program rows places ≢ []
-open_some program rows places k stretch placed first none =
-    let place : ℕ = slice_index places k in
-    let up : place ≤ stretch.last = first.here.upward in
-    let covers : Covers Each (known_words program rows first.output) place place stretch.word = record {
+open_some : (program : Program) (rows : List Row) (next_times : List ℕ) (k : ℕ) (stretch : Stretch) → ArePlaced program rows next_times → IsFirstOpen program rows next_times k stretch → open_of Each program rows next_times ≢ []
+open_some program rows next_times k stretch placed first none =
+    let next_time : ℕ = slice_index next_times k in
+    let up : next_time ≤ stretch.last = first.here.upward in
+    let covers : Covers Each (known_words program rows first.output) next_time next_time stretch.word = record {
       lasts = record { upward = omega arith; alike = λ t low high. first.here.alike t low (omega arith) };
       ends = refl;
     } in
-    let told = tells Each program rows places k place stretch first.output first.there placed first covers in
+    let told = tells Each program rows next_times k next_time stretch first.output first.there placed first covers in
     let some = told.first in
     cc
 
-pub none_found : (style : Style) (program : Program) (rows : List Row) (places : List ℕ) (found : Option (ℕ × Stretch)) (none : Bool) → is_some found ≡ not none → ArePlaced program rows places → FindsOpen program rows places found
-    → IsTrue none ↔ (open_of style program rows places ≡ [])
-none_found style program rows places None true e placed finds = (λ h. gives_none style program rows places finds, λ h. refl)
-none_found style program rows places None false e placed finds = cc
-none_found style program rows places (Some found) true e placed finds = cc
-none_found style program rows places (Some (k, stretch)) false e placed finds =
-    (λ h. cc, λ none. absurd (open_some program rows places k stretch placed finds (no_other style Each rows 0 (outputs program) places none)))
+pub none_found : (style : Style) (program : Program) (rows : List Row) (next_times : List ℕ) (found : Option (ℕ × Stretch)) (none : Bool) → is_some found ≡ not none → ArePlaced program rows next_times → FindsOpen program rows next_times found
+    → IsTrue none ↔ (open_of style program rows next_times ≡ [])
+none_found style program rows next_times None true e placed finds = (λ h. gives_none style program rows next_times finds, λ h. refl)
+none_found style program rows next_times None false e placed finds = cc
+none_found style program rows next_times (Some found) true e placed finds = cc
+none_found style program rows next_times (Some (k, stretch)) false e placed finds =
+    (λ h. cc, λ none. absurd (open_some program rows next_times k stretch placed finds (no_other style Each rows 0 (outputs program) next_times none)))
 
 -- before the first row no word is known
 pub counts_at_start : (program : Program) → replicate (length program.outs) 0 ≡ known_counts_of program []
@@ -286,5 +286,5 @@ counts_at_start program = go program.outs
         rw none (ap (λ (ns : List ℕ). 0 ∷ ns) (go outs))
 
 -- the engines' part of the state
-pub taken_by : (program : Program) (rows : List Row) (engines : Engines) (places : List ℕ) → StandFor program rows engines.rows engines.ft.now engines.pt.now places → HaveTaken program rows engines
-taken_by program rows engines places stands = record { future = stands.future; past = stands.past; count = stands.count }
+pub taken_by : (program : Program) (rows : List Row) (engines : Engines) (next_times : List ℕ) → StandFor program rows engines.rows engines.ft.now engines.pt.now next_times → HaveTaken program rows engines
+taken_by program rows engines next_times stands = record { future = stands.future; past = stands.past; count = stands.count }

@@ -1,4 +1,4 @@
--- Which reports are open, at one place and at all.
+-- Which reports are open, of one output and of all.
 
 use Rattle.std.proofs.Common.{◌≡◌, ◌↔◌, ℕ, suc, Bool, true, false, if◌then◌else◌, List, [], ◌∷◌, ◌++◌, length, drop, refl, ap, ◌∙◌}
 use Rattle.mltl_base.specs.declared.report.Word.{Word}
@@ -43,19 +43,19 @@ pub both_none : (xs ys : List Report) → xs ≡ [] → ys ≡ [] → xs ++ ys �
 both_none xs ys p q = rw (p, q) refl
 
 -- nothing is open in another style either
-pub no_other : (style other : Style) (rows : List Row) (k : ℕ) (outs : List Output) (places : List ℕ) → left_open style rows k outs places ≡ [] → left_open other rows k outs places ≡ []
+pub no_other : (style other : Style) (rows : List Row) (k : ℕ) (outs : List Output) (next_times : List ℕ) → left_open style rows k outs next_times ≡ [] → left_open other rows k outs next_times ≡ []
 unfolding left_open
-no_other style other rows k [] places e = refl
+no_other style other rows k [] next_times e = refl
 no_other style other rows k (o ∷ outs) [] e = refl
-no_other style other rows k (o ∷ outs) (place ∷ places) e =
-    let ws : List Word = drop place (words rows o) in
-    let parts = append_none (of_words style k place ws) (left_open style rows (suc k) outs places) e in
-    both_none (of_words other k place ws) (left_open other rows (suc k) outs places)
-    (ap (of_words other k place) (none_open style k place ws parts.0) ∙ no_words other k place)
-    (no_other style other rows (suc k) outs places parts.1)
+no_other style other rows k (o ∷ outs) (next_time ∷ next_times) e =
+    let ws : List Word = drop next_time (words rows o) in
+    let parts = append_none (of_words style k next_time ws) (left_open style rows (suc k) outs next_times) e in
+    both_none (of_words other k next_time ws) (left_open other rows (suc k) outs next_times)
+    (ap (of_words other k next_time) (none_open style k next_time ws parts.0) ∙ no_words other k next_time)
+    (no_other style other rows (suc k) outs next_times parts.1)
 
-pub same_end : (rows : List Row) (k : ℕ) (outs : List Output) (places : List ℕ) → (left_open Each rows k outs places ≡ []) ↔ (left_open Runs rows k outs places ≡ [])
-same_end rows k outs places = (no_other Each Runs rows k outs places, no_other Runs Each rows k outs places)
+pub same_end : (rows : List Row) (k : ℕ) (outs : List Output) (next_times : List ℕ) → (left_open Each rows k outs next_times ≡ []) ↔ (left_open Runs rows k outs next_times ≡ [])
+same_end rows k outs next_times = (no_other Each Runs rows k outs next_times, no_other Runs Each rows k outs next_times)
 
 -- the reports of a row are those that the numbers of words known before leave open
 pub open_after_row : (style : Style) (k : ℕ) (outs : List Output) (rows : List Row) (row : Row) → left_open style (rows ++ row ∷ []) k outs (known_counts rows outs) ≡ of_row style k outs rows row

@@ -1,4 +1,4 @@
--- Places of outputs after some rows: what an output reads from its place on is kept.
+-- Next times of outputs after some rows: what an output reads from its next time on is kept.
 
 use Rattle.std.proofs.Common.{◌≡◌, ℕ, ◌+◌, ◌<◌, ◌≤◌, ◌⊎◌, inl, inr, Some, List, [], ◌∷◌, ◌++◌, length, map, slice_get, slice_index, slice_index_or, refl, ap, subst, ◌∙◌, arith, length-append}
 use Rattle.std.proofs.lemmas.List.{get_or-append-add, get_or-map, length-map}
@@ -46,9 +46,9 @@ reader_of : (program : Program) (k : ℕ) (output : out.Out) → slice_get progr
 reader_of program k output there =
     let before : List (List ℕ) = map operands program.ft in
     let after : List (List ℕ) = map reported program.outs in
-    let place : length program.ft + k ≡ length before + k = omega (arith, length-map program.ft operands) in
+    let next_time : length program.ft + k ≡ length before + k = omega (arith, length-map program.ft operands) in
     ap (slice_index_or (before ++ after) (length program.ft + k)) refl
-    ∙ ap (λ i. slice_index_or (before ++ after) i []) place
+    ∙ ap (λ i. slice_index_or (before ++ after) i []) next_time
     ∙ get_or-append-add before after k []
     ∙ get_or-map reported program.outs k output [] (slice_get_within program.outs k output there)
     ∙ ap reported (get_or_from_slice_get program.outs k output output there)
@@ -89,10 +89,10 @@ last_row (r ∷ rows) = elim (last_row rows) [
   | inr last ↦ inr (r ∷ last.0, last.1, ap (λ (more : List Row). r ∷ more) last.2)
 ]
 
--- the place of an output is not before what was known in time before the last row
-pub place_recent : (program : Program) (rows : List Row) (places : List ℕ) (k : ℕ) (output : out.Out) → ArePlaced program rows places → slice_get program.outs k ≡ Some output
-    → length rows ≤ slice_index places k + delay (output_of program output) + 1
-place_recent program rows places k output placed there = elim (last_row rows) [
+-- the next time of an output is not before what was known in time before the last row
+pub next_time_recent : (program : Program) (rows : List Row) (next_times : List ℕ) (k : ℕ) (output : out.Out) → ArePlaced program rows next_times → slice_get program.outs k ≡ Some output
+    → length rows ≤ slice_index next_times k + delay (output_of program output) + 1
+next_time_recent program rows next_times k output placed there = elim (last_row rows) [
   | inl none ↦ omega (arith, ap (λ (some : List Row). length some) none)
   | inr last ↦
       omega (
@@ -105,35 +105,35 @@ place_recent program rows places k output placed there = elim (last_row rows) [
       )
 ]
 
--- the verdicts of an instruction from the place of an output that reports it on are kept
-pub entry_kept : (program : Program) (rows : List Row) (ft : FutureEngine) (places : List ℕ) (k : ℕ) (output : out.Out) (i : ℕ) → IsWellFormed program → future.Stands program rows ft → ArePlaced program rows places
-    → slice_get program.outs k ≡ Some output → i < length (reported output) → slice_index (reported output) i < length program.ft → future.lowest_at ft (slice_index (reported output) i) ≤ slice_index places k
-entry_kept program rows ft places k output i formed stands placed there inside exists =
-    omega (arith, stands.lows (slice_index (reported output) i) exists, delay_covered program k output i (named program k output formed there) there inside, place_recent program rows places k output placed there)
+-- the verdicts of an instruction from the next time of an output that reports it on are kept
+pub entry_kept : (program : Program) (rows : List Row) (ft : FutureEngine) (next_times : List ℕ) (k : ℕ) (output : out.Out) (i : ℕ) → IsWellFormed program → future.Stands program rows ft → ArePlaced program rows next_times
+    → slice_get program.outs k ≡ Some output → i < length (reported output) → slice_index (reported output) i < length program.ft → future.lowest_at ft (slice_index (reported output) i) ≤ slice_index next_times k
+entry_kept program rows ft next_times k output i formed stands placed there inside exists =
+    omega (arith, stands.lows (slice_index (reported output) i) exists, delay_covered program k output i (named program k output formed there) there inside, next_time_recent program rows next_times k output placed there)
 
 -- an output of the past has no delay
 past_delay : (program : Program) (i : ℕ) → wpd (plain (formula_at program engine.TheVariants.Pt i)) ≡ 0
 past_delay program i = past_at_once (plain (formula_at program engine.TheVariants.Pt i)) (formula_past program i)
 
--- from its place on, each output can be read
-pub readable : (program : Program) (rows : List Row) (engines : Engines) (places : List ℕ) (k : ℕ) (output : out.Out) → IsWellFormed program → HaveTaken program rows engines → ArePlaced program rows places
-    → slice_get program.outs k ≡ Some output → CanReport engines output (slice_index places k)
-readable program rows engines places k (out.TheVariants.Formula engine.TheVariants.Ft g name) formed taken placed there =
+-- from its next time on, each output can be read
+pub readable : (program : Program) (rows : List Row) (engines : Engines) (next_times : List ℕ) (k : ℕ) (output : out.Out) → IsWellFormed program → HaveTaken program rows engines → ArePlaced program rows next_times
+    → slice_get program.outs k ≡ Some output → CanReport engines output (slice_index next_times k)
+readable program rows engines next_times k (out.TheVariants.Formula engine.TheVariants.Ft g name) formed taken placed there =
     let output = out.TheVariants.Formula engine.TheVariants.Ft g name in
     let exists : g < length program.ft = named program k output formed there in
-    (omega (arith, taken.future.count), entry_kept program rows engines.ft.now places k output 0 formed taken.future placed there (omega arith) exists)
-readable program rows engines places k (out.TheVariants.Formula engine.TheVariants.Pt g name) formed taken placed there =
+    (omega (arith, taken.future.count), entry_kept program rows engines.ft.now next_times k output 0 formed taken.future placed there (omega arith) exists)
+readable program rows engines next_times k (out.TheVariants.Formula engine.TheVariants.Pt g name) formed taken placed there =
     let output = out.TheVariants.Formula engine.TheVariants.Pt g name in
     let exists : g < length program.pt = named program k output formed there in
-    (omega (arith, taken.past.count), omega (arith, taken.count, past_delay program g, place_recent program rows places k output placed there))
-readable program rows engines places k (out.TheVariants.Contract engine.TheVariants.Ft l r name) formed taken placed there =
+    (omega (arith, taken.past.count), omega (arith, taken.count, past_delay program g, next_time_recent program rows next_times k output placed there))
+readable program rows engines next_times k (out.TheVariants.Contract engine.TheVariants.Ft l r name) formed taken placed there =
     let output = out.TheVariants.Contract engine.TheVariants.Ft l r name in
     let exists = named program k output formed there in (
-      (omega (arith, taken.future.count, exists.0), entry_kept program rows engines.ft.now places k output 0 formed taken.future placed there (omega arith) exists.0),
-      (omega (arith, taken.future.count, exists.1), entry_kept program rows engines.ft.now places k output 1 formed taken.future placed there (omega arith) exists.1),
+      (omega (arith, taken.future.count, exists.0), entry_kept program rows engines.ft.now next_times k output 0 formed taken.future placed there (omega arith) exists.0),
+      (omega (arith, taken.future.count, exists.1), entry_kept program rows engines.ft.now next_times k output 1 formed taken.future placed there (omega arith) exists.1),
     )
-readable program rows engines places k (out.TheVariants.Contract engine.TheVariants.Pt l r name) formed taken placed there =
+readable program rows engines next_times k (out.TheVariants.Contract engine.TheVariants.Pt l r name) formed taken placed there =
     let output = out.TheVariants.Contract engine.TheVariants.Pt l r name in
     let exists = named program k output formed there in
-    let late : engines.rows ≤ slice_index places k + 1 = omega (arith, taken.count, past_delay program l, past_delay program r, place_recent program rows places k output placed there) in
+    let late : engines.rows ≤ slice_index next_times k + 1 = omega (arith, taken.count, past_delay program l, past_delay program r, next_time_recent program rows next_times k output placed there) in
     ((omega (arith, taken.past.count, exists.0), late), (omega (arith, taken.past.count, exists.1), late))

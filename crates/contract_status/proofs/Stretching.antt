@@ -1,4 +1,4 @@
--- Stretches of words, one behind another, and the places of outputs.
+-- Stretches of words, one behind another, and the next times of outputs.
 
 use Rattle.std.proofs.Common.{◌≡◌, ℕ, ◌+◌, ◌<◌, ◌≤◌, inl, inr, Some, None, List, length, slice_get, slice_index, refl, ◌∙◌, ap, arith}
 use Rattle.std.proofs.lemmas.Bool.{cases_lt}
@@ -65,20 +65,20 @@ count_at program rows k output there =
     let counted : slice_get (known_counts_of program rows) k ≡ Some (length (known_words program rows output)) = rw (slice_get-map f (outputs program) k, among) refl in
     get_or_from_slice_get (known_counts_of program rows) k (length (known_words program rows output)) 0 counted
 
--- the place of an output is at most the number of its known words
-pub placed_within : (program : Program) (rows : List Row) (places : List ℕ) (k : ℕ) (output : out.Out) → AreKnown program rows places → slice_get program.outs k ≡ Some output → slice_index places k ≤ length (known_words program rows output)
-placed_within program rows places k output known there =
+-- the next time of an output is at most the number of its known words
+pub placed_within : (program : Program) (rows : List Row) (next_times : List ℕ) (k : ℕ) (output : out.Out) → AreKnown program rows next_times → slice_get program.outs k ≡ Some output → slice_index next_times k ≤ length (known_words program rows output)
+placed_within program rows next_times k output known there =
     omega (arith, known k (slice_get_within program.outs k output there), count_at program rows k output there)
 
 -- all words of one more output were told
-pub more_told : (program : Program) (rows : List Row) (places : List ℕ) (k : ℕ) (output : out.Out) → slice_get program.outs k ≡ Some output → ((j : ℕ) → j < k → slice_index (known_counts_of program rows) j ≤ slice_index places j)
-    → length (known_words program rows output) ≤ slice_index places k → (j : ℕ) → j < k + 1 → slice_index (known_counts_of program rows) j ≤ slice_index places j
-more_told program rows places k output there told here j below = elim (cases_lt j k) [
+pub more_told : (program : Program) (rows : List Row) (next_times : List ℕ) (k : ℕ) (output : out.Out) → slice_get program.outs k ≡ Some output → ((j : ℕ) → j < k → slice_index (known_counts_of program rows) j ≤ slice_index next_times j)
+    → length (known_words program rows output) ≤ slice_index next_times k → (j : ℕ) → j < k + 1 → slice_index (known_counts_of program rows) j ≤ slice_index next_times j
+more_told program rows next_times k output there told here j below = elim (cases_lt j k) [
   | inl earlier ↦ told j earlier
   | inr late ↦ let same : j ≡ k = omega arith in rw same (omega (arith, count_at program rows k output there))
 ]
 
 -- the first output that is open
-pub first_here : (program : Program) (rows : List Row) (places : List ℕ) (k : ℕ) (output : out.Out) (stretch : Stretch) → slice_get program.outs k ≡ Some output → ((j : ℕ) → j < k → slice_index (known_counts_of program rows) j ≤ slice_index places j)
-    → Lasts (known_words program rows output) (slice_index places k) stretch.last stretch.word → IsFirstOpen program rows places k stretch
-first_here program rows places k output stretch there told lasts = record { output = output; there = there; told = told; here = lasts }
+pub first_here : (program : Program) (rows : List Row) (next_times : List ℕ) (k : ℕ) (output : out.Out) (stretch : Stretch) → slice_get program.outs k ≡ Some output → ((j : ℕ) → j < k → slice_index (known_counts_of program rows) j ≤ slice_index next_times j)
+    → Lasts (known_words program rows output) (slice_index next_times k) stretch.last stretch.word → IsFirstOpen program rows next_times k stretch
+first_here program rows next_times k output stretch there told lasts = record { output = output; there = there; told = told; here = lasts }

@@ -14,17 +14,17 @@ use Rattle.contract_status.specs.Open.{AreKnown}
 use Rattle.contract_status.specs.Stretches.{AreTold, HaveTaken, IsFirstOpen}
 
 -- all outputs before the cursor's were told, and the stretch that it keeps is the first that is open
-pub record IsCursor (program : Program) (rows : List Row) (places : List ℕ) (cursor : Cursor) : Type 0 where
-  pub told : AreTold program rows places cursor.out
-  pub kept : (stretch : Stretch) → cursor.stretch ≡ Some stretch → IsFirstOpen program rows places cursor.out stretch
+pub record IsCursor (program : Program) (rows : List Row) (next_times : List ℕ) (cursor : Cursor) : Type 0 where
+  pub told : AreTold program rows next_times cursor.out
+  pub kept : (stretch : Stretch) → cursor.stretch ≡ Some stretch → IsFirstOpen program rows next_times cursor.out stretch
 
--- a cursor of outputs at these places, over engines that have taken n rows
+-- a cursor of outputs at these next times, over engines that have taken n rows
 abbrev pub FitsCursor : Program → ℕ → Ft → Pt → List ℕ → Cursor → Type 0
-FitsCursor program n ft pt places cursor =
+FitsCursor program n ft pt next_times cursor =
     (rows : List Row) → future.Stands program rows ft → past.Stands program rows pt → length rows ≡ n
-    → AreKnown program rows places → IsCursor program rows places cursor
+    → AreKnown program rows next_times → IsCursor program rows next_times cursor
 
 -- the same of both engines at once
 abbrev pub FitsEngines : Program → Engines → List ℕ → Cursor → Type 0
-FitsEngines program engines places cursor =
-    (rows : List Row) → HaveTaken program rows engines → AreKnown program rows places → IsCursor program rows places cursor
+FitsEngines program engines next_times cursor =
+    (rows : List Row) → HaveTaken program rows engines → AreKnown program rows next_times → IsCursor program rows next_times cursor

@@ -10,13 +10,13 @@ use Rattle.mltl_base.specs.Reports.{Output, words, of_words}
 
 -- the reports that the next times of outputs leave open after the rows; the first output has the number k
 unfoldable pub left_open : Style → List Row → ℕ → List Output → List ℕ → List Report
-left_open style rows k [] places = []
+left_open style rows k [] next_times = []
 left_open style rows k (o ∷ outs) [] = []
-left_open style rows k (o ∷ outs) (place ∷ places) = of_words style k place (drop place (words rows o)) ++ left_open style rows (suc k) outs places
+left_open style rows k (o ∷ outs) (next_time ∷ next_times) = of_words style k next_time (drop next_time (words rows o)) ++ left_open style rows (suc k) outs next_times
 
 -- the same of all outputs of a program
 abbrev pub open_of : Style → Program → List Row → List ℕ → List Report
-open_of style program rows places = left_open style rows 0 (outputs program) places
+open_of style program rows next_times = left_open style rows 0 (outputs program) next_times
 
 -- how many words of each output are known after the rows
 abbrev pub known_counts : List Row → List Output → List ℕ
@@ -26,22 +26,22 @@ known_counts rows outs = map (λ o. length (words rows o)) outs
 abbrev pub known_counts_of : Program → List Row → List ℕ
 known_counts_of program rows = known_counts rows (outputs program)
 
--- the place of each output is at most the number of its words that are known
+-- the next time of each output is at most the number of its words that are known
 abbrev pub AreKnown : Program → List Row → List ℕ → Type 0
-AreKnown program rows places = (k : ℕ) → k < length program.outs → slice_index places k ≤ slice_index (known_counts_of program rows) k
+AreKnown program rows next_times = (k : ℕ) → k < length program.outs → slice_index next_times k ≤ slice_index (known_counts_of program rows) k
 
--- One place for each output, its next time. It is at most the number of words that are known, and at least the number
+-- One time for each output, that of its next report. It is at most the number of words that are known, and at least the number
 -- that were known before the last row.
-pub record ArePlaced (program : Program) (rows : List Row) (places : List ℕ) : Type 0 where
-  pub count : length places ≡ length program.outs
-  pub known : AreKnown program rows places
-  pub recent : (before : List Row) (row : Row) → rows ≡ before ++ row ∷ [] → (k : ℕ) → k < length program.outs → slice_index (known_counts_of program before) k ≤ slice_index places k
+pub record ArePlaced (program : Program) (rows : List Row) (next_times : List ℕ) : Type 0 where
+  pub count : length next_times ≡ length program.outs
+  pub known : AreKnown program rows next_times
+  pub recent : (before : List Row) (row : Row) → rows ≡ before ++ row ∷ [] → (k : ℕ) → k < length program.outs → slice_index (known_counts_of program before) k ≤ slice_index next_times k
 
 -- the answer is the first of the reports that were open, and the others still are; nothing where none was open
 abbrev pub GivesFirst : Style → Program → List Row → List ℕ → List ℕ → Option Report → Type 0
 GivesFirst style program rows before after None = open_of style program rows before ≡ []
 GivesFirst style program rows before after (Some report) = open_of style program rows before ≡ report ∷ open_of style program rows after
 
--- how many times below n the places leave
+-- how many times below n the next times leave
 abbrev pub times_left : ℕ → List ℕ → ℕ
-times_left n places = sum_by (λ place. n - place) places
+times_left n next_times = sum_by (λ next_time. n - next_time) next_times

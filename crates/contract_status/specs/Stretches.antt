@@ -36,9 +36,9 @@ abbrev pub CanReport : Engines → out.Out → ℕ → Type 0
 CanReport engines (out.TheVariants.Formula engine i name) from = CanRead engines engine i from
 CanReport engines (out.TheVariants.Contract engine i j name) from = CanRead engines engine i from × CanRead engines engine j from
 
--- so do those of each output, from its place on
+-- so do those of each output, from its next time on
 abbrev pub AreReadable : Program → Engines → List ℕ → Type 0
-AreReadable program engines places = (k : ℕ) (out : out.Out) → slice_get program.outs k ≡ Some out → CanReport engines out (slice_index places k)
+AreReadable program engines next_times = (k : ℕ) (out : out.Out) → slice_get program.outs k ≡ Some out → CanReport engines out (slice_index next_times k)
 
 -- the verdicts of an instruction that are known after the rows
 abbrev pub known_verdicts : Program → List Row → engine.Engine → ℕ → List Bool
@@ -81,18 +81,18 @@ pub record Covers (style : Style) (told : List Word) (from last : ℕ) (word : W
   pub lasts : Lasts told from last word
   pub ends : IsEnd style told from last word
 
--- the places of all outputs before output k are past their known words
+-- the next times of all outputs before output k are past their known words
 abbrev pub AreTold : Program → List Row → List ℕ → ℕ → Type 0
-AreTold program rows places k = (j : ℕ) → j < k → slice_index (known_counts_of program rows) j ≤ slice_index places j
+AreTold program rows next_times k = (j : ℕ) → j < k → slice_index (known_counts_of program rows) j ≤ slice_index next_times j
 
--- output k is the first that has a known word at its place, and this is a stretch of it
-pub record IsFirstOpen (program : Program) (rows : List Row) (places : List ℕ) (k : ℕ) (stretch : Stretch) : Type 0 where
+-- output k is the first that has a known word at its next time, and this is a stretch of it
+pub record IsFirstOpen (program : Program) (rows : List Row) (next_times : List ℕ) (k : ℕ) (stretch : Stretch) : Type 0 where
   pub output : out.Out
   pub there : slice_get program.outs k ≡ Some output
-  pub told : AreTold program rows places k
-  pub here : Lasts (known_words program rows output) (slice_index places k) stretch.last stretch.word
+  pub told : AreTold program rows next_times k
+  pub here : Lasts (known_words program rows output) (slice_index next_times k) stretch.last stretch.word
 
--- the first output with a known word at its place; none where each place is past all known words
+-- the first output with a known word at its next time; none where each next time is past all known words
 abbrev pub FindsOpen : Program → List Row → List ℕ → Option (ℕ × Stretch) → Type 0
-FindsOpen program rows places (Some (k, stretch)) = IsFirstOpen program rows places k stretch
-FindsOpen program rows places None = AreTold program rows places (length program.outs)
+FindsOpen program rows next_times (Some (k, stretch)) = IsFirstOpen program rows next_times k stretch
+FindsOpen program rows next_times None = AreTold program rows next_times (length program.outs)

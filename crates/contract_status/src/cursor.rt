@@ -19,8 +19,8 @@ impl Cursor {
 
     /// The search begins at the first output.
     pub fn start() -> Cursor
-        ensures { (program : Program) (rows : List Row) (places : List ℕ)
-            → IsCursor program rows places result }
+        ensures { (program : Program) (rows : List Row) (next_times : List ℕ)
+            → IsCursor program rows next_times result }
     {
         Cursor {
             out: 0,
@@ -33,7 +33,7 @@ impl Cursor {
     pub fn move_behind(&mut self, out: usize, time: u64, stretch: Stretch, rows: u64)
         requires within { out + 1 < 2 ^ 64 }
         requires early { time < rows }
-        ensures place { (self.new.out ≡ out) ⊎ ((self.new.out ≡ out + 1) × (time + 1 ≡ rows)) }
+        ensures next_time { (self.new.out ≡ out) ⊎ ((self.new.out ≡ out + 1) × (time + 1 ≡ rows)) }
         ensures kept { (left : Found) → self.new.stretch ≡ Some left
             → (self.new.out ≡ out) × (left ≡ stretch) × (time < left.last) }
     {

@@ -164,47 +164,47 @@ impl Engines<'_> {
         last
     }
 
-    /// The first output from `first` on with a known word at its place, and a stretch of that word.
+    /// The first output from `first` on with a known word at its next time, and a stretch of that word.
     pub fn first_open(
         &self,
         program: &Program,
-        places: &[u64],
+        next_times: &[u64],
         first: usize,
     ) -> Option<(usize, Stretch)>
-        requires readable { AreReadable program.now self.now places.now }
-        requires same_length { length places.now ≡ length program.now.outs }
+        requires readable { AreReadable program.now self.now next_times.now }
+        requires same_length { length next_times.now ≡ length program.now.outs }
         requires told { (rows : List Row) → HaveTaken program.now rows self.now
-            → AreKnown program.now rows places.now
-            → AreTold program.now rows places.now first }
+            → AreKnown program.now rows next_times.now
+            → AreTold program.now rows next_times.now first }
         ensures finds { (rows : List Row) → HaveTaken program.now rows self.now
-            → AreKnown program.now rows places.now
-            → FindsOpen program.now rows places.now result }
+            → AreKnown program.now rows next_times.now
+            → FindsOpen program.now rows next_times.now result }
     {
         for k in first..program.outs.len() {
-            if let Some(stretch) = self.stretch_from(program.outs.get(k), places[k]) {
+            if let Some(stretch) = self.stretch_from(program.outs.get(k), next_times[k]) {
                 return Some((k, stretch));
             }
         }
         None
     }
 
-    /// The first output with a known word at its place, and a stretch of that word; the search goes on at a cursor.
+    /// The first output with a known word at its next time, and a stretch of that word; the search goes on at a cursor.
     pub fn next_open(
         &self,
         program: &Program,
-        places: &[u64],
+        next_times: &[u64],
         cursor: Cursor,
     ) -> Option<(usize, Stretch)>
-        requires readable { AreReadable program.now self.now places.now }
-        requires same_length { length places.now ≡ length program.now.outs }
-        requires cursor { FitsEngines program.now self.now places.now cursor }
+        requires readable { AreReadable program.now self.now next_times.now }
+        requires same_length { length next_times.now ≡ length program.now.outs }
+        requires cursor { FitsEngines program.now self.now next_times.now cursor }
         ensures finds { (rows : List Row) → HaveTaken program.now rows self.now
-            → AreKnown program.now rows places.now
-            → FindsOpen program.now rows places.now result }
+            → AreKnown program.now rows next_times.now
+            → FindsOpen program.now rows next_times.now result }
     {
         match cursor.stretch {
             Some(stretch) => Some((cursor.out, stretch)),
-            None => self.first_open(program, places, cursor.out),
+            None => self.first_open(program, next_times, cursor.out),
         }
     }
 }

@@ -16,8 +16,8 @@ ghost use Rattle.contract_status.specs.Open.{ArePlaced, known_counts, known_coun
 /// Nothing is open in the one style exactly where nothing is in the other.
 #[tactic(auto, using(crate::proofs::Opening::same_end))]
 pub fn styles_end_together()
-    ensures { (rows : List Row) (k : ℕ) (outs : List Output) (places : List ℕ) →
-        (left_open each rows k outs places ≡ []) ↔ (left_open runs rows k outs places ≡ []) }
+    ensures { (rows : List Row) (k : ℕ) (outs : List Output) (next_times : List ℕ) →
+        (left_open each rows k outs next_times ≡ []) ↔ (left_open runs rows k outs next_times ≡ []) }
 {}
 
 /// Where all known words were told before a row, what is open after it are the reports that the row brings.
@@ -27,18 +27,18 @@ pub fn row_opens_its_reports()
         left_open style (rows ++ row ∷ []) k outs (known_counts rows outs) ≡ of_row style k outs rows row }
 {}
 
-/// Nothing is open exactly where the places are the numbers of known words, and these are places after the next row.
+/// Nothing is open exactly where the next times are the numbers of known words, and these are next times after the next row.
 #[tactic(auto, using(crate::proofs::Draining::drained_counts))]
 pub fn drained_places_are_known_counts()
-    ensures counts { (style : Form) (program : Observer) (rows : List Row) (places : List ℕ) →
-        ArePlaced program rows places → open_of style program rows places ≡ [] → places ≡ known_counts_of program rows }
+    ensures counts { (style : Form) (program : Observer) (rows : List Row) (next_times : List ℕ) →
+        ArePlaced program rows next_times → open_of style program rows next_times ≡ [] → next_times ≡ known_counts_of program rows }
     ensures drained { (style : Form) (program : Observer) (rows : List Row)
         → open_of style program rows (known_counts_of program rows) ≡ [] }
     ensures placed { (program : Observer) (rows : List Row) (row : Row)
         → ArePlaced program (rows ++ row ∷ []) (known_counts_of program rows) }
 {}
 
-/// Where nothing is open after n rows, an output's place is at least n less the width of each future-time instruction
+/// Where nothing is open after n rows, an output's next time is at least n less the width of each future-time instruction
 /// that it reports.
 #[tactic(auto, using(crate::proofs::Draining::drained_wide))]
 pub fn drained_places_are_wide()
@@ -47,14 +47,14 @@ pub fn drained_places_are_wide()
         → length rows ≤ slice_index (known_counts_of program rows) k + width_of program g }
 {}
 
-/// The engine keeps the verdicts that an output reads: from its place on, and so, where nothing was open before a row,
+/// The engine keeps the verdicts that an output reads: from its next time on, and so, where nothing was open before a row,
 /// from the number of words known before the row on.
 #[tactic(auto, using(crate::proofs::Draining::entries_kept, crate::proofs::Draining::entries_kept_after_row))]
 pub fn reads_are_kept()
-    ensures placed { (program : Observer) (rows : List Row) (ft : Ft) (places : List ℕ)
+    ensures placed { (program : Observer) (rows : List Row) (ft : Ft) (next_times : List ℕ)
         (k g : ℕ) (output : Reported) →
-        IsWellFormed program → Stands program rows ft → ArePlaced program rows places
-        → slice_get program.outs k ≡ Some output → Contains (reported output) g → lowest_at ft g ≤ slice_index places k }
+        IsWellFormed program → Stands program rows ft → ArePlaced program rows next_times
+        → slice_get program.outs k ≡ Some output → Contains (reported output) g → lowest_at ft g ≤ slice_index next_times k }
     ensures after_row { (program : Observer) (rows : List Row) (row : Row) (ft : Ft)
         (k g : ℕ) (output : Reported) →
         IsWellFormed program → Stands program (rows ++ row ∷ []) ft

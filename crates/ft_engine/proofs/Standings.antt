@@ -51,13 +51,13 @@ best_of_formula program i h =
     ap (λ (ns : List ℕ). slice_index ns i) same ∙ get_or-map bpd (formulas loaded program.ft) i ctrue 0 (omega (arith, ap (λ (ns : List ℕ). length ns) same, length-map (formulas loaded program.ft) bpd))
 
 -- at least the least frontier of the operands is at least n less the width of each
-reads_kept : (program : Program) (ft : Ft) (n i : ℕ) (op : FtOp) (place : ℕ) → IsSeated (plan_of program.ft program.outs) i op → ((g : ℕ) → g < i → n ≤ front_at ft.queues g + slice_index (worst_delays program.ft) g)
-    → ReadsAhead op (front_at ft.queues) place → ReadsFrom op (λ g. n - width_of program g) place
-reads_kept program ft n i True place s front a = tt
-reads_kept program ft n i (Load k) place s front a = tt
-reads_kept program ft n i (Not g) place s front a = omega (arith, front g s.0, s.3)
-reads_kept program ft n i (And l r) place s front a = (omega (arith, front l s.0, front r s.1, s.4), omega (arith, front l s.0, front r s.1, s.5))
-reads_kept program ft n i (Until l r window) place s front a = (omega (arith, front l s.0, front r s.1, s.6), omega (arith, front l s.0, front r s.1, s.7))
+reads_kept : (program : Program) (ft : Ft) (n i : ℕ) (op : FtOp) (reads_at : ℕ) → IsSeated (plan_of program.ft program.outs) i op → ((g : ℕ) → g < i → n ≤ front_at ft.queues g + slice_index (worst_delays program.ft) g)
+    → ReadsAhead op (front_at ft.queues) reads_at → ReadsFrom op (λ g. n - width_of program g) reads_at
+reads_kept program ft n i True reads_at s front a = tt
+reads_kept program ft n i (Load k) reads_at s front a = tt
+reads_kept program ft n i (Not g) reads_at s front a = omega (arith, front g s.0, s.3)
+reads_kept program ft n i (And l r) reads_at s front a = (omega (arith, front l s.0, front r s.1, s.4), omega (arith, front l s.0, front r s.1, s.5))
+reads_kept program ft n i (Until l r window) reads_at s front a = (omega (arith, front l s.0, front r s.1, s.6), omega (arith, front l s.0, front r s.1, s.7))
 
 pub stands_with : (program : Program) (rows : List Row) (ft : Ft) → RunsFuture program → IsPacedAfter (plan_of program.ft program.outs) program.ft ft.queues (length rows)
     → HasTable program.ft (known_table rows (atoms program.bz) program.ft) ft.queues → slab_length ft.queues ≡ sum program.sizes.ft → Stands program rows ft
@@ -75,7 +75,7 @@ stands_with program rows ft r paced table total =
       at_least = λ i h. omega (arith, paced_front_at_least plan program.ft ft.queues n i paced h, worst_of_formula program i h);
       at_most = λ i h. omega (arith, paced_front_at_most plan program.ft ft.queues n i paced h, best_of_formula program i h);
       ahead = λ i h. paced_ahead plan program.ft ft.queues n i paced h;
-      places = λ i h.
+      reads = λ i h.
           let seated = ((program_planned program r).planned i h).seated in
           reads_kept program ft n i (op_at program.ft i) (place_at program.ft ft.queues i) seated (λ g g_in. paced_front_at_least plan program.ft ft.queues n g paced (omega arith)) (paced_ahead plan program.ft ft.queues n i paced h);
       lows = λ i h. paced_low plan program.ft ft.queues n i paced h;

@@ -33,7 +33,7 @@ all_known value n vs size same = record {
 in_time : {X : Type 0} (t n : ℕ) (x y : X) → t < n → (if nat_lt t n then x else y) ≡ x
 in_time t n x y h = grind (arith, nat_tests)
 
--- what a map has at a place
+-- what a map has at an index
 mapped : (f : Row → Bool) (rows : List Row) (t : ℕ) → t < length rows → slice_get (map f rows) t ≡ Some (f (get_or rows t []))
 mapped f rows t h = slice_get-map f rows t ∙ ap (λ (o : Option Row). option_map f o) (slice_get-get_or rows t [] h)
 

@@ -9,7 +9,7 @@ use Rattle.mltl_base.specs.Programs.{core_at, formula_of, formulas_after, formul
 use Rattle.ft_slab.specs.Nodes.{op_at}
 use Rattle.ft_slab.specs.Plans.{Plan, IsSeated}
 
--- operands stand before place i
+-- operands stand before index i
 abbrev pub IsBefore : ℕ → FtOp → Type 0
 IsBefore i True = Unit {0}
 IsBefore i (Load k) = Unit {0}
@@ -46,24 +46,24 @@ unfolding formulas_after
 unfolds_after loaded before [] b i h = absurd (omega arith)
 unfolds_after loaded before (op ∷ ops) b zero h =
     let more : List Core = before ++ formula_of loaded before op ∷ [] in
-    let place : length before + 0 ≡ length before = omega arith in
+    let reads_at : length before + 0 ≡ length before = omega arith in
     let size : length more ≡ length before + 1 = length-append before (formula_of loaded before op ∷ []) in
-    ap (λ (j : ℕ). core_at (formulas_after loaded more ops) j) place
+    ap (λ (j : ℕ). core_at (formulas_after loaded more ops) j) reads_at
     ∙ formulas_keep loaded more ops (length before) (omega arith)
     ∙ get_or_push before (formula_of loaded before op) ctrue (length before) refl
-    ∙ formula_same loaded before (formulas_after loaded more ops) (length before) op (subst (λ (j : ℕ). IsBefore j op) place (b 0 h))
+    ∙ formula_same loaded before (formulas_after loaded more ops) (length before) op (subst (λ (j : ℕ). IsBefore j op) reads_at (b 0 h))
     (λ g g_in. formulas_keep loaded more ops g (omega arith) ∙ get_or_append_left before (formula_of loaded before op ∷ []) ctrue g g_in)
 unfolds_after loaded before (op ∷ ops) b (suc i) h =
     let more : List Core = before ++ formula_of loaded before op ∷ [] in
     let size : length more ≡ length before + 1 = length-append before (formula_of loaded before op ∷ []) in
-    let place : length before + suc i ≡ length more + i = omega arith in
-    ap (λ (j : ℕ). core_at (formulas_after loaded more ops) j) place
+    let reads_at : length before + suc i ≡ length more + i = omega arith in
+    ap (λ (j : ℕ). core_at (formulas_after loaded more ops) j) reads_at
     ∙ unfolds_after loaded more ops (λ j j_in. let there : length before + suc j ≡ length more + j = omega arith in subst (λ (k : ℕ). IsBefore k (op_at ops j)) there (b (suc j) (omega arith))) i (omega arith)
 
 -- instruction i unfolds to its operator over what its operands unfold to
 pub unfolds_at : (loaded : List Atom) (ops : List FtOp) → ((i : ℕ) → i < length ops → IsBefore i (op_at ops i)) → (i : ℕ) → i < length ops
     → core_at (formulas loaded ops) i ≡ formula_of loaded (formulas loaded ops) (op_at ops i)
 unfolds_at loaded ops b i h =
-    let place : 0 + i ≡ i = omega arith in
-    ap (λ (j : ℕ). core_at (formulas loaded ops) j) (sym place)
+    let reads_at : 0 + i ≡ i = omega arith in
+    ap (λ (j : ℕ). core_at (formulas loaded ops) j) (sym reads_at)
     ∙ unfolds_after loaded [] ops (λ j j_in. let there : j ≡ 0 + j = omega arith in subst (λ (k : ℕ). IsBefore k (op_at ops j)) there (b j j_in)) i h

@@ -50,13 +50,13 @@ ShowsFrom ft i from Nothing = frontier_at ft i ≤ from
 unfoldable pub place_of : List FtOp → Ft → ℕ → ℕ
 place_of ops ft i = place_at ops ft.queues i
 
--- the place lies at or past so early a time of each operand
+-- the reading time lies at or past so early a time of each operand
 abbrev pub ReadsFrom : FtOp → (ℕ → ℕ) → ℕ → Type 0
-ReadsFrom True early place = Unit {0}
-ReadsFrom (Load k) early place = Unit {0}
-ReadsFrom (Not g) early place = early g ≤ place
-ReadsFrom (And l r) early place = (early l ≤ place) × (early r ≤ place)
-ReadsFrom (Until l r window) early place = (early l ≤ place) × (early r ≤ place)
+ReadsFrom True early reads_at = Unit {0}
+ReadsFrom (Load k) early reads_at = Unit {0}
+ReadsFrom (Not g) early reads_at = early g ≤ reads_at
+ReadsFrom (And l r) early reads_at = (early l ≤ reads_at) × (early r ≤ reads_at)
+ReadsFrom (Until l r window) early reads_at = (early l ≤ reads_at) × (early r ≤ reads_at)
 
 -- the known verdicts of an instruction's formula after the rows
 abbrev pub known_of : Program → List Row → ℕ → List Bool
@@ -70,7 +70,7 @@ width_of program i = widest (worst_delays program.ft) (readers program.ft progra
 pub record Stands (program : Program) (rows : List Row) (ft : Ft) : Type 0 where
   pub paced : IsPacedAfter (plan_of program.ft program.outs) program.ft ft.queues (length rows)
   pub table : HasTable program.ft (known_table rows (atoms program.bz) program.ft) ft.queues
-  -- the frontier is the number of known verdicts, and each verdict from the low place on is kept
+  -- the frontier is the number of known verdicts, and each verdict from the low time on is kept
   pub count : instruction_count ft ≡ length program.ft
   pub fronts : (i : ℕ) → i < length program.ft → frontier_at ft i ≡ length (known_of program rows i)
   pub verdicts : (i t : ℕ) → i < length program.ft → lowest_at ft i ≤ t → t < frontier_at ft i → slice_get (known_of program rows i) t ≡ Some (kept_verdict ft i t)
@@ -79,8 +79,8 @@ pub record Stands (program : Program) (rows : List Row) (ft : Ft) : Type 0 where
   pub at_most : (i : ℕ) → i < length program.ft → frontier_at ft i ≤ length rows - bpd (formula_at program future i)
   -- an instruction reads on from the least frontier of its operands, at least, and so from n less the width of each
   pub ahead : (i : ℕ) → i < length program.ft → ReadsAhead (op_at program.ft i) (frontier_at ft) (place_of program.ft ft i)
-  pub places : (i : ℕ) → i < length program.ft → ReadsFrom (op_at program.ft i) (λ g. length rows - width_of program g) (place_of program.ft ft i)
-  -- the low place is 0 or at most n - 1 less the width, and the slots are those of the program
+  pub reads : (i : ℕ) → i < length program.ft → ReadsFrom (op_at program.ft i) (λ g. length rows - width_of program g) (place_of program.ft ft i)
+  -- the low time is 0 or at most n - 1 less the width, and the slots are those of the program
   pub lows : (i : ℕ) → i < length program.ft → lowest_at ft i ≤ length rows - 1 - width_of program i
   pub sizes : (i : ℕ) → i < length program.ft → slots_at ft i ≡ slice_index program.sizes.ft i
   -- together they are as many, and none is left over

@@ -86,7 +86,7 @@ or_none_right None y live e = rw e
 or_none_right (Some true) y live e = absurd (live refl)
 or_none_right (Some false) y live e = rw e
 
--- some place below n
+-- some time below n
 pub some_true : (n : ℕ) (f : ℕ → Option Bool) (i : ℕ) → i < n → f i ≡ Some true → k_some_below n f ≡ Some true
 unfolding k_some_below
 some_true zero f i i_in e = absurd (omega arith)
@@ -113,7 +113,7 @@ some_none (suc n) f i i_in e each = elim (cases_eq i n) [
   | inr below ↦ or_none_left _ _ (some_none n f i (omega arith) e (λ j h. each j (omega arith))) (each n (omega arith))
 ]
 
--- every place below n
+-- every time below n
 pub every_false : (n : ℕ) (f : ℕ → Option Bool) (i : ℕ) → i < n → f i ≡ Some false → k_every_below n f ≡ Some false
 unfolding k_every_below
 every_false zero f i i_in e = absurd (omega arith)

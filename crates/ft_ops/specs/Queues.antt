@@ -8,7 +8,7 @@ use Rattle.scq_ring.specs.declared.Seen.TheVariants.{Run, Nothing}
 use Rattle.scq_ring.specs.Runs.{Belongs, frontier_of, low_of, verdict_at}
 use Rattle.ft_ops.specs.declared.operand.Operand.{Operand}
 
--- what is known ends at the ring's frontier, and from the low place on the ring has it
+-- what is known ends at the ring's frontier, and from the low time on the ring has it
 pub record Shown (ring : Ring) (slots : List Slot) (known : Known) : Type 0 where
   pub kept : (t : ℕ) → low_of ring ≤ t → t < frontier_of ring → known t ≡ Some (verdict_at ring slots t)
   pub ends : (t : ℕ) → frontier_of ring ≤ t → known t ≡ None
@@ -26,7 +26,7 @@ pub record IsReadable (operand : Operand) (from : ℕ) : Type 0 where
 abbrev pub ShownBy : Operand → Known → Type 0
 ShownBy operand known = Shown operand.ring.now operand.slots.now known
 
--- the ring goes on over its slots: no verdict that is kept changes, and the low place rises no further than they force it
+-- the ring goes on over its slots: no verdict that is kept changes, and the low time rises no further than they force it
 pub record GoesOn (old : Ring) (old_slots : List Slot) (new : Ring) (new_slots : List Slot) : Type 0 where
   pub belongs : Belongs new new_slots
   pub onward : frontier_of old ≤ frontier_of new

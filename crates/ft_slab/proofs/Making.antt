@@ -17,11 +17,11 @@ pub record IsFresh (op : FtOp) (slots : ℕ) (node : Node) : Type 0 where
   pub front : frontier_of node.ring ≡ 0
   pub low : low_of node.ring ≡ 0
   pub belongs : (xs : List Slot) → 0 < length xs → Belongs node.ring xs
-  pub place : node.place ≡ first_place_of op
+  pub reads_at : node.reads_at ≡ first_place_of op
   pub size : node.size ≡ slots
 
 -- an until begins at the lower end of its window
-first_placed : (plan : Plan) (i : ℕ) (op : FtOp) (node : Node) → IsSeated plan i op → frontier_of node.ring ≡ 0 → node.place ≡ first_place_of op → IsPlaced plan i op node 0
+first_placed : (plan : Plan) (i : ℕ) (op : FtOp) (node : Node) → IsSeated plan i op → frontier_of node.ring ≡ 0 → node.reads_at ≡ first_place_of op → IsPlaced plan i op node 0
 first_placed plan i True node s f p = tt
 first_placed plan i (Load k) node s f p = tt
 first_placed plan i (Not g) node s f p = tt
@@ -30,14 +30,14 @@ first_placed plan i (Until l r window) node s f p =
     let worst = s.5 in
     (omega (arith, f, p), omega (arith, p, worst), omega (arith, p))
 
-first_ahead : (plan : Plan) (i : ℕ) (op : FtOp) (front : ℕ → ℕ) (place : ℕ) → IsSeated plan i op → ((g : ℕ) → g < i → front g ≡ 0) → ReadsAhead op front place
-first_ahead plan i True front place s f = tt
-first_ahead plan i (Load k) front place s f = tt
-first_ahead plan i (Not g) front place s f = omega (arith, f g s.0)
-first_ahead plan i (And l r) front place s f = omega (arith, f l s.0)
-first_ahead plan i (Until l r window) front place s f = omega (arith, f l s.0)
+first_ahead : (plan : Plan) (i : ℕ) (op : FtOp) (front : ℕ → ℕ) (reads_at : ℕ) → IsSeated plan i op → ((g : ℕ) → g < i → front g ≡ 0) → ReadsAhead op front reads_at
+first_ahead plan i True front reads_at s f = tt
+first_ahead plan i (Load k) front reads_at s f = tt
+first_ahead plan i (Not g) front reads_at s f = omega (arith, f g s.0)
+first_ahead plan i (And l r) front reads_at s f = omega (arith, f l s.0)
+first_ahead plan i (Until l r window) front reads_at s f = omega (arith, f l s.0)
 
-first_scanned : (op : FtOp) (table : Table) (node : Node) → frontier_of node.ring ≡ 0 → node.place ≡ first_place_of op → IsScanned op table node
+first_scanned : (op : FtOp) (table : Table) (node : Node) → frontier_of node.ring ≡ 0 → node.reads_at ≡ first_place_of op → IsScanned op table node
 first_scanned True table node f p = tt
 first_scanned (Load k) table node f p = tt
 first_scanned (Not g) table node f p = tt
@@ -74,7 +74,7 @@ module _ (ops : List FtOp) (sizes : List ℕ) (nodes : List Node) (slab : List S
         };
     placed = λ i h.
         let i_in : i < length ops = omega arith in
-        first_placed plan i (op_at ops i) (node_at nodes i) (planned.planned i i_in).seated (fresh i i_in).front (fresh i i_in).place;
+        first_placed plan i (op_at ops i) (node_at nodes i) (planned.planned i i_in).seated (fresh i i_in).front (fresh i i_in).reads_at;
     ahead = λ i h.
         let i_in : i < length ops = omega arith in
         first_ahead plan i (op_at ops i) (front_in nodes) (reads_from (op_at ops i) (node_at nodes i)) (planned.planned i i_in).seated (λ g g_in. (fresh g (omega arith)).front);
@@ -88,7 +88,7 @@ module _ (ops : List FtOp) (sizes : List ℕ) (nodes : List Node) (slab : List S
         record { count = front ∙ sym (ap (λ (vs : List Bool). length vs) (none i)); kept = λ t from to. absurd (omega (arith, front)) };
     scanned = λ i h.
         let i_in : i < length ops = omega arith in
-        first_scanned (op_at ops i) table (node_at nodes i) (fresh i i_in).front (fresh i i_in).place;
+        first_scanned (op_at ops i) table (node_at nodes i) (fresh i i_in).front (fresh i i_in).reads_at;
   }
 
 -- the first i nodes, whose parts end at `start`

@@ -49,7 +49,7 @@ pub record Stepped {N S : Type 0} (none : N) (start size : N → ℕ) (nodes : L
 
 module _ {N S : Type 0} {none : N} {start size : N → ℕ} {nodes : List N} {slab : List S} {i : ℕ} {new : N} {own : List S} {nodes' : List N} {slab' : List S}
     (st : Stepped none start size nodes slab i new own nodes' slab') where
-  -- what holds of the old node in a place, and of the new one, holds of the nodes
+  -- what holds of the old node at an index, and of the new one, holds of the nodes
   pub each_on : (P : ℕ → N → Type 0) (j : ℕ) → (j ≢ i → P j (get_or nodes j none)) → P i new → P j (get_or nodes' j none)
   each_on P j before here = elim (cases_eq j i) [
     | inl same ↦ subst (λ (k : ℕ). P k (get_or nodes' k none)) (sym same) (subst (λ (m : N). P i m) (sym st.here) here)

@@ -27,7 +27,7 @@ pub paced_front_at_most : (plan : Plan) (ops : List FtOp) (queues : Queues) (n i
 unfolding front_at
 paced_front_at_most plan ops queues n i p i_in = (p.inside.paced i (omega (arith, p.inside.same_length))).at_most
 
--- the low place is 0 or at most n - 1 less the widest delay
+-- the low time is 0 or at most n - 1 less the widest delay
 pub paced_low : (plan : Plan) (ops : List FtOp) (queues : Queues) (n i : ℕ) → IsPacedAfter plan ops queues n → i < length ops → low_at queues i ≤ n - 1 - plan.widest i
 unfolding low_at
 paced_low plan ops queues n i p i_in = (p.inside.paced i (omega (arith, p.inside.same_length))).low
@@ -48,7 +48,7 @@ paced_size plan ops queues n i p i_in =
     let taken : length (take node.size (drop node.start queues.slab.items)) ≡ node.size = length-take-le node.size (drop node.start queues.slab.items) (omega (arith, length-drop node.start queues.slab.items)) in
     omega arith
 
--- the frontier is the number of known verdicts, and the queue has them from its low place on
+-- the frontier is the number of known verdicts, and the queue has them from its low time on
 pub table_front : (ops : List FtOp) (table : Table) (queues : Queues) (i : ℕ) → HasTable ops table queues → i < queue_count queues → front_at queues i ≡ length (table i)
 unfolding front_at queue_count
 table_front ops table queues i h i_in = (h.inside.verdicts i i_in).count

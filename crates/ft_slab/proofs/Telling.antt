@@ -13,12 +13,12 @@ use Rattle.ft_ops.specs.Queues.{Shown, GoesOn, Decides}
 use Rattle.ft_ops.specs.Scans.{Scan}
 use Rattle.ft_slab.specs.Tables.{Extends, HasVerdicts, Table}
 
--- what isn't known at a place is no value
+-- what isn't known at an index is no value
 none_is_no_value : (o : Option Bool) → o ≡ None → IsSome o → ⊥
 none_is_no_value None e h = cc
 none_is_no_value (Some v) e h = cc
 
--- a place within a list has a verdict
+-- an index within a list has a verdict
 known_within : (vs : List Bool) (t : ℕ) → t < length vs → IsSome (slice_get vs t)
 known_within [] t h = absurd (omega arith)
 known_within (v ∷ vs) zero h = refl
@@ -70,8 +70,8 @@ module _ (old : Ring) (old_slots : List Slot) (old_vs : List Bool) (ring : Ring)
   }
 
 -- a scan over what was known is one over what is known
-pub scan_kept : (i : Interval) (old new : Table) (l r t place : ℕ) → Extends old new → Scan i (slice_get (old l)) (slice_get (old r)) t place place → Scan i (slice_get (new l)) (slice_get (new r)) t place place
-scan_kept i old new l r t place extends s = record {
+pub scan_kept : (i : Interval) (old new : Table) (l r t reads_at : ℕ) → Extends old new → Scan i (slice_get (old l)) (slice_get (old r)) t reads_at reads_at → Scan i (slice_get (new l)) (slice_get (new r)) t reads_at reads_at
+scan_kept i old new l r t reads_at extends s = record {
   reach = s.reach;
   order = s.order;
   left = λ k from to. extends.each l k true (s.left k from to);

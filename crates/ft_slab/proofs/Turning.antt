@@ -1,4 +1,4 @@
--- The middle of a row: the instructions before one place have taken it, those from there on have not.
+-- The middle of a row: the instructions before one index have taken it, those from there on have not.
 use Rattle.std.proofs.Common.{◌≡◌, ℕ, ◌+◌, ◌<◌, ◌≤◌, ◌^◌, List, ◌++◌, length, take, inl, inr, ◌≢◌, arith, subst, sym, ap, ◌∙◌}
 use Rattle.std.proofs.lemmas.Bool.{cases_eq}
 use Rattle.std.proofs.lemmas.List.{length-take-le}
@@ -23,14 +23,14 @@ pub record Turned (plan : Plan) (ops : List FtOp) (nodes : List Node) (slab : Li
   pub todo : (j : ℕ) → i ≤ j → j < length nodes → Paced plan j (node_at nodes j) (part slab (node_at nodes j)) n
   pub todo_placed : (j : ℕ) → i ≤ j → j < length nodes → IsPlaced plan j (op_at ops j) (node_at nodes j) n
 
--- a place is ahead of other fronts where they are those of the operands
-pub ahead_same : (plan : Plan) (i : ℕ) (op : FtOp) (front front' : ℕ → ℕ) (place place' : ℕ) → IsSeated plan i op → ((g : ℕ) → g < i → front' g ≡ front g) → place' ≡ place
-    → ReadsAhead op front place → ReadsAhead op front' place'
-ahead_same plan i True front front' place place' s same e h = tt
-ahead_same plan i (Load k) front front' place place' s same e h = tt
-ahead_same plan i (Not g) front front' place place' s same e h = omega (arith, same g s.0)
-ahead_same plan i (And l r) front front' place place' s same e h = omega (arith, same l s.0, same r s.1)
-ahead_same plan i (Until l r window) front front' place place' s same e h = omega (arith, same l s.0, same r s.1)
+-- a reading time is ahead of other fronts where they are those of the operands
+pub ahead_same : (plan : Plan) (i : ℕ) (op : FtOp) (front front' : ℕ → ℕ) (reads_at reads_at' : ℕ) → IsSeated plan i op → ((g : ℕ) → g < i → front' g ≡ front g) → reads_at' ≡ reads_at
+    → ReadsAhead op front reads_at → ReadsAhead op front' reads_at'
+ahead_same plan i True front front' reads_at reads_at' s same e h = tt
+ahead_same plan i (Load k) front front' reads_at reads_at' s same e h = tt
+ahead_same plan i (Not g) front front' reads_at reads_at' s same e h = omega (arith, same g s.0)
+ahead_same plan i (And l r) front front' reads_at reads_at' s same e h = omega (arith, same l s.0, same r s.1)
+ahead_same plan i (Until l r window) front front' reads_at reads_at' s same e h = omega (arith, same l s.0, same r s.1)
 
 -- the first i instructions have the verdicts of the newer table, the others those of the older one
 pub record Retold (ops : List FtOp) (old new : Table) (nodes : List Node) (slab : List Slot) (i : ℕ) : Type 0 where

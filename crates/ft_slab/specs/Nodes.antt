@@ -13,7 +13,7 @@ op_at ops i = slice_index_or ops i True
 
 -- what stands past the end of a list of nodes
 abbrev pub no_node : Node
-no_node = record { ring = no_ring; place = 0; start = 0; size = 0 }
+no_node = record { ring = no_ring; reads_at = 0; start = 0; size = 0 }
 
 -- node i, one without slots past the last one
 abbrev pub node_at : List Node → ℕ → Node
@@ -54,21 +54,21 @@ pub record KeepsSeats (old new : List Node) : Type 0 where
   pub start : (j : ℕ) → (node_at new j).start ≡ (node_at old j).start
   pub size : (j : ℕ) → (node_at new j).size ≡ (node_at old j).size
 
--- where an instruction reads its operands next: an until from its place, another one from its own frontier
+-- where an instruction reads its operands next: an until from its reading time, another one from its own frontier
 abbrev pub reads_from : FtOp → Node → ℕ
 reads_from True node = frontier_of node.ring
 reads_from (Load k) node = frontier_of node.ring
 reads_from (Not g) node = frontier_of node.ring
 reads_from (And l r) node = frontier_of node.ring
-reads_from (Until l r window) node = node.place
+reads_from (Until l r window) node = node.reads_at
 
--- a place is at least the least frontier of the operands
+-- a reading time is at least the least frontier of the operands
 abbrev pub ReadsAhead : FtOp → (ℕ → ℕ) → ℕ → Type 0
-ReadsAhead True front place = Unit {0}
-ReadsAhead (Load k) front place = Unit {0}
-ReadsAhead (Not g) front place = front g ≤ place
-ReadsAhead (And l r) front place = min (front l) (front r) ≤ place
-ReadsAhead (Until l r window) front place = min (front l) (front r) ≤ place
+ReadsAhead True front reads_at = Unit {0}
+ReadsAhead (Load k) front reads_at = Unit {0}
+ReadsAhead (Not g) front reads_at = front g ≤ reads_at
+ReadsAhead (And l r) front reads_at = min (front l) (front r) ≤ reads_at
+ReadsAhead (Until l r window) front reads_at = min (front l) (front r) ≤ reads_at
 
 -- the frontier of a node
 abbrev pub front_in : List Node → ℕ → ℕ

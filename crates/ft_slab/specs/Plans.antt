@@ -42,11 +42,11 @@ IsPlaced plan i (Load k) node n = Unit {0}
 IsPlaced plan i (Not g) node n = Unit {0}
 IsPlaced plan i (And l r) node n = Unit {0}
 IsPlaced plan i (Until l r window) node n =
-    (frontier_of node.ring + window.lo ≤ node.place)
-    × (n + window.hi ≤ node.place + plan.worst i)
-    × (node.place ≤ window.lo + (n - plan.best i))
+    (frontier_of node.ring + window.lo ≤ node.reads_at)
+    × (n + window.hi ≤ node.reads_at + plan.worst i)
+    × (node.reads_at ≤ window.lo + (n - plan.best i))
 
--- after n rows the frontier lies from n less the worst to n less the best delay, and the low place is 0 or at most n - 1 less the widest one
+-- after n rows the frontier lies from n less the worst to n less the best delay, and the low time is 0 or at most n - 1 less the widest one
 pub record Paced (plan : Plan) (i : ℕ) (node : Node) (slots : List Slot) (n : ℕ) : Type 0 where
   pub belongs : Belongs node.ring slots
   pub long : length slots ≡ plan.widest i - plan.best i + 1
@@ -60,9 +60,9 @@ pub record ArePaced (plan : Plan) (nodes : List Node) (slab : List Slot) (n i : 
   pub each : (j : ℕ) → j < i → Paced plan j (node_at nodes j) (part slab (node_at nodes j)) n
 
 -- what an instruction meets that takes row n, after those before it
-pub record IsReady (plan : Plan) (n : ℕ) (op : FtOp) (before : List Node) (low : List Slot) (node : Node) (own : List Slot) : Type 0 where
+pub record IsReady (plan : Plan) (n : ℕ) (op : FtOp) (before : List Node) (earlier : List Slot) (node : Node) (own : List Slot) : Type 0 where
   pub planned : IsPlanned plan (length before) op
-  pub operands : ArePaced plan before low (n + 1) (length before)
+  pub operands : ArePaced plan before earlier (n + 1) (length before)
   pub paced : Paced plan (length before) node own n
   pub placed : IsPlaced plan (length before) op node n
   pub few : n < 2 ^ 40

@@ -30,7 +30,7 @@ front_at queues i = frontier_of (node_at queues.nodes.items i).ring
 unfoldable pub low_at : Queues → ℕ → ℕ
 low_at queues i = low_of (node_at queues.nodes.items i).ring
 
--- the verdict of queue i at a time from its low place to its frontier - 1
+-- the verdict of queue i at a time from its low time to its frontier - 1
 unfoldable pub verdict_in : Queues → ℕ → ℕ → Bool
 verdict_in queues i t = verdict_at (node_at queues.nodes.items i).ring (part queues.slab.items (node_at queues.nodes.items i)) t
 

@@ -35,26 +35,26 @@ pub record IsTable (ops : List FtOp) (truth : Loads) (n : ℕ) (table : Table) :
 pub record Extends (old new : Table) : Type 0 where
   pub each : (i t : ℕ) (v : Bool) → slice_get (old i) t ≡ Some v → slice_get (new i) t ≡ Some v
 
--- the queue's frontier is the number of verdicts, and it has them from its low place on
+-- the queue's frontier is the number of verdicts, and it has them from its low time on
 pub record HasVerdicts (ring : Ring) (slots : List Slot) (verdicts : List Bool) : Type 0 where
   pub count : frontier_of ring ≡ length verdicts
   pub kept : (t : ℕ) → low_of ring ≤ t → t < frontier_of ring → slice_get verdicts t ≡ Some (verdict_at ring slots t)
 
--- an until has scanned its operands up to its place
+-- an until has scanned its operands up to its reading time
 abbrev pub IsScanned : FtOp → Table → Node → Type 0
 IsScanned True table node = Unit {0}
 IsScanned (Load k) table node = Unit {0}
 IsScanned (Not g) table node = Unit {0}
 IsScanned (And l r) table node = Unit {0}
 IsScanned (Until l r window) table node =
-    Scan window (slice_get (table l)) (slice_get (table r)) (frontier_of node.ring) node.place node.place
+    Scan window (slice_get (table l)) (slice_get (table r)) (frontier_of node.ring) node.reads_at node.reads_at
 
 -- what an instruction meets that takes row n: its operands have the verdicts after that row, and it has those before
-pub record IsTold (plan : Plan) (truth : Loads) (n : ℕ) (op : FtOp) (before : List Node) (low : List Slot) (node : Node) (own : List Slot) (old new : Table) : Type 0 where
-  pub ready : IsReady plan n op before low node own
+pub record IsTold (plan : Plan) (truth : Loads) (n : ℕ) (op : FtOp) (before : List Node) (earlier : List Slot) (node : Node) (own : List Slot) (old new : Table) : Type 0 where
+  pub ready : IsReady plan n op before earlier node own
   pub longest : IsLongestKnown (value_of op truth (n + 1) new) (n + 1) (new (length before))
   pub extends : Extends old new
-  pub operands : (j : ℕ) → j < length before → HasVerdicts (node_at before j).ring (part low (node_at before j)) (new j)
+  pub operands : (j : ℕ) → j < length before → HasVerdicts (node_at before j).ring (part earlier (node_at before j)) (new j)
   pub verdicts : HasVerdicts node.ring own (old (length before))
   pub scanned : IsScanned op old node
 

@@ -18,7 +18,7 @@ use std::sync::ledger::Ledger;
 #[derive(Debug, Drop)]
 pub struct Node {
     pub ring: Ring,
-    pub place: u64,
+    pub reads_at: u64,
     pub start: usize,
     pub size: usize,
 }
@@ -38,32 +38,32 @@ pub fn operand<'a>(nodes: &'a [Node], slab: &'a [Slot], i: u32) -> Operand<'a>
     }
 }
 
-/// Takes the row for one instruction, after those before it: they are `before`, with their slots in `low`.
+/// Takes the row for one instruction, after those before it: they are `before`, with their slots in `earlier`.
 fn step<T: Truths, L: Ledger>(
     op: FtOp,
     truths: &T,
     before: &[Node],
-    low: &[Slot],
+    earlier: &[Slot],
     node: &mut Node,
     own: &mut [Slot],
     steps: &mut Steps<L>,
 )
     requires loaded { (k : ℕ) → op ≡ loads k → T.has truths.now k }
     requires ready { (plan : Plan) × (n : ℕ)
-        × IsReady plan n op before.now low.now node.old own.old }
+        × IsReady plan n op before.now earlier.now node.old own.old }
     ensures start { node.new.start ≡ node.old.start }
     ensures size { node.new.size ≡ node.old.size }
-    ensures paced { (plan : Plan) (n : ℕ) → IsReady plan n op before.now low.now node.old own.old
+    ensures paced { (plan : Plan) (n : ℕ) → IsReady plan n op before.now earlier.now node.old own.old
         → Paced plan (length before.now) node.new own.new (n + 1) }
-    ensures placed { (plan : Plan) (n : ℕ) → IsReady plan n op before.now low.now node.old own.old
+    ensures placed { (plan : Plan) (n : ℕ) → IsReady plan n op before.now earlier.now node.old own.old
         → IsPlaced plan (length before.now) op node.new (n + 1) }
     ensures ahead { ReadsAhead op (front_in before.now) (reads_from op node.new) }
     ensures counted { steps.new ≤ steps.old + work_of (size_in before.now) op (length own.old) }
     ensures verdicts { (plan : Plan) (truth : Loads) (n : ℕ) (old new : Table)
-        → IsTold plan truth n op before.now low.now node.old own.old old new
+        → IsTold plan truth n op before.now earlier.now node.old own.old old new
         → ((k : ℕ) (v : Bool) → op ≡ loads k → T.gives truths.now k v → truth n k ≡ v) → HasVerdicts node.new.ring own.new (new (length before.now)) }
     ensures scanned { (plan : Plan) (truth : Loads) (n : ℕ) (old new : Table)
-        → IsTold plan truth n op before.now low.now node.old own.old old new
+        → IsTold plan truth n op before.now earlier.now node.old own.old old new
         → ((k : ℕ) (v : Bool) → op ≡ loads k → T.gives truths.now k v → truth n k ≡ v) → IsScanned op new node.new }
 {
     match op {
@@ -71,21 +71,21 @@ fn step<T: Truths, L: Ledger>(
         FtOp::Load(k) => node
             .ring
             .write(own, node.ring.frontier(), truths.truth(k), steps),
-        FtOp::Not(g) => not_row(&mut node.ring, own, operand(before, low, g), steps),
+        FtOp::Not(g) => not_row(&mut node.ring, own, operand(before, earlier, g), steps),
         FtOp::And(l, r) => and_row(
             &mut node.ring,
             own,
-            operand(before, low, l),
-            operand(before, low, r),
+            operand(before, earlier, l),
+            operand(before, earlier, r),
             steps,
         ),
         FtOp::Until(l, r, window) => {
             let until = Until {
-                left: operand(before, low, l),
-                right: operand(before, low, r),
+                left: operand(before, earlier, l),
+                right: operand(before, earlier, r),
                 window,
             };
-            node.place = until_row(&mut node.ring, own, node.place, until, steps);
+            node.reads_at = until_row(&mut node.ring, own, node.reads_at, until, steps);
         }
     }
 }
@@ -114,8 +114,8 @@ pub fn row_of<T: Truths, L: Ledger>(
     for i in 0..ops.len() {
         let (before, rest) = nodes.split_at_mut(i);
         let node = &mut rest[0];
-        let (low, high) = slab.split_at_mut(node.start);
+        let (earlier, high) = slab.split_at_mut(node.start);
         let own = &mut high[..node.size];
-        step(ops[i], truths, before, low, node, own, steps);
+        step(ops[i], truths, before, earlier, node, own, steps);
     }
 }

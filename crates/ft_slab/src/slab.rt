@@ -44,7 +44,7 @@ impl Queues {
             let size = sizes[i] as usize;
             nodes.push(Node {
                 ring: Ring::make(),
-                place: first_place(*op),
+                reads_at: first_read(*op),
                 start,
                 size,
             })?;
@@ -132,7 +132,7 @@ impl Queues {
 }
 
 /// Where an instruction reads first.
-fn first_place(op: FtOp) -> u64
+fn first_read(op: FtOp) -> u64
     ensures { result ≡ first_place_of op }
 {
     match op {

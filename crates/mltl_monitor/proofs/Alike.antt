@@ -106,5 +106,5 @@ drained_alike running style rows taken none other_style other taken' =
     gives_none other_style program other running.outs (λ k below.
     let output : out.Out = slice_index_or program.outs k (out.TheVariants.Formula engine.TheVariants.Ft 0 []) in
     let there : slice_get program.outs k ≡ Some output = slice_get-get_or program.outs k (out.TheVariants.Formula engine.TheVariants.Ft 0 []) below in
-    let told : slice_index running.outs k ≡ told_of running rows output = ap (λ (places : List ℕ). slice_index places k) counts ∙ count_at program rows k output there in
+    let told : slice_index running.outs k ≡ told_of running rows output = ap (λ (next_times : List ℕ). slice_index next_times k) counts ∙ count_at program rows k output there in
     omega (arith, told, count_at program other k output there, no_more running rows other k output taken taken' there told))

@@ -1,4 +1,4 @@
--- What stays of what a monitor stands for, and what that says of its queues and places.
+-- What stays of what a monitor stands for, and what that says of its queues and next times.
 
 use Rattle.std.proofs.Common.{◌≡◌, ℕ, ◌+◌, ◌<◌, ◌≤◌, ◌^◌, List, [], ◌∷◌, ◌++◌, slice_get, slice_index, length, sum, ap, ap₂, sym, subst, ◌∙◌, arith}
 use Rattle.std.specs.Prelude.{Some, Contains, vec_len}
@@ -65,7 +65,7 @@ told_places monitor rows stands drained = drained_places monitor.running rows st
 pub told_wide : (monitor : State) (rows : List Row) (k g : ℕ) (output : Out) → Stands monitor rows → IsDrained monitor → slice_get (program_of monitor).outs k ≡ Some output → Contains (reported output) g
     → length rows ≤ slice_index (places_of monitor) k + width_of (program_of monitor) g
 told_wide monitor rows k g output stands drained there among =
-    subst (λ (places : List ℕ). length rows ≤ slice_index places k + width_of (program_of monitor) g) (sym (told_places monitor rows stands drained))
+    subst (λ (next_times : List ℕ). length rows ≤ slice_index next_times k + width_of (program_of monitor) g) (sym (told_places monitor rows stands drained))
     (drained_wide (program_of monitor) rows k g output stands.taken.formed there among)
 
 -- the queues keep what outputs read
@@ -111,4 +111,4 @@ told_in_time monitor rows k o stands drained there =
     let within : k < length outs = slice_get_within outs k o there in
     let count : slice_index (known_counts_of (program_of monitor) rows) k ≡ length (words rows o) =
     get_or-map (λ (x : Output). length (words rows x)) outs k o 0 within ∙ ap (λ (x : Output). length (words rows x)) (get_or_from_slice_get outs k o o there) in
-    omega (arith, ap (λ (places : List ℕ). slice_index places k) (told_places monitor rows stands drained), count, words_in_time rows o)
+    omega (arith, ap (λ (next_times : List ℕ). slice_index next_times k) (told_places monitor rows stands drained), count, words_in_time rows o)

@@ -62,52 +62,52 @@ words_head style k t ws report more is =
     subst (λ (n : ℕ). IsHead n t ws report) here
     (first_tells t ws report more (subst (λ (n : ℕ). told n t (report ∷ more) ≡ ws) (sym here) tells) (subst (λ (n : ℕ). IsRising n t (report ∷ more)) (sym here) rising))
 
--- the report that is open first is the first of an output, from that output's place on
+-- the report that is open first is the first of an output, from that output's next time on
 abbrev IsFirst : List Row → ℕ → List Output → List ℕ → Report → Type 0
-IsFirst rows k outs places report = (j : ℕ) × (o : Output) × (slice_get outs j ≡ Some o) × IsHead (k + j) (slice_index places j) (drop (slice_index places j) (words rows o)) report
+IsFirst rows k outs next_times report = (j : ℕ) × (o : Output) × (slice_get outs j ≡ Some o) × IsHead (k + j) (slice_index next_times j) (drop (slice_index next_times j) (words rows o)) report
 
-open_head : (style : Style) (rows : List Row) (k : ℕ) (outs : List Output) (places : List ℕ) (report : Report) (more : List Report) → left_open style rows k outs places ≡ report ∷ more → IsFirst rows k outs places report
+open_head : (style : Style) (rows : List Row) (k : ℕ) (outs : List Output) (next_times : List ℕ) (report : Report) (more : List Report) → left_open style rows k outs next_times ≡ report ∷ more → IsFirst rows k outs next_times report
 unfolding left_open
-open_head style rows k [] places report more is = absurd cc
+open_head style rows k [] next_times report more is = absurd cc
 open_head style rows k (o ∷ outs) [] report more is = absurd cc
-open_head style rows k (o ∷ outs) (place ∷ places) report more is = go (of_words style k place (drop place (words rows o))) refl (open_head style rows (suc k) outs places report more) is
+open_head style rows k (o ∷ outs) (next_time ∷ next_times) report more is = go (of_words style k next_time (drop next_time (words rows o))) refl (open_head style rows (suc k) outs next_times report more) is
   where
-    go : (reports : List Report) → of_words style k place (drop place (words rows o)) ≡ reports → (left_open style rows (suc k) outs places ≡ report ∷ more → IsFirst rows (suc k) outs places report) → reports ++ left_open style rows (suc k) outs places ≡ report ∷ more → IsFirst rows k (o ∷ outs) (place ∷ places) report
+    go : (reports : List Report) → of_words style k next_time (drop next_time (words rows o)) ≡ reports → (left_open style rows (suc k) outs next_times ≡ report ∷ more → IsFirst rows (suc k) outs next_times report) → reports ++ left_open style rows (suc k) outs next_times ≡ report ∷ more → IsFirst rows k (o ∷ outs) (next_time ∷ next_times) report
     go [] e later is =
         let rest = later is in
         let number : suc k + rest.0 ≡ k + suc rest.0 = omega arith in
-        (suc rest.0, rest.1, rest.2, subst (λ (n : ℕ). IsHead n (slice_index places rest.0) (drop (slice_index places rest.0) (words rows rest.1)) report) number rest.3)
+        (suc rest.0, rest.1, rest.2, subst (λ (n : ℕ). IsHead n (slice_index next_times rest.0) (drop (slice_index next_times rest.0) (words rows rest.1)) report) number rest.3)
     go (r ∷ reports) e later is =
         let first : r ≡ report = cc in
         let number : k ≡ k + 0 = omega arith in
-        (0, o, refl, subst (λ (n : ℕ). IsHead n place (drop place (words rows o)) report) number (words_head style k place (drop place (words rows o)) report reports (e ∙ ap (λ (x : Report). x ∷ reports) first)))
+        (0, o, refl, subst (λ (n : ℕ). IsHead n next_time (drop next_time (words rows o)) report) number (words_head style k next_time (drop next_time (words rows o)) report reports (e ∙ ap (λ (x : Report). x ∷ reports) first)))
 
--- a member behind a place
-behind : (ws : List Word) (place d : ℕ) (w : Word) → slice_get (drop place ws) d ≡ Some w → slice_get ws (place + d) ≡ Some w
-behind ws place d w there =
-    let within : d < length (drop place ws) = slice_get_within (drop place ws) d w there in
-    slice_get-get_or ws (place + d) w (omega (arith, within, length-drop place ws))
-    ∙ ap Some (sym (get_or-drop place ws d w) ∙ get_or_from_slice_get (drop place ws) d w w there)
+-- a member behind an index
+behind : (ws : List Word) (next_time d : ℕ) (w : Word) → slice_get (drop next_time ws) d ≡ Some w → slice_get ws (next_time + d) ≡ Some w
+behind ws next_time d w there =
+    let within : d < length (drop next_time ws) = slice_get_within (drop next_time ws) d w there in
+    slice_get-get_or ws (next_time + d) w (omega (arith, within, length-drop next_time ws))
+    ∙ ap Some (sym (get_or-drop next_time ws d w) ∙ get_or_from_slice_get (drop next_time ws) d w w there)
 
--- the first open report of all covers the times from its output's place up to its own
+-- the first open report of all covers the times from its output's next time up to its own
 pub first_covers : (style : Style) (monitor : State) (rows : List Row) (report : Report) (more : List Report) → open_of style monitor rows ≡ report ∷ more → slice_index (places_of monitor) report.out ≤ report.time
 first_covers style monitor rows report more is =
-    let places : List ℕ = places_of monitor in
-    let first = open_head style rows 0 (outputs (program_of monitor)) places report more is in
+    let next_times : List ℕ = places_of monitor in
+    let first = open_head style rows 0 (outputs (program_of monitor)) next_times report more is in
     let number : first.0 ≡ report.out = omega (arith, first.3.out) in
-    subst (λ (n : ℕ). slice_index places n ≤ report.time) number first.3.upward
+    subst (λ (n : ℕ). slice_index next_times n ≤ report.time) number first.3.upward
 
 -- and its word is settled at each of them
 pub first_is_settled : (style : Style) (monitor : State) (rows : List Row) (report : Report) (more : List Report) (o : Output) (t : ℕ) → open_of style monitor rows ≡ report ∷ more → slice_get (outputs (program_of monitor)) report.out ≡ Some o
     → slice_index (places_of monitor) report.out ≤ t → t ≤ report.time → IsSettled rows o t report.word
 first_is_settled style monitor rows report more o t is named from upto =
     let outs : List Output = outputs (program_of monitor) in
-    let places : List ℕ = places_of monitor in
-    let first = open_head style rows 0 outs places report more is in
+    let next_times : List ℕ = places_of monitor in
+    let first = open_head style rows 0 outs next_times report more is in
     let number : first.0 ≡ report.out = omega (arith, first.3.out) in
-    let place : ℕ = slice_index places first.0 in
-    let here : place ≡ slice_index places report.out = ap (λ (n : ℕ). slice_index places n) number in
+    let next_time : ℕ = slice_index next_times first.0 in
+    let here : next_time ≡ slice_index next_times report.out = ap (λ (n : ℕ). slice_index next_times n) number in
     let same : first.1 ≡ o = let there : slice_get outs first.0 ≡ Some o = ap (λ (n : ℕ). slice_get outs n) number ∙ named in let given : slice_get outs first.0 ≡ Some first.1 = first.2 in cc in
-    let time : place + (t - place) ≡ t = omega (arith, here, from) in
-    let there : slice_get (words rows first.1) (place + (t - place)) ≡ Some report.word = behind (words rows first.1) place (t - place) report.word (first.3.tells (t - place) (omega (arith, here, from, upto))) in
+    let time : next_time + (t - next_time) ≡ t = omega (arith, here, from) in
+    let there : slice_get (words rows first.1) (next_time + (t - next_time)) ≡ Some report.word = behind (words rows first.1) next_time (t - next_time) report.word (first.3.tells (t - next_time) (omega (arith, here, from, upto))) in
     word_settled rows o t report.word (subst (λ (x : Output). slice_get (words rows x) t ≡ Some report.word) same (ap (λ (n : ℕ). slice_get (words rows first.1) n) (sym time) ∙ there))

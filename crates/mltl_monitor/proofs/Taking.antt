@@ -49,7 +49,7 @@ takes_row running row numbers ft pt drained early fit given ahead ahead' = recor
         };
       };
   opens = λ style rows taken.
-      ap (λ (places : List ℕ). status.open_of style running.checked (rows ++ row ∷ []) places) (drained_places running rows taken drained)
+      ap (λ (next_times : List ℕ). status.open_of style running.checked (rows ++ row ∷ []) next_times) (drained_places running rows taken drained)
       ∙ open_after_row style 0 (outputs running.checked) rows row;
 }
 
@@ -58,5 +58,5 @@ pub drained_at_start : (running : Running) → running.taken ≡ 0 → running.o
 drained_at_start running none counts style rows taken = go rows (omega (arith, taken.stand.count))
   where
     go : (rows : List Row) → length rows ≡ 0 → status.open_of style running.checked rows running.outs ≡ []
-    go [] e = ap (λ (places : List ℕ). status.open_of style running.checked [] places) counts ∙ counts_drained style running.checked []
+    go [] e = ap (λ (next_times : List ℕ). status.open_of style running.checked [] next_times) counts ∙ counts_drained style running.checked []
     go (row ∷ rows) e = absurd (omega (arith, e))

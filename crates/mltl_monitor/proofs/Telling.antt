@@ -13,7 +13,7 @@ use Rattle.contract_status.proofs.Opening.{no_other}
 use Rattle.mltl_monitor.specs.declared.running.Running.{Running}
 use Rattle.mltl_monitor.specs.Running.{GivesFirst, HasTaken, IsDrained, open_of}
 
--- what is given of places is given of what runs
+-- what is given of next times is given of what runs
 pub gives_of_places : (style : Style) (program : Program) (result : Option Report) (before after : Running) (rows : List Row) → before.checked ≡ program → after.checked ≡ program → status.GivesFirst style program rows before.outs after.outs result
     → GivesFirst style result before after rows
 gives_of_places style program None before after rows e e' gives = subst (λ (p : Program). status.open_of style p rows before.outs ≡ []) (sym e) gives

@@ -1,4 +1,4 @@
--- The middle of a row: the instructions before one place have taken it, those from there on have not.
+-- The middle of a row: the instructions before one index have taken it, those from there on have not.
 use Rattle.std.proofs.Common.{◌≡◌, ◌≢◌, ℕ, ◌+◌, ◌-◌, ◌<◌, ◌≤◌, ℤ, List, ◌++◌, length, take, arith, sym, ap, ◌∙◌}
 use Rattle.mltl_base.specs.declared.operators.PtOp.{PtOp}
 use Rattle.ft_slab.proofs.Seats.{Stepped, each_kept, each_on, here_kept, node_before, other_kept, seated_on, sizes_are}

@@ -1,7 +1,8 @@
 //! The boxes of one Since: a ring of spans.
 
 ghost use Rattle.std.specs.Prelude.{◌≡◌, ◌+◌, ◌≤◌, ◌<◌, [], ◌∷◌, ◌++◌, length, slice_get};
-ghost use Rattle.scq_ring.specs.Runs.{place_of};
+
+use scq_ring::ring_index;
 
 /// A stretch of times, both ends counted.
 #[derive(Clone, Copy)]
@@ -15,17 +16,6 @@ pub struct Span {
 pub struct Boxes {
     oldest: usize,
     used: usize,
-}
-
-/// The place of the member that stands `k` after place `oldest` of a ring of `len` members.
-fn place(oldest: usize, k: usize, len: usize) -> usize
-    requires oldest_in { oldest < len }
-    requires k_in { k ≤ len }
-    ensures place { result ≡ place_of oldest k len }
-    ensures within { k < len → result < len }
-{
-    let ahead = len - oldest;
-    if k < ahead { oldest + k } else { k - ahead }
 }
 
 impl Boxes {
@@ -68,7 +58,7 @@ impl Boxes {
         ensures rest { kept self.new spans.now ≡ without_ended now (kept self.old spans.now) }
     {
         if self.used > 0 && spans[self.oldest].last < now {
-            self.oldest = place(self.oldest, 1, spans.len());
+            self.oldest = ring_index(self.oldest, 1, spans.len());
             self.used -= 1;
         }
     }
@@ -93,7 +83,8 @@ impl Boxes {
         ensures meets { result ≡ meets first (kept self.now spans.now) }
     {
         self.used > 0
-            && first.saturating_sub(1) <= spans[place(self.oldest, self.used - 1, spans.len())].last
+            && first.saturating_sub(1)
+                <= spans[ring_index(self.oldest, self.used - 1, spans.len())].last
     }
 
     /// Moves the end of the newest box.
@@ -103,7 +94,7 @@ impl Boxes {
         ensures belongs { Belongs self.new spans.new }
         ensures prolonged { kept self.new spans.new ≡ prolonged last (kept self.old spans.old) }
     {
-        let newest = place(self.oldest, self.used - 1, spans.len());
+        let newest = ring_index(self.oldest, self.used - 1, spans.len());
         spans[newest].last = last;
     }
 
@@ -114,7 +105,7 @@ impl Boxes {
         ensures belongs { Belongs self.new spans.new }
         ensures pushed { kept self.new spans.new ≡ kept self.old spans.old ++ stretch ∷ [] }
     {
-        spans[place(self.oldest, self.used, spans.len())] = stretch;
+        spans[ring_index(self.oldest, self.used, spans.len())] = stretch;
         self.used += 1;
     }
 }

@@ -3,7 +3,7 @@ use Rattle.std.proofs.Common.{◌≡◌, ℕ, ◌+◌, ◌-◌, ◌<◌, ◌≤�
 use Rattle.std.proofs.lemmas.Bool.Decides.{nat_tests}
 use Rattle.std.proofs.lemmas.Bool.{cases_lt}
 use Rattle.scq_ring.specs.declared.runs.Slot.{Slot}
-use Rattle.scq_ring.specs.Runs.{Belongs, Spans, frontier_of, low_of, no_slot, place_of, runs_of, upto_at, value_in}
+use Rattle.scq_ring.specs.Runs.{Belongs, Spans, frontier_of, low_of, no_slot, ring_index_of, runs_of, upto_at, value_in}
 use Rattle.scq_ring.proofs.Windows.{get_or-window, length-window}
 use Rattle.scq_ring.specs.declared.runs.Ring.{Ring}
 
@@ -102,7 +102,7 @@ shortened low first rest end s = record {
   kept = λ t from. let past : first.upto < t = omega arith in grind (arith, nat_tests);
 }
 
--- each run ends at or after the low place, and before the end
+-- each run ends at or after the low time, and before the end
 pub Spans-from : (low : ℕ) (runs : List Slot) (end : ℕ) → Spans low runs end → (k : ℕ) → k < length runs → low ≤ (get_or runs k no_slot).upto
 Spans-from low [] end s k k_in = absurd (omega arith)
 Spans-from low (r ∷ rs) end s zero k_in = s.0
@@ -159,10 +159,10 @@ pub low_below_frontier : (ring : Ring) (slots : List Slot) → Belongs ring slot
 unfolding low_of frontier_of
 low_below_frontier ring slots b = omega (arith, Spans-room ring.low (runs_of ring slots) ring.frontier b.spans)
 
--- run k stands at its place
-pub run_at_place : (ring : Ring) (slots : List Slot) (k place : ℕ) → Belongs ring slots → k < ring.used → place ≡ place_of ring.oldest k (length slots)
-    → get_or (runs_of ring slots) k no_slot ≡ get_or slots place no_slot
-run_at_place ring slots k place b k_in place_is =
+-- run k stands at its index
+pub run_at_index : (ring : Ring) (slots : List Slot) (k ring_index : ℕ) → Belongs ring slots → k < ring.used → ring_index ≡ ring_index_of ring.oldest k (length slots)
+    → get_or (runs_of ring slots) k no_slot ≡ get_or slots ring_index no_slot
+run_at_index ring slots k ring_index b k_in place_is =
     get_or-window ring.oldest ring.used slots b.oldest_in b.used_in k no_slot k_in ∙ ap (λ (j : ℕ). get_or slots j no_slot) (sym place_is)
 
 -- the kept runs are as many as are used

@@ -1,17 +1,17 @@
--- What a ring and its slots stand for: a frontier, a low place, and a verdict for each time from the low place to the frontier - 1.
+-- What a ring and its slots stand for: a frontier, a low time, and a verdict for each time from the low time to the frontier - 1.
 use Rattle.std.specs.Prelude.{◌≡◌, ℕ, ◌+◌, ◌-◌, ◌<◌, ◌≤◌, Bool, false, List, [], ◌∷◌, ◌++◌, length, slice_index_or, take, drop, if◌then◌else◌, nat_le, nat_lt}
 use Rattle.scq_ring.specs.declared.runs.Ring.{Ring}
 use Rattle.scq_ring.specs.declared.runs.Slot.{Slot}
 use Rattle.scq_ring.specs.declared.runs.Seen.{Seen}
 use Rattle.scq_ring.specs.declared.runs.Seen.TheVariants.{Run, Nothing}
 
--- the n members from place k on, going on at the front past the end
+-- the n members from index k on, going on at the front past the end
 abbrev pub window : {X : Type 0} → ℕ → ℕ → List X → List X
 window k n xs = take n (drop k xs ++ take k xs)
 
--- the place of the member that stands k after place `oldest`, of n members in a ring
-abbrev pub place_of : ℕ → ℕ → ℕ → ℕ
-place_of oldest k n = if nat_lt k (n - oldest) then oldest + k else k - (n - oldest)
+-- the index of the member that stands k after index `oldest`, of n members in a ring
+abbrev pub ring_index_of : ℕ → ℕ → ℕ → ℕ
+ring_index_of oldest k n = if nat_lt k (n - oldest) then oldest + k else k - (n - oldest)
 
 -- the verdict at t is that of the first run that reaches up to t
 abbrev pub value_in : List Slot → ℕ → Bool
@@ -43,7 +43,7 @@ frontier_of ring = ring.frontier
 unfoldable pub low_of : Ring → ℕ
 low_of ring = ring.low
 
--- the verdict at a time from the low place to the frontier - 1
+-- the verdict at a time from the low time to the frontier - 1
 unfoldable pub verdict_at : Ring → List Slot → ℕ → Bool
 verdict_at ring slots t = value_in (runs_of ring slots) t
 
@@ -53,10 +53,10 @@ pub record Belongs (ring : Ring) (slots : List Slot) : Type 0 where
   pub used_in : ring.used ≤ length slots
   pub spans : Spans ring.low (runs_of ring slots) ring.frontier
 
--- this is the place of the newest run
+-- this is the index of the newest run
 pub record IsNewest (ring : Ring) (slots : List Slot) (newest : ℕ) : Type 0 where
   pub some_run : 0 < ring.used
-  pub place : newest ≡ place_of ring.oldest (ring.used - 1) (length slots)
+  pub ring_index : newest ≡ ring_index_of ring.oldest (ring.used - 1) (length slots)
 
 -- the run that holds a time is one of those from `first` to `last`: those before end earlier, and the last one doesn't
 pub record IsAround (ring : Ring) (slots : List Slot) (from first last : ℕ) : Type 0 where

@@ -9,4 +9,4 @@ pub mod steps;
 #[cfg(test)]
 mod tests;
 
-pub use runs::{Ring, Seen, Slot};
+pub use runs::{Ring, Seen, Slot, ring_index};

@@ -1,13 +1,13 @@
 //! A ring of merged runs, and its slots.
 
 ghost use Rattle.std.specs.Prelude.{◌≡◌, ℕ, ◌+◌, ◌-◌, ◌^◌, ◌<◌, ◌≤◌, ◌↔◌, max, length, IfSome, IsSome, List, nat_lt, if◌then◌else◌};
-ghost use Rattle.scq_ring.specs.Runs.{Belongs, IsAround, IsClear, IsNewest, Shows, frontier_of, low_of, place_of, verdict_at};
+ghost use Rattle.scq_ring.specs.Runs.{Belongs, IsAround, IsClear, IsNewest, Shows, frontier_of, low_of, ring_index_of, verdict_at};
 ghost use Rattle.scq_ring.specs.declared.runs.Slot.{Slot};
 
 use crate::steps::Steps;
 use std::sync::ledger::Ledger;
 
-/// One place of a ring: the end of a run of times that have one verdict, and the verdict.
+/// One slot of a ring: the end of a run of times that have one verdict, and the verdict.
 #[derive(Clone, Copy, Debug)]
 pub struct Slot {
     upto: u64,
@@ -29,7 +29,7 @@ impl Slot {
 
 /// The verdicts of one operator by time, over slots that the caller lends to each call.
 ///
-/// It has verdicts for the times from its low place to its frontier - 1.
+/// It has verdicts for the times from its low time to its frontier - 1.
 #[derive(Debug, Drop)]
 pub struct Ring {
     frontier: u64,
@@ -47,11 +47,11 @@ pub enum Seen {
     Nothing,
 }
 
-/// The place of the member that stands `k` after place `oldest` of a ring of `len` members.
-fn place(oldest: usize, k: usize, len: usize) -> usize
+/// The index of the member that stands `k` after index `oldest` of a ring of `len` members.
+pub fn ring_index(oldest: usize, k: usize, len: usize) -> usize
     requires oldest_in { oldest < len }
     requires k_in { k ≤ len }
-    ensures place { result ≡ place_of oldest k len }
+    ensures ring_index { result ≡ ring_index_of oldest k len }
     ensures within { k < len → result < len }
 {
     let ahead = len - oldest;
@@ -146,17 +146,17 @@ impl Ring {
         Seen::Run(run.upto, run.value)
     }
 
-    /// The place of the newest run, where it has this verdict.
+    /// The index of the newest run, where it has this verdict.
     fn newest_with(&self, slots: &[Slot], value: bool) -> Option<usize>
         requires belongs { Belongs self.now slots.now }
-        ensures place { IfSome result (IsNewest self.now slots.now) }
+        ensures ring_index { IfSome result (IsNewest self.now slots.now) }
         ensures same { IsSome result ↔ ((0 < self.now.used)
             × (value ≡ verdict_at self.now slots.now (frontier_of self.now - 1))) }
     {
         if self.used == 0 {
             return None;
         }
-        let newest = place(self.oldest, self.used - 1, slots.len());
+        let newest = ring_index(self.oldest, self.used - 1, slots.len());
         if slots[newest].value == value {
             Some(newest)
         } else {
@@ -164,7 +164,7 @@ impl Ring {
         }
     }
 
-    /// Moves the end of the newest run, which has this place.
+    /// Moves the end of the newest run, which has this index.
     fn extend(&mut self, slots: &mut [Slot], newest: usize, upto: u64)
         requires belongs { Belongs self.old slots.old }
         requires newest { IsNewest self.old slots.old newest }
@@ -195,7 +195,7 @@ impl Ring {
             → verdict_at self.new slots.now t ≡ verdict_at self.old slots.now t }
     {
         self.low = slots[self.oldest].upto + 1;
-        self.oldest = place(self.oldest, 1, slots.len());
+        self.oldest = ring_index(self.oldest, 1, slots.len());
         self.used -= 1;
     }
 
@@ -213,7 +213,7 @@ impl Ring {
         ensures written { (t : ℕ) → frontier_of self.old ≤ t → t ≤ upto
             → verdict_at self.new slots.new t ≡ value }
     {
-        slots[place(self.oldest, self.used, slots.len())] = Slot { upto, value };
+        slots[ring_index(self.oldest, self.used, slots.len())] = Slot { upto, value };
         self.used += 1;
         self.frontier = upto + 1;
     }
@@ -231,13 +231,13 @@ impl Ring {
         let (mut first, mut last) = self.newest_around(slots, from);
         'halving: while first < last {
             let middle = first + (last - first) / 2;
-            if slots[place(self.oldest, middle, slots.len())].upto < from {
+            if slots[ring_index(self.oldest, middle, slots.len())].upto < from {
                 first = middle + 1;
             } else {
                 last = middle;
             }
         }
-        slots[place(self.oldest, first, slots.len())]
+        slots[ring_index(self.oldest, first, slots.len())]
     }
 
     /// The first and the last of the runs that may hold time `from`. Nearly every reader wants a new one, so it looks
@@ -252,7 +252,7 @@ impl Ring {
         let mut step = 1;
         'back: while step <= last {
             let before = last - step;
-            if slots[place(self.oldest, before, slots.len())].upto < from {
+            if slots[ring_index(self.oldest, before, slots.len())].upto < from {
                 return (before + 1, last);
             }
             last = before;

@@ -8,10 +8,10 @@ returns-in-Nothing-clause-finds g c =
     λ p q left right scan.
     let at = c.args.at in
     let i = c.args.until.window in
-    let ended : (k : ℕ) → at.place ≤ k → p k ≡ None = λ k from. left.ends k (omega (arith, c.requires.ended)) in
+    let ended : (k : ℕ) → at.reads_at ≤ k → p k ≡ None = λ k from. left.ends k (omega (arith, c.requires.ended)) in
     let unknown : q at.seen ≡ None = right.ends at.seen c.in-Nothing.ensures.seen in (
-      left_unknown i p q c.args.from at.place at.seen scan c.requires.behind (omega arith) ended (λ e. cc),
-      inl (ended at.place (omega arith)),
+      left_unknown i p q c.args.from at.reads_at at.seen scan c.requires.behind (omega arith) ended (λ e. cc),
+      inl (ended at.reads_at (omega arith)),
     )
 
 pub returns-then-value-clause-finds : goal.returns-then-value-clause-finds
@@ -20,9 +20,9 @@ returns-then-value-clause-finds g c =
     let at = c.args.at in
     let i = c.args.until.window in
     let seen = c.in-Run.ensures.seen in
-    let ended : (k : ℕ) → at.place ≤ k → p k ≡ None = λ k from. left.ends k (omega (arith, c.requires.ended)) in
+    let ended : (k : ℕ) → at.reads_at ≤ k → p k ≡ None = λ k from. left.ends k (omega (arith, c.requires.ended)) in
     let holds : q at.seen ≡ Some true =
     shown_run c.args.until.right.ring.now c.args.until.right.slots.now q at.seen c.in-Run.end c.in-Run.value right (omega (arith, c.requires.can_scan.right.kept)) seen at.seen (omega arith) seen.0 ∙ ap (λ (v : Bool). Some v) c.if-value.true in (
-      left_unknown i p q c.args.from at.place at.seen scan c.requires.behind (omega arith) ended (λ e. cc),
-      inl (ended at.place (omega arith)),
+      left_unknown i p q c.args.from at.reads_at at.seen scan c.requires.behind (omega arith) ended (λ e. cc),
+      inl (ended at.reads_at (omega arith)),
     )

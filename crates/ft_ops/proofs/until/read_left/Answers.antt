@@ -11,10 +11,10 @@ returns-else-value-clause-finds g c =
     let lo : c.from-lo.result ≡ i.lo = c.from-lo.ensures in
     let seen = c.in-Run.ensures.seen in
     let last = c.min-last.result in
-    let further : at.place ≤ last = omega (arith, seen.0, c.min-last.ensures) in
+    let further : at.reads_at ≤ last = omega (arith, seen.0, c.min-last.ensures) in
     let within : last < at.seen = omega (arith, c.min-last.ensures) in
-    let fails : (k : ℕ) → at.place ≤ k → k ≤ last → p k ≡ Some false =
-    λ k from to. shown_run c.args.until.left.ring.now c.args.until.left.slots.now p at.place c.in-Run.end c.in-Run.value left c.requires.can_scan.left.kept seen k from (omega (arith, c.min-last.ensures)) ∙ ap (λ (v : Bool). Some v) c.if-value.false in (
-      λ x from to. left_false i p q c.args.from at.place at.seen last scan further within fails x from (omega arith),
-      left_false_scan i p q c.args.from at.place at.seen last scan further within (last - c.from-lo.result + 1) (omega arith),
+    let fails : (k : ℕ) → at.reads_at ≤ k → k ≤ last → p k ≡ Some false =
+    λ k from to. shown_run c.args.until.left.ring.now c.args.until.left.slots.now p at.reads_at c.in-Run.end c.in-Run.value left c.requires.can_scan.left.kept seen k from (omega (arith, c.min-last.ensures)) ∙ ap (λ (v : Bool). Some v) c.if-value.false in (
+      λ x from to. left_false i p q c.args.from at.reads_at at.seen last scan further within fails x from (omega arith),
+      left_false_scan i p q c.args.from at.reads_at at.seen last scan further within (last - c.from-lo.result + 1) (omega arith),
     )

@@ -20,8 +20,8 @@ turns-preserved-in-Look g c =
       counted = omega (arith, moves.onward, moves.sees_on, c.in-Look.ensures.counted);
       told = λ p q left right start. (
         (i.told p q left right start).0,
-        subst (λ (t : ℕ). Scan c.args.until.window p q t c.in-Look.next.place c.in-Look.next.seen) from
-            (c.in-Look.ensures.finds p q left right (subst (λ (t : ℕ). Scan c.args.until.window p q t c.turns.at.place c.turns.at.seen) (sym from) (i.told p q left right start).1)),
+        subst (λ (t : ℕ). Scan c.args.until.window p q t c.in-Look.next.reads_at c.in-Look.next.seen) from
+            (c.in-Look.ensures.finds p q left right (subst (λ (t : ℕ). Scan c.args.until.window p q t c.turns.at.reads_at c.turns.at.seen) (sym from) (i.told p q left right start).1)),
       );
     }
 
@@ -45,10 +45,10 @@ turns-preserved g c =
       in_time = omega (arith, moves.in_time);
       counted = omega (arith, moves.onward, moves.sees_on, c.in-Decide.ensures.counted, e.step, e.frontier);
       told = λ p q left right start.
-          let found = c.in-Decide.ensures.finds p q left right (subst (λ (t : ℕ). Scan c.args.until.window p q t c.turns.at.place c.turns.at.seen) (sym from) (i.told p q left right start).1) in (
+          let found = c.in-Decide.ensures.finds p q left right (subst (λ (t : ℕ). Scan c.args.until.window p q t c.turns.at.reads_at c.turns.at.seen) (sym from) (i.told p q left right start).1) in (
             tells_more (k_until c.args.until.window p q) (frontier_of c.args.own.now) c.turns.own c.turns.own_slots c.in-Decide.upto c.in-Decide.value c.write.new.self c.write.new.slots (i.told p q left right start).0 w
                 (λ t t_from t_to. found.0 t (omega arith) t_to),
-            subst (λ (t : ℕ). Scan c.args.until.window p q t c.in-Decide.next.place c.in-Decide.next.seen) (sym e.frontier) found.1,
+            subst (λ (t : ℕ). Scan c.args.until.window p q t c.in-Decide.next.reads_at c.in-Decide.next.seen) (sym e.frontier) found.1,
           );
     }
 
@@ -57,9 +57,9 @@ returns-in-Stop-clause-decided g c =
     λ p q left right start.
     let from : c.frontier.result ≡ frontier_of c.turns.own = c.frontier.ensures.frontier in
     let known = c.turns.invariant.told p q left right start in
-    let found = c.in-Stop.ensures.finds p q left right (subst (λ (t : ℕ). Scan c.args.until.window p q t c.turns.at.place c.turns.at.seen) (sym from) known.1) in
+    let found = c.in-Stop.ensures.finds p q left right (subst (λ (t : ℕ). Scan c.args.until.window p q t c.turns.at.reads_at c.turns.at.seen) (sym from) known.1) in
     record {
       decides = record { known = known.0.known; verdicts = known.0.verdicts; stuck = subst (λ (t : ℕ). k_until c.args.until.window p q t ≡ None) from found.0 };
-      scanned = nearer_scan c.args.until.window p q (frontier_of c.turns.own) c.turns.at.place c.turns.at.seen known.1;
+      scanned = nearer_scan c.args.until.window p q (frontier_of c.turns.own) c.turns.at.reads_at c.turns.at.seen known.1;
       reached = found.1;
     }

@@ -14,10 +14,10 @@ use Rattle.ft_slab.proofs.rows.step.Goals as goal
 pub returns-in-Not-clause-verdicts : goal.returns-in-Not-clause-verdicts
 returns-in-Not-clause-verdicts g c = λ plan truth n old new told loads.
     let op : FtOp = Not c.in-Not.g in
-    let t : IsTold plan truth n op c.args.before.now c.args.low.now c.args.node.now c.args.own.now old new = subst (λ (o : FtOp). IsTold plan truth n o c.args.before.now c.args.low.now c.args.node.now c.args.own.now old new) c.in-Not.is told in
+    let t : IsTold plan truth n op c.args.before.now c.args.earlier.now c.args.node.now c.args.own.now old new = subst (λ (o : FtOp). IsTold plan truth n o c.args.before.now c.args.earlier.now c.args.node.now c.args.own.now old new) c.in-Not.is told in
     let seat = t.ready.planned.seated in
     let operand : Shown c.operand.result.ring.now c.operand.result.slots.now (slice_get (new c.in-Not.g)) =
-    shown_operand (node_at c.args.before.now c.in-Not.g).ring c.operand.result.ring.now (part c.args.low.now (node_at c.args.before.now c.in-Not.g)) c.operand.result.slots.now (new c.in-Not.g)
+    shown_operand (node_at c.args.before.now c.in-Not.g).ring c.operand.result.ring.now (part c.args.earlier.now (node_at c.args.before.now c.in-Not.g)) c.operand.result.slots.now (new c.in-Not.g)
     c.operand.ensures.ring c.operand.ensures.slots (t.operands c.in-Not.g seat.0) in
     let front : frontier_of c.operand.result.ring.now ≡ frontier_of (node_at c.args.before.now c.in-Not.g).ring = ap (λ (r : Ring). frontier_of r) c.operand.ensures.ring in
     settled c.args.node.now.ring c.args.own.now (old (length c.args.before.now)) c.not_row.new.own c.not_row.new.own_slots (new (length c.args.before.now)) (value_of op truth (n + 1) new) (n + 1)
@@ -27,13 +27,13 @@ returns-in-Not-clause-verdicts g c = λ plan truth n old new told loads.
 pub returns-in-And-clause-verdicts : goal.returns-in-And-clause-verdicts
 returns-in-And-clause-verdicts g c = λ plan truth n old new told loads.
     let op : FtOp = And c.in-And.l c.in-And.r in
-    let t : IsTold plan truth n op c.args.before.now c.args.low.now c.args.node.now c.args.own.now old new = subst (λ (o : FtOp). IsTold plan truth n o c.args.before.now c.args.low.now c.args.node.now c.args.own.now old new) c.in-And.is told in
+    let t : IsTold plan truth n op c.args.before.now c.args.earlier.now c.args.node.now c.args.own.now old new = subst (λ (o : FtOp). IsTold plan truth n o c.args.before.now c.args.earlier.now c.args.node.now c.args.own.now old new) c.in-And.is told in
     let seat = t.ready.planned.seated in
     let left : Shown c.operand-in-And.result.ring.now c.operand-in-And.result.slots.now (slice_get (new c.in-And.l)) =
-    shown_operand (node_at c.args.before.now c.in-And.l).ring c.operand-in-And.result.ring.now (part c.args.low.now (node_at c.args.before.now c.in-And.l)) c.operand-in-And.result.slots.now (new c.in-And.l)
+    shown_operand (node_at c.args.before.now c.in-And.l).ring c.operand-in-And.result.ring.now (part c.args.earlier.now (node_at c.args.before.now c.in-And.l)) c.operand-in-And.result.slots.now (new c.in-And.l)
     c.operand-in-And.ensures.ring c.operand-in-And.ensures.slots (t.operands c.in-And.l seat.0) in
     let right : Shown c.operand-in-And-2.result.ring.now c.operand-in-And-2.result.slots.now (slice_get (new c.in-And.r)) =
-    shown_operand (node_at c.args.before.now c.in-And.r).ring c.operand-in-And-2.result.ring.now (part c.args.low.now (node_at c.args.before.now c.in-And.r)) c.operand-in-And-2.result.slots.now (new c.in-And.r)
+    shown_operand (node_at c.args.before.now c.in-And.r).ring c.operand-in-And-2.result.ring.now (part c.args.earlier.now (node_at c.args.before.now c.in-And.r)) c.operand-in-And-2.result.slots.now (new c.in-And.r)
     c.operand-in-And-2.ensures.ring c.operand-in-And-2.ensures.slots (t.operands c.in-And.r seat.1) in
     let left_front : frontier_of c.operand-in-And.result.ring.now ≡ frontier_of (node_at c.args.before.now c.in-And.l).ring = ap (λ (r : Ring). frontier_of r) c.operand-in-And.ensures.ring in
     let right_front : frontier_of c.operand-in-And-2.result.ring.now ≡ frontier_of (node_at c.args.before.now c.in-And.r).ring = ap (λ (r : Ring). frontier_of r) c.operand-in-And-2.ensures.ring in
@@ -44,34 +44,34 @@ returns-in-And-clause-verdicts g c = λ plan truth n old new told loads.
 pub returns-in-Until-clause-verdicts : goal.returns-in-Until-clause-verdicts
 returns-in-Until-clause-verdicts g c = λ plan truth n old new told loads.
     let op : FtOp = Until c.in-Until.l c.in-Until.r c.in-Until.window in
-    let t : IsTold plan truth n op c.args.before.now c.args.low.now c.args.node.now c.args.own.now old new = subst (λ (o : FtOp). IsTold plan truth n o c.args.before.now c.args.low.now c.args.node.now c.args.own.now old new) c.in-Until.is told in
+    let t : IsTold plan truth n op c.args.before.now c.args.earlier.now c.args.node.now c.args.own.now old new = subst (λ (o : FtOp). IsTold plan truth n o c.args.before.now c.args.earlier.now c.args.node.now c.args.own.now old new) c.in-Until.is told in
     let seat = t.ready.planned.seated in
     let left : Shown c.operand-in-Until.result.ring.now c.operand-in-Until.result.slots.now (slice_get (new c.in-Until.l)) =
-    shown_operand (node_at c.args.before.now c.in-Until.l).ring c.operand-in-Until.result.ring.now (part c.args.low.now (node_at c.args.before.now c.in-Until.l)) c.operand-in-Until.result.slots.now (new c.in-Until.l)
+    shown_operand (node_at c.args.before.now c.in-Until.l).ring c.operand-in-Until.result.ring.now (part c.args.earlier.now (node_at c.args.before.now c.in-Until.l)) c.operand-in-Until.result.slots.now (new c.in-Until.l)
     c.operand-in-Until.ensures.ring c.operand-in-Until.ensures.slots (t.operands c.in-Until.l seat.0) in
     let right : Shown c.operand-in-Until-2.result.ring.now c.operand-in-Until-2.result.slots.now (slice_get (new c.in-Until.r)) =
-    shown_operand (node_at c.args.before.now c.in-Until.r).ring c.operand-in-Until-2.result.ring.now (part c.args.low.now (node_at c.args.before.now c.in-Until.r)) c.operand-in-Until-2.result.slots.now (new c.in-Until.r)
+    shown_operand (node_at c.args.before.now c.in-Until.r).ring c.operand-in-Until-2.result.ring.now (part c.args.earlier.now (node_at c.args.before.now c.in-Until.r)) c.operand-in-Until-2.result.slots.now (new c.in-Until.r)
     c.operand-in-Until-2.ensures.ring c.operand-in-Until-2.ensures.slots (t.operands c.in-Until.r seat.1) in
     let decided : DecidesUntil c.in-Until.window (slice_get (new c.in-Until.l)) (slice_get (new c.in-Until.r)) c.until_row-node.new.own c.until_row-node.new.own_slots (frontier_of c.args.node.now.ring) c.until_row-node.result =
     c.until_row-node.ensures.decided (slice_get (new c.in-Until.l)) (slice_get (new c.in-Until.r)) left right
-    (scan_kept c.in-Until.window old new c.in-Until.l c.in-Until.r (frontier_of c.args.node.now.ring) c.args.node.now.place t.extends t.scanned) in
+    (scan_kept c.in-Until.window old new c.in-Until.l c.in-Until.r (frontier_of c.args.node.now.ring) c.args.node.now.reads_at t.extends t.scanned) in
     let right_front : frontier_of c.operand-in-Until-2.result.ring.now ≡ frontier_of (node_at c.args.before.now c.in-Until.r).ring = ap (λ (r : Ring). frontier_of r) c.operand-in-Until-2.ensures.ring in
     settled c.args.node.now.ring c.args.own.now (old (length c.args.before.now)) c.until_row-node.new.own c.until_row-node.new.own_slots (new (length c.args.before.now)) (value_of op truth (n + 1) new) (n + 1)
     t.longest (t.extends.each (length c.args.before.now)) t.verdicts c.until_row-node.ensures.goes_on decided.decides
-    (omega (arith, right_front, (t.ready.operands.each c.in-Until.r seat.1).at_most, t.ready.placed.2, c.until_row-node.ensures.place.reach, c.until_row-node.ensures.place.in_time))
+    (omega (arith, right_front, (t.ready.operands.each c.in-Until.r seat.1).at_most, t.ready.placed.2, c.until_row-node.ensures.reads_at.reach, c.until_row-node.ensures.reads_at.in_time))
 
 pub returns-in-Until-clause-scanned : goal.returns-in-Until-clause-scanned
 returns-in-Until-clause-scanned g c = λ plan truth n old new told loads.
     let op : FtOp = Until c.in-Until.l c.in-Until.r c.in-Until.window in
-    let t : IsTold plan truth n op c.args.before.now c.args.low.now c.args.node.now c.args.own.now old new = subst (λ (o : FtOp). IsTold plan truth n o c.args.before.now c.args.low.now c.args.node.now c.args.own.now old new) c.in-Until.is told in
+    let t : IsTold plan truth n op c.args.before.now c.args.earlier.now c.args.node.now c.args.own.now old new = subst (λ (o : FtOp). IsTold plan truth n o c.args.before.now c.args.earlier.now c.args.node.now c.args.own.now old new) c.in-Until.is told in
     let seat = t.ready.planned.seated in
     let left : Shown c.operand-in-Until.result.ring.now c.operand-in-Until.result.slots.now (slice_get (new c.in-Until.l)) =
-    shown_operand (node_at c.args.before.now c.in-Until.l).ring c.operand-in-Until.result.ring.now (part c.args.low.now (node_at c.args.before.now c.in-Until.l)) c.operand-in-Until.result.slots.now (new c.in-Until.l)
+    shown_operand (node_at c.args.before.now c.in-Until.l).ring c.operand-in-Until.result.ring.now (part c.args.earlier.now (node_at c.args.before.now c.in-Until.l)) c.operand-in-Until.result.slots.now (new c.in-Until.l)
     c.operand-in-Until.ensures.ring c.operand-in-Until.ensures.slots (t.operands c.in-Until.l seat.0) in
     let right : Shown c.operand-in-Until-2.result.ring.now c.operand-in-Until-2.result.slots.now (slice_get (new c.in-Until.r)) =
-    shown_operand (node_at c.args.before.now c.in-Until.r).ring c.operand-in-Until-2.result.ring.now (part c.args.low.now (node_at c.args.before.now c.in-Until.r)) c.operand-in-Until-2.result.slots.now (new c.in-Until.r)
+    shown_operand (node_at c.args.before.now c.in-Until.r).ring c.operand-in-Until-2.result.ring.now (part c.args.earlier.now (node_at c.args.before.now c.in-Until.r)) c.operand-in-Until-2.result.slots.now (new c.in-Until.r)
     c.operand-in-Until-2.ensures.ring c.operand-in-Until-2.ensures.slots (t.operands c.in-Until.r seat.1) in
     let decided : DecidesUntil c.in-Until.window (slice_get (new c.in-Until.l)) (slice_get (new c.in-Until.r)) c.until_row-node.new.own c.until_row-node.new.own_slots (frontier_of c.args.node.now.ring) c.until_row-node.result =
     c.until_row-node.ensures.decided (slice_get (new c.in-Until.l)) (slice_get (new c.in-Until.r)) left right
-    (scan_kept c.in-Until.window old new c.in-Until.l c.in-Until.r (frontier_of c.args.node.now.ring) c.args.node.now.place t.extends t.scanned) in
-    subst (λ (o : FtOp). IsScanned o new record { ring = c.until_row-node.new.own; place = c.until_row-node.result; start = c.args.node.now.start; size = c.args.node.now.size }) (sym c.in-Until.is) decided.scanned
+    (scan_kept c.in-Until.window old new c.in-Until.l c.in-Until.r (frontier_of c.args.node.now.ring) c.args.node.now.reads_at t.extends t.scanned) in
+    subst (λ (o : FtOp). IsScanned o new record { ring = c.until_row-node.new.own; reads_at = c.until_row-node.result; start = c.args.node.now.start; size = c.args.node.now.size }) (sym c.in-Until.is) decided.scanned

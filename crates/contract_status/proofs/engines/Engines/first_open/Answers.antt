@@ -7,8 +7,8 @@ returns-in-Some c = record {
       let program = c.args.program.now in
       let k = c.loop-k.k in
       let out = c.get.result.now in
-      first_here program rows c.args.places.now k out c.in-Some.stretch c.get.ensures (c.loop-k.invariant rows taken known)
-      (c.in-Some.ensures.shows program rows taken (placed_within program rows c.args.places.now k out known c.get.ensures));
+      first_here program rows c.args.next_times.now k out c.in-Some.stretch c.get.ensures (c.loop-k.invariant rows taken known)
+      (c.in-Some.ensures.shows program rows taken (placed_within program rows c.args.next_times.now k out known c.get.ensures));
 }
 
 pub loop-k-preserved : goal.loop-k-preserved
@@ -16,5 +16,5 @@ loop-k-preserved c = λ rows taken known.
     let program = c.args.program.now in
     let k = c.loop-k.k in
     let out = c.get.result.now in
-    more_told program rows c.args.places.now k out c.get.ensures (c.loop-k.invariant rows taken known)
-    (c.in_default.ensures.shows program rows taken (placed_within program rows c.args.places.now k out known c.get.ensures))
+    more_told program rows c.args.next_times.now k out c.get.ensures (c.loop-k.invariant rows taken known)
+    (c.in_default.ensures.shows program rows taken (placed_within program rows c.args.next_times.now k out known c.get.ensures))

@@ -6,4 +6,4 @@ use Rattle.contract_status.proofs.engines.Engines.first_open.Given as goal
 
 abbrev pub invariant-loop-k : goal.invariant-loop-k
 invariant-loop-k l =
-    (rows : List Row) → HaveTaken l.program rows l.self → AreKnown l.program rows l.places → (j : ℕ) → j < l.k → slice_index (known_counts_of l.program rows) j ≤ slice_index l.places j
+    (rows : List Row) → HaveTaken l.program rows l.self → AreKnown l.program rows l.next_times → (j : ℕ) → j < l.k → slice_index (known_counts_of l.program rows) j ≤ slice_index l.next_times j

@@ -19,13 +19,13 @@ pub loop-i-preserved : goal.loop-i-preserved
 loop-i-preserved c =
     let nodes : List Node = c.loop-i.nodes.items in
     let size : ℕ = get_or c.args.sizes.now c.loop-i.i 0 in
-    let new : Node = record { ring = c.make.result; place = c.first_place.result; start = c.loop-i.start; size = size } in
+    let new : Node = record { ring = c.make.result; reads_at = c.first_read.result; start = c.loop-i.start; size = size } in
     let ok = c.loop-i.nodes.ok.0 in
     let count : length nodes ≡ c.loop-i.i = omega (arith, c.loop-i.invariant.count) in
     let items : c.push.new.self.items ≡ nodes ++ new ∷ [] = c.in_ok-push.ensures.items in
     let more : Started c.args.ops.now c.args.sizes.now (nodes ++ new ∷ []) (c.loop-i.start + size) (c.loop-i.i + 1) =
     started_more c.args.ops.now c.args.sizes.now nodes c.loop-i.start c.loop-i.i new count c.loop-i.invariant.started
-    (record { front = c.make.ensures.frontier; low = c.make.ensures.low; belongs = c.make.ensures.belongs; place = c.first_place.ensures; size = refl }) refl in
+    (record { front = c.make.ensures.frontier; low = c.make.ensures.low; belongs = c.make.ensures.belongs; reads_at = c.first_read.ensures; size = refl }) refl in
     record {
       count = c.in_ok-push.ensures.len ∙ ap (λ (k : ℕ). k + 1) c.loop-i.invariant.count;
       total = grind (arith, common_steps, c.loop-i.invariant.total);

@@ -13,10 +13,10 @@ returns-then-spans-self-clause-rest c =
     let boxes = c.args.self.now in
     let spans : List Span = c.args.spans.now in
     let first : Span = get_or spans boxes.oldest no_span in
-    let rest : List Span = window c.place-self.result (boxes.used - 1) spans in
+    let rest : List Span = window c.ring_index-self.result (boxes.used - 1) spans in
     let ended : first.last < c.args.now = c.if-spans-self.true in
     let e : kept boxes spans ≡ first ∷ rest =
-    kept_first boxes spans c.requires.belongs c.if-self-gt0.true ∙ ap (λ (j : ℕ). first ∷ window j (boxes.used - 1) spans) (sym c.place-self.ensures.place) in
+    kept_first boxes spans c.requires.belongs c.if-self-gt0.true ∙ ap (λ (j : ℕ). first ∷ window j (boxes.used - 1) spans) (sym c.ring_index-self.ensures.ring_index) in
     sym (ap (λ (xs : List Span). without_ended c.args.now xs) e ∙ without_ended-past c.args.now first rest ended)
 
 pub returns-else-self-gt0-clause-rest : goal.returns-else-self-gt0-clause-rest

@@ -14,9 +14,9 @@ returns-then-self-gt0 c =
     let spans : List Span = c.args.spans.now in
     let first : ℕ = c.args.first in
     let front : List Span = window boxes.oldest (boxes.used - 1) spans in
-    let newest : Span = get_or spans c.place.result no_span in
+    let newest : Span = get_or spans c.ring_index.result no_span in
     let e : kept boxes spans ≡ front ++ newest ∷ [] =
-    kept_newest boxes spans c.requires.belongs c.if-self-gt0.true ∙ ap (λ (j : ℕ). front ++ get_or spans j no_span ∷ []) (sym c.place.ensures.place) in
+    kept_newest boxes spans c.requires.belongs c.if-self-gt0.true ∙ ap (λ (j : ℕ). front ++ get_or spans j no_span ∷ []) (sym c.ring_index.ensures.ring_index) in
     let before : c.saturating_sub.result ≡ first - 1 = c.saturating_sub.ensures in
     record { meets = ap (λ (k : ℕ). nat_le k newest.last) before ∙ starts_by first newest.last ∙ sym (ap (λ (xs : List Span). meets first xs) e ∙ meets-append first front newest) }
 

@@ -1,5 +1,5 @@
 use Rattle.std.proofs.Common.{◌≡◌, ℕ, ◌-◌, List, [], ◌∷◌, ◌++◌, get_or, set, arith, ap, sym, ◌∙◌}
-use Rattle.scq_ring.specs.Runs.{window, place_of}
+use Rattle.scq_ring.specs.Runs.{window, ring_index_of}
 use Rattle.scq_ring.proofs.Windows.{window_after_change}
 use Rattle.pt_boxes.specs.declared.boxes.Span.{Span}
 use Rattle.pt_boxes.specs.Boxes.{kept}
@@ -12,13 +12,13 @@ pub returns-clause-prolonged : goal.returns-clause-prolonged
 returns-clause-prolonged c =
     let boxes = c.args.self.now in
     let spans : List Span = c.args.spans.now in
-    let j : ℕ = c.place-newest.result in
+    let j : ℕ = c.ring_index-newest.result in
     let front : List Span = window boxes.oldest (boxes.used - 1) spans in
     let newest : Span = get_or spans j no_span in
     let new : Span = record { first = newest.first; last = c.args.last } in
     let b = c.requires.belongs in
     let used_in = b.used_in in
-    let j_is : j ≡ place_of boxes.oldest (boxes.used - 1) _ = c.place-newest.ensures.place in
+    let j_is : j ≡ ring_index_of boxes.oldest (boxes.used - 1) _ = c.ring_index-newest.ensures.ring_index in
     let e : kept boxes spans ≡ front ++ newest ∷ [] =
     kept_newest boxes spans b c.requires.some_box ∙ ap (λ (k : ℕ). front ++ get_or spans k no_span ∷ []) (sym j_is) in
     ap (λ (k : ℕ). window boxes.oldest boxes.used (set spans k new)) j_is

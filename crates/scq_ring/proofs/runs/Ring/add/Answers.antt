@@ -12,11 +12,11 @@ returns c =
     let r : Slot = record { upto = c.args.upto; value = c.args.value } in
     let ring = c.args.self.now in
     let slots = c.args.slots.now in
-    let e : window ring.oldest (ring.used + 1) (set slots c.place.result r) ≡ window ring.oldest ring.used slots ++ r ∷ [] =
-    ap (λ (j : ℕ). window ring.oldest (ring.used + 1) (set slots j r)) c.place.ensures.place
+    let e : window ring.oldest (ring.used + 1) (set slots c.ring_index.result r) ≡ window ring.oldest ring.used slots ++ r ∷ [] =
+    ap (λ (j : ℕ). window ring.oldest (ring.used + 1) (set slots j r)) c.ring_index.ensures.ring_index
     ∙ window_after_push ring.oldest ring.used slots c.requires.belongs.oldest_in c.requires.belongs.used_in r c.requires.free in
-    let q = pushed ring.low (window ring.oldest ring.used slots) ring.frontier r c.requires.belongs.spans c.requires.ahead (window ring.oldest (ring.used + 1) (set slots c.place.result r)) e in
-    let same_length = length-set slots c.place.result r in
+    let q = pushed ring.low (window ring.oldest ring.used slots) ring.frontier r c.requires.belongs.spans c.requires.ahead (window ring.oldest (ring.used + 1) (set slots c.ring_index.result r)) e in
+    let same_length = length-set slots c.ring_index.result r in
     record {
       belongs = record { oldest_in = omega arith; used_in = omega arith; spans = q.spans };
       frontier = refl;

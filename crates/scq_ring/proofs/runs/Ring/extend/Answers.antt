@@ -1,6 +1,6 @@
 use Rattle.std.proofs.Common.{◌≡◌, ℕ, ◌-◌, List, [], ◌∷◌, ◌++◌, length, set, get_or, arith, refl, ap, subst, sym, ◌∙◌}
 use Rattle.std.proofs.lemmas.List.{length-set}
-use Rattle.scq_ring.specs.Runs.{frontier_of, low_of, no_slot, verdict_at, window, Spans, value_in, place_of}
+use Rattle.scq_ring.specs.Runs.{frontier_of, low_of, no_slot, verdict_at, window, Spans, value_in, ring_index_of}
 use Rattle.scq_ring.specs.declared.runs.Slot.{Slot}
 use Rattle.scq_ring.proofs.Windows.{window_last, window_after_change}
 use Rattle.scq_ring.proofs.RunLemmas.{extended, Extended}
@@ -15,7 +15,7 @@ returns c =
     let front : List Slot = window ring.oldest (ring.used - 1) slots in
     let last : Slot = get_or slots j no_slot in
     let r : Slot = record { upto = c.args.upto; value = last.value } in
-    let j_is : j ≡ place_of ring.oldest (ring.used - 1) (length slots) = c.requires.newest.place in
+    let j_is : j ≡ ring_index_of ring.oldest (ring.used - 1) (length slots) = c.requires.newest.ring_index in
     let e : window ring.oldest ring.used slots ≡ front ++ last ∷ [] =
     window_last ring.oldest ring.used slots c.requires.belongs.oldest_in c.requires.belongs.used_in c.requires.newest.some_run no_slot
     ∙ ap (λ (k : ℕ). front ++ get_or slots k no_slot ∷ []) (sym j_is) in

@@ -24,16 +24,16 @@ returns c =
     let ring = c.args.self.now in
     let slots = c.args.slots.now in
     let first : Slot = get_or slots ring.oldest no_slot in
-    let rest : List Slot = window c.place-self.result (ring.used - 1) slots in
+    let rest : List Slot = window c.ring_index-self.result (ring.used - 1) slots in
     let e : window ring.oldest ring.used slots ≡ first ∷ rest =
     window_before_pop ring.oldest ring.used slots c.requires.belongs.oldest_in c.requires.belongs.used_in no_slot c.requires.some_run
-    ∙ ap (λ (j : ℕ). first ∷ window j (ring.used - 1) slots) (sym c.place-self.ensures.place) in
+    ∙ ap (λ (j : ℕ). first ∷ window j (ring.used - 1) slots) (sym c.ring_index-self.ensures.ring_index) in
     let q : Shortened ring.low first rest ring.frontier =
     shortened ring.low first rest ring.frontier (subst (λ (rs : List Slot). Spans ring.low rs ring.frontier) e c.requires.belongs.spans) in
     let P : ℕ → Type 0 = λ j. j < length slots in
-    let oldest_in : c.place-self.result < length slots = subst P (sym c.place-self.ensures.place) (next_within ring.oldest (length slots) c.requires.belongs.oldest_in) in
+    let oldest_in : c.ring_index-self.result < length slots = subst P (sym c.ring_index-self.ensures.ring_index) (next_within ring.oldest (length slots) c.requires.belongs.oldest_in) in
     let used_in : ring.used - 1 ≤ length slots = omega (arith, c.requires.belongs.used_in) in
-    let size : length rest ≡ ring.used - 1 = length-window c.place-self.result (ring.used - 1) slots oldest_in used_in in
+    let size : length rest ≡ ring.used - 1 = length-window c.ring_index-self.result (ring.used - 1) slots oldest_in used_in in
     record {
       belongs = record { oldest_in = oldest_in; used_in = used_in; spans = q.spans };
       frontier = refl;

@@ -1,7 +1,7 @@
 use Rattle.std.proofs.Common.{◌≡◌, ℕ, ◌-◌, ◌<◌, ◌≤◌, List, length, get_or, arith, subst, sym}
 use Rattle.scq_ring.specs.Runs.{no_slot, runs_of}
 use Rattle.scq_ring.specs.declared.runs.Slot.{Slot}
-use Rattle.scq_ring.proofs.RunLemmas.{Spans-rising, has_newest, length-runs, run_at_place}
+use Rattle.scq_ring.proofs.RunLemmas.{Spans-rising, has_newest, length-runs, run_at_index}
 use Rattle.scq_ring.proofs.runs.Ring.newest_around.Goals as goal
 
 pub overflow_sub-last : goal.overflow_sub-last
@@ -14,16 +14,16 @@ back-init c =
     let ends = newest.ends in
     record { onward = omega arith; paced = omega arith; reached = omega arith }
 
-pub returns-then-slots-place : goal.returns-then-slots-place
-returns-then-slots-place c =
+pub returns-then-slots-ring_index : goal.returns-then-slots-ring_index
+returns-then-slots-ring_index c =
     let ring = c.args.self.now in
     let slots = c.args.slots.now in
     let runs : List Slot = runs_of ring slots in
     let before : ℕ = c.back.last - c.back.step in
     let size : length runs ≡ ring.used = length-runs ring slots c.requires.belongs in
-    let same : get_or runs before no_slot ≡ get_or slots c.place.result no_slot = run_at_place ring slots before c.place.result c.requires.belongs (omega arith) c.place.ensures.place in
+    let same : get_or runs before no_slot ≡ get_or slots c.ring_index.result no_slot = run_at_index ring slots before c.ring_index.result c.requires.belongs (omega arith) c.ring_index.ensures.ring_index in
     let P : Slot → Type 0 = λ r. r.upto < c.args.from in
-    let ends_before : (get_or runs before no_slot).upto < c.args.from = subst P (sym same) c.if-slots-place.true in
+    let ends_before : (get_or runs before no_slot).upto < c.args.from = subst P (sym same) c.if-slots-ring_index.true in
     record {
       around = record {
         ordered = omega arith;
@@ -36,12 +36,12 @@ returns-then-slots-place c =
 pub back-preserved : goal.back-preserved
 back-preserved c =
     let before : ℕ = c.back.last - c.back.step in
-    let same = run_at_place c.args.self.now c.args.slots.now before c.place.result c.requires.belongs (omega arith) c.place.ensures.place in
+    let same = run_at_index c.args.self.now c.args.slots.now before c.ring_index.result c.requires.belongs (omega arith) c.ring_index.ensures.ring_index in
     let P : Slot → Type 0 = λ r. c.args.from ≤ r.upto in
     record {
       onward = omega arith;
       paced = omega arith;
-      reached = subst P (sym same) (omega (arith, c.if-slots-place.false));
+      reached = subst P (sym same) (omega (arith, c.if-slots-ring_index.false));
     }
 
 pub returns : goal.returns

@@ -1,11 +1,11 @@
 use Rattle.std.proofs.Common.{◌≡◌, ℕ, ◌+◌, ◌-◌, ◌/◌, ◌<◌, ◌≤◌, List, length, get_or, arith, subst, sym}
 use Rattle.scq_ring.specs.Runs.{frontier_of, no_slot, runs_of, verdict_at, value_in}
 use Rattle.scq_ring.specs.declared.runs.Slot.{Slot}
-use Rattle.scq_ring.proofs.RunLemmas.{Spans-upto, Spans-rising, length-runs, run_at_place, value_in_first}
+use Rattle.scq_ring.proofs.RunLemmas.{Spans-upto, Spans-rising, length-runs, run_at_index, value_in_first}
 use Rattle.scq_ring.proofs.runs.Ring.run_at.Goals as goal
 
-pub halving-preserved-then-slots-place : goal.halving-preserved-then-slots-place
-halving-preserved-then-slots-place c =
+pub halving-preserved-then-slots-ring_index : goal.halving-preserved-then-slots-ring_index
+halving-preserved-then-slots-ring_index c =
     let ring = c.args.self.now in
     let slots = c.args.slots.now in
     let runs : List Slot = runs_of ring slots in
@@ -14,9 +14,9 @@ halving-preserved-then-slots-place c =
     let within = around.within in
     let middle : ℕ = c.halving.first + (c.halving.last - c.halving.first) / 2 in
     let size : length runs ≡ ring.used = length-runs ring slots c.requires.belongs in
-    let same : get_or runs middle no_slot ≡ get_or slots c.place.result no_slot = run_at_place ring slots middle c.place.result c.requires.belongs (omega arith) c.place.ensures.place in
+    let same : get_or runs middle no_slot ≡ get_or slots c.ring_index.result no_slot = run_at_index ring slots middle c.ring_index.result c.requires.belongs (omega arith) c.ring_index.ensures.ring_index in
     let P : Slot → Type 0 = λ r. r.upto < c.args.from in
-    let ends_before : (get_or runs middle no_slot).upto < c.args.from = subst P (sym same) c.if-slots-place.true in
+    let ends_before : (get_or runs middle no_slot).upto < c.args.from = subst P (sym same) c.if-slots-ring_index.true in
     record {
       around = record {
         ordered = omega arith;
@@ -32,14 +32,14 @@ halving-preserved c =
     let ordered = around.ordered in
     let within = around.within in
     let middle : ℕ = c.halving.first + (c.halving.last - c.halving.first) / 2 in
-    let same = run_at_place c.args.self.now c.args.slots.now middle c.place.result c.requires.belongs (omega arith) c.place.ensures.place in
+    let same = run_at_index c.args.self.now c.args.slots.now middle c.ring_index.result c.requires.belongs (omega arith) c.ring_index.ensures.ring_index in
     let P : Slot → Type 0 = λ r. c.args.from ≤ r.upto in
     record {
       around = record {
         ordered = omega arith;
         within = omega arith;
         below = around.below;
-        reached = subst P (sym same) (omega (arith, c.if-slots-place.false));
+        reached = subst P (sym same) (omega (arith, c.if-slots-ring_index.false));
       };
     }
 
@@ -54,8 +54,8 @@ returns c =
     let within = around.within in
     let only : c.halving.first ≡ c.halving.last = omega arith in
     let size : length runs ≡ ring.used = length-runs ring slots c.requires.belongs in
-    let same : get_or runs c.halving.first no_slot ≡ get_or slots c.place-2.result no_slot =
-    run_at_place ring slots c.halving.first c.place-2.result c.requires.belongs (omega arith) c.place-2.ensures.place in
+    let same : get_or runs c.halving.first no_slot ≡ get_or slots c.ring_index-2.result no_slot =
+    run_at_index ring slots c.halving.first c.ring_index-2.result c.requires.belongs (omega arith) c.ring_index-2.ensures.ring_index in
     let Reaches : Slot → Type 0 = λ r. c.args.from ≤ r.upto in
     let Known : Slot → Type 0 = λ r. r.upto < ring.frontier in
     let Alike : Slot → Type 0 = λ r. (t : ℕ) → c.args.from ≤ t → t ≤ r.upto → value_in runs t ≡ r.value in
