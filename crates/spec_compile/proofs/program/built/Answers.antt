@@ -12,8 +12,17 @@ use Rattle.spec_compile.proofs.ImageLaws.{image_is}
 use Rattle.spec_compile.proofs.NameLaws.{output_letters, signal_letters}
 use Rattle.spec_compile.proofs.program.built.Goals as goal
 
-pub build-requires-clause-kinds : goal.build-requires-clause-kinds
-build-requires-clause-kinds c = rw c.signals_of.ensures.signals c.requires.unfolded.kinds
+pub build-requires : goal.build-requires
+build-requires c = record {
+  sound = rw c.signals_of.ensures.signals c.requires.unfolded.sound;
+  faultless = c.requires.unfolded.ranged;
+  kinds = rw c.signals_of.ensures.signals c.requires.unfolded.kinds;
+  named = c.signals_of.ensures.named;
+  one_each = rw c.signals_of.ensures.signals c.requires.columns.one_each;
+  below = c.requires.columns.below;
+  different = c.requires.columns.different;
+  narrow = c.requires.columns.narrow;
+}
 
 pub returns-clause-image : goal.returns-clause-image
 returns-clause-image c =
