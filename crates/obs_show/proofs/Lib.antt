@@ -1,3 +1,4 @@
 pub mod NameLaws
 pub mod TextLaws
 pub mod WeightLaws
+pub mod FreeLaws
