@@ -48,6 +48,11 @@ abbrev pub work_before : List FtOp → (ℕ → ℕ) → ℕ → ℕ
 work_before ops size zero = 0
 work_before ops size (suc n) = work_before ops size n + work_of size (op_at ops n) (size n)
 
+-- a node keeps its part of the slab
+pub record KeepsSeat (old new : Node) : Type 0 where
+  pub start : new.start ≡ old.start
+  pub size : new.size ≡ old.size
+
 -- each node keeps its part of the slab
 pub record KeepsSeats (old new : List Node) : Type 0 where
   pub same_length : length new ≡ length old

@@ -54,6 +54,12 @@ pub record Paced (plan : Plan) (i : ℕ) (node : Node) (slots : List Slot) (n : 
   pub at_most : frontier_of node.ring ≤ n - plan.best i
   pub low : low_of node.ring ≤ n - 1 - plan.widest i
 
+-- after n rows a queue is as far as it is planned to be, and so is the place from which an until reads, past what its operands lack
+pub record IsOnPlan (plan : Plan) (op : FtOp) (before : List Node) (node : Node) (slots : List Slot) (n : ℕ) : Type 0 where
+  pub paced : Paced plan (length before) node slots n
+  pub placed : IsPlaced plan (length before) op node n
+  pub ahead : ReadsAhead op (front_in before) (reads_from op node)
+
 -- the first i instructions have taken n rows
 pub record ArePaced (plan : Plan) (nodes : List Node) (slab : List Slot) (n i : ℕ) : Type 0 where
   pub within : (j : ℕ) → j < i → (node_at nodes j).start + (node_at nodes j).size ≤ length slab
@@ -66,6 +72,10 @@ pub record IsReady (plan : Plan) (n : ℕ) (op : FtOp) (before : List Node) (ear
   pub paced : Paced plan (length before) node own n
   pub placed : IsPlaced plan (length before) op node n
   pub few : n < 2 ^ 40
+
+-- by some plan, an instruction is to take a row, after those before it
+abbrev pub CanTakeRow : FtOp → List Node → List Slot → Node → List Slot → Type 0
+CanTakeRow op before earlier node own = (plan : Plan) × (n : ℕ) × IsReady plan n op before earlier node own
 
 -- all instructions have taken n rows
 pub record IsPaced (plan : Plan) (ops : List FtOp) (nodes : List Node) (slab : List Slot) (n : ℕ) : Type 0 where

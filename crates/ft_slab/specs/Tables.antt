@@ -49,6 +49,11 @@ IsScanned (And l r) table node = Unit {0}
 IsScanned (Until l r window) table node =
     Scan window (slice_get (table l)) (slice_get (table r)) (frontier_of node.ring) node.reads_at node.reads_at
 
+-- the queue of the instruction after these has its verdicts, and an until has scanned its operands as far as it reads
+pub record IsUpToDate (op : FtOp) (table : Table) (before : List Node) (node : Node) (slots : List Slot) : Type 0 where
+  pub verdicts : HasVerdicts node.ring slots (table (length before))
+  pub scanned : IsScanned op table node
+
 -- what an instruction meets that takes row n: its operands have the verdicts after that row, and it has those before
 pub record IsTold (plan : Plan) (truth : Loads) (n : ℕ) (op : FtOp) (before : List Node) (earlier : List Slot) (node : Node) (own : List Slot) (old new : Table) : Type 0 where
   pub ready : IsReady plan n op before earlier node own
@@ -70,6 +75,10 @@ pub record TakesRow (plan : Plan) (truth : Loads) (n : ℕ) (ops : List FtOp) (n
   pub table : IsTable ops truth (n + 1) new
   pub extends : Extends old new
   pub verdicts : HaveVerdicts ops old nodes slab
+
+-- what is given for the truth that an instruction loads is what it is
+abbrev pub Agrees : FtOp → (ℕ → Bool) → (ℕ → Bool → Type 0) → Type 0
+Agrees op truth gives = (k : ℕ) (v : Bool) → op ≡ Load k → gives k v → truth k ≡ v
 
 -- what is given for the truths that instructions load is what they are
 abbrev pub AgreeOnLoads : List FtOp → (ℕ → Bool) → (ℕ → Bool → Type 0) → Type 0

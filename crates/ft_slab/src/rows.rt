@@ -1,11 +1,11 @@
 //! One row of all future-time instructions.
 
-ghost use Rattle.std.specs.Prelude.{◌≡◌, ℕ, Bool, ◌+◌, ◌-◌, ◌*◌, ◌^◌, ◌<◌, ◌≤◌, length};
+ghost use Rattle.std.specs.Prelude.{◌≡◌, ℕ, ◌+◌, ◌-◌, ◌*◌, ◌^◌, ◌<◌, ◌≤◌, length};
 ghost use Rattle.mltl_base.specs.declared.operators.FtOp.TheVariants.{Load as loads};
 ghost use Rattle.scq_ring.specs.Runs.{Belongs};
-ghost use Rattle.ft_slab.specs.Nodes.{KeepsSeats, ReadsAhead, front_in, node_at, op_at, part, reads_from, size_in, work_before, work_of};
-ghost use Rattle.ft_slab.specs.Tables.{AgreeOnLoads, HasVerdicts, HaveVerdicts, IsScanned, IsTold, Loads, Table, TakesRow};
-ghost use Rattle.ft_slab.specs.Plans.{IsPaced, IsPlaced, IsReady, Paced, Plan};
+ghost use Rattle.ft_slab.specs.Nodes.{KeepsSeat, KeepsSeats, ReadsAhead, front_in, node_at, op_at, part, reads_from, size_in, work_before, work_of};
+ghost use Rattle.ft_slab.specs.Tables.{AgreeOnLoads, Agrees, HaveVerdicts, IsTold, IsUpToDate, Loads, Table, TakesRow};
+ghost use Rattle.ft_slab.specs.Plans.{CanTakeRow, IsOnPlan, IsPaced, IsReady, Plan};
 
 use crate::truths::Truths;
 use ft_ops::{Operand, Until, and_row, not_row, until_row};
@@ -49,36 +49,25 @@ fn step<T: Truths, L: Ledger>(
     steps: &mut Steps<L>,
 )
     requires loaded { (k : ℕ) → op ≡ loads k → T.has truths.now k }
-    requires ready { (plan : Plan) × (n : ℕ)
-        × IsReady plan n op before.now earlier.now node.old own.old }
-    ensures start { node.new.start ≡ node.old.start }
-    ensures size { node.new.size ≡ node.old.size }
+    requires ready { CanTakeRow op before.now earlier.now node.old own.old }
+    ensures seat { KeepsSeat node.old node.new }
     ensures paced { (plan : Plan) (n : ℕ) → IsReady plan n op before.now earlier.now node.old own.old
-        → Paced plan (length before.now) node.new own.new (n + 1) }
-    ensures placed { (plan : Plan) (n : ℕ) → IsReady plan n op before.now earlier.now node.old own.old
-        → IsPlaced plan (length before.now) op node.new (n + 1) }
-    ensures ahead { ReadsAhead op (front_in before.now) (reads_from op node.new) }
+        → IsOnPlan plan op before.now node.new own.new (n + 1) }
     ensures counted { steps.new ≤ steps.old + work_of (size_in before.now) op (length own.old) }
     ensures verdicts { (plan : Plan) (truth : Loads) (n : ℕ) (old new : Table)
         → IsTold plan truth n op before.now earlier.now node.old own.old old new
-        → ((k : ℕ) (v : Bool) → op ≡ loads k → T.gives truths.now k v → truth n k ≡ v) → HasVerdicts node.new.ring own.new (new (length before.now)) }
-    ensures scanned { (plan : Plan) (truth : Loads) (n : ℕ) (old new : Table)
-        → IsTold plan truth n op before.now earlier.now node.old own.old old new
-        → ((k : ℕ) (v : Bool) → op ≡ loads k → T.gives truths.now k v → truth n k ≡ v) → IsScanned op new node.new }
+        → Agrees op (truth n) (T.gives truths.now) → IsUpToDate op new before.now node.new own.new }
 {
+    let next = node.ring.frontier();
     match op {
-        FtOp::True => node.ring.write(own, node.ring.frontier(), true, steps),
-        FtOp::Load(k) => node
-            .ring
-            .write(own, node.ring.frontier(), truths.truth(k), steps),
+        FtOp::True => node.ring.write(own, next, true, steps),
+        FtOp::Load(k) => node.ring.write(own, next, truths.truth(k), steps),
         FtOp::Not(g) => not_row(&mut node.ring, own, operand(before, earlier, g), steps),
-        FtOp::And(l, r) => and_row(
-            &mut node.ring,
-            own,
-            operand(before, earlier, l),
-            operand(before, earlier, r),
-            steps,
-        ),
+        FtOp::And(l, r) => {
+            let left = operand(before, earlier, l);
+            let right = operand(before, earlier, r);
+            and_row(&mut node.ring, own, left, right, steps);
+        }
         FtOp::Until(l, r, window) => {
             let until = Until {
                 left: operand(before, earlier, l),
@@ -109,7 +98,8 @@ pub fn row_of<T: Truths, L: Ledger>(
         ≤ steps.old + work_before ops.now (size_in nodes.old) (length ops.now) }
     ensures verdicts { (plan : Plan) (truth : Loads) (n : ℕ) (old new : Table)
         → TakesRow plan truth n ops.now nodes.old slab.old old new
-        → AgreeOnLoads ops.now (truth n) (T.gives truths.now) → HaveVerdicts ops.now new nodes.new slab.new }
+        → AgreeOnLoads ops.now (truth n) (T.gives truths.now)
+        → HaveVerdicts ops.now new nodes.new slab.new }
 {
     for i in 0..ops.len() {
         let (before, rest) = nodes.split_at_mut(i);

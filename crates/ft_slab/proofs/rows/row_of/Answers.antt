@@ -3,8 +3,8 @@ use Rattle.mltl_base.specs.declared.operators.FtOp.{FtOp}
 use Rattle.scq_ring.specs.declared.Slot.{Slot}
 use Rattle.ft_slab.specs.declared.rows.Node.{Node}
 use Rattle.ft_slab.specs.Nodes.{no_node, node_at, op_at, size_in, work_before, work_of, front_in, reads_from, ReadsAhead}
-use Rattle.ft_slab.specs.Plans.{IsPaced, IsPlaced, IsReady, IsSeated, Plan}
-use Rattle.ft_slab.specs.Tables.{IsScanned, IsTold}
+use Rattle.ft_slab.specs.Plans.{IsOnPlan, IsPaced, IsPlaced, IsReady, IsSeated, Plan}
+use Rattle.ft_slab.specs.Tables.{IsScanned, IsTold, IsUpToDate}
 use Rattle.mltl_base.specs.declared.operators.FtOp.TheVariants.{Load}
 use Rattle.ft_slab.proofs.Pieces.{first_behind}
 use Rattle.ft_slab.proofs.Seats.{Stepped, stepped}
@@ -65,7 +65,7 @@ loop-i-preserved g c =
     let i = c.loop-i.invariant in
     let in_ops : length before < length c.args.ops.now = omega arith in
     let st : Stepped no_node (λ (m : Node). m.start) (λ (m : Node). m.size) nodes slab (length before) new_node own nodes' slab' =
-    stepped before rest low high node turned.laid c.split_at_mut-before.ensures.value c.split_at_mut-low.ensures.value some node_is low_is new_node own c.step.ensures.start c.step.ensures.size c.step.auto.own in
+    stepped before rest low high node turned.laid c.split_at_mut-before.ensures.value c.split_at_mut-low.ensures.value some node_is low_is new_node own c.step.ensures.seat.start c.step.ensures.seat.size c.step.auto.own in
     let op_same : op_at c.args.ops.now (length before) ≡ op_at c.args.ops.now c.loop-i.i = ap (λ (k : ℕ). op_at c.args.ops.now k) front in
     record {
       seats = seats_on nodes slab (length before) new_node own nodes' slab' st c.args.nodes.now i.seats;
@@ -74,12 +74,13 @@ loop-i-preserved g c =
           let ready : IsReady plan n (op_at c.args.ops.now c.loop-i.i) before low node (take node.size high) =
           subst (λ (op : FtOp). IsReady plan n op before low node (take node.size high)) op_same
           (ready_here plan c.args.ops.now nodes slab n before rest low high node c.split_at_mut-before.ensures.value c.split_at_mut-low.ensures.value some node_is low_is t few in_ops) in
+          let on_plan : IsOnPlan plan (op_at c.args.ops.now c.loop-i.i) before new_node own (n + 1) = c.step.ensures.paced plan n ready in
           subst (λ (k : ℕ). Turned plan c.args.ops.now nodes' slab' n (k + 1)) front
-          (turned_on nodes slab (length before) new_node own nodes' slab' st plan c.args.ops.now n t (omega arith) (c.step.ensures.paced plan n ready)
-          (subst (λ (op : FtOp). IsPlaced plan (length before) op new_node (n + 1)) (sym op_same) (c.step.ensures.placed plan n ready))
+          (turned_on nodes slab (length before) new_node own nodes' slab' st plan c.args.ops.now n t (omega arith) on_plan.paced
+          (subst (λ (op : FtOp). IsPlaced plan (length before) op new_node (n + 1)) (sym op_same) on_plan.placed)
           (ahead_same plan (length before) (op_at c.args.ops.now (length before)) (front_in before) (front_in nodes) (reads_from (op_at c.args.ops.now (length before)) new_node) (reads_from (op_at c.args.ops.now (length before)) new_node)
           (t.planned (length before) in_ops).seated (fronts_before plan c.args.ops.now nodes slab n before rest low high node c.split_at_mut-before.ensures.value c.split_at_mut-low.ensures.value some node_is low_is t) refl
-          (subst (λ (op : FtOp). ReadsAhead op (front_in before) (reads_from op new_node)) (sym op_same) c.step.ensures.ahead)));
+          (subst (λ (op : FtOp). ReadsAhead op (front_in before) (reads_from op new_node)) (sym op_same) on_plan.ahead)));
       told = λ plan truth n old new row agree.
           let t : Turned plan c.args.ops.now nodes slab n (length before) = subst (λ (k : ℕ). Turned plan c.args.ops.now nodes slab n k) (sym front) (i.turned plan n row.few row.paced) in
           let r : Retold c.args.ops.now old new nodes slab (length before) = subst (λ (k : ℕ). Retold c.args.ops.now old new nodes slab k) (sym front) (i.told plan truth n old new row agree) in
@@ -87,9 +88,10 @@ loop-i-preserved g c =
           subst (λ (op : FtOp). IsTold plan truth n op before low node (take node.size high) old new) op_same
           (told_here plan c.args.ops.now nodes slab n before rest low high node c.split_at_mut-before.ensures.value c.split_at_mut-low.ensures.value some node_is low_is t truth old new row.few in_ops row.table row.extends r) in
           let loads : (k : ℕ) (v : Bool) → op_at c.args.ops.now c.loop-i.i ≡ Load k → g.T.Truths.gives c.args.truths.now k v → truth n k ≡ v = λ k v e given. agree c.loop-i.i k v c.loop-i-test.true e given in
+          let up : IsUpToDate (op_at c.args.ops.now c.loop-i.i) new before new_node own = c.step.ensures.verdicts plan truth n old new told loads in
           subst (λ (k : ℕ). Retold c.args.ops.now old new nodes' slab' (k + 1)) front
-          (retold_on nodes slab (length before) new_node own nodes' slab' st c.args.ops.now old new r (omega arith) (c.step.ensures.verdicts plan truth n old new told loads)
-          (subst (λ (op : FtOp). IsScanned op new new_node) (sym op_same) (c.step.ensures.scanned plan truth n old new told loads)));
+          (retold_on nodes slab (length before) new_node own nodes' slab' st c.args.ops.now old new r (omega arith) up.verdicts
+          (subst (λ (op : FtOp). IsScanned op new new_node) (sym op_same) up.scanned));
       counted =
           let first : List Node = c.args.nodes.now in
           let seated : IsSeated plan (length before) (op_at c.args.ops.now c.loop-i.i) = subst (λ (op : FtOp). IsSeated plan (length before) op) op_same (turned.planned (length before) in_ops).seated in

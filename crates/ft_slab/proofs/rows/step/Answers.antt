@@ -20,26 +20,34 @@ returns-in-Not-clause-verdicts g c = λ plan truth n old new told loads.
     shown_operand (node_at c.args.before.now c.in-Not.g).ring c.operand.result.ring.now (part c.args.earlier.now (node_at c.args.before.now c.in-Not.g)) c.operand.result.slots.now (new c.in-Not.g)
     c.operand.ensures.ring c.operand.ensures.slots (t.operands c.in-Not.g seat.0) in
     let front : frontier_of c.operand.result.ring.now ≡ frontier_of (node_at c.args.before.now c.in-Not.g).ring = ap (λ (r : Ring). frontier_of r) c.operand.ensures.ring in
-    settled c.args.node.now.ring c.args.own.now (old (length c.args.before.now)) c.not_row.new.own c.not_row.new.own_slots (new (length c.args.before.now)) (value_of op truth (n + 1) new) (n + 1)
-    t.longest (t.extends.each (length c.args.before.now)) t.verdicts c.not_row.ensures.goes_on (c.not_row.ensures.decided (slice_get (new c.in-Not.g)) operand)
-    (omega (arith, front, (t.ready.operands.each c.in-Not.g seat.0).at_most, t.ready.paced.at_most, c.not_row.ensures.frontier))
+    record {
+      verdicts =
+          settled c.args.node.now.ring c.args.own.now (old (length c.args.before.now)) c.not_row.new.own c.not_row.new.own_slots (new (length c.args.before.now)) (value_of op truth (n + 1) new) (n + 1)
+          t.longest (t.extends.each (length c.args.before.now)) t.verdicts c.not_row.ensures.goes_on (c.not_row.ensures.decided (slice_get (new c.in-Not.g)) operand)
+          (omega (arith, front, (t.ready.operands.each c.in-Not.g seat.0).at_most, t.ready.paced.at_most, c.not_row.ensures.frontier));
+      scanned = subst (λ (o : FtOp). IsScanned o new record { ring = c.not_row.new.own; reads_at = c.args.node.now.reads_at; start = c.args.node.now.start; size = c.args.node.now.size }) (sym c.in-Not.is) tt;
+    }
 
 pub returns-in-And-clause-verdicts : goal.returns-in-And-clause-verdicts
 returns-in-And-clause-verdicts g c = λ plan truth n old new told loads.
     let op : FtOp = And c.in-And.l c.in-And.r in
     let t : IsTold plan truth n op c.args.before.now c.args.earlier.now c.args.node.now c.args.own.now old new = subst (λ (o : FtOp). IsTold plan truth n o c.args.before.now c.args.earlier.now c.args.node.now c.args.own.now old new) c.in-And.is told in
     let seat = t.ready.planned.seated in
-    let left : Shown c.operand-in-And.result.ring.now c.operand-in-And.result.slots.now (slice_get (new c.in-And.l)) =
-    shown_operand (node_at c.args.before.now c.in-And.l).ring c.operand-in-And.result.ring.now (part c.args.earlier.now (node_at c.args.before.now c.in-And.l)) c.operand-in-And.result.slots.now (new c.in-And.l)
-    c.operand-in-And.ensures.ring c.operand-in-And.ensures.slots (t.operands c.in-And.l seat.0) in
-    let right : Shown c.operand-in-And-2.result.ring.now c.operand-in-And-2.result.slots.now (slice_get (new c.in-And.r)) =
-    shown_operand (node_at c.args.before.now c.in-And.r).ring c.operand-in-And-2.result.ring.now (part c.args.earlier.now (node_at c.args.before.now c.in-And.r)) c.operand-in-And-2.result.slots.now (new c.in-And.r)
-    c.operand-in-And-2.ensures.ring c.operand-in-And-2.ensures.slots (t.operands c.in-And.r seat.1) in
-    let left_front : frontier_of c.operand-in-And.result.ring.now ≡ frontier_of (node_at c.args.before.now c.in-And.l).ring = ap (λ (r : Ring). frontier_of r) c.operand-in-And.ensures.ring in
-    let right_front : frontier_of c.operand-in-And-2.result.ring.now ≡ frontier_of (node_at c.args.before.now c.in-And.r).ring = ap (λ (r : Ring). frontier_of r) c.operand-in-And-2.ensures.ring in
-    settled c.args.node.now.ring c.args.own.now (old (length c.args.before.now)) c.and_row.new.own c.and_row.new.own_slots (new (length c.args.before.now)) (value_of op truth (n + 1) new) (n + 1)
-    t.longest (t.extends.each (length c.args.before.now)) t.verdicts c.and_row.ensures.goes_on (c.and_row.ensures.decided (slice_get (new c.in-And.l)) (slice_get (new c.in-And.r)) left right)
-    (omega (arith, left_front, right_front, (t.ready.operands.each c.in-And.l seat.0).at_most, (t.ready.operands.each c.in-And.r seat.1).at_most, t.ready.paced.at_most, c.and_row.ensures.as_far.no_further))
+    let left : Shown c.operand-left.result.ring.now c.operand-left.result.slots.now (slice_get (new c.in-And.l)) =
+    shown_operand (node_at c.args.before.now c.in-And.l).ring c.operand-left.result.ring.now (part c.args.earlier.now (node_at c.args.before.now c.in-And.l)) c.operand-left.result.slots.now (new c.in-And.l)
+    c.operand-left.ensures.ring c.operand-left.ensures.slots (t.operands c.in-And.l seat.0) in
+    let right : Shown c.operand-right.result.ring.now c.operand-right.result.slots.now (slice_get (new c.in-And.r)) =
+    shown_operand (node_at c.args.before.now c.in-And.r).ring c.operand-right.result.ring.now (part c.args.earlier.now (node_at c.args.before.now c.in-And.r)) c.operand-right.result.slots.now (new c.in-And.r)
+    c.operand-right.ensures.ring c.operand-right.ensures.slots (t.operands c.in-And.r seat.1) in
+    let left_front : frontier_of c.operand-left.result.ring.now ≡ frontier_of (node_at c.args.before.now c.in-And.l).ring = ap (λ (r : Ring). frontier_of r) c.operand-left.ensures.ring in
+    let right_front : frontier_of c.operand-right.result.ring.now ≡ frontier_of (node_at c.args.before.now c.in-And.r).ring = ap (λ (r : Ring). frontier_of r) c.operand-right.ensures.ring in
+    record {
+      verdicts =
+          settled c.args.node.now.ring c.args.own.now (old (length c.args.before.now)) c.and_row.new.own c.and_row.new.own_slots (new (length c.args.before.now)) (value_of op truth (n + 1) new) (n + 1)
+          t.longest (t.extends.each (length c.args.before.now)) t.verdicts c.and_row.ensures.goes_on (c.and_row.ensures.decided (slice_get (new c.in-And.l)) (slice_get (new c.in-And.r)) left right)
+          (omega (arith, left_front, right_front, (t.ready.operands.each c.in-And.l seat.0).at_most, (t.ready.operands.each c.in-And.r seat.1).at_most, t.ready.paced.at_most, c.and_row.ensures.as_far.no_further));
+      scanned = subst (λ (o : FtOp). IsScanned o new record { ring = c.and_row.new.own; reads_at = c.args.node.now.reads_at; start = c.args.node.now.start; size = c.args.node.now.size }) (sym c.in-And.is) tt;
+    }
 
 pub returns-in-Until-clause-verdicts : goal.returns-in-Until-clause-verdicts
 returns-in-Until-clause-verdicts g c = λ plan truth n old new told loads.
@@ -56,22 +64,10 @@ returns-in-Until-clause-verdicts g c = λ plan truth n old new told loads.
     c.until_row-node.ensures.decided (slice_get (new c.in-Until.l)) (slice_get (new c.in-Until.r)) left right
     (scan_kept c.in-Until.window old new c.in-Until.l c.in-Until.r (frontier_of c.args.node.now.ring) c.args.node.now.reads_at t.extends t.scanned) in
     let right_front : frontier_of c.operand-in-Until-2.result.ring.now ≡ frontier_of (node_at c.args.before.now c.in-Until.r).ring = ap (λ (r : Ring). frontier_of r) c.operand-in-Until-2.ensures.ring in
-    settled c.args.node.now.ring c.args.own.now (old (length c.args.before.now)) c.until_row-node.new.own c.until_row-node.new.own_slots (new (length c.args.before.now)) (value_of op truth (n + 1) new) (n + 1)
-    t.longest (t.extends.each (length c.args.before.now)) t.verdicts c.until_row-node.ensures.goes_on decided.decides
-    (omega (arith, right_front, (t.ready.operands.each c.in-Until.r seat.1).at_most, t.ready.placed.2, c.until_row-node.ensures.reads_at.reach, c.until_row-node.ensures.reads_at.in_time))
-
-pub returns-in-Until-clause-scanned : goal.returns-in-Until-clause-scanned
-returns-in-Until-clause-scanned g c = λ plan truth n old new told loads.
-    let op : FtOp = Until c.in-Until.l c.in-Until.r c.in-Until.window in
-    let t : IsTold plan truth n op c.args.before.now c.args.earlier.now c.args.node.now c.args.own.now old new = subst (λ (o : FtOp). IsTold plan truth n o c.args.before.now c.args.earlier.now c.args.node.now c.args.own.now old new) c.in-Until.is told in
-    let seat = t.ready.planned.seated in
-    let left : Shown c.operand-in-Until.result.ring.now c.operand-in-Until.result.slots.now (slice_get (new c.in-Until.l)) =
-    shown_operand (node_at c.args.before.now c.in-Until.l).ring c.operand-in-Until.result.ring.now (part c.args.earlier.now (node_at c.args.before.now c.in-Until.l)) c.operand-in-Until.result.slots.now (new c.in-Until.l)
-    c.operand-in-Until.ensures.ring c.operand-in-Until.ensures.slots (t.operands c.in-Until.l seat.0) in
-    let right : Shown c.operand-in-Until-2.result.ring.now c.operand-in-Until-2.result.slots.now (slice_get (new c.in-Until.r)) =
-    shown_operand (node_at c.args.before.now c.in-Until.r).ring c.operand-in-Until-2.result.ring.now (part c.args.earlier.now (node_at c.args.before.now c.in-Until.r)) c.operand-in-Until-2.result.slots.now (new c.in-Until.r)
-    c.operand-in-Until-2.ensures.ring c.operand-in-Until-2.ensures.slots (t.operands c.in-Until.r seat.1) in
-    let decided : DecidesUntil c.in-Until.window (slice_get (new c.in-Until.l)) (slice_get (new c.in-Until.r)) c.until_row-node.new.own c.until_row-node.new.own_slots (frontier_of c.args.node.now.ring) c.until_row-node.result =
-    c.until_row-node.ensures.decided (slice_get (new c.in-Until.l)) (slice_get (new c.in-Until.r)) left right
-    (scan_kept c.in-Until.window old new c.in-Until.l c.in-Until.r (frontier_of c.args.node.now.ring) c.args.node.now.reads_at t.extends t.scanned) in
-    subst (λ (o : FtOp). IsScanned o new record { ring = c.until_row-node.new.own; reads_at = c.until_row-node.result; start = c.args.node.now.start; size = c.args.node.now.size }) (sym c.in-Until.is) decided.scanned
+    record {
+      verdicts =
+          settled c.args.node.now.ring c.args.own.now (old (length c.args.before.now)) c.until_row-node.new.own c.until_row-node.new.own_slots (new (length c.args.before.now)) (value_of op truth (n + 1) new) (n + 1)
+          t.longest (t.extends.each (length c.args.before.now)) t.verdicts c.until_row-node.ensures.goes_on decided.decides
+          (omega (arith, right_front, (t.ready.operands.each c.in-Until.r seat.1).at_most, t.ready.placed.2, c.until_row-node.ensures.reads_at.reach, c.until_row-node.ensures.reads_at.in_time));
+      scanned = subst (λ (o : FtOp). IsScanned o new record { ring = c.until_row-node.new.own; reads_at = c.until_row-node.result; start = c.args.node.now.start; size = c.args.node.now.size }) (sym c.in-Until.is) decided.scanned;
+    }
