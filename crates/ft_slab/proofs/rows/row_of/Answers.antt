@@ -21,8 +21,8 @@ step-requires-clause-ready g c =
     let slab = c.loop-i.slab in
     let before = c.split_at_mut-before.result.0.now in
     let rest = c.split_at_mut-before.result.1.now in
-    let low = c.split_at_mut-low.result.0.now in
-    let high = c.split_at_mut-low.result.1.now in
+    let low = c.split_at_mut-earlier.result.0.now in
+    let high = c.split_at_mut-earlier.result.1.now in
     let front : length before ≡ c.loop-i.i = c.split_at_mut-before.ensures.front_len in
     let blank : Node = record { ring = record { frontier = 0; low = 0; oldest = 0; used = 0 }; reads_at = 0; start = 0; size = 0 } in
     let node : Node = get_or rest 0 blank in
@@ -31,10 +31,10 @@ step-requires-clause-ready g c =
     let back : length rest + c.loop-i.i ≡ length nodes = c.split_at_mut-before.ensures.back_len in
     let some : 0 < length rest = omega (arith, t0.same_length) in
     let node_is : node ≡ node_at nodes (length before) = first_behind before rest blank no_node some ∙ ap (λ (ns : List Node). get_or ns (length before) no_node) (sym c.split_at_mut-before.ensures.value) in
-    let low_is : length low ≡ node.start = c.split_at_mut-low.ensures.front_len in
+    let low_is : length low ≡ node.start = c.split_at_mut-earlier.ensures.front_len in
     let in_ops : length before < length c.args.ops.now = omega arith in
     let ready : IsReady plan n (op_at c.args.ops.now (length before)) before low node (take node.size high) =
-    ready_here plan c.args.ops.now nodes slab n before rest low high node c.split_at_mut-before.ensures.value c.split_at_mut-low.ensures.value some node_is low_is turned few in_ops in
+    ready_here plan c.args.ops.now nodes slab n before rest low high node c.split_at_mut-before.ensures.value c.split_at_mut-earlier.ensures.value some node_is low_is turned few in_ops in
     (plan, n, subst (λ (i : ℕ). IsReady plan n (op_at c.args.ops.now i) before low node (take node.size high)) front ready)
 
 pub loop-i-preserved : goal.loop-i-preserved
@@ -47,8 +47,8 @@ loop-i-preserved g c =
     let slab = c.loop-i.slab in
     let before = c.split_at_mut-before.result.0.now in
     let rest = c.split_at_mut-before.result.1.now in
-    let low = c.split_at_mut-low.result.0.now in
-    let high = c.split_at_mut-low.result.1.now in
+    let low = c.split_at_mut-earlier.result.0.now in
+    let high = c.split_at_mut-earlier.result.1.now in
     let front : length before ≡ c.loop-i.i = c.split_at_mut-before.ensures.front_len in
     let blank : Node = record { ring = record { frontier = 0; low = 0; oldest = 0; used = 0 }; reads_at = 0; start = 0; size = 0 } in
     let node : Node = get_or rest 0 blank in
@@ -57,7 +57,7 @@ loop-i-preserved g c =
     let back : length rest + c.loop-i.i ≡ length nodes = c.split_at_mut-before.ensures.back_len in
     let some : 0 < length rest = omega (arith, t0.same_length) in
     let node_is : node ≡ node_at nodes (length before) = first_behind before rest blank no_node some ∙ ap (λ (ns : List Node). get_or ns (length before) no_node) (sym c.split_at_mut-before.ensures.value) in
-    let low_is : length low ≡ node.start = c.split_at_mut-low.ensures.front_len in
+    let low_is : length low ≡ node.start = c.split_at_mut-earlier.ensures.front_len in
     let new_node : Node = c.step.new.node in
     let own : List Slot = c.step.new.own in
     let nodes' : List Node = before ++ set rest 0 new_node in
@@ -65,7 +65,7 @@ loop-i-preserved g c =
     let i = c.loop-i.invariant in
     let in_ops : length before < length c.args.ops.now = omega arith in
     let st : Stepped no_node (λ (m : Node). m.start) (λ (m : Node). m.size) nodes slab (length before) new_node own nodes' slab' =
-    stepped before rest low high node turned.laid c.split_at_mut-before.ensures.value c.split_at_mut-low.ensures.value some node_is low_is new_node own c.step.ensures.seat.start c.step.ensures.seat.size c.step.auto.own in
+    stepped before rest low high node turned.laid c.split_at_mut-before.ensures.value c.split_at_mut-earlier.ensures.value some node_is low_is new_node own c.step.ensures.seat.start c.step.ensures.seat.size c.step.auto.own in
     let op_same : op_at c.args.ops.now (length before) ≡ op_at c.args.ops.now c.loop-i.i = ap (λ (k : ℕ). op_at c.args.ops.now k) front in
     record {
       seats = seats_on nodes slab (length before) new_node own nodes' slab' st c.args.nodes.now i.seats;
@@ -73,20 +73,20 @@ loop-i-preserved g c =
           let t : Turned plan c.args.ops.now nodes slab n (length before) = subst (λ (k : ℕ). Turned plan c.args.ops.now nodes slab n k) (sym front) (i.turned plan n few paced) in
           let ready : IsReady plan n (op_at c.args.ops.now c.loop-i.i) before low node (take node.size high) =
           subst (λ (op : FtOp). IsReady plan n op before low node (take node.size high)) op_same
-          (ready_here plan c.args.ops.now nodes slab n before rest low high node c.split_at_mut-before.ensures.value c.split_at_mut-low.ensures.value some node_is low_is t few in_ops) in
+          (ready_here plan c.args.ops.now nodes slab n before rest low high node c.split_at_mut-before.ensures.value c.split_at_mut-earlier.ensures.value some node_is low_is t few in_ops) in
           let on_plan : IsOnPlan plan (op_at c.args.ops.now c.loop-i.i) before new_node own (n + 1) = c.step.ensures.paced plan n ready in
           subst (λ (k : ℕ). Turned plan c.args.ops.now nodes' slab' n (k + 1)) front
           (turned_on nodes slab (length before) new_node own nodes' slab' st plan c.args.ops.now n t (omega arith) on_plan.paced
           (subst (λ (op : FtOp). IsPlaced plan (length before) op new_node (n + 1)) (sym op_same) on_plan.placed)
           (ahead_same plan (length before) (op_at c.args.ops.now (length before)) (front_in before) (front_in nodes) (reads_from (op_at c.args.ops.now (length before)) new_node) (reads_from (op_at c.args.ops.now (length before)) new_node)
-          (t.planned (length before) in_ops).seated (fronts_before plan c.args.ops.now nodes slab n before rest low high node c.split_at_mut-before.ensures.value c.split_at_mut-low.ensures.value some node_is low_is t) refl
+          (t.planned (length before) in_ops).seated (fronts_before plan c.args.ops.now nodes slab n before rest low high node c.split_at_mut-before.ensures.value c.split_at_mut-earlier.ensures.value some node_is low_is t) refl
           (subst (λ (op : FtOp). ReadsAhead op (front_in before) (reads_from op new_node)) (sym op_same) on_plan.ahead)));
       told = λ plan truth n old new row agree.
           let t : Turned plan c.args.ops.now nodes slab n (length before) = subst (λ (k : ℕ). Turned plan c.args.ops.now nodes slab n k) (sym front) (i.turned plan n row.few row.paced) in
           let r : Retold c.args.ops.now old new nodes slab (length before) = subst (λ (k : ℕ). Retold c.args.ops.now old new nodes slab k) (sym front) (i.told plan truth n old new row agree) in
           let told : IsTold plan truth n (op_at c.args.ops.now c.loop-i.i) before low node (take node.size high) old new =
           subst (λ (op : FtOp). IsTold plan truth n op before low node (take node.size high) old new) op_same
-          (told_here plan c.args.ops.now nodes slab n before rest low high node c.split_at_mut-before.ensures.value c.split_at_mut-low.ensures.value some node_is low_is t truth old new row.few in_ops row.table row.extends r) in
+          (told_here plan c.args.ops.now nodes slab n before rest low high node c.split_at_mut-before.ensures.value c.split_at_mut-earlier.ensures.value some node_is low_is t truth old new row.few in_ops row.table row.extends r) in
           let loads : (k : ℕ) (v : Bool) → op_at c.args.ops.now c.loop-i.i ≡ Load k → g.T.Truths.gives c.args.truths.now k v → truth n k ≡ v = λ k v e given. agree c.loop-i.i k v c.loop-i-test.true e given in
           let up : IsUpToDate (op_at c.args.ops.now c.loop-i.i) new before new_node own = c.step.ensures.verdicts plan truth n old new told loads in
           subst (λ (k : ℕ). Retold c.args.ops.now old new nodes' slab' (k + 1)) front
@@ -96,10 +96,10 @@ loop-i-preserved g c =
           let first : List Node = c.args.nodes.now in
           let seated : IsSeated plan (length before) (op_at c.args.ops.now c.loop-i.i) = subst (λ (op : FtOp). IsSeated plan (length before) op) op_same (turned.planned (length before) in_ops).seated in
           let size : length (take node.size high) ≡ (node_at first c.loop-i.i).size =
-          first_size plan c.args.ops.now nodes slab n before rest low high node c.split_at_mut-before.ensures.value c.split_at_mut-low.ensures.value some node_is low_is turned first i.seats ∙ ap (λ (k : ℕ). (node_at first k).size) front in
+          first_size plan c.args.ops.now nodes slab n before rest low high node c.split_at_mut-before.ensures.value c.split_at_mut-earlier.ensures.value some node_is low_is turned first i.seats ∙ ap (λ (k : ℕ). (node_at first k).size) front in
           let work : work_of (size_in before) (op_at c.args.ops.now c.loop-i.i) (length (take node.size high)) ≤ work_of (size_in first) (op_at c.args.ops.now c.loop-i.i) (node_at first c.loop-i.i).size =
           work_same plan (op_at c.args.ops.now c.loop-i.i) before first (length (take node.size high)) (node_at first c.loop-i.i).size seated
-          (first_sizes plan c.args.ops.now nodes slab n before rest low high node c.split_at_mut-before.ensures.value c.split_at_mut-low.ensures.value some node_is low_is turned first i.seats) size in
+          (first_sizes plan c.args.ops.now nodes slab n before rest low high node c.split_at_mut-before.ensures.value c.split_at_mut-earlier.ensures.value some node_is low_is turned first i.seats) size in
           let one_more : c.loop-i.i + 1 ≡ suc c.loop-i.i = omega arith in
           let sum : work_before c.args.ops.now (size_in first) (c.loop-i.i + 1) ≡ work_before c.args.ops.now (size_in first) c.loop-i.i + work_of (size_in first) (op_at c.args.ops.now c.loop-i.i) (node_at first c.loop-i.i).size =
           ap (λ (k : ℕ). work_before c.args.ops.now (size_in first) k) one_more in
