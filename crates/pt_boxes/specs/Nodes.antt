@@ -1,9 +1,10 @@
 -- Past-time instructions, their truths and their parts of the slab of boxes.
 
 use Rattle.std.specs.Prelude.{◌≡◌, ℕ, ◌<◌, false, List, length, take, drop, slice_index_or}
+use Rattle.mltl_base.specs.declared.interval.Interval.{Interval}
 use Rattle.mltl_base.specs.declared.operators.PtOp.{PtOp}
 use Rattle.mltl_base.specs.declared.operators.PtOp.TheVariants.{True, Since}
-use Rattle.mltl_base.specs.Queues.{boxes_of}
+use Rattle.mltl_base.specs.Queues.{boxes as box_count, boxes_of}
 use Rattle.ft_slab.specs.Seats.{AreSeated}
 use Rattle.pt_boxes.specs.declared.boxes.Boxes.{Boxes}
 use Rattle.pt_boxes.specs.declared.boxes.Span.{Span}
@@ -39,6 +40,12 @@ AreLaid nodes slab = AreSeated no_node (λ node. node.start) (λ node. node.size
 abbrev pub HasBoxes : PtOp → ℕ → List Span → Type 0
 HasBoxes (Since l r i) n boxes = AreApart i n 0 boxes
 HasBoxes op n boxes = Unit {0}
+
+-- after n rows, the boxes of a Since with this interval have their room, and lie apart
+pub record KeepsSince (i : Interval) (n : ℕ) (boxes : Boxes) (own : List Span) : Type 0 where
+  pub room : length own ≡ box_count i
+  pub belongs : Belongs boxes own
+  pub apart : AreApart i n 0 (kept boxes own)
 
 -- after n rows, the boxes of an instruction have their room, and lie apart
 pub record IsKept (op : PtOp) (n : ℕ) (boxes : Boxes) (own : List Span) : Type 0 where

@@ -1,9 +1,9 @@
 //! One row of a Since over its boxes.
 
-ghost use Rattle.std.specs.Prelude.{◌≡◌, ℕ, Bool, ◌+◌, ◌^◌, ◌<◌, ◌≤◌, [], length, if◌then◌else◌};
+ghost use Rattle.std.specs.Prelude.{◌≡◌, ℕ, Bool, ◌+◌, ◌^◌, ◌<◌, ◌≤◌, [], if◌then◌else◌};
 ghost use Rattle.mltl_base.specs.declared.interval.Interval.{Interval};
-ghost use Rattle.mltl_base.specs.Queues.{boxes as box_count};
 ghost use Rattle.pt_boxes.specs.Boxes.{Belongs, kept};
+ghost use Rattle.pt_boxes.specs.Nodes.{KeepsSince};
 ghost use Rattle.pt_boxes.specs.Spans.{AreApart, Tells, in_some, stretch_at, with_stretch, without_ended};
 
 use crate::boxes::{Boxes, Span};
@@ -47,14 +47,11 @@ fn open(boxes: &mut Boxes, spans: &mut [Span], window: Interval, now: u64, right
     requires ordered { window.lo ≤ window.hi }
     requires bounded { window.hi ≤ MAX_BOUND }
     requires early { now < 2 ^ 40 }
-    requires belongs { Belongs boxes.old spans.old }
-    requires room { length spans.old ≡ box_count window }
-    requires apart { AreApart window (now + 1) 0 (kept boxes.old spans.old) }
-    ensures belongs { Belongs boxes.new spans.new }
+    requires kept { KeepsSince window (now + 1) boxes.old spans.old }
+    ensures kept { KeepsSince window (now + 1) boxes.new spans.new }
     ensures opened { kept boxes.new spans.new
         ≡ if right then with_stretch (stretch_at window now) (kept boxes.old spans.old)
         else kept boxes.old spans.old }
-    ensures apart { AreApart window (now + 1) 0 (kept boxes.new spans.new) }
 {
     few_boxes();
     if right {
@@ -88,13 +85,10 @@ pub fn since_row<L: Ledger>(
     requires ordered { window.lo ≤ window.hi }
     requires bounded { window.hi ≤ MAX_BOUND }
     requires early { now < 2 ^ 40 }
-    requires belongs { Belongs boxes.old spans.old }
-    requires room { length spans.old ≡ box_count window }
-    requires apart { AreApart window now 0 (kept boxes.old spans.old) }
-    ensures belongs { Belongs boxes.new spans.new }
-    ensures apart { AreApart window (now + 1) 0 (kept boxes.new spans.new) }
-    ensures told { (p q : ℕ → Bool) → Tells window p q now (kept boxes.old spans.old) → p now ≡ left
-        → q now ≡ right
+    requires kept { KeepsSince window now boxes.old spans.old }
+    ensures kept { KeepsSince window (now + 1) boxes.new spans.new }
+    ensures told { (p q : ℕ → Bool) → Tells window p q now (kept boxes.old spans.old)
+        → p now ≡ left → q now ≡ right
         → Tells window p q (now + 1) (kept boxes.new spans.new) }
     ensures holds { result ≡ in_some (kept boxes.new spans.new) now }
     ensures counted { steps.new ≤ steps.old + 2 }

@@ -7,4 +7,4 @@ use Rattle.pt_boxes.proofs.since.since_row.Goals as goal
 pub returns-clause-told : goal.returns-clause-told
 returns-clause-told g c =
     let old : List Span = kept c.args.boxes.now c.args.spans.now in
-    tells_more c.args.window c.args.now old _ _ c.args.left c.args.right c.requires.ordered (c.age.ensures.apart c.args.window c.requires.apart) c.age.ensures.rest c.open.ensures.opened
+    tells_more c.args.window c.args.now old _ _ c.args.left c.args.right c.requires.ordered (c.age.ensures.apart c.args.window c.requires.kept.apart) c.age.ensures.rest c.open.ensures.opened
