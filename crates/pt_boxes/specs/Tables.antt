@@ -1,6 +1,6 @@
 -- The truths of past-time instructions by time, and the nodes that hold them.
 
-use Rattle.std.specs.Prelude.{◌≡◌, ℕ, ◌-◌, ◌<◌, Bool, true, not, ◌&&◌, List, length, ℤ, slice_get, Some}
+use Rattle.std.specs.Prelude.{◌≡◌, ℕ, ◌+◌, ◌-◌, ◌<◌, Bool, true, not, ◌&&◌, List, length, ℤ, slice_get, Some}
 use Rattle.mltl_base.specs.declared.operators.BzOp.{BzOp}
 use Rattle.mltl_base.specs.declared.operators.PtOp.{PtOp}
 use Rattle.mltl_base.specs.declared.operators.PtOp.TheVariants.{True, Load, Not, And, Since}
@@ -54,3 +54,8 @@ pub record IsTurn (op : PtOp) (numbers : List ℤ) (loaded table : Table) (now :
   pub told : IsTold op table now boxes
   pub here : table (length before) now ≡ truth_of op loaded table now
   pub loads : (k : ℕ) (v : Bool) → op ≡ Load k → IsTruthIn numbers k v → v ≡ loaded k now
+
+-- an instruction has taken the row at time `now`: its truth is that of the table, which its boxes tell from then on
+pub record TookTurn (op : PtOp) (table : Table) (now : ℕ) (before : List Node) (value : Bool) (boxes : List Span) : Type 0 where
+  pub told : IsTold op table (now + 1) boxes
+  pub truth : value ≡ table (length before) now

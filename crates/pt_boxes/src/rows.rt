@@ -6,7 +6,7 @@ ghost use Rattle.mltl_base.specs.Queues.{HasPastBounds, boxes_of};
 ghost use Rattle.obs_verify.specs.Running.{ArePastInOrder, IsAfterPastOperands};
 ghost use Rattle.pt_boxes.specs.Boxes.{kept};
 ghost use Rattle.pt_boxes.specs.Nodes.{AreKept, IsKept, node_at, op_at};
-ghost use Rattle.pt_boxes.specs.Tables.{AgreeOnLoads, HasTable, IsTable, IsTold, IsTurn, Table};
+ghost use Rattle.pt_boxes.specs.Tables.{AgreeOnLoads, HasTable, IsTable, IsTurn, Table, TookTurn};
 
 use crate::boxes::{Boxes, Span};
 use crate::since::since_row;
@@ -52,10 +52,7 @@ fn step<L: Ledger>(
     ensures kept { IsKept op (now + 1) boxes.new own.new }
     ensures told { (loaded table : Table)
         → IsTurn op bz.now loaded table now before.now (kept boxes.old own.old)
-        → IsTold op table (now + 1) (kept boxes.new own.new) }
-    ensures truth { (loaded table : Table)
-        → IsTurn op bz.now loaded table now before.now (kept boxes.old own.old)
-        → result ≡ table (length before.now) now }
+        → TookTurn op table now before.now result (kept boxes.new own.new) }
     ensures counted { steps.new ≤ steps.old + (boxes_of op + 2) }
 {
     steps.tick();
@@ -94,7 +91,8 @@ pub fn row_of<L: Ledger>(
     ensures kept { AreKept ops.now (now + 1) nodes.new slab.new }
     ensures table { (loaded table : Table) → IsTable ops.now loaded (now + 1) table
         → AgreeOnLoads ops.now bz.now loaded now
-        → HasTable ops.now table now nodes.old slab.old → HasTable ops.now table (now + 1) nodes.new slab.new }
+        → HasTable ops.now table now nodes.old slab.old
+        → HasTable ops.now table (now + 1) nodes.new slab.new }
     ensures counted { steps.new ≤ steps.old + sum_by (λ op. boxes_of op + 2) ops.now }
 {
     for (i, op) in ops.iter().enumerate() {

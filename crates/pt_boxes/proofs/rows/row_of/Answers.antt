@@ -7,7 +7,7 @@ use Rattle.pt_boxes.specs.declared.boxes.Span.{Span}
 use Rattle.pt_boxes.specs.declared.rows.Node.{Node}
 use Rattle.pt_boxes.specs.Boxes.{kept}
 use Rattle.pt_boxes.specs.Nodes.{IsKept, no_node, node_at, op_at}
-use Rattle.pt_boxes.specs.Tables.{IsTold, IsTurn}
+use Rattle.pt_boxes.specs.Tables.{IsTold, IsTurn, TookTurn}
 use Rattle.pt_boxes.proofs.Turning.{Retold, Turned, retold_from, retold_on, retold_to, turn_here, turned_from, turned_on}
 use Rattle.pt_boxes.proofs.rows.row_of.Goals as goal
 
@@ -54,10 +54,11 @@ loop-i-preserved g c =
           let turn : IsTurn (op_at ops c.loop-i.i) c.args.bz.now loaded table n before (kept node.boxes (take node.size high)) =
           subst (λ (op : PtOp). IsTurn op c.args.bz.now loaded table n before (kept node.boxes (take node.size high))) op_same
           (turn_here ops n nodes slab before rest low high node c.split_at_mut-before.ensures.value c.split_at_mut-high.ensures.value some node_is low_is turned c.args.bz.now loaded table in_ops is_table agree r) in
+          let took : TookTurn (op_at ops c.loop-i.i) table n before new.truth (kept new.boxes own) = c.step-node.ensures.told loaded table turn in
           subst (λ (k : ℕ). Retold ops table n nodes' slab' (k + 1)) front
           (retold_on nodes slab (length before) new own nodes' slab' st ops table n r (omega arith)
-          (subst (λ (op : PtOp). IsTold op table (n + 1) (kept new.boxes own)) (sym op_same) (c.step-node.ensures.told loaded table turn))
-          (c.step-node.ensures.truth loaded table turn));
+          (subst (λ (op : PtOp). IsTold op table (n + 1) (kept new.boxes own)) (sym op_same) took.told)
+          took.truth);
       counted = grind (arith, common_steps, i.counted, c.step-node.ensures.counted);
     }
 
