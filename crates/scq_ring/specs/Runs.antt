@@ -53,6 +53,14 @@ pub record Belongs (ring : Ring) (slots : List Slot) : Type 0 where
   pub used_in : ring.used ≤ length slots
   pub spans : Spans ring.low (runs_of ring slots) ring.frontier
 
+-- the ring has got the value at each time from its frontier up to this one, and has let nothing go
+pub record IsWritten (old : Ring) (old_slots : List Slot) (upto : ℕ) (value : Bool) (new : Ring) (new_slots : List Slot) : Type 0 where
+  pub belongs : Belongs new new_slots
+  pub frontier : frontier_of new ≡ upto + 1
+  pub low : low_of new ≡ low_of old
+  pub kept : (t : ℕ) → low_of old ≤ t → t < frontier_of old → verdict_at new new_slots t ≡ verdict_at old old_slots t
+  pub written : (t : ℕ) → frontier_of old ≤ t → t ≤ upto → verdict_at new new_slots t ≡ value
+
 -- this is the index of the newest run
 pub record IsNewest (ring : Ring) (slots : List Slot) (newest : ℕ) : Type 0 where
   pub some_run : 0 < ring.used

@@ -1,7 +1,7 @@
 //! A ring of merged runs, and its slots.
 
 ghost use Rattle.std.specs.Prelude.{◌≡◌, ℕ, ◌+◌, ◌-◌, ◌^◌, ◌<◌, ◌≤◌, ◌↔◌, max, length, IfSome, IsSome, List, nat_lt, if◌then◌else◌};
-ghost use Rattle.scq_ring.specs.Runs.{Belongs, IsAround, IsClear, IsNewest, Shows, frontier_of, low_of, ring_index_of, verdict_at};
+ghost use Rattle.scq_ring.specs.Runs.{Belongs, IsAround, IsClear, IsNewest, IsWritten, Shows, frontier_of, low_of, ring_index_of, verdict_at};
 ghost use Rattle.scq_ring.specs.declared.runs.Slot.{Slot};
 
 use crate::steps::Steps;
@@ -170,13 +170,8 @@ impl Ring {
         requires newest { IsNewest self.old slots.old newest }
         requires ahead { frontier_of self.old ≤ upto }
         requires in_time { upto < 2 ^ 41 }
-        ensures belongs { Belongs self.new slots.new }
-        ensures frontier { frontier_of self.new ≡ upto + 1 }
-        ensures low { low_of self.new ≡ low_of self.old }
-        ensures kept { (t : ℕ) → low_of self.old ≤ t → t < frontier_of self.old
-            → verdict_at self.new slots.new t ≡ verdict_at self.old slots.old t }
-        ensures written { (t : ℕ) → frontier_of self.old ≤ t → t ≤ upto
-            → verdict_at self.new slots.new t ≡ verdict_at self.old slots.old (frontier_of self.old - 1) }
+        ensures written { IsWritten self.old slots.old upto
+            (verdict_at self.old slots.old (frontier_of self.old - 1)) self.new slots.new }
     {
         slots[newest].upto = upto;
         self.frontier = upto + 1;
@@ -205,13 +200,7 @@ impl Ring {
         requires free { self.old.used < length slots.old }
         requires ahead { frontier_of self.old ≤ upto }
         requires in_time { upto < 2 ^ 41 }
-        ensures belongs { Belongs self.new slots.new }
-        ensures frontier { frontier_of self.new ≡ upto + 1 }
-        ensures low { low_of self.new ≡ low_of self.old }
-        ensures kept { (t : ℕ) → low_of self.old ≤ t → t < frontier_of self.old
-            → verdict_at self.new slots.new t ≡ verdict_at self.old slots.old t }
-        ensures written { (t : ℕ) → frontier_of self.old ≤ t → t ≤ upto
-            → verdict_at self.new slots.new t ≡ value }
+        ensures written { IsWritten self.old slots.old upto value self.new slots.new }
     {
         slots[ring_index(self.oldest, self.used, slots.len())] = Slot { upto, value };
         self.used += 1;

@@ -18,9 +18,11 @@ returns c =
     let q = pushed ring.low (window ring.oldest ring.used slots) ring.frontier r c.requires.belongs.spans c.requires.ahead (window ring.oldest (ring.used + 1) (set slots c.ring_index.result r)) e in
     let same_length = length-set slots c.ring_index.result r in
     record {
-      belongs = record { oldest_in = omega arith; used_in = omega arith; spans = q.spans };
-      frontier = refl;
-      low = refl;
-      kept = q.kept;
-      written = q.written;
+      written = record {
+        belongs = record { oldest_in = omega arith; used_in = omega arith; spans = q.spans };
+        frontier = refl;
+        low = refl;
+        kept = q.kept;
+        written = q.written;
+      };
     }

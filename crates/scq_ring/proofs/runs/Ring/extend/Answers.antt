@@ -28,9 +28,11 @@ returns c =
     let same_length = length-set slots j r in
     let back : (t : ℕ) → value_in (front ++ last ∷ []) t ≡ value_in (window ring.oldest ring.used slots) t = λ t. ap (λ (rs : List Slot). value_in rs t) (sym e) in
     record {
-      belongs = record { oldest_in = omega arith; used_in = omega arith; spans = q.spans };
-      frontier = refl;
-      low = refl;
-      kept = λ t from to. q.kept t from to ∙ back t;
-      written = λ t from to. q.written t from to ∙ back (ring.frontier - 1);
+      written = record {
+        belongs = record { oldest_in = omega arith; used_in = omega arith; spans = q.spans };
+        frontier = refl;
+        low = refl;
+        kept = λ t from to. q.kept t from to ∙ back t;
+        written = λ t from to. q.written t from to ∙ back (ring.frontier - 1);
+      };
     }
