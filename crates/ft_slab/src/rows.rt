@@ -51,7 +51,7 @@ fn step<T: Truths, L: Ledger>(
     requires loaded { (k : ℕ) → op ≡ loads k → T.has truths.now k }
     requires ready { CanTakeRow op before.now earlier.now node.old own.old }
     ensures seat { KeepsSeat node.old node.new }
-    ensures paced { (plan : Plan) (n : ℕ) → IsReady plan n op before.now earlier.now node.old own.old
+    ensures pace { (plan : Plan) (n : ℕ) → IsReady plan n op before.now earlier.now node.old own.old
         → IsOnPlan plan op before.now node.new own.new (n + 1) }
     ensures counted { steps.new ≤ steps.old + work_of (size_in before.now) op (length own.old) }
     ensures verdicts { (plan : Plan) (truth : Loads) (n : ℕ) (old new : Table)

@@ -74,7 +74,7 @@ loop-i-preserved g c =
           let ready : IsReady plan n (op_at c.args.ops.now c.loop-i.i) before low node (take node.size high) =
           subst (λ (op : FtOp). IsReady plan n op before low node (take node.size high)) op_same
           (ready_here plan c.args.ops.now nodes slab n before rest low high node c.split_at_mut-before.ensures.value c.split_at_mut-earlier.ensures.value some node_is low_is t few in_ops) in
-          let on_plan : IsOnPlan plan (op_at c.args.ops.now c.loop-i.i) before new_node own (n + 1) = c.step.ensures.paced plan n ready in
+          let on_plan : IsOnPlan plan (op_at c.args.ops.now c.loop-i.i) before new_node own (n + 1) = c.step.ensures.pace plan n ready in
           subst (λ (k : ℕ). Turned plan c.args.ops.now nodes' slab' n (k + 1)) front
           (turned_on nodes slab (length before) new_node own nodes' slab' st plan c.args.ops.now n t (omega arith) on_plan.paced
           (subst (λ (op : FtOp). IsPlaced plan (length before) op new_node (n + 1)) (sym op_same) on_plan.placed)
