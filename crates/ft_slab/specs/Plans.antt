@@ -54,7 +54,7 @@ pub record Paced (plan : Plan) (i : ℕ) (node : Node) (slots : List Slot) (n : 
   pub at_most : frontier_of node.ring ≤ n - plan.best i
   pub low : low_of node.ring ≤ n - 1 - plan.widest i
 
--- after n rows a queue is as far as it is planned to be, and so is the place from which an until reads, past what its operands lack
+-- after n rows, the instruction after these is on plan with its queue and its reading place, and has read all that its operands both have
 pub record IsOnPlan (plan : Plan) (op : FtOp) (before : List Node) (node : Node) (slots : List Slot) (n : ℕ) : Type 0 where
   pub paced : Paced plan (length before) node slots n
   pub placed : IsPlaced plan (length before) op node n
