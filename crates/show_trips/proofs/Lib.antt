@@ -1,0 +1,15 @@
+pub mod Reading
+pub mod Lines
+pub mod Trees
+pub mod Items
+pub mod Values
+pub mod Walk
+pub mod Engines
+pub mod Whole
+pub mod Fresh
+pub mod Formed
+pub mod Signals
+pub mod Meaning
+pub mod Tenses
+pub mod Returning
+pub mod Words

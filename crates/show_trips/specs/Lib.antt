@@ -1,0 +1,4 @@
+pub mod Written
+pub mod Said
+pub mod Unfolded
+pub mod Named
