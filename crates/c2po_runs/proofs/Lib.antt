@@ -5,4 +5,3 @@ pub mod AskedRuns
 pub mod MainLaws
 pub mod MakingLaws
 pub mod HeadLaws
-pub mod RaisingLaws
