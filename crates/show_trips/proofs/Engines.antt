@@ -66,14 +66,14 @@ step_core reference columns J i n name (Some f) c before cores ls more p stays l
     let q : Place = behind (line_body n (define name f)) p in
     let later : IsLater p.values q.values = defined_later n name f p in
     let one : MeansFormula columns q.values (named name) (plain c) =
-        record { of = value_of (form_shape n f) p.values; finds = declared_here name (value_of (form_shape n f) p.values) p.values head.0; says = m.1 n } in
+    record { of = value_of (form_shape n f) p.values; finds = declared_here name (value_of (form_shape n f) p.values) p.values head.0; says = m.1 n } in
     let here : MeansFormula columns q.values (reference (length before)) (plain c) =
-        subst (λ (k : ℕ). MeansFormula columns q.values (reference k) (plain c)) (sym len) (subst (λ (x : Reference). MeansFormula columns q.values x (plain c)) (sym m.0) one) in
+    subst (λ (k : ℕ). MeansFormula columns q.values (reference k) (plain c)) (sym len) (subst (λ (x : Reference). MeansFormula columns q.values x (plain c)) (sym m.0) one) in
     let same : p.outputs + 0 ≡ p.outputs = omega arith in
     let next : CoresKnown reference columns J (before ++ c ∷ []) q = record {
-        base = stays p q later same h.base;
-        known = cores_push reference columns q.values before c (cores_later reference columns p.values q.values before later h.known) here;
-      } in
+      base = stays p q later same h.base;
+      known = cores_push reference columns q.values before c (cores_later reference columns p.values q.values before later h.known) here;
+    } in
     reaches_define n name f (ls ++ more) more p (CoresKnown reference columns J cores) (go (n + 1) q next head.1)
 
 bz_stays : (program : Program) (count : ℕ) (es : List Expression) → Stays (BzKnown program count es)
@@ -143,15 +143,19 @@ ft_means program count es p i before (ft.TheVariants.Load a) le all len ok w h =
 ft_means program count es p i before (ft.TheVariants.Not g) le all len ok w h =
     (refl, negation_says (columns_in program) p.values (ft_reference program g) (plain (core_at before g)) (core_operand (ft_reference program) (columns_in program) p.values before g h.known (below g i (length before) ok len)))
 ft_means program count es p i before (ft.TheVariants.And l r) le all len ok w h =
-    let parts : (nat_lt l i ≡ true) × (nat_lt r i ≡ true) = and_parts (nat_lt l i) (nat_lt r i) ok in
-    (refl, and_says (columns_in program) p.values (ft_reference program l) (ft_reference program r) (plain (core_at before l)) (plain (core_at before r))
-      (core_operand (ft_reference program) (columns_in program) p.values before l h.known (below l i (length before) parts.0 len))
-      (core_operand (ft_reference program) (columns_in program) p.values before r h.known (below r i (length before) parts.1 len)))
+    let parts : (nat_lt l i ≡ true) × (nat_lt r i ≡ true) = and_parts (nat_lt l i) (nat_lt r i) ok in (
+      refl,
+      and_says (columns_in program) p.values (ft_reference program l) (ft_reference program r) (plain (core_at before l)) (plain (core_at before r))
+          (core_operand (ft_reference program) (columns_in program) p.values before l h.known (below l i (length before) parts.0 len))
+          (core_operand (ft_reference program) (columns_in program) p.values before r h.known (below r i (length before) parts.1 len)),
+    )
 ft_means program count es p i before (ft.TheVariants.Until l r window) le all len ok w h =
-    let parts : (nat_lt l i ≡ true) × (nat_lt r i ≡ true) = and_parts (nat_lt l i) (nat_lt r i) ok in
-    (refl, until_says (columns_in program) p.values window (ft_reference program l) (ft_reference program r) (plain (core_at before l)) (plain (core_at before r)) (window_within window w)
-      (core_operand (ft_reference program) (columns_in program) p.values before l h.known (below l i (length before) parts.0 len))
-      (core_operand (ft_reference program) (columns_in program) p.values before r h.known (below r i (length before) parts.1 len)))
+    let parts : (nat_lt l i ≡ true) × (nat_lt r i ≡ true) = and_parts (nat_lt l i) (nat_lt r i) ok in (
+      refl,
+      until_says (columns_in program) p.values window (ft_reference program l) (ft_reference program r) (plain (core_at before l)) (plain (core_at before r)) (window_within window w)
+          (core_operand (ft_reference program) (columns_in program) p.values before l h.known (below l i (length before) parts.0 len))
+          (core_operand (ft_reference program) (columns_in program) p.values before r h.known (below r i (length before) parts.1 len)),
+    )
 
 abbrev pub HaveFutureOperands : Program → ℕ → List ft.FtOp → Type 0
 HaveFutureOperands program i [] = Unit {0}
@@ -169,8 +173,8 @@ walk_ft program count es front (op ∷ ops) before i n more p all fronts len le 
     let c : Core = formula_of (atoms program.bz) before op in
     let lines : lines_from (ft_line program) i (op ∷ ops) ++ more ≡ put (ft_name program i) (ft_form program op) (lines_from (ft_line program) (i + 1) ops ++ more) = put_is (ft_name program i) (ft_form program op) (lines_from (ft_line program) (i + 1) ops) more in
     let m : OptionMeans (columns_in program) p.values (ft_form program op) (plain c) (ft_name program i) (ft_reference program i) =
-        subst (λ (o : Option ft.FtOp). OptionMeans (columns_in program) p.values (ft_form program op) (plain c) (ft_name program i) (ft_called program i o)) (sym at)
-        (ft_means program count es p i before op le whole_es len ok.0 ok.1 h) in
+    subst (λ (o : Option ft.FtOp). OptionMeans (columns_in program) p.values (ft_form program op) (plain c) (ft_name program i) (ft_called program i o)) (sym at)
+    (ft_means program count es p i before op le whole_es len ok.0 ok.1 h) in
     subst (λ (ls : List Line). Reaches n ls p more (FtKnown program count es (formulas_after (atoms program.bz) (before ++ c ∷ []) ops))) (sym lines)
     (step_core (ft_reference program) (columns_in program) (BzKnown program count es) i n (ft_name program i) (ft_form program op) c before (formulas_after (atoms program.bz) (before ++ c ∷ []) ops) (lines_from (ft_line program) (i + 1) ops) more p
     (bz_stays program count es) len m h
@@ -190,15 +194,19 @@ pt_means program count es fts p i before (pt.TheVariants.Load a) le all len ok w
 pt_means program count es fts p i before (pt.TheVariants.Not g) le all len ok w h =
     (refl, negation_says (columns_in program) p.values (pt_reference program g) (plain (core_at before g)) (core_operand (pt_reference program) (columns_in program) p.values before g h.known (below g i (length before) ok len)))
 pt_means program count es fts p i before (pt.TheVariants.And l r) le all len ok w h =
-    let parts : (nat_lt l i ≡ true) × (nat_lt r i ≡ true) = and_parts (nat_lt l i) (nat_lt r i) ok in
-    (refl, and_says (columns_in program) p.values (pt_reference program l) (pt_reference program r) (plain (core_at before l)) (plain (core_at before r))
-      (core_operand (pt_reference program) (columns_in program) p.values before l h.known (below l i (length before) parts.0 len))
-      (core_operand (pt_reference program) (columns_in program) p.values before r h.known (below r i (length before) parts.1 len)))
+    let parts : (nat_lt l i ≡ true) × (nat_lt r i ≡ true) = and_parts (nat_lt l i) (nat_lt r i) ok in (
+      refl,
+      and_says (columns_in program) p.values (pt_reference program l) (pt_reference program r) (plain (core_at before l)) (plain (core_at before r))
+          (core_operand (pt_reference program) (columns_in program) p.values before l h.known (below l i (length before) parts.0 len))
+          (core_operand (pt_reference program) (columns_in program) p.values before r h.known (below r i (length before) parts.1 len)),
+    )
 pt_means program count es fts p i before (pt.TheVariants.Since l r window) le all len ok w h =
-    let parts : (nat_lt l i ≡ true) × (nat_lt r i ≡ true) = and_parts (nat_lt l i) (nat_lt r i) ok in
-    (refl, since_says (columns_in program) p.values window (pt_reference program l) (pt_reference program r) (plain (core_at before l)) (plain (core_at before r)) (window_within window w)
-      (core_operand (pt_reference program) (columns_in program) p.values before l h.known (below l i (length before) parts.0 len))
-      (core_operand (pt_reference program) (columns_in program) p.values before r h.known (below r i (length before) parts.1 len)))
+    let parts : (nat_lt l i ≡ true) × (nat_lt r i ≡ true) = and_parts (nat_lt l i) (nat_lt r i) ok in (
+      refl,
+      since_says (columns_in program) p.values window (pt_reference program l) (pt_reference program r) (plain (core_at before l)) (plain (core_at before r)) (window_within window w)
+          (core_operand (pt_reference program) (columns_in program) p.values before l h.known (below l i (length before) parts.0 len))
+          (core_operand (pt_reference program) (columns_in program) p.values before r h.known (below r i (length before) parts.1 len)),
+    )
 
 abbrev pub HavePastOperands : Program → ℕ → List pt.PtOp → Type 0
 HavePastOperands program i [] = Unit {0}
@@ -216,8 +224,8 @@ walk_pt program count es fts front (op ∷ ops) before i n more p all fronts len
     let c : Core = past_formula_of (atoms program.bz) before op in
     let lines : lines_from (pt_line program) i (op ∷ ops) ++ more ≡ put (pt_name program i) (pt_form program op) (lines_from (pt_line program) (i + 1) ops ++ more) = put_is (pt_name program i) (pt_form program op) (lines_from (pt_line program) (i + 1) ops) more in
     let m : OptionMeans (columns_in program) p.values (pt_form program op) (plain c) (pt_name program i) (pt_reference program i) =
-        subst (λ (o : Option pt.PtOp). OptionMeans (columns_in program) p.values (pt_form program op) (plain c) (pt_name program i) (pt_called program i o)) (sym at)
-        (pt_means program count es fts p i before op le whole_es len ok.0 ok.1 h) in
+    subst (λ (o : Option pt.PtOp). OptionMeans (columns_in program) p.values (pt_form program op) (plain c) (pt_name program i) (pt_called program i o)) (sym at)
+    (pt_means program count es fts p i before op le whole_es len ok.0 ok.1 h) in
     subst (λ (ls : List Line). Reaches n ls p more (PtKnown program count es fts (past_formulas_after (atoms program.bz) (before ++ c ∷ []) ops))) (sym lines)
     (step_core (pt_reference program) (columns_in program) (CoresKnown (ft_reference program) (columns_in program) (BzKnown program count es) fts) i n (pt_name program i) (pt_form program op) c before (past_formulas_after (atoms program.bz) (before ++ c ∷ []) ops) (lines_from (pt_line program) (i + 1) ops) more p
     (cores_stay (ft_reference program) (columns_in program) (BzKnown program count es) fts (bz_stays program count es)) len m h

@@ -46,23 +46,26 @@ others_none rule k x xs e =
 
 operands_formed : (program : Program) (i : ℕ) (ops : List BzOp) → first_in (bz_fault program) i ops ≡ None → HaveOperands program i ops
 operands_formed program i [] e = tt
-operands_formed program i (op ∷ ops) e =
-    (passed (has_operands program i op) _ (none_left (unless (has_operands program i op) _) _ (first_none (bz_fault program) i op ops e)),
-    operands_formed program (i + 1) ops (others_none (bz_fault program) i op ops e))
+operands_formed program i (op ∷ ops) e = (
+  passed (has_operands program i op) _ (none_left (unless (has_operands program i op) _) _ (first_none (bz_fault program) i op ops e)),
+  operands_formed program (i + 1) ops (others_none (bz_fault program) i op ops e),
+)
 
 future_formed : (program : Program) (i : ℕ) (ops : List FtOp) → first_in (ft_fault program) i ops ≡ None → HaveFutureOperands program i ops
 future_formed program i [] e = tt
-future_formed program i (op ∷ ops) e =
-    (passed (has_future_operands program i op) _ (none_left _ _ (first_none (ft_fault program) i op ops e)),
-    passed (has_future_window op) _ (none_right (unless (has_future_operands program i op) _) _ (first_none (ft_fault program) i op ops e)),
-    future_formed program (i + 1) ops (others_none (ft_fault program) i op ops e))
+future_formed program i (op ∷ ops) e = (
+  passed (has_future_operands program i op) _ (none_left _ _ (first_none (ft_fault program) i op ops e)),
+  passed (has_future_window op) _ (none_right (unless (has_future_operands program i op) _) _ (first_none (ft_fault program) i op ops e)),
+  future_formed program (i + 1) ops (others_none (ft_fault program) i op ops e),
+)
 
 past_formed : (program : Program) (i : ℕ) (ops : List PtOp) → first_in (pt_fault program) i ops ≡ None → HavePastOperands program i ops
 past_formed program i [] e = tt
-past_formed program i (op ∷ ops) e =
-    (passed (has_past_operands program i op) _ (none_left _ _ (first_none (pt_fault program) i op ops e)),
-    passed (has_past_window op) _ (none_right (unless (has_past_operands program i op) _) _ (first_none (pt_fault program) i op ops e)),
-    past_formed program (i + 1) ops (others_none (pt_fault program) i op ops e))
+past_formed program i (op ∷ ops) e = (
+  passed (has_past_operands program i op) _ (none_left _ _ (first_none (pt_fault program) i op ops e)),
+  passed (has_past_window op) _ (none_right (unless (has_past_operands program i op) _) _ (first_none (pt_fault program) i op ops e)),
+  past_formed program (i + 1) ops (others_none (pt_fault program) i op ops e),
+)
 
 reports_formed : (program : Program) (k : ℕ) (outs : List Out) → first_in (output_fault program) k outs ≡ None → HaveReports program outs
 reports_formed program k [] e = tt
@@ -85,9 +88,10 @@ signals_formed program front (s ∷ ss) k all len e =
     let cut : take k program.signals ≡ front = ap (λ (xs : List StoredSignal). take k xs) all ∙ ap (λ (n : ℕ). take n (front ++ s ∷ ss)) (sym len) ∙ take-append_seam front (s ∷ ss) in
     let here : is_new_signal program.width front s ≡ true = ap (λ (xs : List StoredSignal). is_new_signal program.width xs s) (sym cut) ∙ test in
     let both : (((nat_lt s.column program.width && not (list_any (λ t. t.column == s.column) front)) ≡ true) × (not (list_any (λ t. bytes_eq s.name t.name) front) ≡ true)) = and_parts (nat_lt s.column program.width && not (list_any (λ t. t.column == s.column) front)) (not (list_any (λ t. bytes_eq s.name t.name) front)) here in
-    let parts : (nat_lt s.column program.width ≡ true) × (not (list_any (λ t. t.column == s.column) front) ≡ true) = and_parts (nat_lt s.column program.width) (not (list_any (λ t. t.column == s.column) front)) both.0 in
-    (not_passes (list_any (λ t. t.column == s.column) front) parts.1,
-    signals_formed program (front ++ s ∷ []) ss (k + 1) (all ∙ sym (append_assoc front (s ∷ []) ss)) (omega (arith, length-append front (s ∷ []))) (others_none (signal_fault program) k s ss e))
+    let parts : (nat_lt s.column program.width ≡ true) × (not (list_any (λ t. t.column == s.column) front) ≡ true) = and_parts (nat_lt s.column program.width) (not (list_any (λ t. t.column == s.column) front)) both.0 in (
+      not_passes (list_any (λ t. t.column == s.column) front) parts.1,
+      signals_formed program (front ++ s ∷ []) ss (k + 1) (all ∙ sym (append_assoc front (s ∷ []) ss)) (omega (arith, length-append front (s ∷ []))) (others_none (signal_fault program) k s ss e),
+    )
 
 none_at : (front : List StoredSignal) (s : StoredSignal) (back : List StoredSignal) (c : ℕ) → list_any (λ t. t.column == c) (front ++ s ∷ back) ≡ false → (s.column == c) ≡ false
 none_at [] s back c e = go (s.column == c) e

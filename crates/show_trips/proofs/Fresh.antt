@@ -165,12 +165,12 @@ input_ok n x truth s t p e h =
     let q : Place = behind (line_body n (input x truth)) p in
     let after : State = record { declared = d; labels = s.labels; values = with_signals count (drop count d.signals) s.values; total = s.total } in
     let first : after ≡ record { declared = e1.0; labels = s.labels; values = with_signals count (drop count e1.0.signals) s.values; total = s.total } =
-        ap (λ (c : Declarations). let u : State = record { declared = c; labels = s.labels; values = with_signals count (drop count c.signals) s.values; total = s.total } in u) added.1 in
+    ap (λ (c : Declarations). let u : State = record { declared = c; labels = s.labels; values = with_signals count (drop count c.signals) s.values; total = s.total } in u) added.1 in
     let second : record { declared = e1.0; labels = s.labels; values = with_signals count (drop count e1.0.signals) s.values; total = s.total } ≡ t = ok_same _ t e1.2 in
     let only : drop count d.signals ≡ record { name = x; truth = truth } ∷ [] = drop-append_seam s.declared.signals (record { name = x; truth = truth } ∷ []) in
     let declares : after.values ≡ declare x (value (signal_value truth count)) s.values = ap (λ (ss : List Signal). with_signals count ss s.values) only in
     let there : declare x (value (signal_value truth count)) s.values ≡ q.values =
-        ap (λ (k : ℕ). declare x (value (signal_value truth k)) s.values) h.signals ∙ ap (λ (env : Env). declare x (value (signal_value truth p.signals)) env) h.values ∙ sym (input_declares n x truth p) in
+    ap (λ (k : ℕ). declare x (value (signal_value truth k)) s.values) h.signals ∙ ap (λ (env : Env). declare x (value (signal_value truth p.signals)) env) h.values ∙ sym (input_declares n x truth p) in
     let counted : length d.signals ≡ q.signals = omega (arith, length-append s.declared.signals (record { name = x; truth = truth } ∷ []), h.signals) in
     record {
       new = ap (λ (env : Env). env x) (sym h.values) ∙ h.agrees x added.0;

@@ -235,11 +235,27 @@ form_readable (computes op x y) rest h r = signed_readable x y (arith_sign op) r
 form_readable (compare op x y) rest h r = signed_readable x y (compare_sign op) rest h.0 h.1 (compare_space op) r
 form_readable (negation x) rest h r = (tt, (before_reference x (written (ending rest)) h).1, behind_readable x rest h r)
 form_readable (logic op x y) rest h r = signed_readable x y (logic_sign op) rest h.0 h.1 (logic_space op) r
-form_readable (between op window x y) rest h r =
-    (h.2, reference_space x (written (token (what.Reserved (between_word op)) ∷ interval_marks window ++ space ∷ token (reference_token y) ∷ ending rest)),
-    (tt, refl, (tt, sign_number sign.LeftSquare window.lo (written (token (what.Sign sign.Comma) ∷ token (what.Number (pos window.hi)) ∷ token (what.Sign sign.RightSquare) ∷ space ∷ token (reference_token y) ∷ ending rest)) (λ b. refl) h.0,
-    (h.0, refl, (tt, sign_number sign.Comma window.hi (written (token (what.Sign sign.RightSquare) ∷ space ∷ token (reference_token y) ∷ ending rest)) (λ b. refl) h.1,
-    (h.1, refl, (tt, refl, behind_readable y rest h.3 r)))))))
+form_readable (between op window x y) rest h r = (
+  h.2,
+  reference_space x (written (token (what.Reserved (between_word op)) ∷ interval_marks window ++ space ∷ token (reference_token y) ∷ ending rest)),
+  (
+    tt,
+    refl,
+    (
+      tt,
+      sign_number sign.LeftSquare window.lo (written (token (what.Sign sign.Comma) ∷ token (what.Number (pos window.hi)) ∷ token (what.Sign sign.RightSquare) ∷ space ∷ token (reference_token y) ∷ ending rest)) (λ b. refl) h.0,
+      (
+        h.0,
+        refl,
+        (
+          tt,
+          sign_number sign.Comma window.hi (written (token (what.Sign sign.RightSquare) ∷ space ∷ token (reference_token y) ∷ ending rest)) (λ b. refl) h.1,
+          (h.1, refl, (tt, refl, behind_readable y rest h.3 r)),
+        ),
+      ),
+    ),
+  ),
+)
 
 labelled_readable : (label : Option (List ℕ)) (rest : List Mark) → HasName label → AreReadable rest → AreReadable (label_marks label ++ rest)
 unfolding AreReadable

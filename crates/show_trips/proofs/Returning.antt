@@ -62,15 +62,15 @@ program_returns signals columns outs program is tensed formed words none =
     let items : items_in (text program) ≡ line_items 1 (lines program) = items_said program words in
     let faultless : first_fault (line_items 1 (lines program)) ≡ None = ap first_fault (sym items) ∙ no_fault (text program) none in
     let asks : map (asked_over (map (λ signal. signal.column) program.signals)) (outputs_in (text program)) ≡ unfolded_outputs program =
-        ap (λ (xs : List ItemShape). map (asked_over (map (λ signal. signal.column) program.signals)) (outputs_of xs)) items ∙ program_asks program formed is.version faultless in
+    ap (λ (xs : List ItemShape). map (asked_over (map (λ signal. signal.column) program.signals)) (outputs_of xs)) items ∙ program_asks program formed is.version faultless in
     let declares : signals_in (text program) ≡ map declared_by program.signals = ap signals_of items ∙ program_declares program in
     let returned : HasListsOf (unfolded_outputs program) program = lists_return program (map (asked_over columns.of_signal) outs) is.lists (tensed_over columns.of_signal outs tensed) in
     let again : IsImageOf (signals_in (text program)) (stored_columns program) (outputs_in (text program)) program = record {
-        version = is.version;
-        width = refl;
-        lists = subst (λ (xs : List Asked). HasListsOf xs program) (sym asks) returned;
-        queues = is.queues;
-        boxes = is.boxes;
-        inputs = sym (ap (λ (ss : List Signal). stored_signals ss (map (λ signal. signal.column) program.signals)) declares ∙ stored_again program.signals);
-      } in
+      version = is.version;
+      width = refl;
+      lists = subst (λ (xs : List Asked). HasListsOf xs program) (sym asks) returned;
+      queues = is.queues;
+      boxes = is.boxes;
+      inputs = sym (ap (λ (ss : List Signal). stored_signals ss (map (λ signal. signal.column) program.signals)) declares ∙ stored_again program.signals);
+    } in
     sym (image_is (stored_columns program) (signals_in (text program)) (outputs_in (text program)) program again)

@@ -142,7 +142,9 @@ compare_over columns compare_op.TheVariants.Ge a b = refl
 pub arith_says : (columns : List ℕ) (env : Env) (op : arith_op.ArithOp) (x y : Reference) (e f : Expression) → Means columns env x e → Means columns env y f
     → FormSays columns env (computes op x y) (whole (arithmetic op (programs.term_of (Some e)) (programs.term_of (Some f))))
 arith_says columns env op x y e f h g n = record {
-  tree = _; weight = _; is = refl;
+  tree = _;
+  weight = _;
+  is = refl;
   over = arith_over columns op _ _ ∙ ap₂ (arithmetic op) (term_by columns env n x e h) (term_by columns env n y f g);
 }
 
@@ -150,7 +152,9 @@ pub compare_says : (columns : List ℕ) (env : Env) (op : compare_op.CompareOp) 
     → FormSays columns env (compare op x y) (truth (comparison op (programs.term_of (Some e)) (programs.term_of (Some f))))
 unfolding formula_over
 compare_says columns env op x y e f h g n = record {
-  tree = _; weight = _; is = refl;
+  tree = _;
+  weight = _;
+  is = refl;
   over = ap full.atom (compare_over columns op _ _ ∙ ap₂ (comparison op) (term_by columns env n x e h) (term_by columns env n y f g));
 }
 
@@ -178,7 +182,9 @@ pub until_says : (columns : List ℕ) (env : Env) (i : Interval) (x y : Referenc
     → FormSaysFormula columns env (between between_op.TheVariants.U i x y) (full.until i p q)
 unfolding formula_over
 until_says columns env i x y p q w h g n = record {
-  tree = _; weight = _; is = refl;
+  tree = _;
+  weight = _;
+  is = refl;
   over = ap (λ j. full.until j (formula_at columns env n x) (formula_at columns env n y)) w ∙ ap₂ (full.until i) (formula_by columns env n x p h) (formula_by columns env n y q g);
 }
 
@@ -186,6 +192,8 @@ pub since_says : (columns : List ℕ) (env : Env) (i : Interval) (x y : Referenc
     → FormSaysFormula columns env (between between_op.TheVariants.S i x y) (full.since i p q)
 unfolding formula_over
 since_says columns env i x y p q w h g n = record {
-  tree = _; weight = _; is = refl;
+  tree = _;
+  weight = _;
+  is = refl;
   over = ap (λ j. full.since j (formula_at columns env n x) (formula_at columns env n y)) w ∙ ap₂ (full.since i) (formula_by columns env n x p h) (formula_by columns env n y q g);
 }

@@ -212,7 +212,7 @@ in_column (s ∷ ss) c b own h = go (in_column ss c b own.1) (s.column == c) ref
     go ih true e false f g =
         let same : s.column ≡ c = (unsigned_Decides s.column c).0 e in
         let found : list_any (λ (t : StoredSignal). t.column == s.column) ss ≡ true = any_weaker (λ (signal : StoredSignal). (signal.column == c) && (if b then signal.truth else not signal.truth)) (λ (t : StoredSignal). t.column == s.column) ss
-            (λ x i. ap (λ (m : ℕ). x.column == m) same ∙ (and_parts (x.column == c) (if b then x.truth else not x.truth) i).0) g in
+        (λ x i. ap (λ (m : ℕ). x.column == m) same ∙ (and_parts (x.column == c) (if b then x.truth else not x.truth) i).0) g in
         absurd (cc)
     go ih false e k f g =
         let r = ih g in
@@ -342,20 +342,20 @@ step_bz program i n outputs op before es ls more p None none at len ok version o
     go n p (record { knows = knows_push program p.values before (expression_of before op) h.knows (subst (λ (k : ℕ). KnowsOne program p.values k (expression_of before op)) (sym len) one); signals = h.signals; outputs = h.outputs }) new
 step_bz program i n outputs op before es ls more p (Some f) some at len ok version own h go new =
     let says : FormSays (columns_in program) p.values f (expression_of before op) =
-        subst (λ (o : Option Form). OptionSays (columns_in program) p.values o (expression_of before op)) some
-        (bz_says program p.values before op h.knows (subst (λ (k : ℕ). has_operands program k op ≡ true) (sym len) ok)) in
+    subst (λ (o : Option Form). OptionSays (columns_in program) p.values o (expression_of before op)) some
+    (bz_says program p.values before op h.knows (subst (λ (k : ℕ). has_operands program k op ≡ true) (sym len) ok)) in
     let head = new_head n (bz_name program i) f (ls ++ more) p new in
     let q : Place = behind (line_body n (define (bz_name program i) f)) p in
     let later : IsLater p.values q.values = defined_later n (bz_name program i) f p in
     let m : Means (columns_in program) q.values (named (bz_name program i)) (expression_of before op) =
-        record { of = value_of (form_shape n f) p.values; finds = declared_here (bz_name program i) (value_of (form_shape n f) p.values) p.values head.0; says = says n } in
+    record { of = value_of (form_shape n f) p.values; finds = declared_here (bz_name program i) (value_of (form_shape n f) p.values) p.values head.0; says = says n } in
     let one : KnowsOne program q.values i (expression_of before op) =
-        bz_means program q.values i op (expression_of before op) at (subst (λ (x : Reference). Means (columns_in program) q.values x (expression_of before op)) (sym (bz_named program i op f some)) m) (kind_of_op before op) in
+    bz_means program q.values i op (expression_of before op) at (subst (λ (x : Reference). Means (columns_in program) q.values x (expression_of before op)) (sym (bz_named program i op f some)) m) (kind_of_op before op) in
     let next : BzKnown program outputs (before ++ expression_of before op ∷ []) q = record {
-        knows = knows_push program q.values before (expression_of before op) (knows_later program p.values q.values before later h.knows) (subst (λ (k : ℕ). KnowsOne program q.values k (expression_of before op)) (sym len) one);
-        signals = signals_later program.signals p.values q.values later h.signals;
-        outputs = let same : p.outputs + 0 ≡ p.outputs = omega arith in same ∙ h.outputs;
-      } in
+      knows = knows_push program q.values before (expression_of before op) (knows_later program p.values q.values before later h.knows) (subst (λ (k : ℕ). KnowsOne program q.values k (expression_of before op)) (sym len) one);
+      signals = signals_later program.signals p.values q.values later h.signals;
+      outputs = let same : p.outputs + 0 ≡ p.outputs = omega arith in same ∙ h.outputs;
+    } in
     reaches_define n (bz_name program i) f (ls ++ more) more p (BzKnown program outputs es) (go (n + 1) q next head.1)
 
 -- each instruction from a number on has its operands

@@ -124,14 +124,14 @@ output_asks program n k p (out.TheVariants.Contract Ft i j name) e h w =
     let parts : (nat_lt i (length program.ft) ≡ true) × (nat_lt j (length program.ft) ≡ true) = and_parts (nat_lt i (length program.ft)) (nat_lt j (length program.ft)) w in
     ap (λ (x : List ℕ). two_asked Ft x (said program p n (ft_reference program i)) (said program p n (ft_reference program j)) ∷ []) (ap (λ (m : ℕ). name_of m (label_of k name)) e ∙ name_kept k name)
     ∙ ap₂ (λ (f g : Formula). two_asked Ft name f g ∷ [])
-      (formula_by (columns_in program) p.values n (ft_reference program i) (plain (formula_at program Ft i)) (h.ft i (under i (length program.ft) parts.0)))
-      (formula_by (columns_in program) p.values n (ft_reference program j) (plain (formula_at program Ft j)) (h.ft j (under j (length program.ft) parts.1)))
+    (formula_by (columns_in program) p.values n (ft_reference program i) (plain (formula_at program Ft i)) (h.ft i (under i (length program.ft) parts.0)))
+    (formula_by (columns_in program) p.values n (ft_reference program j) (plain (formula_at program Ft j)) (h.ft j (under j (length program.ft) parts.1)))
 output_asks program n k p (out.TheVariants.Contract Pt i j name) e h w =
     let parts : (nat_lt i (length program.pt) ≡ true) × (nat_lt j (length program.pt) ≡ true) = and_parts (nat_lt i (length program.pt)) (nat_lt j (length program.pt)) w in
     ap (λ (x : List ℕ). two_asked Pt x (said program p n (pt_reference program i)) (said program p n (pt_reference program j)) ∷ []) (ap (λ (m : ℕ). name_of m (label_of k name)) e ∙ name_kept k name)
     ∙ ap₂ (λ (f g : Formula). two_asked Pt name f g ∷ [])
-      (formula_by (columns_in program) p.values n (pt_reference program i) (plain (formula_at program Pt i)) (h.pt i (under i (length program.pt) parts.0)))
-      (formula_by (columns_in program) p.values n (pt_reference program j) (plain (formula_at program Pt j)) (h.pt j (under j (length program.pt) parts.1)))
+    (formula_by (columns_in program) p.values n (pt_reference program i) (plain (formula_at program Pt i)) (h.pt i (under i (length program.pt) parts.0)))
+    (formula_by (columns_in program) p.values n (pt_reference program j) (plain (formula_at program Pt j)) (h.pt j (under j (length program.pt) parts.1)))
 
 -- behind an output nothing but its number is new
 behind_output : (program : Program) (n k : ℕ) (o : out.Out) (p : Place) → ((behind (line_body n (output_line program k o)) p).values ≡ p.values) × ((behind (line_body n (output_line program k o)) p).outputs ≡ p.outputs + 1)
@@ -152,7 +152,7 @@ outputs_ask program (o ∷ outs) n k p e h w =
     let next : q.outputs ≡ k + 1 = after.1 ∙ ap (λ (m : ℕ). m + 1) e in
     map-append (asked_over (columns_in program)) (asked_at (line_body n (output_line program k o)) p) (asked_from (line_items (n + 1) (map (λ x. output_line program x.0 x.1) (enumerate_from (k + 1) outs))) q)
     ∙ ap₂ (λ (a b : List Asked). a ++ b) (output_asks program n k p o e h w.0)
-      (outputs_ask program outs (n + 1) (k + 1) q next (subst (EnginesKnown program) (sym after.0) h) w.1)
+    (outputs_ask program outs (n + 1) (k + 1) q next (subst (EnginesKnown program) (sym after.0) h) w.1)
 
 -- what a program needs, so that its lines say its outputs
 pub record CanBeSaid (program : Program) : Type 0 where
@@ -202,11 +202,11 @@ lines_ask program h new =
     let bzs : List Line = lines_by (bz_line program) program.bz ++ fts in
     let first = walk_signals program 0 [] program.signals 1 bzs before refl refl (λ k s e. absurd (cc)) refl new in
     let second = walk_bz program [] program.bz [] 0 first.line 0 fts first.place refl refl refl h.bz h.version h.columns
-        (record { knows = λ j e i. absurd (cc); signals = first.holds.signals; outputs = first.holds.outputs }) first.new in
+    (record { knows = λ j e i. absurd (cc); signals = first.holds.signals; outputs = first.holds.outputs }) first.new in
     let count : length (expressions program.bz) ≡ length program.bz = omega (arith, expressions_count program.bz []) in
     let third = walk_ft program 0 (expressions program.bz) [] program.ft [] 0 second.line pts second.place refl refl refl count refl h.ft
-        (record { base = second.holds; known = λ j c i. absurd (cc) }) second.new in
+    (record { base = second.holds; known = λ j c i. absurd (cc) }) second.new in
     let fourth = walk_pt program 0 (expressions program.bz) (formulas_after (atoms program.bz) [] program.ft) [] program.pt [] 0 third.line outs third.place refl refl refl count refl h.pt
-        (record { base = third.holds; known = λ j c i. absurd (cc) }) third.new in
+    (record { base = third.holds; known = λ j c i. absurd (cc) }) third.new in
     ap (λ (xs : List Asked). map (asked_over (columns_in program)) xs) (first.same ∙ second.same ∙ third.same ∙ fourth.same)
     ∙ outputs_ask program program.outs fourth.line 0 fourth.place fourth.holds.base.base.outputs (engines_known program fourth.place fourth.holds) h.reports

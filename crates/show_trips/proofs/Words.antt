@@ -78,7 +78,7 @@ defined_named program k few =
     let m : ℕ = operations program + length program.signals in
     let p : ℕ → Bool = λ n. not (is_signal_name program.signals (numbered_name n)) in
     let at : slice_index (free_numbers program.signals (operations program)) k ≤ m =
-        index_up_to m (free_numbers program.signals (operations program)) k (filter_up_to p m (range_with_len 0 m) (range_up_to m 0 m (omega arith))) in
+    index_up_to m (free_numbers program.signals (operations program)) k (filter_up_to p m (range_with_len 0 m) (range_up_to m 0 m (omega arith))) in
     let small : m < 10 ^ 19 = omega (arith, count_by-le-length is_operation program.bz, count_by-le-length is_future_operation program.ft, count_by-le-length is_past_operation program.pt, few.few_bz, few.few_ft, few.few_pt, few.few_signals) in
     numbered (slice_index (free_numbers program.signals (operations program)) k) (omega arith)
 

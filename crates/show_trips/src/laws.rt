@@ -45,7 +45,7 @@ pub fn written_lines_mean_their_formulas()
     ensures outputs { (program : Observer) → IsWellFormed program → program.version ≡ 2 →
         first_fault (line_items 1 (lines program)) ≡ None →
         map (asked_over (map (λ signal. signal.column) program.signals))
-            (outputs_of (line_items 1 (lines program))) ≡ unfolded_outputs program }
+        (outputs_of (line_items 1 (lines program))) ≡ unfolded_outputs program }
     ensures signals { (program : Observer) →
         signals_of (line_items 1 (lines program)) ≡ map declared_by program.signals }
 {}
