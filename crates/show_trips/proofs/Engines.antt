@@ -1,7 +1,7 @@
 -- Going on through the lines of the engines' instructions.
 
-use Rattle.std.proofs.Common.{◌≡◌, ◌∙◌, ℕ, pos, ◌+◌, ◌<◌, ◌≤◌, zero, suc, Bool, true, false, List, [], ◌∷◌, ◌++◌, length, map, Option, Some, None, refl, ap, ap₂, sym, subst, arith, append_assoc, inl, inr, nat_lt}
-use Rattle.std.specs.Prelude.{slice_get, slice_index_or, if◌then◌else◌, nat_le, ◌⊎◌, ◌&&◌}
+use Rattle.std.proofs.Common.{◌≡◌, ◌∙◌, ℕ, ◌+◌, ◌<◌, ◌≤◌, zero, suc, true, List, [], ◌∷◌, ◌++◌, length, map, Option, Some, None, refl, ap, sym, subst, arith, append_assoc, inl, inr, nat_lt}
+use Rattle.std.specs.Prelude.{slice_get, slice_index_or, nat_le, ◌⊎◌}
 use Rattle.std.proofs.lemmas.Option.{slice_get_within, slice_get-get_or, same_Some}
 use Rattle.std.proofs.lemmas.List.{length-append}
 use Rattle.std.proofs.lemmas.Bool.{and_parts}
@@ -17,16 +17,16 @@ use Rattle.mltl_base.specs.Formula as full
 use Rattle.mltl_base.specs.Formula.{Formula, Core, ctrue, catom, cnot, cand, cuntil, csince, plain, formula_over}
 use Rattle.mltl_base.specs.Programs.{Expression, whole, truth, atom_of, atoms, expressions, core_at, formula_of, past_formula_of, formulas_after, past_formulas_after}
 use Rattle.obs_verify.specs.WellFormed.{is_truth, is_window, has_future_operands, has_future_window, has_past_operands, has_past_window}
-use Rattle.unfold.specs.Values.{Value, truth_value, interval}
-use Rattle.unfold.specs.Environment.{Env, nothing, value, declare, value_of}
+use Rattle.unfold.specs.Values.{truth_value, interval}
+use Rattle.unfold.specs.Environment.{Env, value_of}
 use Rattle.set_expand.specs.Outputs.{Place, behind}
 use Rattle.obs_show.specs.Lines.{Reference, always, named, Form, Line, define}
 use Rattle.obs_show.specs.Naming.{ft_name, pt_name, bz_reference, ft_called, ft_reference, pt_called, pt_reference}
 use Rattle.obs_show.specs.Text.{ft_form, pt_form, ft_line, pt_line}
 use Rattle.show_trips.specs.Said.{form_shape, line_body}
 use Rattle.show_trips.specs.Unfolded.{AreNew}
-use Rattle.show_trips.proofs.Values.{IsLater, declare_later, declared_here, MeansFormula, formula_later, FormSaysFormula, negation_says, and_says, until_says, since_says, window_kept}
-use Rattle.show_trips.proofs.Walk.{Reaches, reaches_at_once, get_push, get_seam, columns_in, IsTruthExpression, KnowsOne, Knows, BzKnown, lines_from, put, put_is, defined_later, reaches_define, new_head, knows_later, signals_later}
+use Rattle.show_trips.proofs.Values.{IsLater, declared_here, MeansFormula, formula_later, FormSaysFormula, negation_says, and_says, until_says, since_says, window_kept}
+use Rattle.show_trips.proofs.Walk.{Reaches, reaches_at_once, get_push, get_seam, columns_in, IsTruthExpression, KnowsOne, BzKnown, lines_from, put, put_is, defined_later, reaches_define, new_head, knows_later, signals_later}
 
 -- what is known of the first instructions of an engine, by what each is called
 abbrev pub KnowsCores : (ℕ → Reference) → List ℕ → Env → List Core → Type 0

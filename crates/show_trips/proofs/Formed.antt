@@ -1,7 +1,7 @@
 -- A well-formed program of version 2 can be said by its lines.
 
-use Rattle.std.proofs.Common.{◌≡◌, ◌∙◌, ℕ, ◌+◌, ◌<◌, ◌≤◌, zero, suc, Bool, true, false, not, List, [], ◌∷◌, ◌++◌, length, take, Option, Some, None, refl, ap, sym, subst, arith, append_assoc}
-use Rattle.std.specs.Prelude.{if◌then◌else◌, ◌&&◌, ◌||◌, ◌==◌, nat_lt}
+use Rattle.std.proofs.Common.{◌≡◌, ◌∙◌, ℕ, ◌+◌, suc, Bool, true, false, not, List, [], ◌∷◌, ◌++◌, length, take, Option, Some, None, refl, ap, sym, subst, arith, append_assoc}
+use Rattle.std.specs.Prelude.{◌&&◌, ◌||◌, ◌==◌, nat_lt}
 use Rattle.std.specs.List.{list_any}
 use Rattle.std.specs.Str.{bytes_eq}
 use Rattle.std.proofs.Math.Seq.{take-append_seam}
@@ -16,7 +16,7 @@ use Rattle.mltl_base.specs.declared.program.Program.{Program}
 use Rattle.mltl_base.specs.declared.program.StoredSignal.{StoredSignal}
 use Rattle.mltl_base.specs.Queues.{worst_delays}
 use Rattle.obs_verify.specs.declared.fault.VerifyFault.{VerifyFault}
-use Rattle.obs_verify.specs.WellFormed.{unless, or_else, first_in, width_fault, is_new_signal, signal_fault, has_operands, bz_fault, has_future_operands, has_future_window, ft_fault, late_fault, has_past_operands, has_past_window, pt_fault, reports_within, output_fault, slots_fault, first_fault, IsWellFormed}
+use Rattle.obs_verify.specs.WellFormed.{unless, or_else, first_in, width_fault, is_new_signal, signal_fault, has_operands, bz_fault, has_future_operands, has_future_window, ft_fault, late_fault, has_past_operands, has_past_window, pt_fault, reports_within, output_fault, IsWellFormed}
 use Rattle.show_trips.proofs.Walk.{HaveOwnColumns, HaveOperands}
 use Rattle.show_trips.proofs.Engines.{HaveFutureOperands, HavePastOperands}
 use Rattle.show_trips.proofs.Whole.{HaveReports, CanBeSaid}

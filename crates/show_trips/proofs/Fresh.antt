@@ -1,6 +1,6 @@
 -- Where lines have no fault, each declares a name that is new.
 
-use Rattle.std.proofs.Common.{◌≡◌, ◌∙◌, ℕ, ◌+◌, ◌<◌, ◌≤◌, zero, suc, Bool, true, false, List, [], ◌∷◌, ◌++◌, length, drop, map, Option, Some, None, Result, Ok, Err, refl, ap, sym, subst, arith}
+use Rattle.std.proofs.Common.{◌≡◌, ◌∙◌, ℕ, ◌+◌, Bool, true, false, List, [], ◌∷◌, ◌++◌, length, drop, Option, Some, None, Ok, Err, refl, ap, sym, subst, arith}
 use Rattle.std.specs.Prelude.{if◌then◌else◌, is_some, nat_le}
 use Rattle.std.specs.Str.{bytes_eq}
 use Rattle.std.proofs.lemmas.List.{length-append}
@@ -10,16 +10,15 @@ use Rattle.mltl_base.specs.declared.interval.Engine.{Engine}
 use Rattle.mltl_base.specs.declared.signal.Signal.{Signal}
 use Rattle.mltl_base.specs.Ranges.{NoRange}
 use Rattle.name_table.specs.Tables.{Table, entry_of, is_named}
-use Rattle.c2po_tree.specs.Shape.{Shape}
-use Rattle.c2po_tree.specs.ItemShape.{ItemShape, type_named}
+use Rattle.c2po_tree.specs.ItemShape.{type_named}
 use Rattle.c2po_kinds.specs.declared.kind.Kind.{Kind}
 use Rattle.c2po_kinds.specs.declared.kind.Meaning.{Meaning}
 use Rattle.c2po_kinds.specs.declared.kind.Meaning.TheVariants.{Value}
 use Rattle.c2po_kinds.specs.declared.declarations.Declarations.{Declarations}
 use Rattle.c2po_kinds.specs.declared.fault.TypeFault.{TypeFault}
 use Rattle.c2po_kinds.specs.Checking.{Checked, ◌>>=◌, in_turn}
-use Rattle.c2po_kinds.specs.Items.{Labels, nothing as none_declared, new, with_signal, with_input, with_value, with_label, define_kind, formula_kind, contract_kind, signal_kind}
-use Rattle.c2po_types.specs.FirstFault.{State, start, not_wide, ranged, one_tense, defined, with_out, item_step, checked, fault_of, first_fault, define_step, input_step, formula_step, contract_step, with_signals, is_mixed}
+use Rattle.c2po_kinds.specs.Items.{Labels, new, with_signal, with_input, with_value, with_label, define_kind, formula_kind, contract_kind, signal_kind}
+use Rattle.c2po_types.specs.FirstFault.{State, start, ranged, one_tense, defined, with_out, item_step, checked, fault_of, first_fault, define_step, input_step, formula_step, contract_step, with_signals, is_mixed}
 use Rattle.plain_nodes.specs.Faults.{formula_fault, or_later}
 use Rattle.unfold.specs.Values as values
 use Rattle.unfold.specs.Faults.{value_fault}

@@ -1,19 +1,16 @@
 -- The tokens of lines are cut into one item a line.
 
-use Rattle.std.proofs.Common.{◌≡◌, ◌∙◌, ℕ, ◌+◌, zero, suc, Bool, true, false, List, [], ◌∷◌, ◌++◌, length, Option, Some, None, Result, Ok, Err, refl, ap, sym, subst, arith, append_assoc, append-nil}
+use Rattle.std.proofs.Common.{◌≡◌, ◌∙◌, ℕ, ◌+◌, Bool, true, false, List, [], ◌∷◌, ◌++◌, length, Option, Some, None, Ok, refl, ap, sym, arith, append_assoc, append-nil}
 use Rattle.std.proofs.lemmas.List.{length-append}
 use Rattle.c2po_lexer.specs.declared.token.Sign.TheVariants as sign
-use Rattle.c2po_lexer.specs.declared.token.Keyword.TheVariants as keyword
 use Rattle.c2po_lexer.specs.declared.token.Token.{Token}
 use Rattle.c2po_lexer.specs.declared.token.What.{What}
 use Rattle.c2po_lexer.specs.declared.token.What.TheVariants as what
 use Rattle.c2po_lexer.specs.Tokens.{tokens_of}
-use Rattle.c2po_tree.specs.ItemShape.{ItemShape}
 use Rattle.c2po_tree.specs.Tokens.{is_sign}
 use Rattle.c2po_parse.specs.declared.section.Section.{Section}
-use Rattle.c2po_parse.specs.Sections.{Piece, section_of, braces_after, item_of, is_end, chosen, pieces, left_over}
-use Rattle.c2po_parse.specs.Specification.{piece_tree, first_or, with_first, trees, spec_of}
-use Rattle.c2po_parse.specs.declared.fault.ParseFault.{ParseFault}
+use Rattle.c2po_parse.specs.Sections.{section_of, braces_after, item_of, chosen, pieces}
+use Rattle.c2po_parse.specs.Specification.{first_or, with_first, trees, spec_of}
 use Rattle.obs_show.specs.Lines.{Reference, always, named, number, Form, minus, arith as computes, compare, negation, logic, between, Line, input, define, formula, contract}
 use Rattle.obs_show.specs.Text.{lines_text}
 use Rattle.mltl_base.specs.declared.operators.ArithOp as arith_op
@@ -21,7 +18,7 @@ use Rattle.mltl_base.specs.declared.operators.BetweenOp as between_op
 use Rattle.mltl_base.specs.declared.operators.CompareOp as compare_op
 use Rattle.mltl_base.specs.declared.operators.LogicOp as logic_op
 use Rattle.show_trips.specs.Written.{Mark, token, space, newline, token_text, tokens_by, written}
-use Rattle.show_trips.specs.Said.{reference_token, arith_sign, compare_sign, logic_sign, between_word, interval_marks, form_marks, kind_word, section_word, label_marks, body_marks, line_marks, lines_marks, line_item, line_items, HaveWords}
+use Rattle.show_trips.specs.Said.{reference_token, arith_sign, compare_sign, logic_sign, between_word, form_marks, kind_word, section_word, label_marks, body_marks, line_marks, lines_marks, line_item, line_items, HaveWords}
 use Rattle.show_trips.proofs.Reading.{written_tokens}
 use Rattle.show_trips.proofs.Lines.{lines_readable, lines_written}
 use Rattle.show_trips.proofs.Trees.{at_place, section_in, section_begins, line_tree}

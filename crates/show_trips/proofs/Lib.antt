@@ -13,3 +13,10 @@ pub mod Meaning
 pub mod Tenses
 pub mod Returning
 pub mod Words
+pub mod GoodTokens
+pub mod GoodWords
+pub mod GoodTrees
+pub mod GoodItems
+pub mod Naturals
+pub mod Constants
+pub mod Images

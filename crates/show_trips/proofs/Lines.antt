@@ -1,8 +1,7 @@
 -- Lines are written by their tokens, and these are read.
 
-use Rattle.std.proofs.Common.{◌≡◌, ◌∙◌, ℕ, ℤ, pos, negsuc, ◌+◌, ◌<◌, ◌≤◌, ◌^◌, zero, suc, Bool, true, false, not, List, [], ◌∷◌, ◌++◌, length, Option, Some, None, refl, ap, sym, subst, arith, append_assoc, append-nil}
+use Rattle.std.proofs.Common.{◌≡◌, ◌∙◌, ℕ, pos, negsuc, ◌<◌, ◌≤◌, ◌^◌, Bool, true, false, not, List, [], ◌∷◌, ◌++◌, length, Option, Some, None, refl, ap, sym, subst, arith, append_assoc, append-nil}
 use Rattle.std.specs.Prelude.{decimal, slice_index, codes, ◌==◌, ◌||◌}
-use Rattle.std.specs.List.{flat_map, AllPass}
 use Rattle.std.specs.Char.{is_ascii_digit}
 use Rattle.std.specs.Str.{all_ascii_digits}
 use Rattle.std.proofs.lemmas.Bool.{and_parts}
@@ -10,22 +9,18 @@ use Rattle.std.proofs.lemmas.Bool.Decides.{nat_tests}
 use Rattle.std.proofs.lemmas.Fmt.{decimal_nonempty, digits_decimal}
 use Rattle.mltl_base.specs.declared.interval.Engine.{Engine}
 use Rattle.mltl_base.specs.declared.interval.Engine.TheVariants.{Ft, Pt}
-use Rattle.mltl_base.specs.declared.interval.Interval.{Interval}
 use Rattle.mltl_base.specs.declared.operators.ArithOp as arith_op
 use Rattle.mltl_base.specs.declared.operators.BetweenOp as between_op
 use Rattle.mltl_base.specs.declared.operators.CompareOp as compare_op
 use Rattle.mltl_base.specs.declared.operators.LogicOp as logic_op
-use Rattle.c2po_lexer.specs.Cut.{begins_word, is_in_word}
+use Rattle.c2po_lexer.specs.Cut.{begins_word}
 use Rattle.c2po_lexer.specs.Spelling.{keyword_text, sign_text}
 use Rattle.c2po_lexer.specs.declared.token.Sign.{Sign}
 use Rattle.c2po_lexer.specs.declared.token.Sign.TheVariants as sign
-use Rattle.c2po_lexer.specs.declared.token.Keyword.{Keyword}
-use Rattle.c2po_lexer.specs.declared.token.Keyword.TheVariants as keyword
-use Rattle.c2po_lexer.specs.declared.token.What.{What}
 use Rattle.c2po_lexer.specs.declared.token.What.TheVariants as what
 use Rattle.obs_show.specs.Lines.{Reference, always, named, number, Form, minus, arith as computes, compare, negation, logic, between, Line, input, define, formula, contract}
 use Rattle.obs_show.specs.Text.{reference_text, arith_text, compare_text, logic_text, between_text, interval_text, spaced, form_text, kind_text, section_text, label_text, line_text, lines_text}
-use Rattle.show_trips.specs.Written.{Mark, token, space, newline, IsName, IsToken, IsNumber, Ends, token_text, mark_text, ends_before, token_ends, AreReadable, written}
+use Rattle.show_trips.specs.Written.{Mark, token, space, newline, IsNumber, Ends, token_text, mark_text, ends_before, AreReadable, written}
 use Rattle.show_trips.specs.Said.{reference_token, arith_sign, compare_sign, logic_sign, between_word, interval_marks, spaced_marks, form_marks, kind_word, section_word, label_marks, body_marks, line_marks, lines_marks, HasToken, HasTokens, HasName, HasWords, HaveWords}
 use Rattle.show_trips.proofs.Reading.{decimals}
 

@@ -1,6 +1,6 @@
 -- The lines of a well-formed program mean its formulas.
 
-use Rattle.std.proofs.Common.{◌≡◌, List, map, None}
+use Rattle.std.proofs.Common.{◌≡◌, map, None}
 use Rattle.mltl_base.specs.declared.program.Program.{Program}
 use Rattle.mltl_base.specs.Subformulas.{unfolded_outputs}
 use Rattle.plain_nodes.specs.Outputs.{asked_over}

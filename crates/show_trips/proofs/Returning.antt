@@ -1,12 +1,11 @@
 -- A program that has the lists of a specification is the image of its own text.
 
-use Rattle.std.proofs.Common.{◌≡◌, ◌∙◌, ℕ, List, [], map, All, Option, Some, None, Result, Ok, Err, refl, ap, ap₂, sym, subst}
+use Rattle.std.proofs.Common.{◌≡◌, ◌∙◌, ℕ, List, [], map, All, Option, Some, None, refl, ap, sym, subst}
 use Rattle.std.specs.Prelude.{option_map}
 use Rattle.std.specs.Option.{option_or}
 use Rattle.std.specs.Result.{result_unwrap_or}
 use Rattle.mltl_base.specs.declared.program.Columns.{Columns}
 use Rattle.mltl_base.specs.declared.program.Program.{Program}
-use Rattle.mltl_base.specs.declared.program.StoredSignal.{StoredSignal}
 use Rattle.mltl_base.specs.declared.signal.Signal.{Signal}
 use Rattle.mltl_base.specs.Subformulas.{Asked, IsTensed, HasListsOf, unfolded_outputs}
 use Rattle.mltl_base.proofs.Returning.{lists_return}
@@ -24,12 +23,10 @@ use Rattle.spec_compile.specs.declared.fault.CompileFault.{CompileFault}
 use Rattle.spec_compile.specs.Refusals.{token_refusal, tree_refusal, check_refusal}
 use Rattle.spec_compile.specs.Front.{tokens_in, items_in, refusal_in, first_refusal}
 use Rattle.spec_compile.specs.Compiled.{signals_in, outputs_in}
-use Rattle.spec_compile.specs.Image.{image}
 use Rattle.spec_compile.specs.ImageFiles.{image_in, stored_columns}
 use Rattle.spec_compile.proofs.ImageLaws.{image_is}
 use Rattle.obs_show.specs.Text.{lines, text}
-use Rattle.show_trips.specs.Written.{tokens_by}
-use Rattle.show_trips.specs.Said.{HaveWords, lines_marks, line_items}
+use Rattle.show_trips.specs.Said.{HaveWords, line_items}
 use Rattle.show_trips.specs.Unfolded.{declared_by}
 use Rattle.show_trips.proofs.Items.{lines_tokens, lines_items}
 use Rattle.show_trips.proofs.Signals.{program_declares, stored_again}

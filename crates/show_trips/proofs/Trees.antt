@@ -1,8 +1,7 @@
 -- The tokens of lines are read as the items that they say.
 
-use Rattle.std.proofs.Common.{◌≡◌, ◌∙◌, ℕ, pos, ◌+◌, ◌-◌, ◌<◌, ◌≤◌, zero, suc, Bool, true, false, List, [], ◌∷◌, ◌++◌, length, Option, Some, None, Result, Ok, Err, refl, ap, sym, subst, arith, append_assoc, append-nil, nat_lt}
+use Rattle.std.proofs.Common.{◌≡◌, ◌∙◌, ℕ, ◌+◌, ◌-◌, ◌≤◌, zero, suc, Bool, true, false, List, [], ◌∷◌, ◌++◌, length, Option, Some, None, Ok, Err, refl, ap, sym, subst, arith, append-nil, nat_lt}
 use Rattle.std.specs.Prelude.{if◌then◌else◌, is_some, option_and_then}
-use Rattle.std.proofs.lemmas.List.{length-append}
 use Rattle.mltl_base.specs.declared.interval.Engine.{Engine}
 use Rattle.mltl_base.specs.declared.interval.Engine.TheVariants.{Ft, Pt}
 use Rattle.mltl_base.specs.declared.interval.Interval.{Interval}
@@ -12,7 +11,6 @@ use Rattle.mltl_base.specs.declared.operators.CompareOp as compare_op
 use Rattle.mltl_base.specs.declared.operators.LogicOp as logic_op
 use Rattle.c2po_lexer.specs.declared.token.Sign.{Sign}
 use Rattle.c2po_lexer.specs.declared.token.Sign.TheVariants as sign
-use Rattle.c2po_lexer.specs.declared.token.Keyword.{Keyword}
 use Rattle.c2po_lexer.specs.declared.token.Keyword.TheVariants as keyword
 use Rattle.c2po_lexer.specs.declared.token.Token.{Token}
 use Rattle.c2po_lexer.specs.declared.token.What.{What}
@@ -37,14 +35,13 @@ use Rattle.c2po_tree.proofs.Operators.{OperatorFront, operator_at-front}
 use Rattle.c2po_tree.proofs.Agree.{derived-tree}
 use Rattle.c2po_parse.specs.declared.section.Section.{Section}
 use Rattle.c2po_parse.specs.declared.section.Section.TheVariants.{Input, Define, Output}
-use Rattle.c2po_parse.specs.Sections.{Piece, section_of, braces_after, line_or, item_of, is_end, chosen, pieces}
+use Rattle.c2po_parse.specs.Sections.{section_of, line_or, item_of}
 use Rattle.c2po_parse.specs.Forms.{body_of, define_of, input_of, names_within, type_within, output_of, output_at, label_at, promise_at}
-use Rattle.c2po_parse.specs.Specification.{with_line, piece_tree, first_or, trees, spec_of}
-use Rattle.c2po_parse.specs.declared.fault.ParseFault.{ParseFault}
+use Rattle.c2po_parse.specs.Specification.{with_line, piece_tree}
 use Rattle.c2po_parse.specs.declared.fault.ParseFault.TheVariants.{TooManyTokens}
 use Rattle.obs_show.specs.Lines.{Reference, always, named, number, Form, minus, arith as computes, compare, negation, logic, between, Line, input, define, formula, contract}
-use Rattle.show_trips.specs.Written.{Mark, token, space, newline, token_text, tokens_by, written}
-use Rattle.show_trips.specs.Said.{reference_token, arith_sign, compare_sign, logic_sign, between_word, interval_marks, spaced_marks, form_marks, kind_word, section_word, label_marks, body_marks, line_marks, lines_marks, reference_shape, form_shape, line_body, line_item, line_items}
+use Rattle.show_trips.specs.Written.{token, token_text, tokens_by}
+use Rattle.show_trips.specs.Said.{reference_token, arith_sign, compare_sign, logic_sign, between_word, interval_marks, form_marks, section_word, body_marks, reference_shape, form_shape, line_body, line_item}
 
 -- a token at a place
 abbrev pub at_place : (line start end : ℕ) → What → Token

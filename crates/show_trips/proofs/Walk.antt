@@ -1,25 +1,16 @@
 -- Going through the lines of a program: what is known behind the lines of its signals and of its instructions.
 
-use Rattle.std.proofs.Common.{◌≡◌, ◌∙◌, ℕ, ℤ, pos, ◌+◌, ◌<◌, ◌≤◌, zero, suc, Bool, true, false, cond, not, List, [], ◌∷◌, ◌++◌, length, take, map, Option, Some, None, refl, ap, ap₂, sym, subst, arith, append_assoc, append-nil, inl, inr, nat_lt}
-use Rattle.std.specs.Prelude.{slice_get, slice_index, slice_index_or, if◌then◌else◌, min, ◌⊎◌, ◌==◌, ◌&&◌, ◌||◌, option_map}
+use Rattle.std.proofs.Common.{◌≡◌, ◌∙◌, ℕ, ◌+◌, ◌<◌, zero, suc, Bool, true, false, not, List, [], ◌∷◌, ◌++◌, length, take, map, Option, Some, None, refl, ap, sym, subst, arith, append_assoc, inl, inr, nat_lt}
+use Rattle.std.specs.Prelude.{slice_get, slice_index, slice_index_or, if◌then◌else◌, ◌⊎◌, ◌==◌, ◌&&◌, ◌||◌, option_map}
 use Rattle.std.specs.List.{list_any, enumerate_from, filter_map, cons_option}
 use Rattle.std.proofs.lemmas.Option.{slice_get_within, slice_get-get_or, same_Some}
 use Rattle.std.specs.Cmp.{unsigned_Decides}
 use Rattle.std.proofs.lemmas.List.{length-take, length-append}
 use Rattle.std.proofs.lemmas.Bool.{and_parts}
 use Rattle.std.proofs.Math.Bool.{or-true}
-use Rattle.mltl_base.specs.declared.interval.Engine.{Engine}
-use Rattle.mltl_base.specs.declared.interval.Engine.TheVariants.{Ft, Pt}
-use Rattle.mltl_base.specs.declared.interval.Interval.{Interval}
-use Rattle.mltl_base.specs.declared.limits.TheConstants.{MAX_BOUND}
 use Rattle.mltl_base.specs.declared.operators.ArithOp as arith_op
-use Rattle.mltl_base.specs.declared.operators.BetweenOp as between_op
 use Rattle.mltl_base.specs.declared.operators.CompareOp as compare_op
-use Rattle.mltl_base.specs.declared.operators.LogicOp as logic_op
 use Rattle.mltl_base.specs.declared.operators.BzOp as bz
-use Rattle.mltl_base.specs.declared.operators.FtOp as ft
-use Rattle.mltl_base.specs.declared.operators.PtOp as pt
-use Rattle.mltl_base.specs.declared.program.Out as out
 use Rattle.mltl_base.specs.declared.program.Program.{Program}
 use Rattle.mltl_base.specs.declared.program.StoredSignal.{StoredSignal}
 use Rattle.mltl_base.specs.Atoms as atoms
@@ -28,18 +19,17 @@ use Rattle.mltl_base.specs.Formula as full
 use Rattle.mltl_base.specs.Formula.{Formula, Core, ctrue, catom, cnot, cand, cuntil, csince, plain, formula_over}
 use Rattle.mltl_base.specs.Programs as programs
 use Rattle.mltl_base.specs.Programs.{Expression, whole, truth, term_at, expression_of, expressions_after, expressions, core_at, formula_of, past_formula_of, formulas_after, past_formulas_after}
-use Rattle.mltl_base.specs.Subformulas.{Asked}
 use Rattle.obs_verify.specs.WellFormed.{is_whole, is_truth, is_whole_before, has_kind, has_operands}
 use Rattle.plain_nodes.specs.Nodes.{arithmetic, comparison}
-use Rattle.unfold.specs.Values.{Value, number_value, truth_value, interval}
-use Rattle.unfold.specs.Environment.{Env, nothing, value, declare, signal_value, value_of}
+use Rattle.unfold.specs.Values.{number_value}
+use Rattle.unfold.specs.Environment.{Env, nothing, value, signal_value, value_of}
 use Rattle.set_expand.specs.Outputs.{Place, behind, asked_from}
-use Rattle.obs_show.specs.Lines.{Reference, always, named, number, Form, minus, arith as computes, compare, negation, logic, between, Line, input, define, formula, contract}
-use Rattle.obs_show.specs.Naming.{name_in, bz_name, ft_name, pt_name, bz_called, bz_reference, ft_reference, pt_reference}
-use Rattle.obs_show.specs.Text.{signal_line, bz_form, ft_form, pt_form, bz_line, ft_line, pt_line}
-use Rattle.show_trips.specs.Said.{form_shape, line_body, line_item, line_items}
-use Rattle.show_trips.specs.Unfolded.{IsNew, AreNew}
-use Rattle.show_trips.proofs.Values.{IsLater, later_self, later_again, declare_later, declared_here, SaysFormula, Says, Means, MeansFormula, means_later, formula_later, FormSays, FormSaysFormula, minus_says, arith_says, compare_says, negation_says, and_says, until_says, since_says}
+use Rattle.obs_show.specs.Lines.{Reference, named, Form, minus, arith as computes, compare, Line, define}
+use Rattle.obs_show.specs.Naming.{name_in, bz_name, bz_called, bz_reference}
+use Rattle.obs_show.specs.Text.{bz_form, bz_line}
+use Rattle.show_trips.specs.Said.{form_shape, line_body, line_items}
+use Rattle.show_trips.specs.Unfolded.{AreNew}
+use Rattle.show_trips.proofs.Values.{IsLater, declare_later, declared_here, Means, means_later, FormSays, minus_says, arith_says, compare_says}
 
 -- lines behind some others, and what holds where they begin
 pub record Reaches (n : ℕ) (lines : List Line) (p : Place) (more : List Line) (I : Place → Type 0) : Type 0 where

@@ -1,12 +1,10 @@
 -- What the lines of a whole program ask for: what its outputs unfold to.
 
-use Rattle.std.proofs.Common.{◌≡◌, ◌∙◌, ℕ, pos, ◌+◌, ◌<◌, ◌≤◌, zero, suc, Bool, true, false, not, List, [], ◌∷◌, ◌++◌, length, map, take, Option, Some, None, refl, ap, ap₂, sym, subst, arith, append_assoc, append-nil, inl, inr, nat_lt}
-use Rattle.std.specs.Prelude.{slice_get, slice_index_or, if◌then◌else◌, nat_le, ◌⊎◌, ◌&&◌, ◌||◌, ◌==◌, decimal}
-use Rattle.std.specs.List.{list_any, enumerate_from}
+use Rattle.std.proofs.Common.{◌≡◌, ◌∙◌, ℕ, ◌+◌, ◌<◌, Bool, true, false, List, [], ◌∷◌, ◌++◌, length, map, Some, None, refl, ap, ap₂, sym, subst, arith, append_assoc, append-nil, inl, inr, nat_lt}
+use Rattle.std.specs.Prelude.{slice_get, if◌then◌else◌, ◌⊎◌, decimal}
+use Rattle.std.specs.List.{enumerate_from}
 use Rattle.std.specs.Str.{bytes_eq}
-use Rattle.std.proofs.Math.Seq.{take-append_seam}
 use Rattle.std.proofs.lemmas.Slice.Eq.{bytes_eq-Decides}
-use Rattle.std.proofs.lemmas.Option.{slice_get_within, slice_get-get_or, same_Some}
 use Rattle.std.proofs.lemmas.List.{length-append, map-append}
 use Rattle.std.proofs.lemmas.Bool.{and_parts}
 use Rattle.std.proofs.lemmas.Bool.Decides.{nat_tests}
@@ -22,21 +20,21 @@ use Rattle.mltl_base.specs.Formula.{Formula, Core, plain, formula_over}
 use Rattle.mltl_base.specs.Atoms.{Atom}
 use Rattle.mltl_base.specs.Reports as reports
 use Rattle.mltl_base.specs.Reports.{Output}
-use Rattle.mltl_base.specs.Programs.{Expression, expression_of, expressions_after, expressions, atoms, formula_of, past_formula_of, formulas_after, past_formulas_after, formula_at, cores_of}
+use Rattle.mltl_base.specs.Programs.{Expression, expression_of, expressions_after, expressions, atoms, formula_of, past_formula_of, formulas_after, past_formulas_after, formula_at}
 use Rattle.mltl_base.specs.Subformulas.{Asked, asked_by, unfolded_outputs}
 use Rattle.plain_nodes.specs.Outputs.{asked_over}
-use Rattle.obs_verify.specs.WellFormed.{has_operands, reports_within}
+use Rattle.obs_verify.specs.WellFormed.{reports_within}
 use Rattle.unfold.specs.Values as values
 use Rattle.unfold.specs.Environment.{Env, nothing, value, declare, signal_value, value_of}
 use Rattle.set_expand.specs.Outputs.{Place, before, behind, name_of, asked_at, asked_from, outputs_of}
-use Rattle.obs_show.specs.Lines.{Reference, Line, input, formula, contract}
-use Rattle.obs_show.specs.Naming.{bz_reference, ft_reference, pt_reference}
-use Rattle.obs_show.specs.Text.{signal_line, bz_line, ft_line, pt_line, label_of, reference_in, output_line, lines_by, output_lines, lines}
+use Rattle.obs_show.specs.Lines.{Reference, Line, input}
+use Rattle.obs_show.specs.Naming.{ft_reference, pt_reference}
+use Rattle.obs_show.specs.Text.{signal_line, bz_line, ft_line, pt_line, label_of, output_line, lines_by, output_lines, lines}
 use Rattle.show_trips.specs.Said.{reference_shape, line_body, line_items}
 use Rattle.show_trips.specs.Unfolded.{AreNew}
 use Rattle.show_trips.proofs.Values.{IsLater, declare_later, declared_here, MeansFormula, formula_by}
-use Rattle.show_trips.proofs.Walk.{Reaches, reaches_at_once, get_push, columns_in, KnowsSignals, signals_later, Knows, BzKnown, HaveOwnColumns, HaveOperands, walk_bz, lines_from}
-use Rattle.show_trips.proofs.Engines.{KnowsCores, CoresKnown, core_operand, HaveFutureOperands, walk_ft, HavePastOperands, walk_pt}
+use Rattle.show_trips.proofs.Walk.{Reaches, reaches_at_once, get_push, columns_in, KnowsSignals, BzKnown, HaveOwnColumns, HaveOperands, walk_bz}
+use Rattle.show_trips.proofs.Engines.{CoresKnown, core_operand, HaveFutureOperands, walk_ft, HavePastOperands, walk_pt}
 
 -- behind the lines of signals
 record SignalsKnown (program : Program) (count : ℕ) (p : Place) : Type 0 where

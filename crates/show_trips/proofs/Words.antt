@@ -1,8 +1,8 @@
 -- The lines of a well-formed program whose names can be written have words of the language.
 
-use Rattle.std.proofs.Common.{◌≡◌, ◌∙◌, ℕ, pos, ◌+◌, ◌-◌, ◌<◌, ◌≤◌, ◌^◌, zero, suc, Bool, true, false, not, List, [], ◌∷◌, ◌++◌, length, map, Option, Some, None, refl, ap, sym, subst, arith, inl, inr}
-use Rattle.std.specs.Prelude.{slice_get, slice_index, if◌then◌else◌, nat_le, ◌⊎◌, ◌&&◌, decimal, filter, codes}
-use Rattle.std.specs.List.{range_with_len, enumerate_from, filter_map, list_all}
+use Rattle.std.proofs.Common.{◌≡◌, ℕ, pos, ◌+◌, ◌<◌, ◌≤◌, ◌^◌, zero, suc, Bool, true, false, not, List, [], ◌∷◌, ◌++◌, length, map, Option, Some, None, refl, sym, subst, arith, inl, inr}
+use Rattle.std.specs.Prelude.{slice_get, slice_index, if◌then◌else◌, nat_le, ◌⊎◌, decimal, filter}
+use Rattle.std.specs.List.{range_with_len, enumerate_from, list_all}
 use Rattle.std.specs.Str.{bytes_eq}
 use Rattle.std.proofs.lemmas.Slice.Eq.{bytes_eq-Decides}
 use Rattle.std.proofs.lemmas.Option.{same_Some}
@@ -23,10 +23,10 @@ use Rattle.mltl_base.specs.declared.program.StoredSignal.{StoredSignal}
 use Rattle.mltl_base.specs.Programs.{name_of}
 use Rattle.c2po_lexer.specs.Cut.{is_in_word}
 use Rattle.obs_verify.specs.Layout.{HasLayout}
-use Rattle.obs_verify.specs.WellFormed.{IsWellFormed, has_operands, has_future_window, has_past_window, is_window, has_kind}
-use Rattle.obs_show.specs.Lines.{Reference, always, named, number, Form, minus, Line, input, define, formula, contract}
+use Rattle.obs_verify.specs.WellFormed.{IsWellFormed, has_future_window, has_past_window, is_window, has_kind}
+use Rattle.obs_show.specs.Lines.{Form, Line}
 use Rattle.obs_show.specs.Naming.{is_operation, is_future_operation, is_past_operation, operations, numbered_name, is_signal_name, free_numbers, defined_name, name_in, bz_name, ft_name, pt_name, bz_called, bz_reference, ft_called, ft_reference, pt_called, pt_reference}
-use Rattle.obs_show.specs.Text.{signal_line, bz_form, bz_line, ft_form, ft_line, pt_form, pt_line, label_of, reference_in, output_line, lines_by, output_lines, lines}
+use Rattle.obs_show.specs.Text.{signal_line, bz_form, bz_line, ft_form, ft_line, pt_form, pt_line, label_of, reference_in, output_line, lines}
 use Rattle.show_trips.specs.Written.{IsName, IsNumber}
 use Rattle.show_trips.specs.Said.{HasToken, HasTokens, HasName, HasWords, HaveWords}
 use Rattle.show_trips.specs.Named.{AreNamed, AreLabelled, IsCounted, AreCounted, HasOwnWords}

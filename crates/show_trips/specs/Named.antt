@@ -23,11 +23,12 @@ abbrev pub IsCounted : bz.BzOp → Type 0
 IsCounted (bz.TheVariants.Const n) = IsNumber n
 IsCounted op = Unit {0}
 
+-- each constant among instructions is one
 abbrev pub AreCounted : List bz.BzOp → Type 0
 AreCounted [] = Unit {0}
 AreCounted (op ∷ ops) = IsCounted op × AreCounted ops
 
--- the same of a program: its signals, its outputs and its constants
+-- a program whose signals, outputs and constants are so
 pub record HasOwnWords (program : Program) : Type 0 where
   pub signals : AreNamed program.signals
   pub outputs : AreLabelled 0 program.outs

@@ -1,8 +1,7 @@
 -- Lines of a specification in its plainest form: the tokens by which each is written, and the item that it says.
 
-use Rattle.std.specs.Prelude.{◌≡◌, ◌+◌, ℕ, ℤ, pos, Bool, true, false, List, [], ◌∷◌, ◌++◌, codes, Option, Some, None, All}
+use Rattle.std.specs.Prelude.{◌+◌, ℕ, pos, Bool, true, false, List, [], ◌∷◌, ◌++◌, codes, Option, Some, None}
 use Rattle.std.specs.List.{flat_map}
-use Rattle.mltl_base.specs.declared.interval.Engine.{Engine}
 use Rattle.mltl_base.specs.declared.interval.Engine.TheVariants.{Ft, Pt}
 use Rattle.mltl_base.specs.declared.interval.Interval.{Interval}
 use Rattle.mltl_base.specs.declared.operators.ArithOp as arith_op
@@ -113,10 +112,11 @@ line_marks line =
 abbrev pub lines_marks : List Line → List Mark
 lines_marks lines = flat_map line_marks lines
 
--- references, forms and labels that a text can have: names are names of the language, numbers aren't negative
+-- a reference that a text can have: a name is a name of the language, a number isn't negative
 abbrev pub HasToken : Reference → Type 0
 HasToken x = IsToken (reference_token x)
 
+-- a form over such references, with bounds that a text can have
 abbrev pub HasTokens : Form → Type 0
 HasTokens (minus x) = HasToken x
 HasTokens (arith op x y) = HasToken x × HasToken y
@@ -125,18 +125,19 @@ HasTokens (negation x) = HasToken x
 HasTokens (logic op x y) = HasToken x × HasToken y
 HasTokens (between op window x y) = IsNumber (pos window.lo) × IsNumber (pos window.hi) × HasToken x × HasToken y
 
+-- a label, where there is one, is a name of the language
 abbrev pub HasName : Option (List ℕ) → Type 0
 HasName None = Unit {0}
 HasName (Some x) = IsName x
 
--- the same of a line
+-- a line of such names, forms and references
 abbrev pub HasWords : Line → Type 0
 HasWords (input x truth) = IsName x
 HasWords (define x form) = IsName x × HasTokens form
 HasWords (formula engine label x) = HasName label × HasToken x
 HasWords (contract engine label x y) = HasName label × HasToken x × HasToken y
 
--- the same of lines
+-- each line is so
 abbrev pub HaveWords : List Line → Type 0
 HaveWords [] = Unit {0}
 HaveWords (line ∷ lines) = HasWords line × HaveWords lines
