@@ -21,7 +21,8 @@ use Rattle.tool_runs.specs.declared.status.Status as status
 use Rattle.tool_runs.specs.declared.status.Status.TheVariants as answers
 use Rattle.tool_runs.proofs.LineLaws.{text_short}
 use Rattle.c2po_runs.specs.declared.make.Form.{Form}
-use Rattle.c2po_runs.specs.Made.{compile_status, compiled_bytes, text_bytes, unless_long, begins_long, first_line, made_of_text}
+use Rattle.tool_runs.specs.FirstLine.{begins_long}
+use Rattle.c2po_runs.specs.Made.{compile_status, compiled_bytes, text_bytes, unless_long, first_line, made_of_text}
 use Rattle.c2po_runs.specs.Phases.{Refuses, ReadsLine, LineLog, HeaderLog, RefusedLog, MadeLog}
 use Rattle.c2po_runs.proofs.MakingLaws.{headed, refused_by, refused_so}
 

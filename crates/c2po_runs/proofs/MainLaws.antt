@@ -21,7 +21,7 @@ use Rattle.tool_runs.proofs.AttachLaws.{ReadsAttached-append, writes_unread, ope
 use Rattle.tool_runs.proofs.CauseLaws.{rose_at, err_stays}
 use Rattle.tool_runs.proofs.MessageLaws.{Leaves, message_leaves, unattached}
 use Rattle.c2po_runs.specs.Asking.{Ask, help, make, nothing, MakeAsked, from_text}
-use Rattle.c2po_runs.specs.Run.{Seen, seen, place_of, TriesOf, TriesInTurn, WritesAttached, names_out, MakeOutcome, HelpOutcome, NothingOutcome, OutcomeOf, Complete, Ran, IsMade}
+use Rattle.c2po_runs.specs.Run.{Seen, seen, place_of, TriesOf, TriesInTurn, WritesAttached, names_out, MakeOutcome, HelpOutcome, NothingOutcome, OutcomeOf, CompletesBy, Ran, IsMade}
 use Rattle.c2po_runs.specs.Made.{made}
 use Rattle.c2po_runs.proofs.LogLaws.{writes-append}
 use Rattle.c2po_runs.proofs.GatherRuns.{same_seen}
@@ -56,19 +56,13 @@ help_complete (answers.WriteFault at.Err) out before between now cause same none
 help_complete (answers.WriteFault p) out before between now cause same none is = absurd (rose_at before between now p cause same none (λ e. cc))
 help_complete answer out before between now cause same none is = absurd is
 
-complete_run : (asked : Ask) (answer : status.Status) (before between now : place.Place → ℕ) (events : List Event) → RunCause answer before between → ((q : place.Place) → q ≢ at.Err → now q ≡ between q) → OutcomeOf answer asked events → Complete asked answer before now events
+complete_run : (asked : Ask) (answer : status.Status) (before between now : place.Place → ℕ) (events : List Event) → RunCause answer before between → ((q : place.Place) → q ≢ at.Err → now q ≡ between q) → OutcomeOf answer asked events → NoOtherRose before now → CompletesBy asked answer events
 complete_run nothing answer before between now events cause same is = λ none. tt
 complete_run help answer before between now events cause same is = λ none. help_complete answer (given at.Out events) before between now cause same none is
 complete_run (make asked) answer before between now events cause same is = λ none bytes within makes. make_complete answer asked (seen asked events) before between now cause same none bytes within makes is
 
 -- a message behind a run changes nothing but what Err was given
-module _ (first second : List Event) (sent : List ℕ) (writes : Writes at.Err sent second) where
-  abbrev all : List Event
-  all = first ++ second
-
-  leaves : Leaves first all
-  leaves = message_leaves first second sent writes
-
+module _ (first all : List Event) (leaves : Leaves first all) where
   all_seen : (asked : MakeAsked) → seen asked all ≡ seen asked first
   all_seen asked = same_seen (seen asked all) (seen asked first) leaves.names (leaves.bytes (place_of asked)) (leaves.ends (place_of asked))
       (ap (λ v. lines_of v (taken at.Header all)) (leaves.ends at.Header) ∙ ap (lines_of (ended_from false at.Header first)) (leaves.bytes at.Header)) leaves.out (leaves.attached at.Out)
@@ -83,29 +77,32 @@ module _ (first second : List Event) (sent : List ℕ) (writes : Writes at.Err s
   outcome_still (make asked) answer is = subst (MakeOutcome answer asked) (sym (all_seen asked)) is
   outcome_still nothing answer is = subst (NothingOutcome answer) (sym leaves.out) is
 
-  no_gave : (pieces : List (List ℕ)) (before after : List Event) (piece : List ℕ) → map (Gave at.Err) pieces ≡ before ++ Gave at.Out piece ∷ after → ⊥
-  no_gave [] [] after piece is = cc
-  no_gave [] (event ∷ before) after piece is = cc
-  no_gave (first ∷ pieces) [] after piece is = cc
-  no_gave (first ∷ pieces) (event ∷ before) after piece is = no_gave pieces before after piece (let rest : map (Gave at.Err) pieces ≡ before ++ Gave at.Out piece ∷ after = cc in rest)
+-- and it writes nothing to Out
+no_gave : (pieces : List (List ℕ)) (before after : List Event) (piece : List ℕ) → map (Gave at.Err) pieces ≡ before ++ Gave at.Out piece ∷ after → ⊥
+no_gave [] [] after piece is = cc
+no_gave [] (event ∷ before) after piece is = cc
+no_gave (first ∷ pieces) [] after piece is = cc
+no_gave (first ∷ pieces) (event ∷ before) after piece is = no_gave pieces before after piece (let rest : map (Gave at.Err) pieces ≡ before ++ Gave at.Out piece ∷ after = cc in rest)
 
-  pub writes_still : (named : Bool) → WritesAttached named first → WritesAttached named all
-  writes_still named is = writes-append named first second is (λ named before after piece split. absurd (no_gave writes.pieces before after piece (sym writes.are ∙ split)))
+writes_still : (first second : List Event) (sent : List ℕ) (named : Bool) → Writes at.Err sent second → WritesAttached named first → WritesAttached named (first ++ second)
+writes_still first second sent named writes is = writes-append named first second is (λ named before after piece split. absurd (no_gave writes.pieces before after piece (sym writes.are ∙ split)))
 
 -- a run, and then a front of its message
 run_told : (asked : Ask) (answer : status.Status) (before between now : place.Place → ℕ) (first second : List Event) (sent unsent : List ℕ) → Ran asked answer first → RunCause answer before between → ((q : place.Place) → q ≢ at.Err → now q ≡ between q) → Writes at.Err sent second → told_to_user C2po answer ≡ sent ++ unsent → ToldWhole C2po answer (before at.Err) (now at.Err) (first ++ second) → IsMade asked answer before now (first ++ second)
 run_told asked answer before between now first second sent unsent ran cause same writes split whole =
-    let outcome = outcome_still first second sent writes asked answer ran.outcome in
+    let all = first ++ second in
+    let leaves = message_leaves first second sent writes in
+    let outcome = outcome_still first all leaves asked answer ran.outcome in
     record {
-      names = record { rest = ran.names.rest; split = ran.names.split ∙ ap (λ names. names ++ ran.names.rest) (sym (message_leaves first second sent writes).names) };
-      tries = tries_still first second sent writes asked ran.tries;
+      names = record { rest = ran.names.rest; split = ran.names.split ∙ ap (λ names. names ++ ran.names.rest) (sym leaves.names) };
+      tries = tries_still first all leaves asked ran.tries;
       reads = ReadsAttached-append first second ran.reads (λ start after p piece is. absurd (writes_unread at.Err writes.pieces start after p piece (sym writes.are ∙ is)));
-      writes = writes_still first second sent writes (names_out asked) ran.writes;
+      writes = writes_still first second sent (names_out asked) writes ran.writes;
       outcome = outcome;
       opened = opened_still answer first second (unattached first second sent writes) ran.opened;
       told_user = record { rest = unsent; split = split ∙ ap (λ b. b ++ unsent) (sym (given-append at.Err first second ∙ ap (λ b. b ++ given at.Err second) ran.quiet ∙ Writes-given at.Err sent second writes)) };
       told_whole = whole;
-      complete = complete_run asked answer before between now (first ++ second) cause same outcome;
+      complete = complete_run asked answer before between now all cause same outcome;
     }
 
 pub main_ran : (asked : Ask) (answer : status.Status) (before between now : place.Place → ℕ) (first second : List Event) (sending : put.Put) → Ran asked answer first → RunCause answer before between → WriteCause sending between now at.Err → PutAllLog sending at.Err (told_to_user C2po answer) second → IsMade asked answer before now (first ++ second)

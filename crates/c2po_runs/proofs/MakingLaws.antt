@@ -20,11 +20,8 @@ use Rattle.spec_compile.proofs.SimpleLaws.{simple_compiled, simple_refused}
 use Rattle.tool_runs.specs.declared.status.Status.{Status}
 use Rattle.tool_runs.specs.declared.status.Status.TheVariants.{Memory}
 use Rattle.c2po_runs.specs.declared.make.Form.{Form}
-use Rattle.c2po_runs.specs.Made.{compile_status, compiled_bytes, image_by, program_by, text_bytes, written_as, unless_long, unless_refused, begins_long, first_line, made_of_text}
-
--- a status other than that of memory comes of another fault
-some_fault : (fault : CompileFault) → compile_status fault ≢ Memory → fault ≢ compile.Memory
-some_fault fault some is = some (ap compile_status is)
+use Rattle.tool_runs.specs.FirstLine.{begins_long}
+use Rattle.c2po_runs.specs.Made.{compile_status, compiled_bytes, image_by, program_by, text_bytes, written_as, unless_long, unless_refused, first_line, made_of_text}
 
 -- a text is refused alike in both forms
 pub refused_by : (simplify : Bool) (text : List ℕ) (header : Option (List ℕ)) (fault : CompileFault) → image_of_text text header ≡ Err fault → program_by simplify text header ≡ Err fault
@@ -46,13 +43,13 @@ compiled_by true text header items columns program none same found made within =
 pub header_refuses : (form : Form) (text : List ℕ) (header : Option (List ℕ)) (items : List ItemShape) (fault : CompileFault) → first_refusal text ≡ None → items ≡ items_in text
     → (fault ≢ compile.Memory → refusal_in header_refusal (columns_by (signals_of items) header) ≡ Some fault) → compile_status fault ≢ Memory → text_bytes form text header ≡ Err (compile_status fault)
 header_refuses form text header items fault none same refused some =
-    ap (compiled_bytes form.table) (refused_by form.simplify text header fault (header_answer text header items fault none same (refused (some_fault fault some))))
+    ap (compiled_bytes form.table) (refused_by form.simplify text header fault (header_answer text header items fault none same (refused (λ memory. some (ap compile_status memory)))))
 
 -- a limit is exceeded
 pub limit_refuses : (form : Form) (text : List ℕ) (header : Option (List ℕ)) (items : List ItemShape) (columns : Columns) (fault : CompileFault) → first_refusal text ≡ None → items ≡ items_in text
     → columns_by (signals_of items) header ≡ Ok columns → IsFirstRefusal (limit_refusal (over_columns columns (outputs_of items))) fault → compile_status fault ≢ Memory → text_bytes form text header ≡ Err (compile_status fault)
 limit_refuses form text header items columns fault none same found refused some =
-    ap (compiled_bytes form.table) (refused_by form.simplify text header fault (back_refuses text header items columns (Err fault) none same found refused (some_fault fault some)))
+    ap (compiled_bytes form.table) (refused_by form.simplify text header fault (back_refuses text header items columns (Err fault) none same found refused (λ memory. some (ap compile_status memory))))
 
 -- its program is written
 pub text_written : (form : Form) (header : Option (List ℕ)) (items : List ItemShape) (columns : Columns) (program : Program) (result : Result (Vec ℕ Global) Status)
@@ -69,7 +66,7 @@ headed form name text lines none = ap (λ r. unless_refused r (unless_long (begi
 
 -- a text that is refused gives no bytes, under a header too
 pub refused_so : (form : Form) (header : Option (List ℕ)) (text : List ℕ) (fault : CompileFault) → IsFirstRefusal (first_refusal text) fault → compile_status fault ≢ Memory → made_of_text form header text [] ≡ Err (compile_status fault)
-refused_so form None text fault is some = ap (compiled_bytes form.table) (refused_by form.simplify text None fault (text_refused text None fault is (some_fault fault some)))
+refused_so form None text fault is some = ap (compiled_bytes form.table) (refused_by form.simplify text None fault (text_refused text None fault is (λ memory. some (ap compile_status memory))))
 refused_so form (Some name) text (compile.Refused line why) is some =
     ap (λ r. unless_refused r (unless_long (begins_long []) (text_bytes form text (Some (first_line []))))) is
 refused_so form (Some name) text (compile.BadHeader why) is some = absurd is

@@ -7,7 +7,7 @@ use Rattle.mltl_base.specs.declared.program.Program.{Program}
 use Rattle.mltl_base.specs.declared.signal.Signal.{Signal}
 use Rattle.mltl_base.specs.Subformulas.{Asked}
 use Rattle.tool_io.specs.declared.host.Place.TheVariants.{Header, Out}
-use Rattle.tool_io.specs.Cutting.{line_text, is_long}
+use Rattle.tool_io.specs.Cutting.{line_text}
 use Rattle.obs_binary.specs.Layout.{spelling}
 use Rattle.obs_verify.specs.Upgrade.{up, clash_of}
 use Rattle.obs_files.specs.declared.fault.FileFault.{FileFault}
@@ -28,6 +28,7 @@ use Rattle.spec_compile.specs.Simplified.{simple_image, simple_image_of_text}
 use Rattle.tool_runs.specs.declared.status.Status.{Status}
 use Rattle.tool_runs.specs.declared.status.Status.TheVariants.{Refused, BadProgram, BadHeader, TextTooLong, Memory}
 use Rattle.tool_runs.specs.Files.{file_status}
+use Rattle.tool_runs.specs.FirstLine.{begins_long}
 use Rattle.c2po_runs.specs.declared.make.Form.{Form}
 use Rattle.c2po_runs.specs.declared.make.Product.{Product}
 use Rattle.c2po_runs.specs.declared.make.Product.TheVariants.{Compiled, Upgrade, Show}
@@ -100,11 +101,6 @@ text_within program = unless_past (limit_of_text program) (text_of program)
 abbrev pub first_line : List (List ℕ) → List ℕ
 first_line [] = []
 first_line (raw ∷ raws) = line_text raw
-
--- whether the first line of a header file is too long
-abbrev pub begins_long : List (List ℕ) → Bool
-begins_long [] = false
-begins_long (raw ∷ raws) = is_long raw
 
 -- what was made, unless the first line is too long
 abbrev pub unless_long : Bool → Result (List ℕ) Status → Result (List ℕ) Status

@@ -177,11 +177,8 @@ CompletesBy (make asked) answer events =
 CompletesBy help answer events = (answer ≡ status.TheVariants.Helped) ⊎ (answer ≡ status.TheVariants.Memory)
 CompletesBy nothing answer events = Unit {0}
 
--- the run completes where no call failed but those at Err
-abbrev pub Complete : Ask → status.Status → (place.Place → ℕ) → (place.Place → ℕ) → List Event → Type 0
-Complete asked answer before now events = NoOtherRose before now → CompletesBy asked answer events
-
--- the log of a whole run: the message is out, or a front of it
+-- The log of a whole run: the message is out, or a front of it, and the run completes where no call failed but those at
+-- Err.
 pub record IsMade (asked : Ask) (answer : status.Status) (before now : place.Place → ℕ) (events : List Event) : Type 0 where
   pub names : IsFront (names_of events) (asked_names asked)
   pub tries : TriesOf asked events
@@ -191,4 +188,4 @@ pub record IsMade (asked : Ask) (answer : status.Status) (before now : place.Pla
   pub opened : OpensAsTold answer events
   pub told_user : IsFront (given place.TheVariants.Err events) (told_to_user C2po answer)
   pub told_whole : ToldWhole C2po answer (before place.TheVariants.Err) (now place.TheVariants.Err) events
-  pub complete : Complete asked answer before now events
+  pub complete : NoOtherRose before now → CompletesBy asked answer events

@@ -1,6 +1,6 @@
 -- Runs by what the words ask for: help, a demo, nothing, or a file for which memory is wanting before it is read.
 
-use Rattle.std.proofs.Common.{◌≡◌, ◌≢◌, ◌↔◌, ℕ, ◌<◌, ◌⊎◌, Bool, false, Option, None, List, [], ◌∷◌, ◌++◌, refl, sym, ◌∙◌, ap, subst, arith, inl, inr}
+use Rattle.std.proofs.Common.{◌≡◌, ◌≢◌, ◌↔◌, ℕ, ◌<◌, ◌⊎◌, Bool, false, Option, None, List, [], ◌∷◌, ◌++◌, refl, sym, ◌∙◌, subst, arith, inl, inr}
 use Rattle.std.proofs.lemmas.List.{append-nil}
 use Rattle.tool_io.specs.declared.host.Place as place
 use Rattle.tool_io.specs.declared.host.Place.TheVariants.{Trace, Out}
@@ -8,8 +8,7 @@ use Rattle.tool_io.specs.declared.host.Place.TheVariants as at
 use Rattle.tool_io.specs.Log.{Event, Took, given, names_of, Writes, WritesFront}
 use Rattle.tool_io.proofs.LogLaws.{WritesFront-misses, Writes-given, Writes-given_elsewhere, Writes-names}
 use Rattle.tool_io.proofs.Prompting.{Prompt-from_by, Writes-prompt}
-use Rattle.tool_words.specs.R2u2Words.{RunAsked}
-use Rattle.tool_words.specs.R2u2Words as words
+use Rattle.tool_words.specs.R2u2Words.{Asked, RunAsked, help, run, demo, nothing}
 use Rattle.mltl_monitor.specs.declared.state.State.{State}
 use Rattle.tool_runs.specs.declared.message.Tool.TheVariants.{R2u2}
 use Rattle.tool_runs.specs.declared.status.Status as status
@@ -17,7 +16,7 @@ use Rattle.tool_runs.specs.Messages.{usage}
 use Rattle.tool_runs.specs.Attaching.{OpensAsTold}
 use Rattle.tool_runs.specs.Telling.{HelpLog}
 use Rattle.tool_runs.proofs.AttachLaws.{no_reads_none, writes_unread}
-use Rattle.r2u2_runs.specs.Asking.{Ask, help, over, demo, nothing, served, ask, asked_names}
+use Rattle.r2u2_runs.specs.Asking.{asked_names}
 use Rattle.demo_runs.specs.Summary.{demo_summary}
 use Rattle.r2u2_runs.specs.Demo.{DemoLog, DemoOutcome, KeepsDemo, SummaryLog}
 use Rattle.r2u2_runs.specs.Outcome.{due_by}
@@ -46,31 +45,31 @@ run_help (status.TheVariants.WriteFault place.TheVariants.Out) events fronts =
 run_help answer events is = absurd is
 
 -- nothing was done
-second_none : (asked : Ask) → TriesSecond asked []
+second_none : (asked : Asked) → TriesSecond asked []
 second_none help = tt
-second_none (over asked) = λ two. let none : 1 < 0 = two in absurd (omega (arith, none))
+second_none (run asked) = λ two. let none : 1 < 0 = two in absurd (omega (arith, none))
 second_none (demo seed rows) = tt
 second_none nothing = tt
 
-prompt_none : (asked : Ask) → IsPrompt asked []
+prompt_none : (asked : Asked) → IsPrompt asked []
 prompt_none help = Prompt-from_by (λ bytes. []) [] [] tt
-prompt_none (over asked) = Prompt-from_by (due_by asked (found_in asked []) false) [] [] tt
+prompt_none (run asked) = Prompt-from_by (due_by asked (found_in asked []) false) [] [] tt
 prompt_none (demo seed rows) = Prompt-from_by (λ bytes. []) [] [] tt
 prompt_none nothing = Prompt-from_by (λ bytes. []) [] [] tt
 
-memory_none : (asked : Ask) → OutcomeOf status.TheVariants.Memory asked [] None
+memory_none : (asked : Asked) → OutcomeOf status.TheVariants.Memory asked [] None
 memory_none help = record { no_lines = refl; no_monitor = refl }
-memory_none (over asked) = (omega arith, record { no_lines = refl; no_monitor = refl })
+memory_none (run asked) = (omega arith, record { no_lines = refl; no_monitor = refl })
 memory_none (demo seed rows) = record { no_lines = refl; no_monitor = refl }
 memory_none nothing = record { no_lines = refl; no_monitor = refl }
 
-memory_begun : (asked : Ask) → RefusesBehind asked status.TheVariants.Memory []
+memory_begun : (asked : Asked) → RefusesBehind asked status.TheVariants.Memory []
 memory_begun help = tt
-memory_begun (over asked) = λ unrefused. tt
+memory_begun (run asked) = λ unrefused. tt
 memory_begun (demo seed rows) = tt
 memory_begun nothing = tt
 
-run_none : (asked : Ask) (answer : status.Status) → OutcomeOf answer asked [] None → OpensAsTold answer [] → RefusesBehind asked answer [] → Ran asked answer None []
+run_none : (asked : Asked) (answer : status.Status) → OutcomeOf answer asked [] None → OpensAsTold answer [] → RefusesBehind asked answer [] → Ran asked answer None []
 run_none asked answer outcome opened begun = record {
   names = record { rest = asked_names asked; split = refl };
   second = second_none asked;
@@ -87,10 +86,10 @@ run_none asked answer outcome opened begun = record {
     none [] after piece is = cc
     none (event ∷ before) after piece is = cc
 
-pub run_no_memory : (asked : Ask) → Ran asked status.TheVariants.Memory None []
+pub run_no_memory : (asked : Asked) → Ran asked status.TheVariants.Memory None []
 run_no_memory asked = run_none asked status.TheVariants.Memory (memory_none asked) tt (memory_begun asked)
 
-pub run_nothing : (asked : Ask) → asked ≡ nothing → Ran asked status.TheVariants.Usage None []
+pub run_nothing : (asked : Asked) → asked ≡ nothing → Ran asked status.TheVariants.Usage None []
 run_nothing asked is = subst (λ a. Ran a status.TheVariants.Usage None []) (sym is) (run_none nothing status.TheVariants.Usage (record { no_lines = refl; no_monitor = refl }) tt tt)
 
 -- the summary of a demo, or a front of it, went out
@@ -138,22 +137,17 @@ nothing_usage status.TheVariants.Usage out kept is some = refl
 nothing_usage status.TheVariants.Memory out kept is some = absurd (some refl)
 nothing_usage answer out kept is some = absurd is
 
-pub run_usage : (asked : Ask) (answer : status.Status) (kept : Option State) (events : List Event) → Ran asked answer kept events → answer ≢ status.TheVariants.Memory → (answer ≡ status.TheVariants.Usage) ↔ (asked ≡ nothing)
+pub run_usage : (asked : Asked) (answer : status.Status) (kept : Option State) (events : List Event) → Ran asked answer kept events → answer ≢ status.TheVariants.Memory → (answer ≡ status.TheVariants.Usage) ↔ (asked ≡ nothing)
 run_usage help answer kept events ran some = (λ same. absurd (subst (λ s. HelpOutcome s (given Out events) kept) same ran.outcome), λ is. cc)
-run_usage (over asked) answer kept events ran some = (λ same. absurd ((asks_over answer asked _ _ _ _ _ kept ran.outcome).0 same), λ is. cc)
+run_usage (run asked) answer kept events ran some = (λ same. absurd ((asks_over answer asked _ _ _ _ _ kept ran.outcome).0 same), λ is. cc)
 run_usage (demo seed rows) answer kept events ran some = (λ same. absurd (subst (λ s. DemoOutcome s seed rows (given Out events) kept) same ran.outcome), λ is. cc)
 run_usage nothing answer kept events ran some = (λ same. refl, λ is. nothing_usage answer (given Out events) kept ran.outcome some)
 
-pub run_helped : (asked : Ask) (answer : status.Status) (kept : Option State) (events : List Event) → Ran asked answer kept events → answer ≡ status.TheVariants.Helped → asked ≡ help
+pub run_helped : (asked : Asked) (answer : status.Status) (kept : Option State) (events : List Event) → Ran asked answer kept events → answer ≡ status.TheVariants.Helped → asked ≡ help
 run_helped help answer kept events ran is = refl
-run_helped (over asked) answer kept events ran is = absurd ((asks_over answer asked _ _ _ _ _ kept ran.outcome).1 is)
+run_helped (run asked) answer kept events ran is = absurd ((asks_over answer asked _ _ _ _ _ kept ran.outcome).1 is)
 run_helped (demo seed rows) answer kept events ran is = absurd (subst (λ s. DemoOutcome s seed rows (given Out events) kept) is ran.outcome)
 run_helped nothing answer kept events ran is = absurd (subst (λ s. NothingOutcome s (given Out events) kept) is ran.outcome)
-
--- what was read of the words
-pub asked_served : (words_asked : words.Asked) (list : List (List ℕ)) → words_asked ≡ words.ask list → served words_asked ≡ ask list
-unfolding ask
-asked_served words_asked list is = ap served is
 
 -- an answer is that of memory, or comes of what others come of
 pub memory_or : (answer : status.Status) (P : Type 0) → (answer ≢ status.TheVariants.Memory → P) → (answer ≡ status.TheVariants.Memory) ⊎ P

@@ -11,15 +11,15 @@ use Rattle.tool_io.specs.Whole.{Takes}
 use Rattle.tool_io.specs.Cutting.{HasNoNewline, lines_of}
 use Rattle.tool_io.proofs.LogLaws.{same_place-self, taken-append, given-append, ended_from-append, names_of-append, Reads-taken, Reads-taken_elsewhere, Reads-given, Reads-names, Reads-ended, Reads-ended_elsewhere}
 use Rattle.tool_io.proofs.Prompting.{PromptBy, PromptBy-append, PromptBy-from, Prompt-from_by}
-use Rattle.tool_words.specs.R2u2Words.{RunAsked}
+use Rattle.tool_words.specs.R2u2Words.{RunAsked, run}
 use Rattle.mltl_monitor.specs.declared.state.State.{State}
 use Rattle.tool_runs.specs.declared.status.Status as status
 use Rattle.tool_runs.specs.Attaching.{OpensAsTold, ReadsAttached, is_attached}
 use Rattle.tool_runs.specs.Files.{file_limit, file_place}
 use Rattle.tool_runs.specs.Reading.{FileLog}
 use Rattle.tool_runs.proofs.AttachLaws.{ReadsAttached-append, file_attached, file_reads, is_attached-append, missed_none, no_reads_none, or_true, split_at}
-use Rattle.r2u2_runs.specs.Asking.{over}
-use Rattle.r2u2_runs.specs.ProgramBy.{file_refusal, unless_long, unless_refused, begins_long, header_in, program_by, program_over}
+use Rattle.tool_runs.specs.FirstLine.{begins_long}
+use Rattle.r2u2_runs.specs.ProgramBy.{file_refusal, unless_long, unless_refused, header_in, program_by, program_over}
 use Rattle.r2u2_runs.specs.Outcome.{due_by, Silent}
 use Rattle.r2u2_runs.specs.Run.{file_ended, trace_of, trace_ended, lines_in, found_in, IsReadable, ReadsFirstLine, FileOutcome, BegunFor, RefusesBehind, Ran}
 use Rattle.r2u2_runs.specs.Phases.{IsOpened, RanFile, TraceOutcome}
@@ -87,7 +87,7 @@ one_tried : (names : List (place.Place × List ℕ)) (one : place.Place × List 
 one_tried names one is two = let less : 1 < 1 = subst (λ ns. 1 < length ns) is two in omega (arith, less)
 
 -- a run whose file was read, and nothing more: the log is that of the file
-run_read : (asked : RunAsked) (bytes : List ℕ) (ended : Bool) (answer : status.Status) (events : List Event) (read : HasRead asked.source asked.file bytes ended events) → FileOutcome answer asked bytes ended [] false [] None → OpensAsTold answer events → RefusesBehind (over asked) answer events → Ran (over asked) answer None events
+run_read : (asked : RunAsked) (bytes : List ℕ) (ended : Bool) (answer : status.Status) (events : List Event) (read : HasRead asked.source asked.file bytes ended events) → FileOutcome answer asked bytes ended [] false [] None → OpensAsTold answer events → RefusesBehind (run asked) answer events → Ran (run asked) answer None events
 run_read asked bytes ended answer events read outcome opened begun =
     let due_of = due_by asked (found_in asked events) false in
     record {
@@ -112,8 +112,8 @@ open_outcome : (source : Bool) (asked : RunAsked) → asked.source ≡ source �
 open_outcome true asked is = (ap file_place (sym is), refl, silent)
 open_outcome false asked is = (ap file_place (sym is), refl, silent)
 
-missed : (asked : RunAsked) (events : List Event) → (events ≡ Missed (file_place asked.source) asked.file ∷ []) ⊎ (events ≡ []) → Ran (over asked) (status.TheVariants.OpenFault (file_place asked.source)) None events
-missed asked events (inl is) = subst (Ran (over asked) (status.TheVariants.OpenFault (file_place asked.source)) None) (sym is) (record {
+missed : (asked : RunAsked) (events : List Event) → (events ≡ Missed (file_place asked.source) asked.file ∷ []) ⊎ (events ≡ []) → Ran (run asked) (status.TheVariants.OpenFault (file_place asked.source)) None events
+missed asked events (inl is) = subst (Ran (run asked) (status.TheVariants.OpenFault (file_place asked.source)) None) (sym is) (record {
   names = record { rest = (Trace, asked.trace) ∷ []; split = refl };
   second = λ two. absurd (one_tried ((file_place asked.source, asked.file) ∷ []) (file_place asked.source, asked.file) refl two);
   attached = missed_none (file_place asked.source) asked.file;
@@ -124,7 +124,7 @@ missed asked events (inl is) = subst (Ran (over asked) (status.TheVariants.OpenF
   early = λ memory. cc;
   quiet = refl;
 })
-missed asked events (inr is) = subst (Ran (over asked) (status.TheVariants.OpenFault (file_place asked.source)) None) (sym is) (record {
+missed asked events (inr is) = subst (Ran (run asked) (status.TheVariants.OpenFault (file_place asked.source)) None) (sym is) (record {
   names = record { rest = (file_place asked.source, asked.file) ∷ (Trace, asked.trace) ∷ []; split = refl };
   second = λ two. let none : 1 < 0 = two in absurd (omega (arith, none));
   attached = no_reads_none;
@@ -141,23 +141,23 @@ read_outcome : (source : Bool) (asked : RunAsked) (bytes : List ℕ) → asked.s
 read_outcome true asked bytes is fits = (ap file_place (sym is), refl, fits, silent)
 read_outcome false asked bytes is fits = (ap file_place (sym is), refl, fits, silent)
 
-pub run_unread : (asked : RunAsked) (answer : status.Status) (events : List Event) → FileLog (Err answer) (file_place asked.source) (file_limit asked.source) asked.file events → Ran (over asked) answer None events
-run_unread asked (status.TheVariants.OpenFault p) events is = subst (λ q. Ran (over asked) (status.TheVariants.OpenFault q) None events) (sym is.0) (missed asked events is.1)
+pub run_unread : (asked : RunAsked) (answer : status.Status) (events : List Event) → FileLog (Err answer) (file_place asked.source) (file_limit asked.source) asked.file events → Ran (run asked) answer None events
+run_unread asked (status.TheVariants.OpenFault p) events is = subst (λ q. Ran (run asked) (status.TheVariants.OpenFault q) None events) (sym is.0) (missed asked events is.1)
 run_unread asked (status.TheVariants.ReadFault p) events is =
     let p_is = is.0 in
     let log = is.1 in
     let bytes = is.2 in
-    subst (λ q. Ran (over asked) (status.TheVariants.ReadFault q) None events) (sym p_is)
-    (subst (Ran (over asked) (status.TheVariants.ReadFault (file_place asked.source)) None) (sym is.3)
+    subst (λ q. Ran (run asked) (status.TheVariants.ReadFault q) None events) (sym p_is)
+    (subst (Ran (run asked) (status.TheVariants.ReadFault (file_place asked.source)) None) (sym is.3)
     (let read = has_read asked.source asked.file bytes false log is.4 in
     run_read asked bytes false (status.TheVariants.ReadFault (file_place asked.source)) (Attached (file_place asked.source) asked.file ∷ log) read (read_outcome asked.source asked bytes refl is.5) read.opened (λ unrefused. tt)))
 run_unread asked (status.TheVariants.TextTooLong p) events is =
     let log = is.1 in
     let bytes = is.2 in
-    subst (Ran (over asked) (status.TheVariants.TextTooLong p) None) (sym is.3)
+    subst (Ran (run asked) (status.TheVariants.TextTooLong p) None) (sym is.3)
     (run_read asked bytes false (status.TheVariants.TextTooLong p) (Attached (file_place asked.source) asked.file ∷ log) (has_read asked.source asked.file bytes false log is.4) (is.0, is.5, silent) tt (λ unrefused. tt))
 run_unread asked status.TheVariants.Memory events is =
-    subst (Ran (over asked) status.TheVariants.Memory None) (sym is.2)
+    subst (Ran (run asked) status.TheVariants.Memory None) (sym is.2)
     (run_read asked is.1 false status.TheVariants.Memory (Attached (file_place asked.source) asked.file ∷ is.0) (has_read asked.source asked.file is.1 false is.0 is.3) (is.4, silent) tt (λ unrefused. tt))
 run_unread asked answer events is = absurd is
 
@@ -230,7 +230,7 @@ module _ (asked : RunAsked) (bytes : List ℕ) (answer : status.Status) (kept : 
       subst (λ b. PromptBy due_of b (given Out first) second) (sym read.no_trace_bytes) (subst (λ b. PromptBy due_of [] b second) (sym read.no_lines) (PromptBy-from due_of [] second is.ran.prompt)) in
       Prompt-from_by due_of [] all (PromptBy-append due_of [] [] first second (read.prompt due_of) later)
 
-  pub run_opened_file : Ran (over asked) answer kept all
+  pub run_opened_file : Ran (run asked) answer kept all
   run_opened_file = record {
     names = record { rest = is.ran.names.rest; split = ap (λ names. (p, asked.file) ∷ names) is.ran.names.split ∙ ap (λ names. names ++ (names_of second ++ is.ran.names.rest)) (sym read.names) ∙ sym (append_assoc (names_of first) (names_of second) is.ran.names.rest) ∙ ap (λ names. names ++ is.ran.names.rest) (sym (names_of-append first second)) };
     second = λ two. subst (λ b. IsReadable asked b (file_ended asked all)) (sym all_file) (subst (IsReadable asked bytes) (sym all_file_end) readable);
@@ -267,19 +267,19 @@ closed_opened (status.TheVariants.OpenFault p) events speaks = absurd speaks
 closed_opened (status.TheVariants.ReadFault p) events speaks = absurd speaks
 closed_opened answer events speaks = tt
 
-run_closed : (asked : RunAsked) (bytes : List ℕ) (answer : status.Status) (first : List Event) → HasRead asked.source asked.file bytes true first → length bytes ≤ file_limit asked.source → (answer ≡ status.TheVariants.Memory) ⊎ (file_refusal asked.source bytes ≡ Some answer) → Ran (over asked) answer None first
-run_closed asked bytes answer first read fits (inl memory) = subst (λ s. Ran (over asked) s None first) (sym memory) (run_read asked bytes true status.TheVariants.Memory first read (fits, silent) tt (λ unrefused. tt))
+run_closed : (asked : RunAsked) (bytes : List ℕ) (answer : status.Status) (first : List Event) → HasRead asked.source asked.file bytes true first → length bytes ≤ file_limit asked.source → (answer ≡ status.TheVariants.Memory) ⊎ (file_refusal asked.source bytes ≡ Some answer) → Ran (run asked) answer None first
+run_closed asked bytes answer first read fits (inl memory) = subst (λ s. Ran (run asked) s None first) (sym memory) (run_read asked bytes true status.TheVariants.Memory first read (fits, silent) tt (λ unrefused. tt))
 run_closed asked bytes answer first read fits (inr refused) =
     let speaks = file_refuses asked.source bytes answer refused in
     run_read asked bytes true answer first read (closed_outcome answer asked bytes speaks fits (refused_over asked.source bytes [] answer refused)) (closed_opened answer first speaks)
     (λ unrefused. absurd (let no : None ≡ Some answer = sym unrefused ∙ ap (file_refusal asked.source) read.file ∙ refused in cc))
 
-pub run_file_ran : (asked : RunAsked) (bytes : Vec ℕ Global) (answer : status.Status) (kept : Option State) (first second : List Event) → FileLog (Ok bytes) (file_place asked.source) (file_limit asked.source) asked.file first → RanFile asked bytes.items answer kept second → Ran (over asked) answer kept (first ++ second)
+pub run_file_ran : (asked : RunAsked) (bytes : Vec ℕ Global) (answer : status.Status) (kept : Option State) (first second : List Event) → FileLog (Ok bytes) (file_place asked.source) (file_limit asked.source) asked.file first → RanFile asked bytes.items answer kept second → Ran (run asked) answer kept (first ++ second)
 run_file_ran asked bytes answer kept first second read (inl closed) =
     let was = subst (HasRead asked.source asked.file bytes.items true) (sym read.1) (has_read asked.source asked.file bytes.items true read.0 read.2) in
-    subst (λ k. Ran (over asked) answer k (first ++ second)) (sym closed.no_monitor)
-    (subst (λ e. Ran (over asked) answer None (first ++ e)) (sym closed.no_events)
-    (subst (Ran (over asked) answer None) (sym (append-nil first)) (run_closed asked bytes.items answer first was read.3 closed.why)))
+    subst (λ k. Ran (run asked) answer k (first ++ second)) (sym closed.no_monitor)
+    (subst (λ e. Ran (run asked) answer None (first ++ e)) (sym closed.no_events)
+    (subst (Ran (run asked) answer None) (sym (append-nil first)) (run_closed asked bytes.items answer first was read.3 closed.why)))
 run_file_ran asked bytes answer kept first second read (inr is) =
     let was = subst (HasRead asked.source asked.file bytes.items true) (sym read.1) (has_read asked.source asked.file bytes.items true read.0 read.2) in
     run_opened_file asked bytes.items answer kept first second was read.3 is

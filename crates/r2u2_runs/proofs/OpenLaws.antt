@@ -51,17 +51,13 @@ pub program_unrefused : (bytes : List ℕ) (program : Program) → opened bytes 
 unfolding file_refusal
 program_unrefused bytes program is = ap refusal_of is
 
--- a status other than that of memory comes of another fault
-some_fault : (fault : CompileFault) → compile_status fault ≢ Memory → fault ≢ compile.Memory
-some_fault fault some is = some (ap compile_status is)
-
 -- the header doesn't name the signals of a specification
 pub header_refuses : (source : Bool) (text : List ℕ) (header : Option (List ℕ)) (items : List ItemShape) (fault : CompileFault) → source ≡ true → first_refusal text ≡ None → items ≡ items_in text
     → (fault ≢ compile.Memory → refusal_in header_refusal (columns_by (signals_of items) header) ≡ Some fault) → compile_status fault ≢ Memory → program_by source text header ≡ Err (compile_status fault)
 unfolding program_by
 header_refuses source text header items fault is none same refused some =
     subst (λ s. program_by s text header ≡ Err (compile_status fault)) (sym is)
-    (ap (with_status compile_status) (header_answer text header items fault none same (refused (some_fault fault some))))
+    (ap (with_status compile_status) (header_answer text header items fault none same (refused (λ memory. some (ap compile_status memory)))))
 
 -- its program, and the limits that refuse it
 pub spec_program : (source : Bool) (text : List ℕ) (header : Option (List ℕ)) (items : List ItemShape) (columns : Columns) (program : Program) → source ≡ true → first_refusal text ≡ None → items ≡ items_in text
@@ -76,7 +72,7 @@ pub limit_refuses : (source : Bool) (text : List ℕ) (header : Option (List ℕ
 unfolding program_by
 limit_refuses source text header items columns fault is none same found refused some =
     subst (λ s. program_by s text header ≡ Err (compile_status fault)) (sym is)
-    (ap (with_status compile_status) (back_refuses text header items columns (Err fault) none same found refused (some_fault fault some)))
+    (ap (with_status compile_status) (back_refuses text header items columns (Err fault) none same found refused (λ memory. some (ap compile_status memory))))
 
 -- a program file under a header
 pub file_program : (source : Bool) (bytes : List ℕ) (header : Option (List ℕ)) (program : Program) (found : Result Program Status) → source ≡ false → opened bytes ≡ Ok program → bound_under header program ≡ found → program_by source bytes header ≡ found

@@ -15,7 +15,8 @@ use Rattle.spec_compile.specs.Compiled.{columns_by, signals_in, outputs_in, imag
 use Rattle.spec_compile.specs.Compiled as text
 use Rattle.spec_compile.proofs.TellingLaws.{text_reports, text_names}
 use Rattle.tool_runs.specs.declared.status.Status.{Status}
-use Rattle.r2u2_runs.specs.ProgramBy.{compile_status, with_status, file_refusal, program_by, header_in, begins_long, unless_long, unless_refused, program_over}
+use Rattle.tool_runs.specs.FirstLine.{begins_long}
+use Rattle.r2u2_runs.specs.ProgramBy.{compile_status, with_status, file_refusal, program_by, header_in, unless_long, unless_refused, program_over}
 use Rattle.r2u2_runs.specs.Formulas.{TellsSource, TellsFile, IsSettledBy}
 use Rattle.r2u2_runs.proofs.ImageFiles.{program_told, tells_text}
 

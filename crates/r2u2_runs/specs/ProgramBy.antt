@@ -4,7 +4,7 @@
 use Rattle.std.specs.Prelude.{ℕ, ◌==◌, Bool, true, false, if◌then◌else◌, Option, Some, None, option_map, Result, Ok, Err, List, [], ◌∷◌, map}
 use Rattle.mltl_base.specs.declared.program.Columns.{Columns}
 use Rattle.mltl_base.specs.declared.program.Program.{Program}
-use Rattle.tool_io.specs.Cutting.{line_text, is_long}
+use Rattle.tool_io.specs.Cutting.{line_text}
 use Rattle.obs_verify.specs.Bound.{bound}
 use Rattle.obs_files.specs.declared.fault.FileFault.{FileFault}
 use Rattle.obs_files.specs.Faults.{opened}
@@ -20,6 +20,7 @@ use Rattle.spec_compile.specs.Compiled.{image_of_text}
 use Rattle.tool_runs.specs.declared.status.Status.{Status}
 use Rattle.tool_runs.specs.declared.status.Status.TheVariants.{Refused, BadHeader, BadTrace, Memory}
 use Rattle.tool_runs.specs.Files.{file_status}
+use Rattle.tool_runs.specs.FirstLine.{begins_long}
 
 -- the status of a run whose specification isn't compiled; the header is the first line of its trace
 abbrev pub compile_status : CompileFault → Status
@@ -76,11 +77,6 @@ program_by false file header = opened_under header (opened file)
 abbrev pub header_in : List (List ℕ) → Option (List ℕ)
 header_in [] = None
 header_in (raw ∷ raws) = if begins_header (line_text raw) then Some (line_text raw) else None
-
--- whether the first line is too long
-abbrev pub begins_long : List (List ℕ) → Bool
-begins_long [] = false
-begins_long (raw ∷ raws) = is_long raw
 
 -- what was found, unless the first line is too long
 abbrev pub unless_long : Bool → Result Program Status → Result Program Status

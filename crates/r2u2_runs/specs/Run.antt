@@ -5,7 +5,7 @@ use Rattle.mltl_base.specs.declared.program.Program.{Program}
 use Rattle.tool_io.specs.declared.host.Place as place
 use Rattle.tool_io.specs.Log.{Event, Took, taken, given, ended_from, names_of, IsFront, IsProperFront, Prompt}
 use Rattle.tool_io.specs.Cutting.{HasNoNewline, lines_of}
-use Rattle.tool_words.specs.R2u2Words.{RunAsked}
+use Rattle.tool_words.specs.R2u2Words.{Asked, RunAsked, help, run, demo, nothing}
 use Rattle.mltl_monitor.specs.declared.state.State.{State}
 use Rattle.trace_watch.specs.Trace.{Clean}
 use Rattle.tool_runs.specs.declared.message.Tool.TheVariants.{R2u2}
@@ -15,7 +15,7 @@ use Rattle.tool_runs.specs.Causes.{NoOtherRose}
 use Rattle.tool_runs.specs.Attaching.{OpensAsTold, ReadsAttached}
 use Rattle.tool_runs.specs.Files.{file_limit, file_place}
 use Rattle.tool_runs.specs.Telling.{ToldWhole}
-use Rattle.r2u2_runs.specs.Asking.{Ask, help, over, demo, nothing, asked_names}
+use Rattle.r2u2_runs.specs.Asking.{asked_names}
 use Rattle.r2u2_runs.specs.ProgramBy.{file_refusal, header_in, program_over}
 use Rattle.r2u2_runs.specs.Demo.{DemoOutcome}
 use Rattle.r2u2_runs.specs.Outcome.{due_by, Silent, StopsBy, LinesOutcome}
@@ -52,8 +52,8 @@ pub record IsReadable (asked : RunAsked) (file : List ℕ) (ended : Bool) : Type
   pub unrefused : file_refusal asked.source file ≡ None
 
 -- the trace, which comes second, is tried only behind a file that is readable
-abbrev pub TriesSecond : Ask → List Event → Type 0
-TriesSecond (over asked) events = 1 < length (names_of events) → IsReadable asked (file_of asked events) (file_ended asked events)
+abbrev pub TriesSecond : Asked → List Event → Type 0
+TriesSecond (run asked) events = 1 < length (names_of events) → IsReadable asked (file_of asked events) (file_ended asked events)
 TriesSecond other events = Unit {0}
 
 -- before each read of the trace no newline was taken
@@ -61,13 +61,13 @@ abbrev pub ReadsFirstLine : List Event → Type 0
 ReadsFirstLine events = (before after : List Event) (piece : List ℕ) → events ≡ before ++ Took place.TheVariants.Trace piece ∷ after → HasNoNewline (taken place.TheVariants.Trace before)
 
 -- before each read of the trace, the lines that are due for what was taken are out, and nothing else
-abbrev pub IsPrompt : Ask → List Event → Type 0
-IsPrompt (over asked) events = Prompt (due_by asked (found_in asked events) false) [] events
+abbrev pub IsPrompt : Asked → List Event → Type 0
+IsPrompt (run asked) events = Prompt (due_by asked (found_in asked events) false) [] events
 IsPrompt other events = Prompt (λ bytes. []) [] events
 
 -- the lines tell the formulas of the file
-abbrev pub TellsFormulas : Ask → List Event → Type 0
-TellsFormulas (over asked) events =
+abbrev pub TellsFormulas : Asked → List Event → Type 0
+TellsFormulas (run asked) events =
     IsSettledBy asked (file_of asked events) (header_in (lines_in events)) (found_in asked events) (trace_ended events) (trace_of events)
 TellsFormulas other events = Unit {0}
 
@@ -104,11 +104,11 @@ NothingOutcome status.TheVariants.Memory out kept = Silent out kept
 NothingOutcome answer out kept = ⊥
 
 -- how each answer follows from the words and from the log
-abbrev pub OutcomeOf : status.Status → Ask → List Event → Option State → Type 0
+abbrev pub OutcomeOf : status.Status → Asked → List Event → Option State → Type 0
 OutcomeOf answer help events kept = HelpOutcome answer (given place.TheVariants.Out events) kept
 OutcomeOf answer nothing events kept = NothingOutcome answer (given place.TheVariants.Out events) kept
 OutcomeOf answer (demo seed rows) events kept = DemoOutcome answer seed rows (given place.TheVariants.Out events) kept
-OutcomeOf answer (over asked) events kept =
+OutcomeOf answer (run asked) events kept =
     FileOutcome answer asked (file_of asked events) (file_ended asked events) (trace_of events) (trace_ended events) (given place.TheVariants.Out events) kept
 
 -- the first line of a trace is there, or its end was met
@@ -121,13 +121,13 @@ BegunFor (status.TheVariants.Refused line why) ended lines = HasBegun ended line
 BegunFor answer ended lines = Unit {0}
 
 -- so they do where the file isn't refused by itself
-abbrev pub RefusesBehind : Ask → status.Status → List Event → Type 0
-RefusesBehind (over asked) answer events =
+abbrev pub RefusesBehind : Asked → status.Status → List Event → Type 0
+RefusesBehind (run asked) answer events =
     file_refusal asked.source (file_of asked events) ≡ None → BegunFor answer (trace_ended events) (lines_in events)
 RefusesBehind other answer events = Unit {0}
 
 -- the log of a run before its message
-pub record Ran (asked : Ask) (answer : status.Status) (kept : Option State) (events : List Event) : Type 0 where
+pub record Ran (asked : Asked) (answer : status.Status) (kept : Option State) (events : List Event) : Type 0 where
   pub names : IsFront (names_of events) (asked_names asked)
   pub second : TriesSecond asked events
   pub attached : ReadsAttached [] events
@@ -140,8 +140,8 @@ pub record Ran (asked : Ask) (answer : status.Status) (kept : Option State) (eve
 
 -- A file and a header that give a program, and a trace without a faulty line and within the mission time, give Done,
 -- unless memory is wanting, and so does a demo; help is given where it is asked for.
-abbrev pub CompletesBy : Ask → status.Status → List Event → Type 0
-CompletesBy (over asked) answer events =
+abbrev pub CompletesBy : Asked → status.Status → List Event → Type 0
+CompletesBy (run asked) answer events =
     length (file_of asked events) ≤ file_limit asked.source
     → StopsBy Clean asked (found_in asked events) (trace_ended events) (trace_of events)
     → (answer ≡ status.TheVariants.Done) ⊎ (answer ≡ status.TheVariants.Memory)
@@ -149,12 +149,9 @@ CompletesBy help answer events = (answer ≡ status.TheVariants.Helped) ⊎ (ans
 CompletesBy (demo seed rows) answer events = (answer ≡ status.TheVariants.Done) ⊎ (answer ≡ status.TheVariants.Memory)
 CompletesBy nothing answer events = Unit {0}
 
--- so where no count rose but that of the error output
-abbrev pub Complete : Ask → status.Status → (place.Place → ℕ) → (place.Place → ℕ) → List Event → Type 0
-Complete asked answer before now events = NoOtherRose before now → CompletesBy asked answer events
-
--- the log of a whole run: the message is out, or a front of it
-pub record IsRun (asked : Ask) (answer : status.Status) (kept : Option State) (before now : place.Place → ℕ) (events : List Event) : Type 0 where
+-- The log of a whole run: the message is out, or a front of it, and the run completes where no call failed but those at
+-- Err.
+pub record IsRun (asked : Asked) (answer : status.Status) (kept : Option State) (before now : place.Place → ℕ) (events : List Event) : Type 0 where
   pub names : IsFront (names_of events) (asked_names asked)
   pub second : TriesSecond asked events
   pub attached : ReadsAttached [] events
@@ -166,4 +163,4 @@ pub record IsRun (asked : Ask) (answer : status.Status) (kept : Option State) (b
   pub early : answer ≡ status.TheVariants.Memory → ReadsFirstLine events
   pub told_user : IsFront (given place.TheVariants.Err events) (told_to_user R2u2 answer)
   pub told_whole : ToldWhole R2u2 answer (before place.TheVariants.Err) (now place.TheVariants.Err) events
-  pub complete : Complete asked answer before now events
+  pub complete : NoOtherRose before now → CompletesBy asked answer events

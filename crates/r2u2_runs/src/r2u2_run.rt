@@ -4,10 +4,9 @@ ghost use Rattle.std.specs.Prelude.{◌≡◌, ◌≢◌, ◌≤◌, ◌↔◌, 
 ghost use Rattle.tool_io.specs.Log.{OnLog};
 ghost use Rattle.tool_io.specs.declared.host.Place.{Place as Where};
 ghost use Rattle.tool_io.specs.declared.host.Place.TheVariants.{Err};
-ghost use Rattle.tool_words.specs.R2u2Words.{IsInBounds, asked_of, run_of};
+ghost use Rattle.tool_words.specs.R2u2Words.{IsInBounds, ask, asked_of, help, nothing, run as run_over, run_of};
 ghost use Rattle.tool_runs.specs.Causes.{CauseAt, RunCause};
 ghost use Rattle.tool_runs.specs.Files.{file_limit};
-ghost use Rattle.r2u2_runs.specs.Asking.{ask, help, nothing, over, served};
 ghost use Rattle.r2u2_runs.specs.Run.{IsRun, Ran};
 ghost use Rattle.r2u2_runs.specs.Phases.{RanFile};
 
@@ -52,7 +51,7 @@ fn run_file<H: Host>(
     requires none_kept { kept.old ≡ None }
     ensures cause { RunCause result (H.faults host.old) (H.faults host.new) }
     ensures log { OnLog (H.log host.old) (H.log host.new)
-        (Ran (over (run_of asked.now)) result kept.new) }
+        (Ran (run_over (run_of asked.now)) result kept.new) }
 {
     match read_file(alloc, asked.source, asked.file, host) {
         Ok(bytes) => run_bytes(alloc, asked, &bytes, host, kept),
@@ -71,7 +70,7 @@ fn run_asked<H: Host>(
     requires none_kept { kept.old ≡ None }
     ensures cause { RunCause result (H.faults host.old) (H.faults host.new) }
     ensures log { OnLog (H.log host.old) (H.log host.new)
-        (Ran (served (asked_of asked.entry)) result kept.new) }
+        (Ran (asked_of asked.entry) result kept.new) }
 {
     match asked {
         R2u2Ask::Help => give_help(Tool::R2u2, host),

@@ -3,5 +3,6 @@ pub mod Messages
 pub mod Causes
 pub mod Attaching
 pub mod Files
+pub mod FirstLine
 pub mod Reading
 pub mod Telling

@@ -1,0 +1,9 @@
+-- The first line of a file that is read by lines.
+
+use Rattle.std.specs.Prelude.{ℕ, Bool, false, List, [], ◌∷◌}
+use Rattle.tool_io.specs.Cutting.{is_long}
+
+-- whether the first line is too long
+abbrev pub begins_long : List (List ℕ) → Bool
+begins_long [] = false
+begins_long (raw ∷ raws) = is_long raw
