@@ -24,7 +24,7 @@ prefix_len_some p (x ∷ xs) some first = rw first (omega arith)
 in_line : (b : ℕ) → is_blank b ≡ false → is_in_line b ≡ true
 in_line b h = grind (arith, nat_tests)
 
-in_word : (b : ℕ) → begins_word b ≡ true → is_in_word b ≡ true
+pub in_word : (b : ℕ) → begins_word b ≡ true → is_in_word b ≡ true
 in_word b h = grind (arith, nat_tests)
 
 some_step : (p q : Sign → Bool) (y : Sign) (ys : List Sign) (x : Sign) → (find p ys ≡ Some x → list_all q ys ≡ true → q x ≡ true) → (b : Bool) → cond b (Some y) (find p ys) ≡ Some x → (c : Bool) → q y ≡ c → (c && list_all q ys) ≡ true → q x ≡ true

@@ -51,13 +51,14 @@ bool_plain = AllPass-from_list_all is_in_word (codes "bool") refl
 int_plain : IsPlainName (codes "int")
 int_plain = AllPass-from_list_all is_in_word (codes "int") refl
 
-abbrev set_done : TypeShape → List Token → Option (TypeShape × List Token)
+-- what is read of a type, of names and their type, and of a label
+abbrev pub set_done : TypeShape → List Token → Option (TypeShape × List Token)
 set_done k ts = Some (set_of k, ts)
 
-abbrev typed_done : List (List ℕ) → TypeShape → List Token → Option (List (List ℕ) × TypeShape × List Token)
+abbrev pub typed_done : List (List ℕ) → TypeShape → List Token → Option (List (List ℕ) × TypeShape × List Token)
 typed_done xs k ts = Some (xs, k, ts)
 
-abbrev label_done : List ℕ → List Token → Option (List ℕ × List Token)
+abbrev pub label_done : List ℕ → List Token → Option (List ℕ × List Token)
 label_done x ts = Some (x, ts)
 
 type-done : (j k : TypeShape) (ts rest : List Token) → ◌≡◌ {A = Option (TypeShape × List Token)} (Some (j, ts)) (Some (k, rest)) → HasPlainType j →

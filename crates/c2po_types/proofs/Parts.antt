@@ -18,6 +18,11 @@ pub unless-ok : {X : Type 0} (b : Bool) (fault : TypeFault) (m : Checked X) (x :
 unless-ok true fault m x h = absurd (cc)
 unless-ok false fault m x h = h
 
+-- and a test that isn't passed
+pub not-passed : {X : Type 0} (b : Bool) (fault : TypeFault) (m : Checked X) (x : X) → (if b then Err fault else m) ≡ Ok x → b ≡ false
+not-passed true fault m x h = absurd (cc)
+not-passed false fault m x h = refl
+
 pub when-ok : {X : Type 0} (b : Bool) (fault : TypeFault) (m : Checked X) (x : X) → (if b then m else Err fault) ≡ Ok x → m ≡ Ok x
 when-ok true fault m x h = h
 when-ok false fault m x h = absurd (cc)

@@ -22,7 +22,7 @@ use Rattle.unfold.specs.Values as values
 use Rattle.unfold.specs.Faults.{value_fault}
 use Rattle.c2po_types.specs.FirstFault.{State, start, checked, defined, with_out, body_step, item_step}
 use Rattle.c2po_types.specs.Signals.{is_bool, body_signals, signals_of}
-use Rattle.c2po_types.proofs.Parts.{ok-inj, bind-ok, unless-ok, when-ok, ranged-ok}
+use Rattle.c2po_types.proofs.Parts.{ok-inj, bind-ok, unless-ok, not-passed, when-ok, ranged-ok}
 
 -- a name that isn't there
 new-ok : {X V : Type 0} (line : ℕ) (x : List ℕ) (names : Table V) (m : Checked X) (e : X) → new line x names m ≡ Ok e → m ≡ Ok e
@@ -39,17 +39,33 @@ struct-signals line x fs d e h =
     })) e h) in
     ap (λ (r : Declarations). r.signals) (sym (ok-inj _ e p.2))
 
--- one signal
-signal-signals : (line : ℕ) (b : Bool) (x : List ℕ) (d e : Declarations) → with_signal line b x d ≡ Ok e → e.signals ≡ d.signals ++ record { name = x; truth = b } ∷ []
-signal-signals line b x d e h =
-    let more : Declarations = record {
-      names = d.names ++ (x, Value (signal_kind b)) ∷ [];
-      structs = d.structs;
-      signals = d.signals ++ record { name = x; truth = b } ∷ [];
-    } in
+-- one signal more, which comes last
+abbrev pub signal_last : Bool → List ℕ → Declarations → Declarations
+signal_last b x d = record {
+  names = d.names ++ (x, Value (signal_kind b)) ∷ [];
+  structs = d.structs;
+  signals = d.signals ++ record { name = x; truth = b } ∷ [];
+}
+
+-- its name is new, there was room for it, and it comes last
+pub record IsSignalAdded (b : Bool) (x : List ℕ) (d e : Declarations) : Type 0 where
+  pub fresh : is_named x d.names ≡ false
+  pub room : nat_le MAX_SIGNALS (length d.signals) ≡ false
+  pub is : signal_last b x d ≡ e
+
+pub signal_added : (line : ℕ) (b : Bool) (x : List ℕ) (d e : Declarations) → with_signal line b x d ≡ Ok e → IsSignalAdded b x d e
+signal_added line b x d e h =
     let full = nat_le MAX_SIGNALS (length d.signals) in
-    let m : Checked Declarations = if full then Err (Signals line) else Ok more in
-    ap (λ (r : Declarations). r.signals) (sym (ok-inj more e (unless-ok full (Signals line) (Ok more) e (new-ok line x d.names m e h))))
+    let m : Checked Declarations = if full then Err (Signals line) else Ok (signal_last b x d) in
+    let named : m ≡ Ok e = new-ok line x d.names m e h in
+    record {
+      fresh = not-passed (is_named x d.names) (Twice line) m e h;
+      room = not-passed full (Signals line) (Ok (signal_last b x d)) e named;
+      is = ok-inj (signal_last b x d) e (unless-ok full (Signals line) (Ok (signal_last b x d)) e named);
+    }
+
+signal-signals : (line : ℕ) (b : Bool) (x : List ℕ) (d e : Declarations) → with_signal line b x d ≡ Ok e → e.signals ≡ d.signals ++ record { name = x; truth = b } ∷ []
+signal-signals line b x d e h = ap (λ (r : Declarations). r.signals) (sym (signal_added line b x d e h).is)
 
 all-signals : (line : ℕ) (b : Bool) (xs : List (List ℕ)) (d e : Declarations) → in_turn (with_signal line b) xs d ≡ Ok e
     → e.signals ≡ d.signals ++ map (λ (x : List ℕ). record { name = x; truth = b }) xs

@@ -68,7 +68,8 @@ each_tensed columns [] h = tt
 each_tensed columns (a ∷ asks) h =
     (all_from_each (IsOfTense a.engine) (formulas_of (output_over columns a.output)) (output_tense columns a.engine a.output (each_from_all (IsOfTense a.engine) (formulas_of a.output) h.0)), each_tensed columns asks h.1)
 
-tensed_over : (columns : List ℕ) (asks : List Asked) → All IsTensed asks → All IsTensed (map (asked_over columns) asks)
+-- outputs over columns mix no tenses where the outputs don't
+pub tensed_over : (columns : List ℕ) (asks : List Asked) → All IsTensed asks → All IsTensed (map (asked_over columns) asks)
 tensed_over columns asks h = all_from_each IsTensed (map (asked_over columns) asks) (each_tensed columns asks (each_from_all IsTensed asks h))
 
 pub image_unfolds : (signals : List Signal) (columns : Columns) (asks : List Asked) (program : Program) → All IsTensed asks → IsImageOf signals columns asks program →

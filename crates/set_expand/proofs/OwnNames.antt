@@ -1,7 +1,7 @@
 -- The names of signals.
 
 use Rattle.std.proofs.Common.{◌≡◌, ℕ, ◌<◌, ◌≤◌, Bool, true, false, is_some, Option, Some, None, Ok, Err, List, [], ◌∷◌, ◌++◌, length, refl, sym, ap, subst, ◌∙◌, arith, if◌then◌else◌, inl, inr}
-use Rattle.std.specs.Prelude.{nat_le, slice_get}
+use Rattle.std.specs.Prelude.{slice_get}
 use Rattle.std.specs.Str.{bytes_eq}
 use Rattle.std.proofs.lemmas.Bool.Decides.{nat_tests}
 use Rattle.std.proofs.lemmas.List.{length-append}
@@ -14,8 +14,7 @@ use Rattle.c2po_kinds.specs.declared.kind.Meaning.{Meaning}
 use Rattle.c2po_kinds.specs.declared.kind.Meaning.TheVariants.{Struct, Value}
 use Rattle.mltl_base.specs.declared.signal.Signal.{Signal}
 use Rattle.c2po_kinds.specs.declared.declarations.Declarations.{Declarations}
-use Rattle.c2po_kinds.specs.declared.fault.TypeFault.{TypeFault}
-use Rattle.c2po_kinds.specs.declared.fault.TypeFault.TheVariants.{Twice, Signals}
+use Rattle.c2po_kinds.specs.declared.fault.TypeFault.TheVariants.{Twice}
 use Rattle.c2po_kinds.specs.Checking.{Checked, ◌>>=◌, in_turn}
 use Rattle.c2po_kinds.specs.Items.{Labels, with_field, signal_kind, type_kind, truth_of, with_struct, with_signal, with_input, define_kind, with_value, with_label, formula_kind, contract_kind}
 use Rattle.mltl_base.specs.Ranges.{NoRange}
@@ -25,13 +24,8 @@ use Rattle.unfold.specs.Faults.{value_fault}
 use Rattle.c2po_types.specs.FirstFault.{State, start, with_out, body_step, item_step, checked, first_fault, fault_of}
 use Rattle.c2po_types.specs.Signals.{signals_of}
 use Rattle.c2po_types.proofs.Parts.{bind-ok, unless-ok, when-ok, ranged-ok, ok-inj}
-use Rattle.c2po_types.proofs.SignalLaws.{checked-signals}
+use Rattle.c2po_types.proofs.SignalLaws.{checked-signals, signal_added}
 use Rattle.mltl_base.specs.Kinds.{HaveOwnNames}
-
--- a test that isn't passed
-not-passed : {X : Type 0} (b : Bool) (fault : TypeFault) (m : Checked X) (x : X) → (if b then Err fault else m) ≡ Ok x → b ≡ false
-not-passed true fault m x h = absurd (cc)
-not-passed false fault m x h = refl
 
 -- a name stays in a table that gets longer
 named-front : {V : Type 0} (x : List ℕ) (names more : Table V) → is_named x names ≡ true → is_named x (names ++ more) ≡ true
@@ -93,19 +87,9 @@ apart-push d x b v fresh less h =
 
 signal-apart : (line : ℕ) (b : Bool) (x : List ℕ) (d e : Declarations) → with_signal line b x d ≡ Ok e → IsApart d → IsApart e
 signal-apart line b x d e h apart =
-    let more : Declarations = record {
-      names = d.names ++ (x, Value (signal_kind b)) ∷ [];
-      structs = d.structs;
-      signals = d.signals ++ record { name = x; truth = b } ∷ [];
-    } in
-    let full = nat_le MAX_SIGNALS (length d.signals) in
-    let m : Checked Declarations = if full then Err (Signals line) else Ok more in
-    let named : m ≡ Ok e = unless-ok (is_named x d.names) (Twice line) m e h in
-    let fresh : is_named x d.names ≡ false = not-passed (is_named x d.names) (Twice line) m e h in
-    let room : full ≡ false = not-passed full (Signals line) (Ok more) e named in
-    let less : length d.signals < MAX_SIGNALS = grind (arith, nat_tests, room) in
-    subst IsApart (ok-inj more e (unless-ok full (Signals line) (Ok more) e named))
-    (apart-push d x b (Value (signal_kind b)) fresh less apart)
+    let added = signal_added line b x d e h in
+    let less : length d.signals < MAX_SIGNALS = grind (arith, nat_tests, added.room) in
+    subst IsApart added.is (apart-push d x b (Value (signal_kind b)) added.fresh less apart)
 
 signals-apart : (line : ℕ) (b : Bool) (xs : List (List ℕ)) (d e : Declarations) → in_turn (with_signal line b) xs d ≡ Ok e → IsApart d → IsApart e
 signals-apart line b [] d e h apart = subst IsApart (ok-inj d e h) apart

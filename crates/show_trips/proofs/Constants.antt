@@ -10,7 +10,7 @@ use Rattle.mltl_base.specs.Programs.{Expression, whole}
 use Rattle.mltl_base.specs.Reports.{Output, formula, contract}
 use Rattle.mltl_base.specs.Subformulas.{same_expression, listed, add_new, add_terms, add_operands, add_expressions, Asked, cores_of_output, formulas_of, all_cores, bz_expressions, bz_instruction, bz_list}
 use Rattle.mltl_base.proofs.Unfolding.{Each, each_from_all, all_push}
-use Rattle.mltl_base.proofs.Members.{all_from_each}
+use Rattle.mltl_base.proofs.Members.{all_from_each, each_append}
 use Rattle.plain_nodes.specs.Outputs.{asked_over, output_over}
 use Rattle.mltl_simplify.specs.Outputs.{simple_asked, simple_outputs}
 use Rattle.mltl_simplify.specs.Simplify.{simp, truth_of}
@@ -119,10 +119,6 @@ expressions_natural (csince i p q) es h g = expressions_natural q _ h.1 (express
 fold_natural : (cs : List Core) (es : List Expression) → Each CoreNatural cs → AreNatural es → AreNatural (fold (λ ds p. add_expressions p ds) es cs)
 fold_natural [] es h g = g
 fold_natural (c ∷ cs) es h g = fold_natural cs (add_expressions c es) h.1 (expressions_natural c es h.0 g)
-
-each_append : {X : Type 0} (P : X → Type 0) (xs ys : List X) → Each P xs → Each P ys → Each P (xs ++ ys)
-each_append P [] ys h g = g
-each_append P (x ∷ xs) ys h g = (h.0, each_append P xs ys h.1 g)
 
 output_cores : (o : Output) → Each Natural (formulas_of o) → Each CoreNatural (cores_of_output o)
 output_cores (formula p) h = (core_natural p h.0, tt)

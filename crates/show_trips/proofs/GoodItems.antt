@@ -26,6 +26,7 @@ use Rattle.c2po_parse.specs.declared.section.Section.TheVariants.{Struct, Input,
 use Rattle.c2po_parse.specs.Sections.{section_of, braces_after, Piece, item_of, left_over, is_end, chosen, pieces}
 use Rattle.c2po_parse.specs.Forms.{type_in, type_within, type_at, names_or, names_within, names_at, typed_at, fields_of, fields_or, fields_within, fields_at, struct_of, input_of, define_of, labelled, label_at, promise_at, contract_of, output_at, output_of, body_of}
 use Rattle.c2po_parse.specs.Specification.{piece_body, with_line, piece_tree, first_or, trees, spec_of}
+use Rattle.c2po_parse.proofs.ItemNames.{set_done, typed_done, label_done}
 
 -- The names and numbers of items stand among their tokens.
 
@@ -65,15 +66,6 @@ name-words ts x rest h words =
     let named = name_at-names ts x rest h in
     let all : GoodWords (named.at ∷ rest) = subst GoodWords named.joined words in
     record { plain = word-plain named.at.what x named.is (words-head named.at rest all); words = words-tail named.at rest all }
-
-abbrev set_done : TypeShape → List Token → Option (TypeShape × List Token)
-set_done k ts = Some (set_of k, ts)
-
-abbrev typed_done : List (List ℕ) → TypeShape → List Token → Option (List (List ℕ) × TypeShape × List Token)
-typed_done xs k ts = Some (xs, k, ts)
-
-abbrev label_done : List ℕ → List Token → Option (List ℕ × List Token)
-label_done x ts = Some (x, ts)
 
 type-done : (j k : TypeShape) (ts rest : List Token) → ◌≡◌ {A = Option (TypeShape × List Token)} (Some (j, ts)) (Some (k, rest)) → GoodType j →
     GoodWords ts → Read (GoodType k) rest

@@ -1,15 +1,14 @@
 -- The tokens of a text are tokens of the language: its names are names of the language, and none of its numbers is negative.
-use Rattle.std.proofs.Common.{◌≡◌, ℕ, ◌-◌, ◌+◌, ◌≤◌, zero, suc, Bool, true, false, if◌then◌else◌, List, [], ◌∷◌, length, take, map, Option, Some, None, option_map, Result, Ok, Err, IfOk, IfSome, pos, refl, sym, subst, arith, nat_lt}
-use Rattle.std.specs.List.{All, AllPass, prefix_len, starts_with}
-use Rattle.std.specs.Prelude.{nat_eq, codes, slice_index}
-use Rattle.std.specs.Char.{is_ascii_digit}
+use Rattle.std.proofs.Common.{◌≡◌, ℕ, ◌-◌, ◌≤◌, zero, suc, Bool, true, false, if◌then◌else◌, List, [], ◌∷◌, length, take, map, Option, Some, None, option_map, Result, Ok, Err, IfOk, IfSome, pos, refl, sym, subst, arith, nat_lt}
+use Rattle.std.specs.List.{All, AllPass}
+use Rattle.std.specs.Prelude.{slice_index}
 use Rattle.std.specs.Str.Parse.{digits_value}
 use Rattle.std.proofs.lemmas.List.Elements.{All-cons}
-use Rattle.c2po_lexer.specs.Spelling.{keyword_of, sign_at}
-use Rattle.c2po_lexer.specs.Cut.{is_blank, begins_word, is_in_line, is_in_word, sign_or_stray, front_of, size_of, piece_at, pieces_from}
+use Rattle.c2po_lexer.specs.Spelling.{keyword_of}
+use Rattle.c2po_lexer.specs.Cut.{begins_word, is_in_word, front_of, size_of, piece_at, pieces_from}
 use Rattle.c2po_lexer.specs.Tokens.{reserved_or_name, line_at, what_of, reading_of, result_map, before, all_of, tokens_of, token_of}
 use Rattle.std.proofs.lemmas.Bool.Decides.{nat_tests}
-use Rattle.c2po_lexer.proofs.Names.{AllPass-prefix}
+use Rattle.c2po_lexer.proofs.Names.{IsWord, piece_word}
 use Rattle.show_trips.specs.Written.{IsToken}
 use Rattle.c2po_lexer.specs.declared.token.Token.{Token}
 use Rattle.c2po_lexer.specs.declared.token.What.{What}
@@ -19,41 +18,6 @@ use Rattle.c2po_lexer.specs.declared.token.Sign.{Sign}
 use Rattle.c2po_lexer.specs.declared.fault.LexFault.{LexFault}
 use Rattle.c2po_lexer.specs.declared.front.Front.{Front}
 use Rattle.c2po_lexer.specs.declared.front.Front.TheVariants as front
-
--- the bytes of a word
-abbrev IsWord : Front → List ℕ → Type 0
-IsWord (front.Word n) bytes = (begins_word (slice_index bytes 0) ≡ true) × AllPass is_in_word bytes
-IsWord _ bytes = Unit {0}
-
-in_word : (b : ℕ) → begins_word b ≡ true → is_in_word b ≡ true
-in_word b h = grind (arith, nat_tests)
-
--- a word begins as the text does
-begins_too : (text : List ℕ) → begins_word (slice_index text 0) ≡ true → begins_word (slice_index (take (prefix_len is_in_word text) text) 0) ≡ true
-begins_too [] h = h
-begins_too (c ∷ text) h =
-    let n : ℕ = prefix_len is_in_word text in
-    let next : 1 + n ≡ suc n = omega arith in
-    rw (in_word c h) (rw next h)
-
-sign_no_word : (s : Option Sign) (bytes : List ℕ) → IsWord (sign_or_stray s) bytes
-sign_no_word (Some s) bytes = tt
-sign_no_word None bytes = tt
-
-front_word : (blank comment word digit : Bool) (n m : ℕ) (s : Option Sign) (text : List ℕ) → begins_word (slice_index text 0) ≡ word
-    → IsWord (if blank then front.Blank else (if comment then front.Comment n else (if word then front.Word (prefix_len is_in_word text) else (if digit then front.Digits m else sign_or_stray s))))
-    (take (size_of (if blank then front.Blank else (if comment then front.Comment n else (if word then front.Word (prefix_len is_in_word text) else (if digit then front.Digits m else sign_or_stray s))))) text)
-front_word true comment word digit n m s text e = tt
-front_word false true word digit n m s text e = tt
-front_word false false true digit n m s text e = (begins_too text e, AllPass-prefix is_in_word text)
-front_word false false false true n m s text e = tt
-front_word false false false false n m s text e = sign_no_word s (take (size_of (sign_or_stray s)) text)
-
-piece_word : (text : List ℕ) → IsWord (front_of text) (take (size_of (front_of text)) text)
-unfolding front_of
-piece_word text =
-    front_word (is_blank (slice_index text 0)) (starts_with nat_eq text (codes "--")) (begins_word (slice_index text 0)) (is_ascii_digit (slice_index text 0))
-    (prefix_len is_in_line text) (prefix_len is_ascii_digit text) (sign_at text) text refl
 
 abbrev GoodReading : Result (Option What) LexFault → Type 0
 GoodReading r = IfOk r (λ w. IfSome w IsToken)

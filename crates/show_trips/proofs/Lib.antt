@@ -10,7 +10,6 @@ pub mod Fresh
 pub mod Formed
 pub mod Signals
 pub mod Meaning
-pub mod Tenses
 pub mod Returning
 pub mod Words
 pub mod GoodTokens

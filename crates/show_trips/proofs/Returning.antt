@@ -31,7 +31,7 @@ use Rattle.show_trips.specs.Unfolded.{declared_by}
 use Rattle.show_trips.proofs.Items.{lines_tokens, lines_items}
 use Rattle.show_trips.proofs.Signals.{program_declares, stored_again}
 use Rattle.show_trips.proofs.Meaning.{program_asks}
-use Rattle.show_trips.proofs.Tenses.{tensed_over}
+use Rattle.obs_build.proofs.Tenses.{tensed_over}
 
 -- the items that the text of a program says are those of its lines
 pub items_said : (program : Program) → HaveWords (lines program) → items_in (text program) ≡ line_items 1 (lines program)

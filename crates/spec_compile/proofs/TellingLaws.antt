@@ -28,16 +28,16 @@ use Rattle.spec_compile.specs.Compiled.{signals_in, outputs_in, columns_by, unle
 use Rattle.spec_compile.proofs.ImageLaws.{image_of}
 
 -- nothing first, and nothing then
-second_none : (o p : Option CompileFault) → option_or o p ≡ None → p ≡ None
+pub second_none : (o p : Option CompileFault) → option_or o p ≡ None → p ≡ None
 second_none (Some fault) p h = absurd (cc)
 second_none None p h = h
 
-map_none : (o : Option TypeFault) → option_map check_refusal o ≡ None → o ≡ None
+pub map_none : (o : Option TypeFault) → option_map check_refusal o ≡ None → o ≡ None
 map_none (Some fault) h = absurd (cc)
 map_none None h = refl
 
 -- a text that isn't refused has no fault
-no_fault : (text : List ℕ) → first_refusal text ≡ None → first_fault (items_in text) ≡ None
+pub no_fault : (text : List ℕ) → first_refusal text ≡ None → first_fault (items_in text) ≡ None
 no_fault text h = map_none (first_fault (items_in text))
     (second_none (refusal_in tree_refusal (spec_of (tokens_in text))) _ (second_none (refusal_in token_refusal (tokens_of text)) _ h))
 
