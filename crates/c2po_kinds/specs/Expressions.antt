@@ -80,15 +80,15 @@ abbrev mutual
   kinds_of (more e es) seen = kind_of e seen >>= λ k. kinds_of es seen >>= λ ps. Ok ((line_of e, k) ∷ ps)
 
 -- an operator that wants operands of one kind and gives another, from the kind of its left operand and its right one
-abbrev pub joined : ℕ → Kind → Kind → Kind → Shape → Visible → Checked Kind
-joined line wanted given left e seen = two (Ok left) (kind_of e seen) >>= of_two line wanted given
+abbrev pub infix_kind : ℕ → Kind → Kind → Kind → Shape → Visible → Checked Kind
+infix_kind line wanted given left e seen = two (Ok left) (kind_of e seen) >>= of_two line wanted given
 
 -- a temporal operator over an interval, from its one operand
-abbrev pub windowed : ℕ → ℕ → ℕ → Shape → Visible → Checked Kind
-windowed line a b e seen = kind_of e seen >>= λ k.
+abbrev pub window_kind : ℕ → ℕ → ℕ → Shape → Visible → Checked Kind
+window_kind line a b e seen = kind_of e seen >>= λ k.
     within_bounds line a b (of_one line kinds.truth kinds.truth k)
 
 -- a quantifier over a set of a kind
-abbrev pub quantified : ℕ → List ℕ → Kind → ℕ → Shape → Visible → Checked Kind
-quantified line x s n e seen = member_kind line s >>= λ k.
+abbrev pub quantifier_kind : ℕ → List ℕ → Kind → ℕ → Shape → Visible → Checked Kind
+quantifier_kind line x s n e seen = member_kind line s >>= λ k.
     fresh line (meaning_of x seen) (few line n (kind_of e (inside x k seen) >>= of_one line kinds.truth kinds.truth))

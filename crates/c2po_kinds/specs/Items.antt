@@ -50,8 +50,8 @@ with_struct line x fs d = new line x d.names (in_turn (with_field line d) fs [] 
 }))
 
 -- whether a signal of a kind is a truth; a signal is a truth or a whole number
-abbrev pub truth_of : ℕ → Kind → Checked Bool
-truth_of line k = if same_kind k truth then Ok true
+abbrev pub signal_truth : ℕ → Kind → Checked Bool
+signal_truth line k = if same_kind k truth then Ok true
     else if same_kind k whole then Ok false
     else Err (fault.Kind line)
 
@@ -70,7 +70,7 @@ with_signal line b x d = new line x d.names (if nat_le MAX_SIGNALS (length d.sig
 
 -- the signals of an item
 abbrev pub with_input : ℕ → List (List ℕ) → TypeShape → Declarations → Checked Declarations
-with_input line xs t d = type_kind line d t >>= truth_of line >>= λ b. in_turn (with_signal line b) xs d
+with_input line xs t d = type_kind line d t >>= signal_truth line >>= λ b. in_turn (with_signal line b) xs d
 
 -- the kind of a defined value, whose name is visible only behind its item
 abbrev pub define_kind : ℕ → List ℕ → Shape → Declarations → Checked Kind

@@ -5,7 +5,7 @@ ghost use Rattle.c2po_tree.specs.Shape.{shape, shapes};
 ghost use Rattle.c2po_kinds.specs.Checking.{Gives};
 ghost use Rattle.c2po_kinds.specs.Kinds as kinds;
 ghost use Rattle.c2po_kinds.specs.Scopes.{meaning_of, visible};
-ghost use Rattle.c2po_kinds.specs.Expressions.{kind_of as kind_in, kinds_of as kinds_in, joined, quantified, windowed, within_bounds};
+ghost use Rattle.c2po_kinds.specs.Expressions.{kind_of as kind_in, kinds_of as kinds_in, infix_kind, quantifier_kind, window_kind, within_bounds};
 
 use crate::operand::{
     TRUTH, WHOLE, are_same, build, expect, gather, is_same, member_of, pick, value_of,
@@ -57,7 +57,7 @@ fn quantified(
     body: &Expr,
 ) -> Result<Kind, TypeFault>
     ensures { Gives (λ k. k) result
-        (quantified line variable.now set number (shape body.now) (visible scope.now)) }
+        (quantifier_kind line variable.now set number (shape body.now) (visible scope.now)) }
 {
     let member = member_of(line, set)?;
     if meaning(scope, variable).is_some() {
@@ -95,7 +95,7 @@ fn numbers(
     given: Kind,
 ) -> Result<Kind, TypeFault>
     ensures { Gives (λ k. k) result
-        (joined line kinds.whole given left (shape right.now) (visible scope.now)) }
+        (infix_kind line kinds.whole given left (shape right.now) (visible scope.now)) }
 {
     let right = kind_of(alloc, scope, right)?;
     expect(line, are_same(left, right, WHOLE), given)
@@ -111,7 +111,7 @@ fn truths(
     right: &Expr,
 ) -> Result<Kind, TypeFault>
     ensures { Gives (λ k. k) result
-        (joined line kinds.truth kinds.truth left (shape right.now) (visible scope.now)) }
+        (infix_kind line kinds.truth kinds.truth left (shape right.now) (visible scope.now)) }
 {
     let right = kind_of(alloc, scope, right)?;
     expect(line, are_same(left, right, TRUTH), TRUTH)
@@ -128,7 +128,7 @@ fn in_window(
     operand: &Expr,
 ) -> Result<Kind, TypeFault>
     ensures { Gives (λ k. k) result
-        (windowed line low high (shape operand.now) (visible scope.now)) }
+        (window_kind line low high (shape operand.now) (visible scope.now)) }
 {
     let kind = kind_of(alloc, scope, operand)?;
     window(line, low, high, is_same(kind, TRUTH))

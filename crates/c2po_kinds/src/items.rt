@@ -5,7 +5,7 @@ ghost use Rattle.c2po_tree.specs.Shape.{shape};
 ghost use Rattle.c2po_tree.specs.ItemShape.{type_shape, field_shape};
 ghost use Rattle.c2po_kinds.specs.Checking.{Gives, in_turn};
 ghost use Rattle.name_table.specs.Tables.{is_named};
-ghost use Rattle.c2po_kinds.specs.Items.{nothing, type_kind, truth_of, with_field, with_struct, with_signal, with_input, define_kind, with_value, with_label, formula_kind, contract_kind};
+ghost use Rattle.c2po_kinds.specs.Items.{nothing, type_kind, signal_truth, with_field, with_struct, with_signal, with_input, define_kind, with_value, with_label, formula_kind, contract_kind};
 
 use crate::operand::{TRUTH, WHOLE, are_same, expect, is_same, set_of};
 use crate::{Base, Declarations, Kind, Meaning, NameTable, Scope, Signal, TypeFault, kind_of};
@@ -122,7 +122,7 @@ pub fn declare_struct(
 
 /// Whether a signal of a kind is a truth.
 fn is_truth(line: u32, kind: Kind) -> Result<bool, TypeFault>
-    ensures { Gives (λ b. b) result (truth_of line kind) }
+    ensures { Gives (λ b. b) result (signal_truth line kind) }
 {
     if is_same(kind, TRUTH) {
         return Ok(true);

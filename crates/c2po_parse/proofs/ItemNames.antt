@@ -27,7 +27,7 @@ use Rattle.c2po_parse.specs.declared.section.Section.{Section}
 use Rattle.c2po_parse.specs.declared.section.Section.TheVariants.{Struct, Input, Define, Output}
 use Rattle.c2po_parse.specs.Sections.{section_of, braces_after, Piece, item_of, left_over, is_end, chosen, pieces}
 use Rattle.c2po_parse.specs.Forms.{type_in, type_within, type_at, names_or, names_within, names_at, typed_at, fields_of, fields_or, fields_within, fields_at, struct_of, input_of, define_of, labelled, label_at, promise_at, contract_of, output_at, output_of, body_of}
-use Rattle.c2po_parse.specs.Specification.{piece_body, with_line, piece_tree, first_or, trees, spec_of}
+use Rattle.c2po_parse.specs.Specification.{piece_body, with_line, piece_tree, first_or, piece_trees, spec_of}
 
 -- The names of items stand among their tokens.
 
@@ -308,11 +308,11 @@ first-names (Err fault) others items hr ho h = absurd (cc)
 first-names (Ok item) (Err fault) items hr ho h = absurd (cc)
 first-names (Ok item) (Ok is) items hr ho h = let same : item ∷ is ≡ items = cc in subst ArePlainItems same (hr item refl, ho is refl)
 
-trees-names : (ps : List Piece) (items : List ItemShape) → ArePlainPieces ps → trees ps ≡ Ok items → ArePlainItems items
-unfolding trees ArePlainPieces
+trees-names : (ps : List Piece) (items : List ItemShape) → ArePlainPieces ps → piece_trees ps ≡ Ok items → ArePlainItems items
+unfolding piece_trees ArePlainPieces
 trees-names [] items plain h = let same : [] ≡ items = cc in subst ArePlainItems same tt
 trees-names (p ∷ ps) items plain h =
-    first-names (piece_tree p) (trees ps) items (λ item is. piece_tree-names p item is plain.0) (λ is same. trees-names ps is plain.1 same) h
+    first-names (piece_tree p) (piece_trees ps) items (λ item is. piece_tree-names p item is plain.0) (λ is same. trees-names ps is plain.1 same) h
 
 pub spec-names : (ts : List Token) (items : List ItemShape) → spec_of ts ≡ Ok items → PlainWords ts → ArePlainItems items
 unfolding spec_of

@@ -8,7 +8,7 @@ use Rattle.c2po_parse.specs.declared.fault.ParseFault.{ParseFault}
 use Rattle.c2po_parse.specs.declared.fault.ParseFault.TheVariants.{TooManyTokens, Grammar}
 use Rattle.c2po_parse.specs.declared.section.Section.{Section}
 use Rattle.c2po_parse.specs.Sections.{section_of, braces_after, Piece, item_of, left_over, is_end, chosen, pieces, depth_within, counted, piece_len, begins_item, ended_of, tail_of}
-use Rattle.c2po_parse.specs.Specification.{piece_body, with_line, piece_tree, with_first, first_or, trees, all_with, reads_on, spec_of}
+use Rattle.c2po_parse.specs.Specification.{piece_body, with_line, piece_tree, with_first, first_or, piece_trees, all_with, reads_on, spec_of}
 
 -- The first piece of a token list and those behind it.
 
@@ -104,12 +104,12 @@ front-piece s t ts zero plain = at-once s t ts plain
 front-piece s t ts (suc n) plain = behind s t (take n ts) (drop n ts)
 
 first-trees : (s : Option Section) (t : Token) (ts : List Token) → section_of t.what ≡ None →
-    trees (pieces s 0 [] (t ∷ ts))
+    piece_trees (pieces s 0 [] (t ∷ ts))
     ≡ first_or (piece_tree (piece_on s t.line (take (piece_len s 0 (t ∷ ts)) (t ∷ ts)) (ended_of (drop (piece_len s 0 (t ∷ ts)) (t ∷ ts)))))
-    (trees (others_of s (drop (piece_len s 0 (t ∷ ts)) (t ∷ ts))))
-unfolding trees
+    (piece_trees (others_of s (drop (piece_len s 0 (t ∷ ts)) (t ∷ ts))))
+unfolding piece_trees
 first-trees s t ts plain =
-    ap trees (pieces-span s 0 [] (t ∷ ts) ∙ front-piece s t ts (piece_len s 0 (t ∷ ts)) plain)
+    ap piece_trees (pieces-span s 0 [] (t ∷ ts) ∙ front-piece s t ts (piece_len s 0 (t ∷ ts)) plain)
 
 piece_result : Option Section → Token → List Token → Result ItemShape ParseFault
 piece_result s t ts =
@@ -121,9 +121,9 @@ many-first b line r others is = ap (λ c. first_or (if c then Err (TooManyTokens
 
 -- too many tokens, an item without a tree, and one with a tree
 pub many-trees : (s : Option Section) (t : Token) (ts : List Token) → section_of t.what ≡ None →
-    nat_lt 1024 (length (take (piece_len s 0 (t ∷ ts)) (t ∷ ts))) ≡ true → trees (pieces s 0 [] (t ∷ ts)) ≡ Err (TooManyTokens t.line)
+    nat_lt 1024 (length (take (piece_len s 0 (t ∷ ts)) (t ∷ ts))) ≡ true → piece_trees (pieces s 0 [] (t ∷ ts)) ≡ Err (TooManyTokens t.line)
 unfolding piece_result
-many-trees s t ts plain many = first-trees s t ts plain ∙ many-first (nat_lt 1024 (length (take (piece_len s 0 (t ∷ ts)) (t ∷ ts)))) t.line (piece_result s t ts) (trees (others_of s (drop (piece_len s 0 (t ∷ ts)) (t ∷ ts)))) many
+many-trees s t ts plain many = first-trees s t ts plain ∙ many-first (nat_lt 1024 (length (take (piece_len s 0 (t ∷ ts)) (t ∷ ts)))) t.line (piece_result s t ts) (piece_trees (others_of s (drop (piece_len s 0 (t ∷ ts)) (t ∷ ts)))) many
 
 few-first : (b : Bool) (line : ℕ) (r : Result ItemShape ParseFault) (others : Result (List ItemShape) ParseFault) → b ≡ false →
     first_or (if b then Err (TooManyTokens line) else r) others ≡ first_or r others
@@ -131,18 +131,18 @@ few-first b line r others is = ap (λ c. first_or (if c then Err (TooManyTokens 
 
 few-trees : (s : Option Section) (t : Token) (ts : List Token) → section_of t.what ≡ None →
     nat_lt 1024 (length (take (piece_len s 0 (t ∷ ts)) (t ∷ ts))) ≡ false →
-    trees (pieces s 0 [] (t ∷ ts)) ≡ first_or (piece_result s t ts) (trees (others_of s (drop (piece_len s 0 (t ∷ ts)) (t ∷ ts))))
+    piece_trees (pieces s 0 [] (t ∷ ts)) ≡ first_or (piece_result s t ts) (piece_trees (others_of s (drop (piece_len s 0 (t ∷ ts)) (t ∷ ts))))
 unfolding piece_result
 few-trees s t ts plain few = first-trees s t ts plain
-    ∙ few-first (nat_lt 1024 (length (take (piece_len s 0 (t ∷ ts)) (t ∷ ts)))) t.line (piece_result s t ts) (trees (others_of s (drop (piece_len s 0 (t ∷ ts)) (t ∷ ts)))) few
+    ∙ few-first (nat_lt 1024 (length (take (piece_len s 0 (t ∷ ts)) (t ∷ ts)))) t.line (piece_result s t ts) (piece_trees (others_of s (drop (piece_len s 0 (t ∷ ts)) (t ∷ ts)))) few
 
 pub faulty-trees : (s : Option Section) (t : Token) (ts : List Token) (fault : ParseFault) → section_of t.what ≡ None →
     nat_lt 1024 (length (take (piece_len s 0 (t ∷ ts)) (t ∷ ts))) ≡ false →
     with_line t.line (piece_body s (ended_of (drop (piece_len s 0 (t ∷ ts)) (t ∷ ts))) (take (piece_len s 0 (t ∷ ts)) (t ∷ ts))) ≡ Err fault →
-    trees (pieces s 0 [] (t ∷ ts)) ≡ Err fault
+    piece_trees (pieces s 0 [] (t ∷ ts)) ≡ Err fault
 unfolding piece_result
 faulty-trees s t ts fault plain few h =
-    few-trees s t ts plain few ∙ ap (λ r. first_or r (trees (others_of s (drop (piece_len s 0 (t ∷ ts)) (t ∷ ts))))) h
+    few-trees s t ts plain few ∙ ap (λ r. first_or r (piece_trees (others_of s (drop (piece_len s 0 (t ∷ ts)) (t ∷ ts))))) h
 
 unended : (s : Option Section) (line : ℕ) (piece : List Token) → with_line line (piece_body s false piece) ≡ Err (Grammar line)
 unended None line piece = refl
@@ -165,12 +165,12 @@ ended-others s line piece (t ∷ ts) item h = ended-at s line piece t ts (sectio
 pub read-trees : (s : Option Section) (t : Token) (ts : List Token) (item : ItemShape) → section_of t.what ≡ None →
     nat_lt 1024 (length (take (piece_len s 0 (t ∷ ts)) (t ∷ ts))) ≡ false →
     with_line t.line (piece_body s (ended_of (drop (piece_len s 0 (t ∷ ts)) (t ∷ ts))) (take (piece_len s 0 (t ∷ ts)) (t ∷ ts))) ≡ Ok item →
-    trees (pieces s 0 [] (t ∷ ts)) ≡ with_first item (trees (pieces s 0 [] (tail_of (drop (piece_len s 0 (t ∷ ts)) (t ∷ ts)))))
+    piece_trees (pieces s 0 [] (t ∷ ts)) ≡ with_first item (piece_trees (pieces s 0 [] (tail_of (drop (piece_len s 0 (t ∷ ts)) (t ∷ ts)))))
 unfolding piece_result
 read-trees s t ts item plain few h =
     let n : ℕ = piece_len s 0 (t ∷ ts) in
-    few-trees s t ts plain few ∙ ap (λ r. first_or r (trees (others_of s (drop n (t ∷ ts))))) h
-    ∙ ap (λ ps. with_first item (trees ps)) (ended-others s t.line (take n (t ∷ ts)) (drop n (t ∷ ts)) item h)
+    few-trees s t ts plain few ∙ ap (λ r. first_or r (piece_trees (others_of s (drop n (t ∷ ts))))) h
+    ∙ ap (λ ps. with_first item (piece_trees ps)) (ended-others s t.line (take n (t ∷ ts)) (drop n (t ∷ ts)) item h)
 
 -- an item goes behind those that were read
 pub with_item : (items : List ItemShape) (item : ItemShape) (r : Result (List ItemShape) ParseFault) →
@@ -184,17 +184,17 @@ unfolding reads_on pieces
 reads-section items s t ts next is = rw is refl
 
 pub reads-item : (items : List ItemShape) (s : Option Section) (ts rest : List Token) (item : ItemShape) →
-    trees (pieces s 0 [] ts) ≡ with_first item (trees (pieces s 0 [] rest)) → reads_on items s ts ≡ reads_on (items ++ item ∷ []) s rest
+    piece_trees (pieces s 0 [] ts) ≡ with_first item (piece_trees (pieces s 0 [] rest)) → reads_on items s ts ≡ reads_on (items ++ item ∷ []) s rest
 unfolding reads_on
-reads-item items s ts rest item h = ap (all_with items) h ∙ with_item items item (trees (pieces s 0 [] rest))
+reads-item items s ts rest item h = ap (all_with items) h ∙ with_item items item (piece_trees (pieces s 0 [] rest))
 
 pub reads-fault : (items : List ItemShape) (s : Option Section) (ts : List Token) (fault : ParseFault) →
-    trees (pieces s 0 [] ts) ≡ Err fault → reads_on items s ts ≡ Err fault
+    piece_trees (pieces s 0 [] ts) ≡ Err fault → reads_on items s ts ≡ Err fault
 unfolding reads_on
 reads-fault items s ts fault h = ap (all_with items) h
 
 pub reads_end : (items : List ItemShape) (s : Option Section) (ts : List Token) → length ts ≡ 0 → reads_on items s ts ≡ Ok items
-unfolding reads_on pieces trees
+unfolding reads_on pieces piece_trees
 reads_end items s [] h = ap Ok (append-nil items)
 reads_end items s (t ∷ ts) h = absurd (omega arith)
 
@@ -204,7 +204,7 @@ all_with-nil (Ok items) = refl
 
 pub reads_all : (ts : List Token) → reads_on [] None ts ≡ spec_of ts
 unfolding reads_on spec_of
-reads_all ts = all_with-nil (trees (pieces None 0 [] ts))
+reads_all ts = all_with-nil (piece_trees (pieces None 0 [] ts))
 
 -- the same of a list that begins an item
 begins-plain : (t : Token) (ts : List Token) (v : Option Section) → section_of t.what ≡ v → begins_item (t ∷ ts) ≡ true → section_of t.what ≡ None
@@ -223,7 +223,7 @@ lt-not : (a b : ℕ) → b ≤ a → nat_lt a b ≡ false
 lt-not a b h = grind (arith, nat_tests)
 
 pub many_pieces : (s : Option Section) (ts : List Token) (d : Token) (n : ℕ) → begins_item ts ≡ true → n ≡ piece_len s 0 ts →
-    1024 < length (take n ts) → trees (pieces s 0 [] ts) ≡ Err (TooManyTokens (get_or ts 0 d).line)
+    1024 < length (take n ts) → piece_trees (pieces s 0 [] ts) ≡ Err (TooManyTokens (get_or ts 0 d).line)
 many_pieces s [] d n begins is many = absurd (cc)
 many_pieces s (t ∷ ts) d n begins is many =
     many-trees s t ts (begins-plain t ts (section_of t.what) refl begins)
@@ -231,7 +231,7 @@ many_pieces s (t ∷ ts) d n begins is many =
 
 pub faulty_pieces : (s : Option Section) (ts : List Token) (d : Token) (n : ℕ) (fault : ParseFault) → begins_item ts ≡ true → n ≡ piece_len s 0 ts →
     length (take n ts) ≤ 1024 → with_line (get_or ts 0 d).line (piece_body s (ended_of (drop n ts)) (take n ts)) ≡ Err fault →
-    trees (pieces s 0 [] ts) ≡ Err fault
+    piece_trees (pieces s 0 [] ts) ≡ Err fault
 faulty_pieces s [] d n fault begins is few h = absurd (cc)
 faulty_pieces s (t ∷ ts) d n fault begins is few h =
     faulty-trees s t ts fault (begins-plain t ts (section_of t.what) refl begins)
@@ -240,10 +240,10 @@ faulty_pieces s (t ∷ ts) d n fault begins is few h =
 
 pub read_pieces : (s : Option Section) (ts : List Token) (d : Token) (n : ℕ) (item : ItemShape) → begins_item ts ≡ true → n ≡ piece_len s 0 ts →
     length (take n ts) ≤ 1024 → with_line (get_or ts 0 d).line (piece_body s (ended_of (drop n ts)) (take n ts)) ≡ Ok item →
-    trees (pieces s 0 [] ts) ≡ with_first item (trees (pieces s 0 [] (tail_of (drop n ts))))
+    piece_trees (pieces s 0 [] ts) ≡ with_first item (piece_trees (pieces s 0 [] (tail_of (drop n ts))))
 read_pieces s [] d n item begins is few h = absurd (cc)
 read_pieces s (t ∷ ts) d n item begins is few h =
-    subst (λ m. trees (pieces s 0 [] (t ∷ ts)) ≡ with_first item (trees (pieces s 0 [] (tail_of (drop m (t ∷ ts)))))) (sym is)
+    subst (λ m. piece_trees (pieces s 0 [] (t ∷ ts)) ≡ with_first item (piece_trees (pieces s 0 [] (tail_of (drop m (t ∷ ts)))))) (sym is)
     (read-trees s t ts item (begins-plain t ts (section_of t.what) refl begins)
     (subst (λ m. nat_lt 1024 (length (take m (t ∷ ts))) ≡ false) is (lt-not 1024 (length (take n (t ∷ ts))) few))
     (subst (λ m. with_line t.line (piece_body s (ended_of (drop m (t ∷ ts))) (take m (t ∷ ts))) ≡ Ok item) is h))

@@ -36,13 +36,13 @@ first_or (Err fault) others = Err fault
 first_or (Ok item) others = with_first item others
 
 -- the trees of pieces, or the first fault
-unfoldable pub trees : List Piece → Result (List ItemShape) ParseFault
-trees [] = Ok []
-trees (p ∷ ps) = first_or (piece_tree p) (trees ps)
+unfoldable pub piece_trees : List Piece → Result (List ItemShape) ParseFault
+piece_trees [] = Ok []
+piece_trees (p ∷ ps) = first_or (piece_tree p) (piece_trees ps)
 
 -- the trees of the items of a token list
 unfoldable pub spec_of : List Token → Result (List ItemShape) ParseFault
-spec_of ts = trees (pieces None 0 [] ts)
+spec_of ts = piece_trees (pieces None 0 [] ts)
 
 -- items before the others
 abbrev pub all_with : List ItemShape → Result (List ItemShape) ParseFault → Result (List ItemShape) ParseFault
@@ -51,4 +51,4 @@ all_with items (Ok others) = Ok (items ++ others)
 
 -- items that were read, and then those of what is left within a section
 unfoldable pub reads_on : List ItemShape → Option Section → List Token → Result (List ItemShape) ParseFault
-reads_on items section ts = all_with items (trees (pieces section 0 [] ts))
+reads_on items section ts = all_with items (piece_trees (pieces section 0 [] ts))

@@ -5,7 +5,7 @@ ghost use Rattle.c2po_lexer.specs.Tokens.{HasPlainName};
 ghost use Rattle.c2po_tree.specs.Names.{ArePlainItems};
 ghost use Rattle.c2po_tree.specs.ItemShape.{item_shape, body_shape, spec_shape};
 ghost use Rattle.c2po_parse.specs.Sections.{pieces, begins_item, ended_of, tail_of};
-ghost use Rattle.c2po_parse.specs.Specification.{trees, with_first, reads_on, spec_of, with_line, piece_body};
+ghost use Rattle.c2po_parse.specs.Specification.{piece_trees, with_first, reads_on, spec_of, with_line, piece_body};
 
 use crate::ParseFault;
 use crate::form::read_body;
@@ -61,10 +61,10 @@ fn item_at(
     tokens: &[Token],
 ) -> Result<(Item, &[Token]), ParseFault>
     requires { begins_item tokens.now ≡ true }
-    ensures item { IfOk result (λ x. trees (pieces section 0 [] tokens.now)
-        ≡ with_first (item_shape x.0) (trees (pieces section 0 [] x.1.now))) }
+    ensures item { IfOk result (λ x. piece_trees (pieces section 0 [] tokens.now)
+        ≡ with_first (item_shape x.0) (piece_trees (pieces section 0 [] x.1.now))) }
     ensures fault { IfErr result (λ fault. fault ≢ ParseFault.Memory →
-        trees (pieces section 0 [] tokens.now) ≡ Err fault) }
+        piece_trees (pieces section 0 [] tokens.now) ≡ Err fault) }
     ensures shorter { IfOk result (λ x. length x.1.now < length tokens.now) }
 {
     let line = tokens[0].line;

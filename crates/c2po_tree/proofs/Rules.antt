@@ -105,12 +105,12 @@ prefix_low (Minus line) = (omega arith, omega arith, refl, refl)
 prefix_low (Window line op a b) = (omega arith, omega arith, refl, refl)
 
 -- A list behind another, told how that one ends: outside brackets all is plain for level k, and so it ends.
-pub record Stands (k : ℕ) (a : Bool) (d : ℕ) (b : Bool) (n : ℕ) (c : List Token) : Type 0 where
+pub record QuietTo (k : ℕ) (a : Bool) (d : ℕ) (b : Bool) (n : ℕ) (c : List Token) : Type 0 where
   pub quiet : Quiet k a d c
   pub ends : ends_of a c ≡ b
   pub depth : depth_of d c ≡ n
 
-pub row : (k : ℕ) (a b e : Bool) (d n m : ℕ) (x y : List Token) → Stands k a d b n x → Stands k b n e m y → Stands k a d e m (x ++ y)
+pub row : (k : ℕ) (a b e : Bool) (d n m : ℕ) (x y : List Token) → QuietTo k a d b n x → QuietTo k b n e m y → QuietTo k a d e m (x ++ y)
 row k a b e d n m x y sx sy = record {
   quiet = Quiet-append k a d x y sx.quiet
       (subst (λ v. Quiet k v (depth_of d x) y) (sym sx.ends) (subst (λ v. Quiet k b v y) (sym sx.depth) sy.quiet));
@@ -118,10 +118,10 @@ row k a b e d n m x y sx sy = record {
   depth = depth_of-append d x y ∙ ap (λ v. depth_of v y) sx.depth ∙ sy.depth;
 }
 
-weaker : (j k : ℕ) (a b : Bool) (d n : ℕ) (c : List Token) → j ≤ k → Stands k a d b n c → Stands j a d b n c
+weaker : (j k : ℕ) (a b : Bool) (d n : ℕ) (c : List Token) → j ≤ k → QuietTo k a d b n c → QuietTo j a d b n c
 weaker j k a b d n c le s = record { quiet = Quiet-weaker j k a d c le s.quiet; ends = s.ends; depth = s.depth }
 
-deeper : (k : ℕ) (a b : Bool) (c : List Token) → Stands k a 0 b 0 c → Stands 12 a 1 b 1 c
+deeper : (k : ℕ) (a b : Bool) (c : List Token) → QuietTo k a 0 b 0 c → QuietTo 12 a 1 b 1 c
 deeper k a b c s = record {
   quiet = Quiet-deeper 12 k a 0 c s.quiet;
   ends = s.ends;
@@ -130,7 +130,7 @@ deeper k a b c s = record {
 
 -- a first token whose effect is known, and what stands behind it
 first : (k : ℕ) (a b e : Bool) (d n m : ℕ) (t : Token) (us : List Token) → IsQuiet k a d t → ends_operand t.what ≡ b → depth_after t.what d ≡ n →
-    Quiet k b n us → ends_of b us ≡ e → depth_of n us ≡ m → Stands k a d e m (t ∷ us)
+    Quiet k b n us → ends_of b us ≡ e → depth_of n us ≡ m → QuietTo k a d e m (t ∷ us)
 unfolding Quiet ends_of depth_of
 first k a b e d n m t us plain is_b is_n quiet ends depth = record {
   quiet = (plain, rw (is_b, is_n) quiet);
@@ -139,18 +139,18 @@ first k a b e d n m t us plain is_b is_n quiet ends depth = record {
 }
 
 pub operator-stands : (k : ℕ) (t : Token) (us : List Token) (o : Operator) → k ≤ level_of o → k ≤ 12 → IsOperator t us o →
-    Stands k true 0 (is_field o) 0 (t ∷ us)
+    QuietTo k true 0 (is_field o) 0 (t ∷ us)
 operator-stands k t us o le high is =
     let plain : IsPlain k true t = record { apart = is.apart; level = λ positive. omega (arith, is.level) } in
     first k true false (is_field o) 0 0 0 t us plain is.operand (is.flat 0) (Quiet-weaker k 12 false 0 us high is.quiet) is.ends is.depth
 
-pub operator-inner : (k : ℕ) (t : Token) (us : List Token) (o : Operator) → k ≤ 12 → IsOperator t us o → Stands k false 0 (is_field o) 0 us
+pub operator-inner : (k : ℕ) (t : Token) (us : List Token) (o : Operator) → k ≤ 12 → IsOperator t us o → QuietTo k false 0 (is_field o) 0 us
 operator-inner k t us o high is = record { quiet = Quiet-weaker k 12 false 0 us high is.quiet; ends = is.ends; depth = is.depth }
 
-start-stands : (k : ℕ) (us : List Token) (s : Start) → k ≤ 12 → IsStart us s → Stands k false 0 (is_leaf s) (opened s) us
+start-stands : (k : ℕ) (us : List Token) (s : Start) → k ≤ 12 → IsStart us s → QuietTo k false 0 (is_leaf s) (opened s) us
 start-stands k us s high is = record { quiet = Quiet-weaker k 12 false 0 us high is.quiet; ends = is.ends; depth = is.depth }
 
-middle-stands : (q : Quantifier) (n : ℕ) (m : Token) (vs : List Token) → IsMiddle q n m vs → Stands 12 true 1 false 1 (m ∷ vs)
+middle-stands : (q : Quantifier) (n : ℕ) (m : Token) (vs : List Token) → IsMiddle q n m vs → QuietTo 12 true 1 false 1 (m ∷ vs)
 middle-stands q n m vs is = record { quiet = is.quiet; ends = is.ends; depth = is.depth }
 
 -- signs that close brackets around an operand
@@ -167,7 +167,7 @@ pub closing_closes : (b : Bracket) → IsClosing (closing b)
 closing_closes (Curly line) = record { apart = refl; operand = refl; closes = refl; no_comma = refl }
 closing_closes (Call line x) = record { apart = refl; operand = refl; closes = refl; no_comma = refl }
 
-close-stands : (s : Sign) (t : Token) → IsClosing s → t.what ≡ what.Sign s → Stands 12 true 1 true 0 (t ∷ [])
+close-stands : (s : Sign) (t : Token) → IsClosing s → t.what ≡ what.Sign s → QuietTo 12 true 1 true 0 (t ∷ [])
 unfolding Quiet ends_of depth_of
 close-stands s t closes is = record {
   quiet = (tt, tt);
@@ -175,13 +175,13 @@ close-stands s t closes is = record {
   depth = ap (λ w. depth_after w 1) is ∙ closes.closes;
 }
 
-comma-stands : (t : Token) → t.what ≡ what.Sign sign.Comma → Stands 12 true 1 false 1 (t ∷ [])
+comma-stands : (t : Token) → t.what ≡ what.Sign sign.Comma → QuietTo 12 true 1 false 1 (t ∷ [])
 unfolding Quiet ends_of depth_of
 comma-stands t is = record { quiet = (tt, tt); ends = ap ends_operand is; depth = ap (λ w. depth_after w 1) is }
 
 -- What is derived at a level has no looser operator outside brackets, ends an operand and leaves no bracket open.
 mutual
-  pub whole : (k : ℕ) (c : List Token) (e : Shape) → Derives k c e → Stands k false 0 true 0 c
+  pub whole : (k : ℕ) (c : List Token) (e : Shape) → Derives k c e → QuietTo k false 0 true 0 c
   whole _ _ _ (down k c e high d) = weaker k (suc k) false true 0 0 c (omega arith) (whole (suc k) c e d)
   whole _ _ _ (joins line op a t us b e f da o db) =
       let l = infix_is_level op in
@@ -205,7 +205,7 @@ mutual
       (row 12 true false true 1 1 0 (m ∷ vs) (d ++ t ∷ []) (middle-stands q n m vs middle)
       (row 12 false true true 1 1 0 d (t ∷ []) (deeper 1 false true d (whole 1 d e de)) (close-stands sign.RightRound t round_closes close))))
 
-  pub wholes : (s : Sign) (c : List Token) (es : List Shape) → IsClosing s → DerivesAll s c es → Stands 12 false 1 true 0 c
+  pub wholes : (s : Sign) (c : List Token) (es : List Shape) → IsClosing s → DerivesAll s c es → QuietTo 12 false 1 true 0 c
   wholes _ _ _ closes (last s c t e d close) =
       row 12 false true true 1 1 0 c (t ∷ []) (deeper 1 false true c (whole 1 c e d)) (close-stands s t closes close)
   wholes _ _ _ closes (and_more s c t d e es dc comma ds) =

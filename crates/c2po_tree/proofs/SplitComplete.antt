@@ -33,7 +33,7 @@ use Rattle.c2po_tree.proofs.Heads.{past-at}
 use Rattle.c2po_tree.proofs.Operators.{IsOperator}
 use Rattle.c2po_tree.proofs.Starts.{IsStart, IsMiddle}
 use Rattle.c2po_tree.proofs.Rules as rules
-use Rattle.c2po_tree.proofs.Rules.{Derives, DerivesAll, down, picks, behind, alone, inside, encloses, binds, last, and_more, IsLevel, infix_is_level, prefix_low, Stands, row, operator-inner, whole, IsClosing, closing_closes, round_closes}
+use Rattle.c2po_tree.proofs.Rules.{Derives, DerivesAll, down, picks, behind, alone, inside, encloses, binds, last, and_more, IsLevel, infix_is_level, prefix_low, QuietTo, row, operator-inner, whole, IsClosing, closing_closes, round_closes}
 use Rattle.c2po_tree.proofs.ClimbComplete.{bind-with, if-true, if-false, some-suc, no-leaf, not-past}
 
 -- What the rules derive is found by splitting.
@@ -175,7 +175,7 @@ no-split : (k : ℕ) (c : List Token) → 1 ≤ k → Quiet (suc k) false 0 c �
 no-split k c low quiet = both-cuts (is_right_level k) k c low quiet
 
 -- the expression within brackets
-pub inside-cut : (k : ℕ) (c : List Token) (t : Token) (z : List Token) → Stands k false 0 true 0 c → is_separator t.what ≡ true →
+pub inside-cut : (k : ℕ) (c : List Token) (t : Token) (z : List Token) → QuietTo k false 0 true 0 c → is_separator t.what ≡ true →
     cut_inside (c ++ t ∷ z) ≡ Some (c, t ∷ z)
 inside-cut k c t z stands is = cut_first-at ends_expression k c t z (separator_skips k) stands.quiet stands.depth is
 
@@ -274,7 +274,7 @@ last-none : (k : ℕ) (t : Token) (z : List Token) → ends_operand t.what ≡ f
 last-none k t z ends depth none = rw (ends, depth) none
 
 operator-splits : (right : Bool) (k line : ℕ) (op : Infix) (a : List Token) (t : Token) (us b : List Token) → is_right_level k ≡ right → IsLevel k →
-    Stands (left_level k) false 0 true 0 a → IsOperator t us (Binary line op) → infix_level op ≡ k → Stands (right_level k) false 0 true 0 b →
+    QuietTo (left_level k) false 0 true 0 a → IsOperator t us (Binary line op) → infix_level op ≡ k → QuietTo (right_level k) false 0 true 0 b →
     split_at k (a ++ t ∷ (us ++ b)) ≡ Some (a, t ∷ (us ++ b))
 operator-splits true k line op a t us b right level left is is_level right_stands =
     let quiet : Quiet (suc k) false 0 a = subst (λ n. Quiet n false 0 a) (left-of k true right) left.quiet in
@@ -285,8 +285,8 @@ operator-splits true k line op a t us b right level left is is_level right_stand
 operator-splits false k line op a t us b right level left is is_level right_stands =
     let high = level.high in
     let right_is : right_level k ≡ suc k = right-of k right level.split in
-    let b_stands : Stands (suc k) false 0 true 0 b = subst (λ n. Stands n false 0 true 0 b) right_is right_stands in
-    let behind_t : Stands (suc k) false 0 true 0 (us ++ b) =
+    let b_stands : QuietTo (suc k) false 0 true 0 b = subst (λ n. QuietTo n false 0 true 0 b) right_is right_stands in
+    let behind_t : QuietTo (suc k) false 0 true 0 (us ++ b) =
     row (suc k) false false true 0 0 0 us b (operator-inner (suc k) t us (Binary line op) (omega arith) is) b_stands in
     let none : cut_last (has_level k) (ends_operand t.what) (depth_after t.what 0) (us ++ b) ≡ None =
     last-none k t (us ++ b) is.operand (is.flat 0) (cut_last-none (has_level k) (suc k) false 0 (us ++ b) (level_skips k (suc k) level.low (omega arith)) behind_t.quiet) in
@@ -367,7 +367,7 @@ alone-found line a us is = record {
 }
 
 -- an expression and its `)`
-block-found : (p : ℕ) (c : List Token) (t : Token) (e : Shape) → Stands 1 false 0 true 0 c → tree_within p 1 c ≡ Some e →
+block-found : (p : ℕ) (c : List Token) (t : Token) (e : Shape) → QuietTo 1 false 0 true 0 c → tree_within p 1 c ≡ Some e →
     t.what ≡ what.Sign sign.RightRound → block (tree_within p) (c ++ t ∷ []) ≡ Some e
 block-found p c t e stands inner close =
     bind-with (cut_inside (c ++ t ∷ [])) (λ x. past sign.RightRound x.1 >>= λ rest. tree_within p 1 x.0 >>= λ y. at_end y rest) (c, t ∷ []) e

@@ -2,7 +2,7 @@
 use Rattle.std.proofs.Common.{◌≡◌, Bool, true, false, Ok, Err, refl, sym, subst, if◌then◌else◌}
 use Rattle.std.proofs.Common.{ℕ, Option, Some, None}
 use Rattle.mltl_base.specs.Ranges.{NoRange}
-use Rattle.c2po_types.specs.FirstFault.{State, ranged}
+use Rattle.c2po_types.specs.FirstFault.{State, when_ranged}
 use Rattle.c2po_kinds.specs.declared.fault.TypeFault.{TypeFault}
 use Rattle.c2po_kinds.specs.Checking.{Checked, ◌>>=◌, Fails}
 use Rattle.c2po_kinds.proofs.Turns.{fails-bind}
@@ -27,9 +27,9 @@ pub when-ok : {X : Type 0} (b : Bool) (fault : TypeFault) (m : Checked X) (x : X
 when-ok true fault m x h = h
 when-ok false fault m x h = absurd (cc)
 
-pub ranged-ok : (line : ℕ) (why : Option NoRange) (m : Checked State) (t : State) → ranged line why m ≡ Ok t → m ≡ Ok t
-ranged-ok line None m t h = h
-ranged-ok line (Some why) m t h = absurd (cc)
+pub when_ranged-ok : (line : ℕ) (why : Option NoRange) (m : Checked State) (t : State) → when_ranged line why m ≡ Ok t → m ≡ Ok t
+when_ranged-ok line None m t h = h
+when_ranged-ok line (Some why) m t h = absurd (cc)
 
 -- a fault of the second part is one of the whole, where the first has none
 pub fails-second : {X Y Z : Type 0} (fault : TypeFault) (m : Checked X) (x : X) (n : Checked Y) (f : X → Y → Checked Z) → m ≡ Ok x → Fails fault n

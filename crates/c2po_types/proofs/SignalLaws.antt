@@ -16,13 +16,13 @@ use Rattle.c2po_kinds.specs.declared.declarations.Declarations.{Declarations}
 use Rattle.c2po_kinds.specs.declared.fault.TypeFault.TheVariants.{Twice, Signals, Kind as Kinds}
 use Rattle.c2po_kinds.specs.Checking.{Checked, ◌>>=◌, in_turn}
 use Rattle.c2po_kinds.specs.Kinds.{plain, same_base, truth, whole, set_kind}
-use Rattle.c2po_kinds.specs.Items.{Labels, new, with_field, signal_kind, struct_kind, type_kind, truth_of, with_struct, with_signal, with_input, define_kind, with_value, with_label, formula_kind, contract_kind}
+use Rattle.c2po_kinds.specs.Items.{Labels, new, with_field, signal_kind, struct_kind, type_kind, signal_truth, with_struct, with_signal, with_input, define_kind, with_value, with_label, formula_kind, contract_kind}
 use Rattle.unfold.specs.Environment.{value_of}
 use Rattle.unfold.specs.Values as values
 use Rattle.unfold.specs.Faults.{value_fault}
 use Rattle.c2po_types.specs.FirstFault.{State, start, checked, defined, with_out, body_step, item_step}
 use Rattle.c2po_types.specs.Signals.{is_bool, body_signals, signals_of}
-use Rattle.c2po_types.proofs.Parts.{ok-inj, bind-ok, unless-ok, not-passed, when-ok, ranged-ok}
+use Rattle.c2po_types.proofs.Parts.{ok-inj, bind-ok, unless-ok, not-passed, when-ok, when_ranged-ok}
 
 -- a name that isn't there
 new-ok : {X V : Type 0} (line : ℕ) (x : List ℕ) (names : Table V) (m : Checked X) (e : X) → new line x names m ≡ Ok e → m ≡ Ok e
@@ -84,7 +84,7 @@ suc_not_zero : (n : ℕ) → (suc n == 0) ≡ false
 suc_not_zero n = grind arith
 
 -- no signal is a set
-no_set : (line : ℕ) (k : Kind) (b : Bool) → truth_of line (set_kind k) ≡ Ok b → ⊥
+no_set : (line : ℕ) (k : Kind) (b : Bool) → signal_truth line (set_kind k) ≡ Ok b → ⊥
 no_set line k b h = here (suc k.sets == 0) (suc_not_zero k.sets) h
   where
     here : (e : Bool) → e ≡ false → (if e && same_base k.base base.Bool then Ok true else if e && same_base k.base base.Int then Ok false else Err (Kinds line)) ≡ Ok b → ⊥
@@ -92,39 +92,39 @@ no_set line k b h = here (suc k.sets == 0) (suc_not_zero k.sets) h
     here false none m = cc
 
 -- a signal is a truth where its type is that of truths
-is_truth-named : (line : ℕ) (d : Declarations) (x : List ℕ) (k : Kind) (b : Bool) → type_kind line d (type_named x) ≡ Ok k → truth_of line k ≡ Ok b → b ≡ bytes_eq x (codes "bool")
+is_truth-named : (line : ℕ) (d : Declarations) (x : List ℕ) (k : Kind) (b : Bool) → type_kind line d (type_named x) ≡ Ok k → signal_truth line k ≡ Ok b → b ≡ bytes_eq x (codes "bool")
 is_truth-named line d x k b h t = here (bytes_eq x (codes "int")) (bytes_eq x (codes "bool")) (λ i. not_bool x i) (entry_of x d.names) h
   where
     of-struct : (m : Option Meaning) → struct_kind line m ≡ Ok k → b ≡ false
-    of-struct (Some (Struct n)) e = absurd (let q : plain (base.Struct n) ≡ k = cc in let r : truth_of line (plain (base.Struct n)) ≡ Ok b = ap (truth_of line) q ∙ t in cc)
+    of-struct (Some (Struct n)) e = absurd (let q : plain (base.Struct n) ≡ k = cc in let r : signal_truth line (plain (base.Struct n)) ≡ Ok b = ap (signal_truth line) q ∙ t in cc)
     of-struct (Some (Value j)) e = absurd (cc)
     of-struct None e = absurd (cc)
 
     here : (i bool : Bool) → (i ≡ true → bool ≡ false) → (m : Option Meaning)
         → (if i then Ok whole else if bool then Ok truth else struct_kind line m) ≡ Ok k → b ≡ bool
-    here true bool not m e = let q : whole ≡ k = cc in let r : truth_of line whole ≡ Ok b = ap (truth_of line) q ∙ t in let s : false ≡ b = cc in sym s ∙ sym (not refl)
-    here false true not m e = let q : truth ≡ k = cc in let r : truth_of line truth ≡ Ok b = ap (truth_of line) q ∙ t in let s : true ≡ b = cc in sym s
+    here true bool not m e = let q : whole ≡ k = cc in let r : signal_truth line whole ≡ Ok b = ap (signal_truth line) q ∙ t in let s : false ≡ b = cc in sym s ∙ sym (not refl)
+    here false true not m e = let q : truth ≡ k = cc in let r : signal_truth line truth ≡ Ok b = ap (signal_truth line) q ∙ t in let s : true ≡ b = cc in sym s
     here false false not m e = of-struct m e
 
-is_truth : (line : ℕ) (d : Declarations) (t : TypeShape) (k : Kind) (b : Bool) → type_kind line d t ≡ Ok k → truth_of line k ≡ Ok b → b ≡ is_bool t
+is_truth : (line : ℕ) (d : Declarations) (t : TypeShape) (k : Kind) (b : Bool) → type_kind line d t ≡ Ok k → signal_truth line k ≡ Ok b → b ≡ is_bool t
 is_truth line d (type_named x) k b h e = is_truth-named line d x k b h e
 is_truth line d (set_of t) k b h e =
     let p = bind-ok (type_kind line d t) (λ j. Ok (set_kind j)) k h in
-    absurd (no_set line p.0 b (ap (truth_of line) (ok-inj (set_kind p.0) k p.2) ∙ e))
+    absurd (no_set line p.0 b (ap (signal_truth line) (ok-inj (set_kind p.0) k p.2) ∙ e))
 
 input-signals : (line : ℕ) (xs : List (List ℕ)) (t : TypeShape) (d e : Declarations) → with_input line xs t d ≡ Ok e
     → e.signals ≡ d.signals ++ map (λ (x : List ℕ). record { name = x; truth = is_bool t }) xs
 input-signals line xs t d e h =
-    let p = bind-ok (type_kind line d t >>= truth_of line) (λ b. in_turn (with_signal line b) xs d) e h in
-    let q = bind-ok (type_kind line d t) (truth_of line) p.0 p.1 in
+    let p = bind-ok (type_kind line d t >>= signal_truth line) (λ b. in_turn (with_signal line b) xs d) e h in
+    let q = bind-ok (type_kind line d t) (signal_truth line) p.0 p.1 in
     all-signals line p.0 xs d e p.2 ∙ ap (λ (b : Bool). d.signals ++ map (λ (x : List ℕ). record { name = x; truth = b }) xs) (is_truth line d t q.0 p.0 q.1 q.2)
 
 -- what each item declares
 defined-signals : (line : ℕ) (x : List ℕ) (d : Declarations) (v : values.Value) (s t : State) → defined line x d v s ≡ Ok t → t.declared.signals ≡ d.signals
-defined-signals line x d v s t h = ap (λ (r : State). r.declared.signals) (sym (ok-inj _ t (ranged-ok line (value_fault v) _ t (when-ok _ _ _ t h))))
+defined-signals line x d v s t h = ap (λ (r : State). r.declared.signals) (sym (ok-inj _ t (when_ranged-ok line (value_fault v) _ t (when-ok _ _ _ t h))))
 
 out-signals : (line : ℕ) (labels : Labels) (w : ℕ) (why : Option NoRange) (mixed : Bool) (s t : State) → with_out line labels w why mixed s ≡ Ok t → t.declared.signals ≡ s.declared.signals
-out-signals line labels w why mixed s t h = ap (λ (r : State). r.declared.signals) (sym (ok-inj _ t (unless-ok mixed _ _ t (ranged-ok line why _ t (when-ok _ _ _ t h)))))
+out-signals line labels w why mixed s t h = ap (λ (r : State). r.declared.signals) (sym (ok-inj _ t (unless-ok mixed _ _ t (when_ranged-ok line why _ t (when-ok _ _ _ t h)))))
 
 body-signals : (line : ℕ) (body : BodyShape) (s t : State) → body_step line body s ≡ Ok t → t.declared.signals ≡ s.declared.signals ++ body_signals body
 body-signals line (structure x fs) s t h =

@@ -43,9 +43,9 @@ range_fault line divisor = fault.Divisor line
 range_fault line wide = fault.Range line
 
 -- whole numbers that have ranges
-abbrev pub ranged : ℕ → Option NoRange → Checked State → Checked State
-ranged line None rest = rest
-ranged line (Some why) rest = Err (range_fault line why)
+abbrev pub when_ranged : ℕ → Option NoRange → Checked State → Checked State
+when_ranged line None rest = rest
+when_ranged line (Some why) rest = Err (range_fault line why)
 
 -- whether the tense that isn't an engine's occurs: the past for future time, the future for past time
 abbrev pub other_tense : Engine → Bool → Bool → Bool
@@ -67,12 +67,12 @@ with_signals n (s ∷ ss) env = with_signals (suc n) ss (declare s.name (value (
 
 -- a definition stands for a value
 abbrev pub defined : ℕ → List ℕ → Declarations → Value → State → Checked State
-defined line x d v s = not_wide line (weight v) (ranged line (value_fault v)
+defined line x d v s = not_wide line (weight v) (when_ranged line (value_fault v)
     (Ok (record { declared = d; labels = s.labels; values = declare x (value v) s.values; total = s.total })))
 
 -- an output with so much weight
 abbrev pub with_out : ℕ → Labels → ℕ → Option NoRange → Bool → State → Checked State
-with_out line labels w why mixed s = not_wide line (s.total + w) (ranged line why (one_tense line mixed
+with_out line labels w why mixed s = not_wide line (s.total + w) (when_ranged line why (one_tense line mixed
     (Ok (record { declared = s.declared; labels = labels; values = s.values; total = s.total + w }))))
 
 -- an output with a formula

@@ -13,7 +13,7 @@ use Rattle.plain_nodes.specs.Tenses.{has_past, has_future}
 use Rattle.unfold.specs.declared.unfolding.Unfolded.{Unfolded}
 use Rattle.unfold.specs.Values.{Value, formula_of, weight as weight_of}
 use Rattle.unfold.specs.Environment.{Env}
-use Rattle.unfold.specs.Stands.{StandsFor}
+use Rattle.unfold.specs.Holding.{StandsFor}
 use Rattle.c2po_types.specs.declared.progress.Progress.{Progress}
 use Rattle.c2po_types.specs.FirstFault.{State}
 

@@ -16,7 +16,7 @@ use Rattle.core_graph.specs.declared.item.Item.TheVariants.{Column, Const, Neg, 
 use Rattle.core_graph.specs.declared.item.Operands.{Operands}
 use Rattle.core_graph.specs.declared.item.Operands.TheVariants.{Zero, One, Two}
 use Rattle.core_graph.specs.Trees.{negative_sign, plus_sign, minus_sign, times_sign, quotient_sign, remainder_sign, equal_sign, less_sign, at_most_sign, true_sign, load_sign, not_sign, and_sign, Label, sign, in_column, truth_in, number, until_in, since_in, Tree, leaf, one, two}
-use Rattle.core_graph.specs.Items.{operands_of, label_of, tree_at, joined, tree_of, trees, Has, AreBelow, IsForest, Grows, IsAdded}
+use Rattle.core_graph.specs.Items.{operands_of, label_of, tree_at, tree_over, tree_of, trees, Has, AreBelow, IsForest, Grows, IsAdded}
 use Rattle.core_graph.specs.Images.{of_core}
 use Rattle.core_graph.specs.Reading.{IsCoreAt}
 
@@ -92,7 +92,7 @@ tree_kept items more n l =
     ap (λ ts. tree_at ts n) (fold-append (λ earlier item. earlier ++ tree_of earlier item ∷ []) [] items more)
     ∙ after_kept (trees items) more n (omega (arith, length-trees items))
 
-joined_kept : (ts us : List Tree) (l : Label) (o : Operands) (n : ℕ) → AreBelow n o → ((a : ℕ) → a < n → tree_at ts a ≡ tree_at us a) → joined ts l o ≡ joined us l o
+joined_kept : (ts us : List Tree) (l : Label) (o : Operands) (n : ℕ) → AreBelow n o → ((a : ℕ) → a < n → tree_at ts a ≡ tree_at us a) → tree_over ts l o ≡ tree_over us l o
 joined_kept ts us l Zero n h e = refl
 joined_kept ts us l (One a) n h e = ap (one l) (e a h)
 joined_kept ts us l (Two a b) n h e = ap₂ (two l) (e a h.0) (e b h.1)
@@ -118,17 +118,17 @@ tree_here items i item f e =
     kept ∙ (made ∙ same)
 
 -- what an item that unfolds to a tree is
-leaf_parts : (ts : List Tree) (m l : Label) (o : Operands) → joined ts m o ≡ leaf l → (m ≡ l) × (o ≡ Zero)
+leaf_parts : (ts : List Tree) (m l : Label) (o : Operands) → tree_over ts m o ≡ leaf l → (m ≡ l) × (o ≡ Zero)
 leaf_parts ts m l Zero e = (cc, refl)
 leaf_parts ts m l (One a) e = cc
 leaf_parts ts m l (Two a b) e = cc
 
-one_parts : (ts : List Tree) (m l : Label) (o : Operands) (t : Tree) → joined ts m o ≡ one l t → (a : ℕ) × (m ≡ l) × (o ≡ One a) × (tree_at ts a ≡ t)
+one_parts : (ts : List Tree) (m l : Label) (o : Operands) (t : Tree) → tree_over ts m o ≡ one l t → (a : ℕ) × (m ≡ l) × (o ≡ One a) × (tree_at ts a ≡ t)
 one_parts ts m l Zero t e = cc
 one_parts ts m l (One a) t e = (a, cc, refl, cc)
 one_parts ts m l (Two a b) t e = cc
 
-two_parts : (ts : List Tree) (m l : Label) (o : Operands) (t u : Tree) → joined ts m o ≡ two l t u → (a b : ℕ) × (m ≡ l) × (o ≡ Two a b) × (tree_at ts a ≡ t) × (tree_at ts b ≡ u)
+two_parts : (ts : List Tree) (m l : Label) (o : Operands) (t u : Tree) → tree_over ts m o ≡ two l t u → (a b : ℕ) × (m ≡ l) × (o ≡ Two a b) × (tree_at ts a ≡ t) × (tree_at ts b ≡ u)
 two_parts ts m l Zero t u e = cc
 two_parts ts m l (One a) t u e = cc
 two_parts ts m l (Two a b) t u e = (a, b, cc, refl, cc, cc)
@@ -138,7 +138,7 @@ pub item_there : (items : List Item) (n : ℕ) → n < length items → slice_ge
 item_there items n l = slice_get-get_or items n True l
 
 pub unfolds : (items : List Item) (n : ℕ) (t : Tree) → IsForest items → Has items n t →
-    joined (trees items) (label_of (get_or items n True)) (operands_of (get_or items n True)) ≡ t
+    tree_over (trees items) (label_of (get_or items n True)) (operands_of (get_or items n True)) ≡ t
 unfolds items n t f h = sym (tree_here items n (get_or items n True) f (item_there items n h.within)) ∙ h.is
 
 -- an item of an operator with one operand, and with two

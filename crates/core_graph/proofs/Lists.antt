@@ -14,7 +14,7 @@ use Rattle.core_graph.specs.declared.item.Item.{Item}
 use Rattle.core_graph.specs.declared.item.Operands.{Operands}
 use Rattle.core_graph.specs.declared.item.Operands.TheVariants.{Zero, One, Two}
 use Rattle.core_graph.specs.Trees.{Label, Tree, root, completed, is_core_label, is_core_tree}
-use Rattle.core_graph.specs.Items.{label_of, operands_of, joined, tree_at, trees, IsForest}
+use Rattle.core_graph.specs.Items.{label_of, operands_of, tree_over, tree_at, trees, IsForest}
 use Rattle.core_graph.specs.Walks.{trees_of}
 use Rattle.core_graph.specs.Listings.{is_in, is_item_in, count_in, AreOnce}
 use Rattle.core_graph.proofs.Forests.{tree_here}
@@ -23,7 +23,7 @@ use Rattle.core_graph.proofs.Walking.{trees_push}
 use Rattle.mltl_base.proofs.Members.{all_from_each}
 
 -- an item is of the part of its tree
-label_root : (ts : List Tree) (l : Label) (o : Operands) → root (joined ts l o) ≡ l
+label_root : (ts : List Tree) (l : Label) (o : Operands) → root (tree_over ts l o) ≡ l
 label_root ts l Zero = refl
 label_root ts l (One a) = refl
 label_root ts l (Two a b) = refl

@@ -22,7 +22,7 @@ use Rattle.core_graph.specs.declared.item.Item.TheVariants as item
 use Rattle.core_graph.specs.Trees.{negative_sign, load_sign, sign, one, two, leaf, truth_in}
 use Rattle.core_graph.specs.Items.{arith_sign, tree_at, tree_of, trees, Has, Grows}
 use Rattle.core_graph.specs.Images.{of_term, of_core}
-use Rattle.core_graph.specs.Reading.{Stands, AreRead}
+use Rattle.core_graph.specs.Reading.{Represents, AreRead}
 use Rattle.core_graph.proofs.Outputs.{number_there, formula_there}
 
 pub same_node : (nodes : List Plain) (i : ℕ) (found node : Plain) → i < length nodes → get_or nodes i (Truth false) ≡ found → slice_get nodes i ≡ Some node → found ≡ node
@@ -85,30 +85,30 @@ constant_over columns false = refl
 -- what the item of each node stands for
 module _ {E : Type 0} (columns : List ℕ) (old : List Item) (before : List Plain) (ids : List ℕ) (r : AreRead columns old before ids) (new : List Item) (result : Result ℕ E) where
   pub truth_stands : (v : Bool) → IfOk result (λ n. Has new n (of_core (core (plain.constant_formula v)))) →
-      IfOk result (λ n. Stands columns new n (plain.tree_of (plain.trees before) (Truth v)))
+      IfOk result (λ n. Represents columns new n (plain.tree_of (plain.trees before) (Truth v)))
   truth_stands v h = subst (λ p. IfOk result (λ n. Has new n (of_core (core p)))) (sym (constant_over columns v)) h
 
-  pub number_stands : (m : ℤ) → IfOk result (λ n. Has new n (tree_of (trees old) (item.Const m))) → IfOk result (λ n. Stands columns new n (plain.tree_of (plain.trees before) (Number m)))
+  pub number_stands : (m : ℤ) → IfOk result (λ n. Has new n (tree_of (trees old) (item.Const m))) → IfOk result (λ n. Represents columns new n (plain.tree_of (plain.trees before) (Number m)))
   unfolding term_over
   number_stands m h = h
 
-  pub signal_stands : (s : ℕ) → IfOk result (λ n. Has new n (tree_of (trees old) (item.Column (slice_index columns s)))) → IfOk result (λ n. Stands columns new n (plain.tree_of (plain.trees before) (Signal s)))
+  pub signal_stands : (s : ℕ) → IfOk result (λ n. Has new n (tree_of (trees old) (item.Column (slice_index columns s)))) → IfOk result (λ n. Represents columns new n (plain.tree_of (plain.trees before) (Signal s)))
   unfolding term_over
   signal_stands s h = h
 
   pub flag_stands : (s atom : ℕ) (mid : List Item) → Has mid atom (leaf (truth_in (slice_index columns s))) → IfOk result (λ n. Has new n (tree_of (trees mid) (item.Load atom))) →
-      IfOk result (λ n. Stands columns new n (plain.tree_of (plain.trees before) (Flag s)))
+      IfOk result (λ n. Represents columns new n (plain.tree_of (plain.trees before) (Flag s)))
   unfolding core formula_over atom_over
   flag_stands s atom mid g h = subst (λ t. IfOk result (λ n. Has new n (one (sign load_sign) t))) g.is h
 
   pub minus_stands : (a : ℕ) → plain.IsNumber (slice_get (plain.trees before) a) → IfOk result (λ n. Has new n (tree_of (trees old) (item.Neg (slice_index ids a)))) →
-      IfOk result (λ n. Stands columns new n (plain.tree_of (plain.trees before) (Minus a)))
+      IfOk result (λ n. Represents columns new n (plain.tree_of (plain.trees before) (Minus a)))
   unfolding term_over
   minus_stands a k h = subst (λ t. IfOk result (λ n. Has new n (one (sign negative_sign) t))) (number_there columns old before ids r a k).is h
 
   pub arith_stands : (op : arith_op.ArithOp) (a b : ℕ) → plain.IsNumber (slice_get (plain.trees before) a) → plain.IsNumber (slice_get (plain.trees before) b) →
       IfOk result (λ n. Has new n (tree_of (trees old) (item.Arith op (slice_index ids a) (slice_index ids b)))) →
-      IfOk result (λ n. Stands columns new n (plain.tree_of (plain.trees before) (Arith op a b)))
+      IfOk result (λ n. Represents columns new n (plain.tree_of (plain.trees before) (Arith op a b)))
   arith_stands op a b k l h =
       let x : Term = plain.term_at (plain.trees before) a in
       let y : Term = plain.term_at (plain.trees before) b in
@@ -119,7 +119,7 @@ module _ {E : Type 0} (columns : List ℕ) (old : List Item) (before : List Plai
 
   pub compare_stands : (op : compare.CompareOp) (a b : ℕ) → plain.IsNumber (slice_get (plain.trees before) a) → plain.IsNumber (slice_get (plain.trees before) b) →
       ((x y : Term) → Has old (slice_index ids a) (of_term x) → Has old (slice_index ids b) (of_term y) → IfOk result (λ n. Has new n (of_core (core_atom (plain.comparison op x y))))) →
-      IfOk result (λ n. Stands columns new n (plain.tree_of (plain.trees before) (Compare op a b)))
+      IfOk result (λ n. Represents columns new n (plain.tree_of (plain.trees before) (Compare op a b)))
   unfolding core formula_over
   compare_stands op a b k l h =
       let x : Term = plain.term_at (plain.trees before) a in
@@ -129,13 +129,13 @@ module _ {E : Type 0} (columns : List ℕ) (old : List Item) (before : List Plai
 
   pub not_stands : (a : ℕ) → plain.IsFormula (slice_get (plain.trees before) a) →
       ((p : Core) → Has old (slice_index ids a) (of_core p) → IfOk result (λ n. Has new n (of_core (neg p)))) →
-      IfOk result (λ n. Stands columns new n (plain.tree_of (plain.trees before) (Not a)))
+      IfOk result (λ n. Represents columns new n (plain.tree_of (plain.trees before) (Not a)))
   unfolding core formula_over
   not_stands a k h = h (core (formula_over columns (plain.formula_at (plain.trees before) a))) (formula_there columns old before ids r a k)
 
   pub logic_stands : (op : logic.LogicOp) (a b : ℕ) → plain.IsFormula (slice_get (plain.trees before) a) → plain.IsFormula (slice_get (plain.trees before) b) →
       ((p q : Formula) → Has old (slice_index ids a) (of_core (core p)) → Has old (slice_index ids b) (of_core (core q)) → IfOk result (λ n. Has new n (of_core (core (plain.connected op p q))))) →
-      IfOk result (λ n. Stands columns new n (plain.tree_of (plain.trees before) (Logic op a b)))
+      IfOk result (λ n. Represents columns new n (plain.tree_of (plain.trees before) (Logic op a b)))
   logic_stands op a b k l h =
       let p : Formula = plain.formula_at (plain.trees before) a in
       let q : Formula = plain.formula_at (plain.trees before) b in
@@ -144,7 +144,7 @@ module _ {E : Type 0} (columns : List ℕ) (old : List Item) (before : List Plai
 
   pub window_stands : (op : window.WindowOp) (i : Interval) (a : ℕ) → plain.IsFormula (slice_get (plain.trees before) a) →
       ((p : Formula) → Has old (slice_index ids a) (of_core (core p)) → IfOk result (λ n. Has new n (of_core (core (plain.windowed op i p))))) →
-      IfOk result (λ n. Stands columns new n (plain.tree_of (plain.trees before) (Window op i a)))
+      IfOk result (λ n. Represents columns new n (plain.tree_of (plain.trees before) (Window op i a)))
   window_stands op i a k h =
       let p : Formula = plain.formula_at (plain.trees before) a in
       subst (λ f. IfOk result (λ n. Has new n (of_core (core f)))) (sym (windowed_over columns op i p))
@@ -152,7 +152,7 @@ module _ {E : Type 0} (columns : List ℕ) (old : List Item) (before : List Plai
 
   pub between_stands : (op : between.BetweenOp) (i : Interval) (a b : ℕ) → plain.IsFormula (slice_get (plain.trees before) a) → plain.IsFormula (slice_get (plain.trees before) b) →
       ((p q : Formula) → Has old (slice_index ids a) (of_core (core p)) → Has old (slice_index ids b) (of_core (core q)) → IfOk result (λ n. Has new n (of_core (core (plain.ranged op i p q))))) →
-      IfOk result (λ n. Stands columns new n (plain.tree_of (plain.trees before) (Between op i a b)))
+      IfOk result (λ n. Represents columns new n (plain.tree_of (plain.trees before) (Between op i a b)))
   between_stands op i a b k l h =
       let p : Formula = plain.formula_at (plain.trees before) a in
       let q : Formula = plain.formula_at (plain.trees before) b in
@@ -160,12 +160,12 @@ module _ {E : Type 0} (columns : List ℕ) (old : List Item) (before : List Plai
       (h (formula_over columns p) (formula_over columns q) (formula_there columns old before ids r a k) (formula_there columns old before ids r b l))
 
 -- what stands goes on to stand, and one more node is read
-stands_kept : (columns : List ℕ) (old new : List Item) (n : ℕ) (tree : plain.Tree) → Grows old new → Stands columns old n tree → Stands columns new n tree
+stands_kept : (columns : List ℕ) (old new : List Item) (n : ℕ) (tree : plain.Tree) → Grows old new → Represents columns old n tree → Represents columns new n tree
 stands_kept columns old new n (plain.number a) g h = g.kept n (of_term (term_over columns a)) h
 stands_kept columns old new n (plain.formula p) g h = g.kept n (of_core (core (formula_over columns p))) h
 
 pub one_read : (columns : List ℕ) (old new : List Item) (nodes : List Plain) (i : ℕ) (ids more : List ℕ) (id : ℕ) → i < length nodes → AreRead columns old (take i nodes) ids → Grows old new →
-    ((node : Plain) → slice_get nodes i ≡ Some node → Stands columns new id (plain.tree_of (plain.trees (take i nodes)) node)) → more ≡ ids ++ id ∷ [] → AreRead columns new (take (i + 1) nodes) more
+    ((node : Plain) → slice_get nodes i ≡ Some node → Represents columns new id (plain.tree_of (plain.trees (take i nodes)) node)) → more ≡ ids ++ id ∷ [] → AreRead columns new (take (i + 1) nodes) more
 one_read columns old new nodes i ids more id l r g h e =
     let node : Plain = get_or nodes i (Truth false) in
     let there : slice_get nodes i ≡ Some node = slice_get-get_or nodes i (Truth false) l in
@@ -187,7 +187,7 @@ one_read columns old new nodes i ids more id l r g h e =
               let long : n ≡ length ids = p.0 in
               let short : n < length (plain.trees (take i nodes)) = q.0 in
               absurd (omega (arith, pushing.length-trees (take i nodes), r.count))
-          | inr q ↦ subst (λ m. Stands columns new m tree) p.1 (subst (λ t. Stands columns new id t) q.1 (h node there))
+          | inr q ↦ subst (λ m. Represents columns new m tree) p.1 (subst (λ t. Represents columns new id t) q.1 (h node there))
         ]
       ];
     } in

@@ -26,7 +26,7 @@ use Rattle.plain_nodes.proofs.Pushing.{length-trees}
 use Rattle.core_graph.specs.declared.item.Item.{Item}
 use Rattle.core_graph.specs.Items.{tree_at, trees, Has}
 use Rattle.core_graph.specs.Images.{of_term, of_core}
-use Rattle.core_graph.specs.Reading.{Stands, AreRead}
+use Rattle.core_graph.specs.Reading.{Represents, AreRead}
 use Rattle.core_graph.specs.Walks.{trees_of}
 use Rattle.core_graph.specs.Listings.{asks, NamesNodes, roots_by, roots_of, places_for, out_of}
 
@@ -37,7 +37,7 @@ module _ (columns : List ℕ) (items : List Item) (nodes : List Plain) (ids : Li
       let inside : n < length (plain.trees nodes) = slice_get_within (plain.trees nodes) n tree e in
       omega (arith, length-trees nodes, r.count)
 
-  id_at : (n : ℕ) (tree : plain.Tree) → slice_get (plain.trees nodes) n ≡ Some tree → Stands columns items (slice_index ids n) tree
+  id_at : (n : ℕ) (tree : plain.Tree) → slice_get (plain.trees nodes) n ≡ Some tree → Represents columns items (slice_index ids n) tree
   id_at n tree e = r.stand n (slice_index ids n) tree (slice_get-get_or ids n 0 (node_within n tree e)) (record { found = e })
 
   formula_case : (n : ℕ) (o : Option plain.Tree) → slice_get (plain.trees nodes) n ≡ o → plain.IsFormula o →
@@ -74,7 +74,7 @@ module _ (columns : List ℕ) (items : List Item) (nodes : List Plain) (ids : Li
   number_named n h = number_within n (slice_get (plain.trees nodes) n) refl h
 
   -- each node has an item
-  stands_within : (n : ℕ) (tree : plain.Tree) → Stands columns items n tree → n < length items
+  stands_within : (n : ℕ) (tree : plain.Tree) → Represents columns items n tree → n < length items
   stands_within n (plain.number a) h = h.within
   stands_within n (plain.formula p) h = h.within
 

@@ -11,7 +11,7 @@ use Rattle.core_graph.specs.declared.item.Item.{Item}
 use Rattle.core_graph.specs.declared.item.Operands.{Operands}
 use Rattle.core_graph.specs.declared.item.Operands.TheVariants.{Zero, One, Two}
 use Rattle.core_graph.specs.Trees.{Label, Tree, one, two, same_tree, add_tree}
-use Rattle.core_graph.specs.Items.{label_of, operands_of, tree_at, joined, tree_of, trees, Has, AreBelow, IsForest}
+use Rattle.core_graph.specs.Items.{label_of, operands_of, tree_at, tree_over, tree_of, trees, Has, AreBelow, IsForest}
 use Rattle.core_graph.specs.Walks.{trees_of, HasOperands, IsClosed, IsWalk, AreDone, IsFirstOpen, Descends, IsStack, finish, height, open_count, work}
 use Rattle.core_graph.proofs.Forests.{tree_here, one_place}
 use Rattle.core_graph.proofs.Sameness.{same_tree_sound, same_tree_self}
@@ -89,7 +89,7 @@ told_at items order done n b w l e =
     (sym (w.told n (tree_at (trees items) n) (record { within = l; is = refl })) ∙ e)
 
 first_changes_nothing : (items : List Item) (order : List ℕ) (done : List Bool) (l : Label) (o : Operands) (n top : ℕ) → IsWalk items order done → AreBelow top o → top < length items → IsFirstOpen done o n →
-    add_tree (joined (trees items) l o) (add_tree (tree_at (trees items) n) (trees_of items order)) ≡ add_tree (joined (trees items) l o) (trees_of items order)
+    add_tree (tree_over (trees items) l o) (add_tree (tree_at (trees items) n) (trees_of items order)) ≡ add_tree (tree_over (trees items) l o) (trees_of items order)
 first_changes_nothing items order done l Zero n top w b k h = absurd h
 first_changes_nothing items order done l (One a) n top w b k h =
     ap (λ m. add_tree (one l (tree_at (trees items) a)) (add_tree (tree_at (trees items) m) (trees_of items order))) h.0
@@ -174,7 +174,7 @@ set_other (x ∷ done) (suc n) zero b d = refl
 set_other (x ∷ done) (suc n) (suc m) b d = set_other done n m b (λ e. d (ap suc e))
 
 operands_listed : (items : List Item) (order : List ℕ) (done : List Bool) (l : Label) (o : Operands) (top : ℕ) → IsWalk items order done → AreBelow top o → top < length items → AreDone done o →
-    HasOperands (trees_of items order) (joined (trees items) l o)
+    HasOperands (trees_of items order) (tree_over (trees items) l o)
 operands_listed items order done l Zero top w b k h = tt
 operands_listed items order done l (One a) top w b k h = told_at items order done a true w (omega arith) h
 operands_listed items order done l (Two a b) top w s k h =

@@ -59,14 +59,14 @@ abbrev pub tree_at : List Tree → ℕ → Tree
 tree_at earlier n = slice_index_or earlier n (leaf (sign true_sign))
 
 -- the tree of a label over the trees of its operands
-abbrev pub joined : List Tree → Label → Operands → Tree
-joined earlier l Zero = leaf l
-joined earlier l (One a) = one l (tree_at earlier a)
-joined earlier l (Two a b) = two l (tree_at earlier a) (tree_at earlier b)
+abbrev pub tree_over : List Tree → Label → Operands → Tree
+tree_over earlier l Zero = leaf l
+tree_over earlier l (One a) = one l (tree_at earlier a)
+tree_over earlier l (Two a b) = two l (tree_at earlier a) (tree_at earlier b)
 
 -- the tree that an item unfolds to, over those of the items before it
 abbrev pub tree_of : List Tree → Item → Tree
-tree_of earlier item = joined earlier (label_of item) (operands_of item)
+tree_of earlier item = tree_over earlier (label_of item) (operands_of item)
 
 -- the trees that the items unfold to, in order
 unfoldable pub trees : List Item → List Tree

@@ -10,15 +10,15 @@ use Rattle.core_graph.specs.Items.{Has, IsForest}
 use Rattle.core_graph.specs.Images.{of_term, of_core}
 
 -- item n is the whole number of a plain node, or the core form of its formula, over columns
-abbrev pub Stands : List ℕ → List Item → ℕ → plain.Tree → Type 0
-Stands columns items n (plain.number a) = Has items n (of_term (term_over columns a))
-Stands columns items n (plain.formula p) = Has items n (of_core (core (formula_over columns p)))
+abbrev pub Represents : List ℕ → List Item → ℕ → plain.Tree → Type 0
+Represents columns items n (plain.number a) = Has items n (of_term (term_over columns a))
+Represents columns items n (plain.formula p) = Has items n (of_core (core (formula_over columns p)))
 
 -- there is an item for each node, which stands for what the node unfolds to
 pub record AreRead (columns : List ℕ) (items : List Item) (nodes : List Plain) (ids : List ℕ) : Type 0 where
   pub forest : IsForest items
   pub count : length ids ≡ length nodes
-  pub stand : (n id : ℕ) (tree : plain.Tree) → slice_get ids n ≡ Some id → plain.Has nodes n tree → Stands columns items id tree
+  pub stand : (n id : ℕ) (tree : plain.Tree) → slice_get ids n ≡ Some id → plain.Has nodes n tree → Represents columns items id tree
 
 -- item n is a core formula
 pub record IsCoreAt (items : List Item) (n : ℕ) : Type 0 where

@@ -3,7 +3,7 @@
 ghost use Rattle.std.specs.Prelude.{◌≡◌, ◌+◌, ◌<◌, [], ◌∷◌, ◌++◌, length, take, slice_get, Some, OnOk, IfOk};
 ghost use Rattle.plain_nodes.specs.Nodes.{AreSound, IsFormed, tree_of, trees};
 ghost use Rattle.core_graph.specs.Items.{Grows, IsForest};
-ghost use Rattle.core_graph.specs.Reading.{AreRead, Stands};
+ghost use Rattle.core_graph.specs.Reading.{AreRead, Represents};
 
 use crate::forest::Forest;
 use crate::item::Item;
@@ -43,7 +43,7 @@ fn read_node(
     ensures grows { OnOk result (Grows forest.old forest.new) }
     ensures stands { (node : Plain) → slice_get nodes.now i ≡ Some node
         → IfOk result (λ id.
-        Stands columns.now forest.new id (tree_of (trees (take i nodes.now)) node)) }
+        Represents columns.now forest.new id (tree_of (trees (take i nodes.now)) node)) }
 {
     match nodes[i] {
         Plain::Truth(value) => forest.truth(value),

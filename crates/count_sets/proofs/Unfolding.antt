@@ -9,7 +9,7 @@ use Rattle.count_sets.specs.declared.gate.Gate.{Gate}
 use Rattle.count_sets.specs.declared.gate.Gate.TheVariants.{Truth, Body, Both, Either, Not}
 use Rattle.count_sets.specs.Counting.{Counted, truth, both, either, negation, truth_under}
 use Rattle.count_sets.specs.Gates.{formula_of, formulas, truth_of, truths, last_formula, last_truth, IsOver, IsNetwork}
-use Rattle.count_sets.specs.Tables.{Stands}
+use Rattle.count_sets.specs.Tables.{UnfoldsTo}
 
 pub formulas_push : (gates : List Gate) (g : Gate) → formulas (gates ++ g ∷ []) ≡ formulas gates ++ formula_of (formulas gates) g ∷ []
 unfolding formulas
@@ -24,7 +24,7 @@ unfolding formulas
 length-formulas gates = omega (arith, length_step [] gates)
 
 -- what stands stays when a gate comes
-pub stands_more : (gates : List Gate) (g : Gate) (i : ℕ) (f : Counted) → Stands gates i f → Stands (gates ++ g ∷ []) i f
+pub stands_more : (gates : List Gate) (g : Gate) (i : ℕ) (f : Counted) → UnfoldsTo gates i f → UnfoldsTo (gates ++ g ∷ []) i f
 stands_more gates g i f s =
     let inside : i < length (formulas gates) = omega (arith, length-formulas gates, s.within) in
     record {
@@ -34,27 +34,27 @@ stands_more gates g i f s =
     }
 
 -- a new gate stands for what its operands stand for
-pub stands_new : (gates : List Gate) (g : Gate) → Stands (gates ++ g ∷ []) (length gates) (formula_of (formulas gates) g)
+pub stands_new : (gates : List Gate) (g : Gate) → UnfoldsTo (gates ++ g ∷ []) (length gates) (formula_of (formulas gates) g)
 stands_new gates g = record {
   within = omega (arith, length_push gates g);
   is = ap (λ fs. get_or fs (length gates) (truth false)) (formulas_push gates g)
       ∙ get_or_push (formulas gates) (formula_of (formulas gates) g) (truth false) (length gates) (length-formulas gates);
 }
 
-pub stands_both : (gates : List Gate) (a b : ℕ) (p q : Counted) → Stands gates a p → Stands gates b q → Stands (gates ++ Both a b ∷ []) (length gates) (both p q)
+pub stands_both : (gates : List Gate) (a b : ℕ) (p q : Counted) → UnfoldsTo gates a p → UnfoldsTo gates b q → UnfoldsTo (gates ++ Both a b ∷ []) (length gates) (both p q)
 stands_both gates a b p q s t =
     let fits : formula_of (formulas gates) (Both a b) ≡ both p q = cc (s.is, t.is) in
-    subst (λ f. Stands (gates ++ Both a b ∷ []) (length gates) f) fits (stands_new gates (Both a b))
+    subst (λ f. UnfoldsTo (gates ++ Both a b ∷ []) (length gates) f) fits (stands_new gates (Both a b))
 
-pub stands_either : (gates : List Gate) (a b : ℕ) (p q : Counted) → Stands gates a p → Stands gates b q → Stands (gates ++ Either a b ∷ []) (length gates) (either p q)
+pub stands_either : (gates : List Gate) (a b : ℕ) (p q : Counted) → UnfoldsTo gates a p → UnfoldsTo gates b q → UnfoldsTo (gates ++ Either a b ∷ []) (length gates) (either p q)
 stands_either gates a b p q s t =
     let fits : formula_of (formulas gates) (Either a b) ≡ either p q = cc (s.is, t.is) in
-    subst (λ f. Stands (gates ++ Either a b ∷ []) (length gates) f) fits (stands_new gates (Either a b))
+    subst (λ f. UnfoldsTo (gates ++ Either a b ∷ []) (length gates) f) fits (stands_new gates (Either a b))
 
-pub stands_not : (gates : List Gate) (a : ℕ) (p : Counted) → Stands gates a p → Stands (gates ++ Not a ∷ []) (length gates) (negation p)
+pub stands_not : (gates : List Gate) (a : ℕ) (p : Counted) → UnfoldsTo gates a p → UnfoldsTo (gates ++ Not a ∷ []) (length gates) (negation p)
 stands_not gates a p s =
     let fits : formula_of (formulas gates) (Not a) ≡ negation p = cc (s.is) in
-    subst (λ f. Stands (gates ++ Not a ∷ []) (length gates) f) fits (stands_new gates (Not a))
+    subst (λ f. UnfoldsTo (gates ++ Not a ∷ []) (length gates) f) fits (stands_new gates (Not a))
 
 -- the empty network, and a gate more
 pub network_nil : (n : ℕ) → IsNetwork n []
@@ -87,7 +87,7 @@ network_push n gates g h new = record {
 }
 
 -- the last gate's formula
-pub last_from_stands : (gates : List Gate) (i : ℕ) (f : Counted) → Stands gates i f → i + 1 ≡ length gates → last_formula gates ≡ Some f
+pub last_from_stands : (gates : List Gate) (i : ℕ) (f : Counted) → UnfoldsTo gates i f → i + 1 ≡ length gates → last_formula gates ≡ Some f
 last_from_stands gates i f s at =
     let inside : i < length (formulas gates) = omega (arith, length-formulas gates, s.within) in
     let place : length gates - 1 ≡ i = omega arith in

@@ -16,7 +16,7 @@ pub record IsPlan (plan : Plan) : Type 0 where
   pub capped : plan.highest + plan.bodies < 2 ^ 31
 
 -- gate i is there and unfolds to a formula
-pub record Stands (gates : List Gate) (i : ℕ) (formula : Counted) : Type 0 where
+pub record UnfoldsTo (gates : List Gate) (i : ℕ) (formula : Counted) : Type 0 where
   pub within : i < length gates
   pub is : formula_at (formulas gates) i ≡ formula
 
@@ -24,7 +24,7 @@ pub record Stands (gates : List Gate) (i : ℕ) (formula : Counted) : Type 0 whe
 pub record IsTable (plan : Plan) (k : ℕ) (gates : List Gate) (row : List ℕ) : Type 0 where
   pub width : length row ≡ plan.highest + 1
   pub cells : (j : ℕ) → j ≤ plan.highest → plan.lowest + k ≤ j + plan.bodies
-      → Stands gates (slice_index row j) (least j k)
+      → UnfoldsTo gates (slice_index row j) (least j k)
   pub formed : IsNetwork plan.bodies gates
   pub size : length gates ≤ 2 + k * (1 + 2 * plan.highest)
   pub last : 0 < k → slice_index row (min k plan.highest) + 1 ≡ length gates

@@ -9,7 +9,7 @@ use Rattle.c2po_parse.specs.declared.fault.ParseFault.{ParseFault}
 use Rattle.c2po_parse.specs.declared.fault.ParseFault.TheVariants.{TooManyTokens}
 use Rattle.c2po_parse.specs.declared.section.Section.{Section}
 use Rattle.c2po_parse.specs.Sections.{Piece, section_of, braces_after, item_of, left_over, is_end, chosen, pieces, depth_within}
-use Rattle.c2po_parse.specs.Specification.{piece_body, with_line, first_or, trees}
+use Rattle.c2po_parse.specs.Specification.{piece_body, with_line, first_or, piece_trees}
 use Rattle.c2po_tree.proofs.Walks.{bind-some}
 
 -- how many braces are open behind tokens that end no piece
@@ -64,7 +64,7 @@ joined_tree long line o r body items short is all = rw (short, is, all) refl
 
 -- the tree of the first piece, and those of the others
 pub tree_in_front : (p : Piece) (ps : List Piece) (body : BodyShape) (items : List ItemShape) → nat_lt 1024 (length p.tokens) ≡ false
-    → piece_body p.section p.ended p.tokens ≡ Some body → trees ps ≡ Ok items → trees (p ∷ ps) ≡ Ok (record { line = p.line; body = body } ∷ items)
-unfolding trees
+    → piece_body p.section p.ended p.tokens ≡ Some body → piece_trees ps ≡ Ok items → piece_trees (p ∷ ps) ≡ Ok (record { line = p.line; body = body } ∷ items)
+unfolding piece_trees
 tree_in_front p ps body items short is all =
-    joined_tree (nat_lt 1024 (length p.tokens)) p.line (piece_body p.section p.ended p.tokens) (trees ps) body items short is all
+    joined_tree (nat_lt 1024 (length p.tokens)) p.line (piece_body p.section p.ended p.tokens) (piece_trees ps) body items short is all

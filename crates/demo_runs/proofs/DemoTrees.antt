@@ -16,7 +16,7 @@ use Rattle.c2po_tree.proofs.Agree.{agree}
 use Rattle.c2po_parse.specs.declared.section.Section.TheVariants.{Input, Output}
 use Rattle.c2po_parse.specs.Sections.{Piece, item_of, pieces}
 use Rattle.c2po_parse.specs.Forms.{input_of, output_of, label_at, names_within, promise_at, type_within}
-use Rattle.c2po_parse.specs.Specification.{spec_of, trees}
+use Rattle.c2po_parse.specs.Specification.{spec_of, piece_trees}
 use Rattle.demo_runs.proofs.DemoPieces.{item_in_front, section_in_front, span, tree_in_front}
 use Rattle.demo_runs.proofs.DemoTokens as token
 use Rattle.demo_runs.proofs.DemoTokens.{truths, wholes, resp, low, agc, once}
@@ -158,15 +158,15 @@ wholes_items = record { line = 1; body = input (codes "x" ∷ []) (type_named (c
 abbrev pub demo_items : List ItemShape
 demo_items = record { line = 1; body = input (codes "a" ∷ codes "b" ∷ []) (type_named (codes "bool")) } ∷ wholes_items
 
-no_trees : trees [] ≡ Ok []
-unfolding trees
+no_trees : piece_trees [] ≡ Ok []
+unfolding piece_trees
 no_trees = refl
 
-trees_found : trees demo_pieces ≡ Ok demo_items
+trees_found : piece_trees demo_pieces ≡ Ok demo_items
 trees_found =
     tree_in_front _ _ _ wholes_items refl truths_read (tree_in_front _ _ _ resp_items refl wholes_read (tree_in_front _ _ _ low_items refl resp_read
     (tree_in_front _ _ _ agc_items refl low_read (tree_in_front _ _ _ once_items refl agc_read (tree_in_front _ _ _ [] refl once_read no_trees)))))
 
 pub items_found : spec_of token.demo_tokens ≡ Ok demo_items
 unfolding spec_of
-items_found = ap trees pieces_found ∙ trees_found
+items_found = ap piece_trees pieces_found ∙ trees_found

@@ -67,7 +67,7 @@ abbrev pub GivesFirst : Style → Option Report → State → State → List Row
 GivesFirst style result before after rows = running.GivesFirst style result before.running after.running rows
 
 -- the report was given, and nothing else changed
-pub record Gives (report : Report) (before after : State) : Type 0 where
+pub record HasGiven (report : Report) (before after : State) : Type 0 where
   pub moved : after.running ≡ running.after_report report before.running
   pub last : last_of after ≡ last_of before
   pub read : read_of after ≡ read_of before

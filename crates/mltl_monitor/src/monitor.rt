@@ -51,7 +51,7 @@ impl Monitor {
     ghost use Rattle.mltl_monitor.specs.Running.{row_work};
     ghost use Rattle.trace_feed.specs.Rows.{Tells, line_meaning};
     ghost use Rattle.mltl_monitor.specs.TakingLines.{TakesLine};
-    ghost use Rattle.mltl_monitor.specs.Monitoring.{Gives, GivesFirst, IsDrained, IsSame, Stands, TakesRow, last_of, left_to_tell, open_of, program_of, read_of, taken_by};
+    ghost use Rattle.mltl_monitor.specs.Monitoring.{HasGiven, GivesFirst, IsDrained, IsSame, Stands, TakesRow, last_of, left_to_tell, open_of, program_of, read_of, taken_by};
 
     /// A monitor that has taken no rows. All its memory is taken here.
     pub fn load(alloc: Global, checked: Checked) -> Result<Monitor, AllocError>
@@ -169,7 +169,7 @@ impl Monitor {
         ensures none { IsNone result ↔ IsDrained self.old }
         ensures same { IfNone result (self.new ≡ self.old) }
         ensures drained { IfNone result (IsDrained self.new) }
-        ensures moved { IfSome result (λ report. Gives report self.old self.new) }
+        ensures moved { IfSome result (λ report. HasGiven report self.old self.new) }
         ensures exists { IfSome result (λ report. report.out < length (program_of self.old).outs) }
         ensures taken { IfSome result (λ report. report.time < taken_by self.old) }
         ensures early { IfSome result (λ report. report.time < 2 ^ 40) }
@@ -188,7 +188,7 @@ impl Monitor {
         ensures none { IsNone result ↔ IsDrained self.old }
         ensures same { IfNone result (self.new ≡ self.old) }
         ensures drained { IfNone result (IsDrained self.new) }
-        ensures moved { IfSome result (λ report. Gives report self.old self.new) }
+        ensures moved { IfSome result (λ report. HasGiven report self.old self.new) }
         ensures exists { IfSome result (λ report. report.out < length (program_of self.old).outs) }
         ensures taken { IfSome result (λ report. report.time < taken_by self.old) }
         ensures early { IfSome result (λ report. report.time < 2 ^ 40) }
@@ -208,7 +208,7 @@ impl Monitor {
         ensures none { IsNone result ↔ IsDrained self.old }
         ensures same { IfNone result (self.new ≡ self.old) }
         ensures drained { IfNone result (IsDrained self.new) }
-        ensures moved { IfSome result (λ report. Gives report self.old self.new) }
+        ensures moved { IfSome result (λ report. HasGiven report self.old self.new) }
         ensures exists { IfSome result (λ report. report.out < length (program_of self.old).outs) }
         ensures taken { IfSome result (λ report. report.time < taken_by self.old) }
         ensures early { IfSome result (λ report. report.time < 2 ^ 40) }

@@ -16,10 +16,10 @@ use Rattle.mltl_base.proofs.Settling.{verdicts_right}
 use Rattle.mltl_base.proofs.Unique.{known_only}
 use Rattle.mltl_base.proofs.Leaves as leaves
 use Rattle.mltl_plain.specs.declared.formula.Formula.{Formula as Tree}
-use Rattle.mltl_plain.specs.Shapes.{truth_of, formula_of, logic, window, between}
+use Rattle.mltl_plain.specs.Shapes.{of_truth, formula_of, logic, window, between}
 use Rattle.mltl_plain.specs.Computing.{k_logic, k_window, k_between, ComputesAll, ComputesAtom}
 
-pub truth_verdicts : (b : Bool) (rows : List Row) → verdicts rows (truth_of b) ≡ map (λ r. b) rows
+pub truth_verdicts : (b : Bool) (rows : List Row) → verdicts rows (of_truth b) ≡ map (λ r. b) rows
 truth_verdicts true rows = leaves.truth_verdicts rows
 truth_verdicts false rows = leaves.falsity_verdicts rows
 
@@ -113,7 +113,7 @@ ok_same (Ok vs) x y h e = h ∙ sym e
 ok_same (Err w) x y h e = tt
 
 -- a truth for each row
-pub truth_replicated : (b : Bool) (rows : List Row) → verdicts rows (truth_of b) ≡ replicate (length rows) b
+pub truth_replicated : (b : Bool) (rows : List Row) → verdicts rows (of_truth b) ≡ replicate (length rows) b
 truth_replicated b rows = truth_verdicts b rows ∙ go rows
   where
     go : (rows : List Row) → map (λ r. b) rows ≡ replicate (length rows) b

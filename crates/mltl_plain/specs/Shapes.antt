@@ -46,9 +46,9 @@ atom_of (leaf.TheVariants.IsTrue c) = base.is_true c
 atom_of (leaf.TheVariants.Compare op a b) = comparison op (term_of a) (term_of b)
 
 -- a truth as a formula
-abbrev pub truth_of : Bool → plain.Formula
-truth_of true = plain.truth
-truth_of false = plain.falsity
+abbrev pub of_truth : Bool → plain.Formula
+of_truth true = plain.truth
+of_truth false = plain.falsity
 
 -- the formula of an operator without time
 abbrev pub logic : logic_op.LogicOp → plain.Formula → plain.Formula → plain.Formula
@@ -72,7 +72,7 @@ between between_op.TheVariants.S i p q = plain.since i p q
 
 -- the formula that a tree stands for
 abbrev pub formula_of : node.Formula → plain.Formula
-formula_of (node.TheVariants.Truth b) = truth_of b
+formula_of (node.TheVariants.Truth b) = of_truth b
 formula_of (node.TheVariants.Atom a) = plain.atom (atom_of a)
 formula_of (node.TheVariants.Not' p a) = plain.negation (formula_of a)
 formula_of (node.TheVariants.Logic' op p a q b) = logic op (formula_of a) (formula_of b)

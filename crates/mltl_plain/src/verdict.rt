@@ -5,7 +5,7 @@ ghost use Rattle.mltl_base.specs.Formula.{wpd};
 ghost use Rattle.mltl_base.specs.Meaning.{sat};
 ghost use Rattle.mltl_base.specs.Verdicts.{known_front, verdicts as verdicts_of};
 ghost use Rattle.mltl_plain.specs.Computing.{ComputesAll, ComputesAtom, k_between, k_logic, k_operator, k_window};
-ghost use Rattle.mltl_plain.specs.Shapes.{atom_of, formula_of, truth_of};
+ghost use Rattle.mltl_plain.specs.Shapes.{atom_of, formula_of, of_truth};
 ghost use Rattle.mltl_plain.specs.declared.verdict.Fault.TheVariants.{Memory as NoMemory};
 ghost use Rattle.std.specs.Prelude.{◌≡◌, suc, ◌+◌, ◌^◌, ◌<◌, Some, length, map, slice_get, IfOk, IfErr, IfSome, All};
 
@@ -90,7 +90,7 @@ fn at(vs: &List<bool>, t: usize) -> Option<bool>
 
 /// One truth for each row.
 fn constant(alloc: Global, b: bool, rows: &[List<i64>]) -> Result<List<bool>, Fault>
-    ensures known { IfOk result (λ vs. vs ≡ verdicts_of rows.now (truth_of b)) }
+    ensures known { IfOk result (λ vs. vs ≡ verdicts_of rows.now (of_truth b)) }
     ensures cause { IfErr result (λ why. why ≡ NoMemory) }
 {
     let mut known = List::new(alloc);

@@ -179,7 +179,7 @@ IsVersioned p = ((p.version ≡ 1) × (p.signals ≡ [])) ⊎ (p.version ≡ 2)
 
 -- A program that can be written: each engine's instruction has a size, and the numbers of members and of name bytes
 -- fit their fields.
-pub record HasLayout (p : Program) : Type 0 where
+pub record IsWritable (p : Program) : Type 0 where
   pub versioned : IsVersioned p
   pub ft_sizes : length p.sizes.ft ≡ length p.ft
   pub pt_sizes : length p.sizes.pt ≡ length p.pt
@@ -240,7 +240,7 @@ FitsSignal s = (s.column < 2 ^ 32) × FitsName s.name
 -- A program that can be written, whose numbers are those of its types: they have 32 bits, constants have 64, and a name
 -- has 1 to 64 bytes. A program in memory always has such numbers.
 pub record Fits (p : Program) : Type 0 where
-  pub layout : HasLayout p
+  pub layout : IsWritable p
   pub width : p.width < 2 ^ 32
   pub bz : AllByRecursion FitsBz p.bz
   pub ft : AllByRecursion FitsFt p.ft

@@ -3,7 +3,7 @@
 ghost use Rattle.std.specs.Prelude.{◌≡◌, ◌<◌, ◌^◌, ◌++◌, length, IfOk, OnOk};
 ghost use Rattle.std.specs.List.{flat_map, zip, AllByRecursion};
 ghost use Rattle.mltl_base.specs.Programs.{name_of};
-ghost use Rattle.obs_binary.specs.Layout.{bz_entry, ft_entry, pt_entry, out_entry, signal_entry, out_head, signal_head, signal_name, out_names, signal_names, header_of, HasLayout, FitsBz, FitsFt, FitsPt, FitsOut, FitsSignal, Fits, spelling};
+ghost use Rattle.obs_binary.specs.Layout.{bz_entry, ft_entry, pt_entry, out_entry, signal_entry, out_head, signal_head, signal_name, out_names, signal_names, header_of, IsWritable, FitsBz, FitsFt, FitsPt, FitsOut, FitsSignal, Fits, spelling};
 
 use crate::head::{OutHead, SignalHead, out_bytes, signal_bytes};
 use crate::header::Header;
@@ -134,7 +134,7 @@ fn joined_signal_names(alloc: Global, signals: &[StoredSignal]) -> Result<Vec<u8
 
 /// The header of a program whose names have so many bytes.
 fn header_for(program: &Program, name_bytes: u32, signal_bytes: u32) -> Header
-    requires layout { HasLayout program.now }
+    requires layout { IsWritable program.now }
     requires names { name_bytes ≡ length (out_names program.now) }
     requires signals { signal_bytes ≡ length (signal_names program.now) }
     ensures header { result ≡ header_of program.now }
@@ -166,7 +166,7 @@ fn header_for(program: &Program, name_bytes: u32, signal_bytes: u32) -> Header
 /// The bytes of a program, in the layout of its version.
 #[tactic(auto, unfolding(crate::specs::Layout::spelling))]
 pub fn write_program(alloc: Global, program: &Program) -> Result<Vec<u8>, AllocError>
-    requires { HasLayout program.now }
+    requires { IsWritable program.now }
     ensures written { IfOk result (λ bytes. bytes.items ≡ spelling program.now) }
     // So the bytes are read again as this program.
     ensures fits { OnOk result (Fits program.now) }

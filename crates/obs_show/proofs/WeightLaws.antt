@@ -23,7 +23,7 @@ use Rattle.obs_verify.specs.Soundness.{AreSound, IsSound, IsWhole, IsWholeExpres
 use Rattle.obs_verify.specs.WellFormed.{IsWellFormed}
 use Rattle.obs_verify.proofs.RunLaws.{all_named, runs_future, runs_past}
 use Rattle.obs_show.specs.Weight.{formula_weight, output_weight, term_weight, weight}
-use Rattle.obs_show.specs.Weighing.{bz_weight, capped, expression_weight, formula_weights, ft_weight, joined, out_weight, pt_weight}
+use Rattle.obs_show.specs.Weighing.{bz_weight, capped, expression_weight, formula_weights, ft_weight, operator_weight, out_weight, pt_weight}
 
 -- the weights that the code keeps
 abbrev pub told : Expression → ℕ
@@ -33,10 +33,10 @@ abbrev pub told_core : Core → ℕ
 told_core p = capped (formula_weight (plain p))
 
 -- capped operands give what their own weights give
-joins : (a b m n : ℕ) → a ≡ capped m → b ≡ capped n → joined a b ≡ capped (1 + m + n)
+joins : (a b m n : ℕ) → a ≡ capped m → b ≡ capped n → operator_weight a b ≡ capped (1 + m + n)
 joins a b m n e f = omega (arith, e, f)
 
-joins_one : (a m : ℕ) → a ≡ capped m → joined a 0 ≡ capped (1 + m)
+joins_one : (a m : ℕ) → a ≡ capped m → operator_weight a 0 ≡ capped (1 + m)
 joins_one a m e = omega (arith, e)
 
 -- ---- the Booleanizer
@@ -74,7 +74,7 @@ sound_reads width es (Eq a b) h = ((whole_at es a h.0).within, (whole_at es b h.
 sound_reads width es (Lt a b) h = ((whole_at es a h.0).within, (whole_at es b h.1).within)
 sound_reads width es (Le a b) h = ((whole_at es a h.0).within, (whole_at es b h.1).within)
 
-two : (es : List Expression) (a b : ℕ) → IsWhole es a → IsWhole es b → joined (slice_index (map told es) a) (slice_index (map told es) b) ≡ capped (1 + term_weight (term_at es a) + term_weight (term_at es b))
+two : (es : List Expression) (a b : ℕ) → IsWhole es a → IsWhole es b → operator_weight (slice_index (map told es) a) (slice_index (map told es) b) ≡ capped (1 + term_weight (term_at es a) + term_weight (term_at es b))
 two es a b h k = joins _ _ _ _ (whole_at es a h).is (whole_at es b k).is
 
 sound_weight : (width : ℕ) (es : List Expression) (op : BzOp) → IsSound width es op → bz_weight (map told es) op ≡ told (expression_of es op)
@@ -163,7 +163,7 @@ module _ (es : List Expression) where
   loads_within k h = let here = loaded_at es k (slice_get es k) refl h in omega (arith, here.0, length-map es told)
 
   two_cores : (cs : List Core) (n l r : ℕ) → n ≡ length cs → l < n → r < n
-      → joined (slice_index (map told_core cs) l) (slice_index (map told_core cs) r) ≡ capped (1 + formula_weight (plain (slice_index_or cs l ctrue)) + formula_weight (plain (slice_index_or cs r ctrue)))
+      → operator_weight (slice_index (map told_core cs) l) (slice_index (map told_core cs) r) ≡ capped (1 + formula_weight (plain (slice_index_or cs l ctrue)) + formula_weight (plain (slice_index_or cs r ctrue)))
   two_cores cs n l r long h k = joins _ _ _ _ (picked told_core cs l ctrue n long h) (picked told_core cs r ctrue n long k)
 
   ft_here : (cs : List Core) (n : ℕ) (op : ft.FtOp) → n ≡ length cs → IsAfterOperands n op → ((k : ℕ) → op ≡ ft.TheVariants.Load k → Loads k) → ft_weight (map told es) (map told_core cs) op ≡ told_core (formula_of held cs op)

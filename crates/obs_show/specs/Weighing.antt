@@ -18,8 +18,8 @@ abbrev pub capped : ℕ → ℕ
 capped n = min n (MAX_WEIGHT + 1)
 
 -- the weight of an operator over two operands
-abbrev pub joined : ℕ → ℕ → ℕ
-joined left right = capped (1 + left + right)
+abbrev pub operator_weight : ℕ → ℕ → ℕ
+operator_weight left right = capped (1 + left + right)
 
 -- the leaves and operators of what an instruction of the Booleanizer stands for
 abbrev pub expression_weight : Expression → ℕ
@@ -39,31 +39,31 @@ abbrev pub bz_weight : List ℕ → bz.BzOp → ℕ
 bz_weight before (bz.TheVariants.Column c) = 1
 bz_weight before (bz.TheVariants.IsTrue c) = 1
 bz_weight before (bz.TheVariants.Const n) = 1
-bz_weight before (bz.TheVariants.Neg a) = joined (slice_index before a) 0
-bz_weight before (bz.TheVariants.Add a b) = joined (slice_index before a) (slice_index before b)
-bz_weight before (bz.TheVariants.Sub a b) = joined (slice_index before a) (slice_index before b)
-bz_weight before (bz.TheVariants.Mul a b) = joined (slice_index before a) (slice_index before b)
-bz_weight before (bz.TheVariants.Div a b) = joined (slice_index before a) (slice_index before b)
-bz_weight before (bz.TheVariants.Rem a b) = joined (slice_index before a) (slice_index before b)
-bz_weight before (bz.TheVariants.Eq a b) = joined (slice_index before a) (slice_index before b)
-bz_weight before (bz.TheVariants.Lt a b) = joined (slice_index before a) (slice_index before b)
-bz_weight before (bz.TheVariants.Le a b) = joined (slice_index before a) (slice_index before b)
+bz_weight before (bz.TheVariants.Neg a) = operator_weight (slice_index before a) 0
+bz_weight before (bz.TheVariants.Add a b) = operator_weight (slice_index before a) (slice_index before b)
+bz_weight before (bz.TheVariants.Sub a b) = operator_weight (slice_index before a) (slice_index before b)
+bz_weight before (bz.TheVariants.Mul a b) = operator_weight (slice_index before a) (slice_index before b)
+bz_weight before (bz.TheVariants.Div a b) = operator_weight (slice_index before a) (slice_index before b)
+bz_weight before (bz.TheVariants.Rem a b) = operator_weight (slice_index before a) (slice_index before b)
+bz_weight before (bz.TheVariants.Eq a b) = operator_weight (slice_index before a) (slice_index before b)
+bz_weight before (bz.TheVariants.Lt a b) = operator_weight (slice_index before a) (slice_index before b)
+bz_weight before (bz.TheVariants.Le a b) = operator_weight (slice_index before a) (slice_index before b)
 
 -- the weight of a future-time instruction, from those of the truths that it may load and of the instructions before it
 abbrev pub ft_weight : List ℕ → List ℕ → ft.FtOp → ℕ
 ft_weight loaded before ft.TheVariants.True = 1
 ft_weight loaded before (ft.TheVariants.Load a) = slice_index loaded a
-ft_weight loaded before (ft.TheVariants.Not g) = joined (slice_index before g) 0
-ft_weight loaded before (ft.TheVariants.And l r) = joined (slice_index before l) (slice_index before r)
-ft_weight loaded before (ft.TheVariants.Until l r window) = joined (slice_index before l) (slice_index before r)
+ft_weight loaded before (ft.TheVariants.Not g) = operator_weight (slice_index before g) 0
+ft_weight loaded before (ft.TheVariants.And l r) = operator_weight (slice_index before l) (slice_index before r)
+ft_weight loaded before (ft.TheVariants.Until l r window) = operator_weight (slice_index before l) (slice_index before r)
 
 -- the weight of a past-time instruction, in the same way
 abbrev pub pt_weight : List ℕ → List ℕ → pt.PtOp → ℕ
 pt_weight loaded before pt.TheVariants.True = 1
 pt_weight loaded before (pt.TheVariants.Load a) = slice_index loaded a
-pt_weight loaded before (pt.TheVariants.Not g) = joined (slice_index before g) 0
-pt_weight loaded before (pt.TheVariants.And l r) = joined (slice_index before l) (slice_index before r)
-pt_weight loaded before (pt.TheVariants.Since l r window) = joined (slice_index before l) (slice_index before r)
+pt_weight loaded before (pt.TheVariants.Not g) = operator_weight (slice_index before g) 0
+pt_weight loaded before (pt.TheVariants.And l r) = operator_weight (slice_index before l) (slice_index before r)
+pt_weight loaded before (pt.TheVariants.Since l r window) = operator_weight (slice_index before l) (slice_index before r)
 
 -- the weight of an output, from those of the instructions of both engines
 abbrev pub out_weight : List ℕ → List ℕ → out.Out → ℕ

@@ -7,7 +7,7 @@ use Rattle.mltl_base.specs.declared.report.Style.{Style}
 use Rattle.mltl_base.specs.Atoms.{Row}
 use Rattle.mltl_base.specs.Programs.{output_names}
 use Rattle.mltl_monitor.specs.declared.state.State.{State}
-use Rattle.mltl_monitor.specs.Monitoring.{Gives, Stands, TakesRow, open_of, program_of}
+use Rattle.mltl_monitor.specs.Monitoring.{HasGiven, Stands, TakesRow, open_of, program_of}
 use Rattle.r2u2_c.specs.declared.codes.TheConstants.{NOT_A_ROW, REPORTS_LEFT, TOO_MANY_ROWS}
 use Rattle.r2u2_c.specs.declared.fault.Fault.{Fault}
 use Rattle.r2u2_c.specs.declared.opening.Refusal.{Refusal}
@@ -63,7 +63,7 @@ pub record TellsFirst (style : Style) (read : Told) (before after : State) : Typ
   pub shown_as : read ≡ shown report
   pub first : (rows : List Row) → Stands before rows → open_of style before rows ≡ report ∷ open_of style after rows
   pub stands : (rows : List Row) → Stands before rows → Stands after rows
-  pub gives : Gives report before after
+  pub gives : HasGiven report before after
 
 -- the monitor that is open has told it
 abbrev pub Tells : Style → Told → Option State → Option State → Type 0

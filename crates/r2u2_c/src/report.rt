@@ -2,7 +2,7 @@
 
 ghost use Rattle.std.specs.Prelude.{◌≡◌, ◌↔◌, IfNone, IfSome, IsNone, List};
 ghost use Rattle.mltl_base.specs.Atoms.{Row};
-ghost use Rattle.mltl_monitor.specs.Monitoring.{Gives, GivesFirst, IsDrained, Stands};
+ghost use Rattle.mltl_monitor.specs.Monitoring.{HasGiven, GivesFirst, IsDrained, Stands};
 ghost use Rattle.r2u2_c.specs.Reports.{shown, style_of, word_number};
 
 use mltl_base::{Report, Word};
@@ -50,7 +50,7 @@ pub(crate) fn next_of(monitor: &mut Monitor, runs: u32) -> Option<Report>
     ensures stands { (rows : List Row) → Stands monitor.old rows → Stands monitor.new rows }
     ensures none { IsNone result ↔ IsDrained monitor.old }
     ensures kept { IfNone result (monitor.new ≡ monitor.old) }
-    ensures gives { IfSome result (λ report. Gives report monitor.old monitor.new) }
+    ensures gives { IfSome result (λ report. HasGiven report monitor.old monitor.new) }
 {
     if runs == 0 {
         monitor.next_report()

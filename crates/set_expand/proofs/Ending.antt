@@ -15,11 +15,11 @@ use Rattle.plain_nodes.specs.declared.nodes.Plain.{Plain}
 use Rattle.plain_nodes.specs.declared.nodes.Expanded.{Expanded}
 use Rattle.plain_nodes.specs.Nodes.{trees, AreSound}
 use Rattle.plain_nodes.specs.Outputs.{NamesFormulas, asked_by, asked, IsSound}
-use Rattle.unfold.specs.Stands.{nodes_of}
+use Rattle.unfold.specs.Holding.{nodes_of}
 use Rattle.set_expand.specs.declared.progress.Progress.{Progress}
 use Rattle.mltl_base.specs.Kinds.{ReadsSignals, kinds_of}
 use Rattle.set_expand.specs.Outputs.{HasPlainName, asked_from, outputs_of}
-use Rattle.set_expand.specs.Standing.{Leaves}
+use Rattle.set_expand.specs.Reached.{Leaves}
 use Rattle.set_expand.proofs.Faultless.{faultless-ranged, faultless-tensed}
 use Rattle.set_expand.proofs.Labelling.{plain_outputs}
 use Rattle.set_expand.proofs.Signalling.{outputs-read}

@@ -21,9 +21,9 @@ use Rattle.plain_nodes.specs.Faults.{HasRanges, formula_fault}
 use Rattle.unfold.specs.Faults.{value_fault}
 use Rattle.unfold.specs.Values.{weight, formula_of}
 use Rattle.unfold.specs.Environment.{declare, fields, value, value_of}
-use Rattle.c2po_types.specs.FirstFault.{State, start, ranged, one_tense, with_signals, with_out, body_step, item_step, checked, first_fault, fault_of}
+use Rattle.c2po_types.specs.FirstFault.{State, start, when_ranged, one_tense, with_signals, with_out, body_step, item_step, checked, first_fault, fault_of}
 use Rattle.c2po_types.specs.Signals.{body_signals, signals_of}
-use Rattle.c2po_types.proofs.Parts.{bind-ok, unless-ok, when-ok, ranged-ok, ok-inj}
+use Rattle.c2po_types.proofs.Parts.{bind-ok, unless-ok, when-ok, when_ranged-ok, ok-inj}
 use Rattle.c2po_types.proofs.SignalLaws.{checked-signals}
 use Rattle.set_expand.specs.Outputs.{Place, before, name_of, values_behind, asked_at, behind, asked_from, outputs_of}
 use Rattle.set_expand.specs.Weights.{IsLight, AreLight}
@@ -40,9 +40,9 @@ light-ok w m n x h never = here (nat_le w MAX_WEIGHT) (leb-true w MAX_WEIGHT) h
 no-fault : {X : Type 0} (fault : TypeFault) (x : X) → ◌≡◌ {A = Checked X} (Err fault) (Ok x) → ⊥
 no-fault fault x h = cc
 
-ranged-none : (line : ℕ) (why : Option NoRange) (m : Checked State) (t : State) → ranged line why m ≡ Ok t → why ≡ None
-ranged-none line None m t h = refl
-ranged-none line (Some why) m t h = absurd (cc)
+when_ranged-none : (line : ℕ) (why : Option NoRange) (m : Checked State) (t : State) → when_ranged line why m ≡ Ok t → why ≡ None
+when_ranged-none line None m t h = refl
+when_ranged-none line (Some why) m t h = absurd (cc)
 
 unmixed : {X : Type 0} (b : Bool) (fault : TypeFault) (m : Checked X) (x : X) → (if b then Err fault else m) ≡ Ok x → b ≡ false
 unmixed true fault m x h = absurd (cc)
@@ -63,13 +63,13 @@ out-passes : (line : ℕ) (labels : Labels) (w : ℕ) (why : Option NoRange) (mi
 out-passes line labels w why mixed s t h =
     let last : Checked State = Ok (record { declared = s.declared; labels = labels; values = s.values; total = s.total + w }) in
     let tensed : Checked State = one_tense line mixed last in
-    let within : s.total + w ≤ MAX_WEIGHT = light-ok (s.total + w) (ranged line why tensed) (Err (Wide line)) t h (λ x e. no-fault (Wide line) x e) in
-    let p : ranged line why tensed ≡ Ok t = when-ok (nat_le (s.total + w) MAX_WEIGHT) (Wide line) (ranged line why tensed) t h in
-    let q : tensed ≡ Ok t = ranged-ok line why tensed t p in
+    let within : s.total + w ≤ MAX_WEIGHT = light-ok (s.total + w) (when_ranged line why tensed) (Err (Wide line)) t h (λ x e. no-fault (Wide line) x e) in
+    let p : when_ranged line why tensed ≡ Ok t = when-ok (nat_le (s.total + w) MAX_WEIGHT) (Wide line) (when_ranged line why tensed) t h in
+    let q : tensed ≡ Ok t = when_ranged-ok line why tensed t p in
     let r : last ≡ Ok t = unless-ok mixed (Tense line) last t q in
     record {
       light = omega arith;
-      ranged = ranged-none line why tensed t p;
+      ranged = when_ranged-none line why tensed t p;
       unmixed = unmixed mixed (Tense line) last t q;
       values = ap (λ (u : State). u.values) (ok-inj _ t r);
     }
@@ -153,8 +153,8 @@ body-values line (input xs ty) s t p h e n more =
 body-values line (define x shape) s t p h e n more =
     let q = bind-ok (define_kind line x shape s.declared) _ t h in
     let last : State = record { declared = with_value x q.0 s.declared; labels = s.labels; values = declare x (value (value_of shape s.values)) s.values; total = s.total } in
-    let within : ranged line (value_fault (value_of shape s.values)) (Ok last) ≡ Ok t = when-ok (nat_le (weight (value_of shape s.values)) MAX_WEIGHT) (Wide line) _ t q.2 in
-    let found : ◌≡◌ {A = Checked State} (Ok last) (Ok t) = ranged-ok line (value_fault (value_of shape s.values)) (Ok last) t within in
+    let within : when_ranged line (value_fault (value_of shape s.values)) (Ok last) ≡ Ok t = when-ok (nat_le (weight (value_of shape s.values)) MAX_WEIGHT) (Wide line) _ t q.2 in
+    let found : ◌≡◌ {A = Checked State} (Ok last) (Ok t) = when_ranged-ok line (value_fault (value_of shape s.values)) (Ok last) t within in
     sym (ap (λ (u : State). u.values) (ok-inj last t found)) ∙ ap (λ env. declare x (value (value_of shape env)) env) e
 body-values line (formula engine label shape) s t p h e n more =
     let q = bind-ok (with_label line label s.labels) _ t h in

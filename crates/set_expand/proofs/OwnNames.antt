@@ -16,14 +16,14 @@ use Rattle.mltl_base.specs.declared.signal.Signal.{Signal}
 use Rattle.c2po_kinds.specs.declared.declarations.Declarations.{Declarations}
 use Rattle.c2po_kinds.specs.declared.fault.TypeFault.TheVariants.{Twice}
 use Rattle.c2po_kinds.specs.Checking.{Checked, ◌>>=◌, in_turn}
-use Rattle.c2po_kinds.specs.Items.{Labels, with_field, signal_kind, type_kind, truth_of, with_struct, with_signal, with_input, define_kind, with_value, with_label, formula_kind, contract_kind}
+use Rattle.c2po_kinds.specs.Items.{Labels, with_field, signal_kind, type_kind, signal_truth, with_struct, with_signal, with_input, define_kind, with_value, with_label, formula_kind, contract_kind}
 use Rattle.mltl_base.specs.Ranges.{NoRange}
 use Rattle.unfold.specs.Environment.{value_of}
 use Rattle.unfold.specs.Values as values
 use Rattle.unfold.specs.Faults.{value_fault}
 use Rattle.c2po_types.specs.FirstFault.{State, start, with_out, body_step, item_step, checked, first_fault, fault_of}
 use Rattle.c2po_types.specs.Signals.{signals_of}
-use Rattle.c2po_types.proofs.Parts.{bind-ok, unless-ok, when-ok, ranged-ok, ok-inj}
+use Rattle.c2po_types.proofs.Parts.{bind-ok, unless-ok, when-ok, when_ranged-ok, ok-inj}
 use Rattle.c2po_types.proofs.SignalLaws.{checked-signals, signal_added}
 use Rattle.mltl_base.specs.Kinds.{HaveOwnNames}
 
@@ -99,7 +99,7 @@ signals-apart line b (x ∷ xs) d e h apart =
 
 input-apart : (line : ℕ) (xs : List (List ℕ)) (t : TypeShape) (d e : Declarations) → with_input line xs t d ≡ Ok e → IsApart d → IsApart e
 input-apart line xs t d e h apart =
-    let p = bind-ok (type_kind line d t >>= truth_of line) (λ b. in_turn (with_signal line b) xs d) e h in
+    let p = bind-ok (type_kind line d t >>= signal_truth line) (λ b. in_turn (with_signal line b) xs d) e h in
     signals-apart line p.0 xs d e p.2 apart
 
 struct-apart : (line : ℕ) (x : List ℕ) (fs : List FieldShape) (d e : Declarations) → with_struct line x fs d ≡ Ok e → IsApart d → IsApart e
@@ -120,7 +120,7 @@ struct-apart line x fs d e h apart =
 out-apart : (line : ℕ) (labels : Labels) (w : ℕ) (why : Option NoRange) (mixed : Bool) (s t : State) → with_out line labels w why mixed s ≡ Ok t
     → IsApart s.declared → IsApart t.declared
 out-apart line labels w why mixed s t h apart =
-    subst IsApart (ap (λ (r : State). r.declared) (ok-inj _ t (unless-ok mixed _ _ t (ranged-ok line why _ t (when-ok _ _ _ t h))))) apart
+    subst IsApart (ap (λ (r : State). r.declared) (ok-inj _ t (unless-ok mixed _ _ t (when_ranged-ok line why _ t (when-ok _ _ _ t h))))) apart
 
 body-apart : (line : ℕ) (body : BodyShape) (s t : State) → body_step line body s ≡ Ok t → IsApart s.declared → IsApart t.declared
 body-apart line (structure x fs) s t h apart =
@@ -132,7 +132,7 @@ body-apart line (input xs ty) s t h apart =
 body-apart line (define x e) s t h apart =
     let p = bind-ok (define_kind line x e s.declared) _ t h in
     let v : values.Value = value_of e s.values in
-    subst IsApart (ap (λ (r : State). r.declared) (ok-inj _ t (ranged-ok line (value_fault v) _ t (when-ok _ _ _ t p.2))))
+    subst IsApart (ap (λ (r : State). r.declared) (ok-inj _ t (when_ranged-ok line (value_fault v) _ t (when-ok _ _ _ t p.2))))
     (apart-longer s.declared (with_value x p.0 s.declared) ((x, Value p.0) ∷ []) refl refl apart)
 body-apart line (formula engine label e) s t h apart =
     let p = bind-ok (with_label line label s.labels) _ t h in let q = bind-ok (formula_kind line e s.declared) _ t p.2 in

@@ -21,7 +21,7 @@ use Rattle.count_sets.specs.Counting as counting
 use Rattle.c2po_tree.specs.Shape as tree
 use Rattle.c2po_tree.specs.Shape.{Shape, Shapes}
 use Rattle.plain_nodes.specs.Nodes.{Tree, number, formula, constant_formula, arithmetic, comparison, connected, windowed, ranged}
-use Rattle.unfold.specs.Values.{Value, Values, leaf, structure, set, none, more, weight, list_of, term_of, formula_of, members, part_or, picked, joined, joined_all, body_at, counted_formula, counted, interval}
+use Rattle.unfold.specs.Values.{Value, Values, leaf, structure, set, none, more, weight, list_of, term_of, formula_of, members, part_or, picked, connected_value, connected_all, body_at, counted_formula, counted, interval}
 use Rattle.unfold.specs.Environment.{Env, Known, nothing, fields, value, bind, declare, or_else, fields_in, value_in, value_of, values_of}
 use Rattle.mltl_base.specs.Kinds.{ReadsWholes, AtomReadsKinds, ReadsKinds}
 
@@ -163,12 +163,12 @@ module _ (kinds : List Bool) where
   bodies_read body [] f h = tt
   bodies_read body (v ∷ vs) f h = (f v h.0, bodies_read body vs f h.1)
 
-  fold_reads : (op : LogicOp) (v : Value) (vs : List Value) → ValueReads v → AllRead vs → ValueReads (fold (joined op) v vs)
+  fold_reads : (op : LogicOp) (v : Value) (vs : List Value) → ValueReads v → AllRead vs → ValueReads (fold (connected_value op) v vs)
   fold_reads op v [] g h = g
   fold_reads op v (w ∷ vs) g h =
-      fold_reads op (joined op v w) vs (logic_reads op (formula_of v) (formula_of w) (formula_reads v g) (formula_reads w h.0)) h.1
+      fold_reads op (connected_value op v w) vs (logic_reads op (formula_of v) (formula_of w) (formula_reads v g) (formula_reads w h.0)) h.1
 
-  joined_reads : (op : LogicOp) (vs : List Value) → AllRead vs → ValueReads (joined_all op vs)
+  joined_reads : (op : LogicOp) (vs : List Value) → AllRead vs → ValueReads (connected_all op vs)
   joined_reads op [] h = truth_reads false
   joined_reads op (v ∷ vs) h = fold_reads op (leaf (formula (formula_of v)) (weight v)) vs (formula_reads v h.0) h.1
 

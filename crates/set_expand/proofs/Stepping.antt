@@ -22,11 +22,11 @@ use Rattle.c2po_types.specs.Signals.{body_signals, signals_of}
 use Rattle.unfold.specs.declared.unfolding.Unfolding.{Unfolding}
 use Rattle.unfold.specs.Environment.{Env, no_names, declare, value, signal_value, value_of}
 use Rattle.unfold.specs.Values.{formula_of}
-use Rattle.unfold.specs.Stands.{StandsFor, nodes_of}
+use Rattle.unfold.specs.Holding.{StandsFor, nodes_of}
 use Rattle.set_expand.specs.declared.progress.Progress.{Progress}
 use Rattle.set_expand.specs.Outputs.{Place, before, name_of, values_behind, asked_at, behind, asked_from, outputs_of}
 use Rattle.set_expand.specs.Weights.{IsLight, AreLight}
-use Rattle.set_expand.specs.Standing.{signals_named, AskFor, Stands, Leaves}
+use Rattle.set_expand.specs.Reached.{signals_named, AskFor, HasReached, Leaves}
 use Rattle.set_expand.proofs.Asking.{asks-none, asks-later, asks-formula, asks-contract}
 
 -- nodes over more signals
@@ -48,9 +48,9 @@ sound-more m n nodes le h = record { formed = λ i node at. formed-more m n _ no
 
 -- an item without outputs
 pub stands-behind : (u v : Unfolding) (n m : ℕ) (outs : List PlainOut) (body : BodyShape) (place : Place) (told : List Asked) → asked_at body place ≡ []
-    → Stands (record { values = u; signals = n; outs = outs }) place told → StandsFor v (values_behind body place) → m ≡ n + length (body_signals body)
+    → HasReached (record { values = u; signals = n; outs = outs }) place told → StandsFor v (values_behind body place) → m ≡ n + length (body_signals body)
     → AreSound m (nodes_of v) → Grows (nodes_of u) (nodes_of v)
-    → Stands (record { values = v; signals = m; outs = outs }) (behind body place) (told ++ asked_at body place)
+    → HasReached (record { values = v; signals = m; outs = outs }) (behind body place) (told ++ asked_at body place)
 stands-behind u v n m outs body place told none h values signals sound grows = record {
   values = values;
   signals = signals ∙ ap (λ k. k + length (body_signals body)) h.signals;
@@ -62,9 +62,9 @@ stands-behind u v n m outs body place told none h values signals sound grows = r
 -- an output with a formula
 pub stands-formula : (u v : Unfolding) (n : ℕ) (outs new : List PlainOut) (place : Place) (told : List Asked)
     (engine : Engine) (label : Option (List ℕ)) (e : Shape) (node : ℕ) (name : List ℕ)
-    → Stands (record { values = u; signals = n; outs = outs }) place told → new ≡ outs ++ out.Formula engine node name ∷ [] → name ≡ name_of (length outs) label
+    → HasReached (record { values = u; signals = n; outs = outs }) place told → new ≡ outs ++ out.Formula engine node name ∷ [] → name ≡ name_of (length outs) label
     → StandsFor v place.values → Has (nodes_of v) node (formula (formula_of (value_of e place.values))) → AreSound n (nodes_of v) → Grows (nodes_of u) (nodes_of v)
-    → Stands (record { values = v; signals = n; outs = new }) (behind (item.formula engine label e) place) (told ++ asked_at (item.formula engine label e) place)
+    → HasReached (record { values = v; signals = n; outs = new }) (behind (item.formula engine label e) place) (told ++ asked_at (item.formula engine label e) place)
 stands-formula u v n outs new place told engine label e node name h pushed named values has sound grows =
     let asks = asks-formula (nodes_of v) outs told engine node name (formula_of (value_of e place.values)) (asks-later (nodes_of u) (nodes_of v) outs told grows h.asked) has in
     let same : name ≡ name_of place.outputs label = named ∙ ap (λ k. name_of k label) h.outputs in
@@ -80,10 +80,10 @@ stands-formula u v n outs new place told engine label e node name h pushed named
 -- an output with a contract
 pub stands-contract : (u v : Unfolding) (n : ℕ) (outs new : List PlainOut) (place : Place) (told : List Asked)
     (engine : Engine) (label : Option (List ℕ)) (e f : Shape) (left right : ℕ) (name : List ℕ)
-    → Stands (record { values = u; signals = n; outs = outs }) place told → new ≡ outs ++ out.Contract engine left right name ∷ [] → name ≡ name_of (length outs) label
+    → HasReached (record { values = u; signals = n; outs = outs }) place told → new ≡ outs ++ out.Contract engine left right name ∷ [] → name ≡ name_of (length outs) label
     → StandsFor v place.values → Has (nodes_of v) left (formula (formula_of (value_of e place.values)))
     → Has (nodes_of v) right (formula (formula_of (value_of f place.values))) → AreSound n (nodes_of v) → Grows (nodes_of u) (nodes_of v)
-    → Stands (record { values = v; signals = n; outs = new }) (behind (item.contract engine label e f) place) (told ++ asked_at (item.contract engine label e f) place)
+    → HasReached (record { values = v; signals = n; outs = new }) (behind (item.contract engine label e f) place) (told ++ asked_at (item.contract engine label e f) place)
 stands-contract u v n outs new place told engine label e f left right name h pushed named values has also sound grows =
     let asks = asks-contract (nodes_of v) outs told engine left right name (formula_of (value_of e place.values)) (formula_of (value_of f place.values))
     (asks-later (nodes_of u) (nodes_of v) outs told grows h.asked) has also in
@@ -135,7 +135,7 @@ first-light p i left all h = h.light.0
 
 -- one item less is left
 pub leaves-less : (p q : Progress) (i : ItemShape) (left all : List ItemShape) → (h : Leaves p (i ∷ left) all)
-    → Stands q (behind i.body h.place) (h.told ++ asked_at i.body h.place) → Leaves q left all
+    → HasReached q (behind i.body h.place) (h.told ++ asked_at i.body h.place) → Leaves q left all
 unfolding asked_from AreLight
 leaves-less p q i left all h stands = record {
   place = behind i.body h.place;

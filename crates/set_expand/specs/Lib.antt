@@ -1,3 +1,3 @@
 pub mod Outputs
 pub mod Weights
-pub mod Standing
+pub mod Reached

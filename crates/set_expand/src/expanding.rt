@@ -14,7 +14,7 @@ ghost use Rattle.unfold.specs.Values.{counted_formula};
 ghost use Rattle.unfold.specs.declared.fault.UnfoldFault.TheVariants.{Memory};
 ghost use Rattle.mltl_base.specs.Kinds.{ReadsSignals, kinds_of};
 ghost use Rattle.set_expand.specs.Outputs.{HasPlainName, before, outputs_of};
-ghost use Rattle.set_expand.specs.Standing.{Leaves};
+ghost use Rattle.set_expand.specs.Reached.{Leaves};
 ghost use Rattle.set_expand.specs.Weights.{AreLight};
 
 use crate::progress::Progress;

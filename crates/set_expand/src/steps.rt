@@ -7,8 +7,8 @@ ghost use Rattle.c2po_types.specs.FirstFault.{with_signals};
 ghost use Rattle.c2po_types.specs.Signals.{is_bool};
 ghost use Rattle.plain_nodes.specs.Nodes.{AreSound, Grows};
 ghost use Rattle.unfold.specs.Environment.{Env};
-ghost use Rattle.unfold.specs.Stands.{StandsFor, nodes_of};
-ghost use Rattle.set_expand.specs.Standing.{Puts, WantsMemory, signals_named};
+ghost use Rattle.unfold.specs.Holding.{StandsFor, nodes_of};
+ghost use Rattle.set_expand.specs.Reached.{Puts, WantsMemory, signals_named};
 
 use crate::names::output_name;
 use crate::progress::Progress;

@@ -18,7 +18,7 @@ use Rattle.c2po_kinds.specs.declared.declarations.Declarations.{Declarations}
 use Rattle.c2po_kinds.specs.declared.fault.TypeFault.{TypeFault}
 use Rattle.c2po_kinds.specs.Checking.{Checked, ◌>>=◌, in_turn}
 use Rattle.c2po_kinds.specs.Items.{Labels, new, with_signal, with_input, with_value, with_label, define_kind, formula_kind, contract_kind, signal_kind}
-use Rattle.c2po_types.specs.FirstFault.{State, start, ranged, one_tense, defined, with_out, item_step, checked, fault_of, first_fault, define_step, input_step, formula_step, contract_step, with_signals, is_mixed}
+use Rattle.c2po_types.specs.FirstFault.{State, start, when_ranged, one_tense, defined, with_out, item_step, checked, fault_of, first_fault, define_step, input_step, formula_step, contract_step, with_signals, is_mixed}
 use Rattle.plain_nodes.specs.Faults.{formula_fault, or_later}
 use Rattle.unfold.specs.Values as values
 use Rattle.unfold.specs.Faults.{value_fault}
@@ -43,7 +43,7 @@ guard_on : {X : Type 0} (b : Bool) (fault : TypeFault) (rest : Checked X) (x : X
 guard_on true fault rest x e = e
 guard_on false fault rest x e = absurd (cc)
 
-guard_none : (line : ℕ) (o : Option NoRange) (rest : Checked State) (s : State) → ranged line o rest ≡ Ok s → rest ≡ Ok s
+guard_none : (line : ℕ) (o : Option NoRange) (rest : Checked State) (s : State) → when_ranged line o rest ≡ Ok s → rest ≡ Ok s
 guard_none line None rest s e = e
 guard_none line (Some why) rest s e = absurd (cc)
 
@@ -91,7 +91,7 @@ define_ok n x f s t p e h =
     let free = guard_off (is_named x s.declared.names) _ (Ok e2.0) k e2.2 in
     let v = value_of (form_shape n f) s.values in
     let after : State = record { declared = with_value x k s.declared; labels = s.labels; values = declare x (value v) s.values; total = s.total } in
-    let done : Ok after ≡ Ok t = guard_none n (value_fault v) (Ok after) t (guard_on (nat_le (values.weight v) MAX_WEIGHT) _ (ranged n (value_fault v) (Ok after)) t e1.2) in
+    let done : Ok after ≡ Ok t = guard_none n (value_fault v) (Ok after) t (guard_on (nat_le (values.weight v) MAX_WEIGHT) _ (when_ranged n (value_fault v) (Ok after)) t e1.2) in
     let is : after ≡ t = cc in
     record {
       new = ap (λ (env : Env). env x) (sym h.values) ∙ h.agrees x free.0;
@@ -105,7 +105,7 @@ define_ok n x f s t p e h =
 out_ok : (n : ℕ) (labels : Labels) (w : ℕ) (why : Option NoRange) (mixed : Bool) (s t : State) → with_out n labels w why mixed s ≡ Ok t → (t.values ≡ s.values) × (t.declared ≡ s.declared)
 out_ok n labels w why mixed s t e =
     let after : State = record { declared = s.declared; labels = labels; values = s.values; total = s.total + w } in
-    let e1 : one_tense n mixed (Ok after) ≡ Ok t = guard_none n why (one_tense n mixed (Ok after)) t (guard_on (nat_le (s.total + w) MAX_WEIGHT) _ (ranged n why (one_tense n mixed (Ok after))) t e) in
+    let e1 : one_tense n mixed (Ok after) ≡ Ok t = guard_none n why (one_tense n mixed (Ok after)) t (guard_on (nat_le (s.total + w) MAX_WEIGHT) _ (when_ranged n why (one_tense n mixed (Ok after))) t e) in
     let e2 = guard_off mixed _ (Ok after) t e1 in
     let is : after ≡ t = cc in
     (ap (λ (u : State). u.values) (sym is), ap (λ (u : State). u.declared) (sym is))

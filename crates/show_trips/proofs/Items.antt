@@ -10,7 +10,7 @@ use Rattle.c2po_lexer.specs.Tokens.{tokens_of}
 use Rattle.c2po_tree.specs.Tokens.{is_sign}
 use Rattle.c2po_parse.specs.declared.section.Section.{Section}
 use Rattle.c2po_parse.specs.Sections.{section_of, braces_after, item_of, chosen, pieces}
-use Rattle.c2po_parse.specs.Specification.{first_or, with_first, trees, spec_of}
+use Rattle.c2po_parse.specs.Specification.{first_or, with_first, piece_trees, spec_of}
 use Rattle.obs_show.specs.Lines.{Reference, always, named, number, Form, minus, arith as computes, compare, negation, logic, between, Line, input, define, formula, contract}
 use Rattle.obs_show.specs.Text.{lines_text}
 use Rattle.mltl_base.specs.declared.operators.ArithOp as arith_op
@@ -145,16 +145,16 @@ line_pieces sec line start l rest =
     ∙ ap (λ ms. pieces (Some (section_in l)) 0 [] (tokens_by line (body_start start l) ms)) (append_assoc (body_marks l) (token (what.Sign sign.Semicolon) ∷ newline ∷ []) rest)
     ∙ run (section_in l) [] line (body_start start l) (body_marks l) rest (body_quiet l)
 
-no_lines : (sec : Option Section) (line start : ℕ) → trees (pieces sec 0 [] (tokens_by line start [])) ≡ Ok []
-unfolding trees pieces tokens_by
+no_lines : (sec : Option Section) (line start : ℕ) → piece_trees (pieces sec 0 [] (tokens_by line start [])) ≡ Ok []
+unfolding piece_trees pieces tokens_by
 no_lines sec line start = refl
 
-lines_trees : (sec : Option Section) (line start : ℕ) (ls : List Line) → trees (pieces sec 0 [] (tokens_by line start (lines_marks ls))) ≡ Ok (line_items line ls)
-unfolding trees line_items
+lines_trees : (sec : Option Section) (line start : ℕ) (ls : List Line) → piece_trees (pieces sec 0 [] (tokens_by line start (lines_marks ls))) ≡ Ok (line_items line ls)
+unfolding piece_trees line_items
 lines_trees sec line start [] = no_lines sec line start
 lines_trees sec line start (l ∷ ls) =
-    ap trees (line_pieces sec line start l (lines_marks ls))
-    ∙ ap (λ r. first_or r (trees (pieces (Some (section_in l)) 0 [] (tokens_by (line + 1) (next_start start l) (lines_marks ls))))) (line_tree l line (body_start start l))
+    ap piece_trees (line_pieces sec line start l (lines_marks ls))
+    ∙ ap (λ r. first_or r (piece_trees (pieces (Some (section_in l)) 0 [] (tokens_by (line + 1) (next_start start l) (lines_marks ls))))) (line_tree l line (body_start start l))
     ∙ ap (λ r. with_first (line_item line l) r) (lines_trees (Some (section_in l)) (line + 1) (next_start start l) ls)
 
 -- the items of lines are read

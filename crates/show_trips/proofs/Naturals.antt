@@ -32,7 +32,7 @@ use Rattle.c2po_types.specs.FirstFault.{with_signals}
 use Rattle.c2po_types.specs.Signals.{body_signals}
 use Rattle.plain_nodes.specs.Nodes.{Tree, number, formula, constant_formula, arithmetic, comparison, connected, windowed, ranged}
 use Rattle.set_expand.specs.Outputs.{Place, before, values_behind, asked_at, behind, asked_from, outputs_of}
-use Rattle.unfold.specs.Values.{Value, Values, leaf, structure, set, none, more, weight, list_of, term_of, formula_of, members, part_or, picked, joined, joined_all, body_at, counted_formula, counted, interval}
+use Rattle.unfold.specs.Values.{Value, Values, leaf, structure, set, none, more, weight, list_of, term_of, formula_of, members, part_or, picked, connected_value, connected_all, body_at, counted_formula, counted, interval}
 use Rattle.unfold.specs.Environment.{Env, Known, nothing, fields, value, signal_value, bind, declare, or_else, fields_in, value_in, value_of, values_of}
 
 -- constants are numbers of the language
@@ -212,12 +212,12 @@ bodies_natural : (body : Value → Value) (vs : List Value) → ((v : Value) →
 bodies_natural body [] f h = tt
 bodies_natural body (v ∷ vs) f h = (f v h.0, bodies_natural body vs f h.1)
 
-fold_natural : (op : LogicOp) (v : Value) (vs : List Value) → ValueNatural v → AllNatural vs → ValueNatural (fold (joined op) v vs)
+fold_natural : (op : LogicOp) (v : Value) (vs : List Value) → ValueNatural v → AllNatural vs → ValueNatural (fold (connected_value op) v vs)
 fold_natural op v [] g h = g
 fold_natural op v (w ∷ vs) g h =
-    fold_natural op (joined op v w) vs (logic_natural op (formula_of v) (formula_of w) (formula_natural v g) (formula_natural w h.0)) h.1
+    fold_natural op (connected_value op v w) vs (logic_natural op (formula_of v) (formula_of w) (formula_natural v g) (formula_natural w h.0)) h.1
 
-joined_natural : (op : LogicOp) (vs : List Value) → AllNatural vs → ValueNatural (joined_all op vs)
+joined_natural : (op : LogicOp) (vs : List Value) → AllNatural vs → ValueNatural (connected_all op vs)
 joined_natural op [] h = truth_natural false
 joined_natural op (v ∷ vs) h = fold_natural op (leaf (formula (formula_of v)) (weight v)) vs (formula_natural v h.0) h.1
 

@@ -19,7 +19,7 @@ use Rattle.mltl_base.specs.Programs.{Expression, whole, truth}
 use Rattle.plain_nodes.specs.Nodes as nodes
 use Rattle.plain_nodes.specs.Nodes.{arithmetic, comparison, connected, ranged}
 use Rattle.unfold.specs.Values as values
-use Rattle.unfold.specs.Values.{Value, leaf, number_value, truth_value, weight, opposite, inverted, computed, compared, joined, ranged_value, interval}
+use Rattle.unfold.specs.Values.{Value, leaf, number_value, truth_value, weight, opposite, inverted, computed, compared, connected_value, ranged_value, interval}
 use Rattle.unfold.specs.Environment.{Env, Known, nothing, value, declare, or_else, value_in, value_of}
 use Rattle.obs_show.specs.Lines.{Reference, always, named, number, Form, minus, arith as computes, compare, negation, logic, between}
 use Rattle.show_trips.specs.Said.{reference_shape, form_shape}

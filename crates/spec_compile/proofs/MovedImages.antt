@@ -183,7 +183,7 @@ signal_moves signals old new m n apart s b is =
     moved_at signals old new s m n apart (omega (arith, length-map signals (λ (x : Signal). x.truth)))
 
 -- a program that is written has the layout that is verified
-pub layout_of : (program : Program) → binary.HasLayout program → HasLayout program
+pub layout_of : (program : Program) → binary.IsWritable program → HasLayout program
 layout_of program h = record {
   ft_sizes = h.ft_sizes;
   pt_sizes = h.pt_sizes;

@@ -24,7 +24,7 @@ use Rattle.c2po_types.specs.FirstFault.{with_signals}
 use Rattle.c2po_types.specs.Signals.{body_signals}
 use Rattle.plain_nodes.specs.Nodes.{Tree, number, formula, constant_formula, connected, windowed, ranged}
 use Rattle.set_expand.specs.Outputs.{Place, before, values_behind, asked_at, behind, asked_from, outputs_of}
-use Rattle.unfold.specs.Values.{Value, Values, leaf, structure, set, none, more, weight, list_of, formula_of, members, part_or, picked, joined, joined_all, body_at, counted_formula, counted, interval}
+use Rattle.unfold.specs.Values.{Value, Values, leaf, structure, set, none, more, weight, list_of, formula_of, members, part_or, picked, connected_value, connected_all, body_at, counted_formula, counted, interval}
 use Rattle.unfold.specs.Environment.{Env, Known, nothing, fields, value, signal_value, bind, declare, or_else, fields_in, value_in, value_of, values_of}
 
 -- the formulas of a value, of its parts, and of what a name stands for, are ordered
@@ -146,12 +146,12 @@ bodies_ordered : (body : Value → Value) (vs : List Value) → ((v : Value) →
 bodies_ordered body [] f h = tt
 bodies_ordered body (v ∷ vs) f h = (f v h.0, bodies_ordered body vs f h.1)
 
-fold_ordered : (op : LogicOp) (v : Value) (vs : List Value) → ValueOrdered v → AllOrdered vs → ValueOrdered (fold (joined op) v vs)
+fold_ordered : (op : LogicOp) (v : Value) (vs : List Value) → ValueOrdered v → AllOrdered vs → ValueOrdered (fold (connected_value op) v vs)
 fold_ordered op v [] g h = g
 fold_ordered op v (w ∷ vs) g h =
-    fold_ordered op (joined op v w) vs (logic_ordered op (formula_of v) (formula_of w) (formula_ordered v g) (formula_ordered w h.0)) h.1
+    fold_ordered op (connected_value op v w) vs (logic_ordered op (formula_of v) (formula_of w) (formula_ordered v g) (formula_ordered w h.0)) h.1
 
-joined_ordered : (op : LogicOp) (vs : List Value) → AllOrdered vs → ValueOrdered (joined_all op vs)
+joined_ordered : (op : LogicOp) (vs : List Value) → AllOrdered vs → ValueOrdered (connected_all op vs)
 joined_ordered op [] h = truth_ordered false
 joined_ordered op (v ∷ vs) h = fold_ordered op (leaf (formula (formula_of v)) (weight v)) vs (formula_ordered v h.0) h.1
 

@@ -16,7 +16,7 @@ use Rattle.mltl_base.specs.declared.program.Program.{Program}
 use Rattle.mltl_base.specs.Blanks.{is_blank_line}
 use Rattle.trace_feed.specs.Blanks.{trimmed}
 use Rattle.trace_feed.specs.Readings.{fields_meaning}
-use Rattle.trace_feed.specs.Rows.{Tells, LineMeaning, row, blank, too_few, not_whole, out_of_range, fields_of, has_32_bits, is_bit, is_numeral, joined, line_meaning, number_in, reading_of, reads_truth, reads_whole, row_from, value_of}
+use Rattle.trace_feed.specs.Rows.{Tells, LineMeaning, row, blank, too_few, not_whole, out_of_range, fields_of, has_32_bits, is_bit, is_numeral, field_before, line_meaning, number_in, reading_of, reads_truth, reads_whole, row_from, value_of}
 use Rattle.trace_feed.specs.declared.fields.FieldFault.{FieldFault}
 use Rattle.trace_feed.specs.declared.fields.FieldFault.TheVariants.{NotWhole, OutOfRange}
 use Rattle.trace_feed.specs.declared.fields.Reading.{Reading}
@@ -34,7 +34,7 @@ pub record HaveValues (reading : ℕ → Reading) (c : ℕ) (fields : List (List
   pub each : (k : ℕ) (d : ℤ) → k < length fields → value_of (reading (c + k)) (get_or fields k []) ≡ Ok (get_or values k d)
 
 values_step : (reading : ℕ → Reading) (c : ℕ) (field : List ℕ) (fields : List (List ℕ)) (values : Row) (found : Result ℤ FieldFault) (m : LineMeaning)
-    → value_of (reading c) field ≡ found → ((vs : Row) → m ≡ row vs → HaveValues reading (suc c) fields vs) → joined c found m ≡ row values
+    → value_of (reading c) field ≡ found → ((vs : Row) → m ≡ row vs → HaveValues reading (suc c) fields vs) → field_before c found m ≡ row values
     → HaveValues reading c (field ∷ fields) values
 values_step reading c field fields values (Ok n) (row vs) is rest e =
     let h : HaveValues reading (suc c) fields vs = rest vs refl in

@@ -5,7 +5,7 @@ use Rattle.std.specs.List.{before_first, position_or_len}
 use Rattle.std.proofs.lemmas.Bool.{cases_lt, lt-ltb, le-ltb}
 use Rattle.std.proofs.lemmas.List.{drop-drop, length-drop}
 use Rattle.std.proofs.lemmas.List.Splits.{slice_split_first}
-use Rattle.trace_feed.specs.Rows.{LineMeaning, Tells, row, blank, not_whole, out_of_range, too_few, put_in_front, joined, row_from, value_of, is_comma, fields_from, fields_of}
+use Rattle.trace_feed.specs.Rows.{LineMeaning, Tells, row, blank, not_whole, out_of_range, too_few, put_in_front, field_before, row_from, value_of, is_comma, fields_from, fields_of}
 use Rattle.trace_feed.specs.Readings.{fields_meaning}
 use Rattle.trace_feed.specs.declared.fields.FieldFault.TheVariants.{NotWhole, OutOfRange}
 use Rattle.trace_feed.specs.declared.fields.Reading.{Reading}
@@ -99,7 +99,7 @@ field_step reading c n field fields v good =
           let here : nat_lt (length (field ∷ fields)) (suc n) ≡ false = le-ltb (length (field ∷ fields)) (suc n) (omega arith) in
           let behind : nat_lt (length fields) n ≡ false = le-ltb (length fields) n enough in
           ap (λ b. cond b too_few (row_from reading c (take (suc n) (field ∷ fields)))) here
-          ∙ ap (λ r. joined c r (row_from reading (suc c) (take n fields))) good
+          ∙ ap (λ r. field_before c r (row_from reading (suc c) (take n fields))) good
           ∙ sym (ap (λ b. put_in_front v (cond b too_few (row_from reading (suc c) (take n fields)))) behind)
     ]
 
@@ -207,7 +207,7 @@ says_too_few reading c width at line ns m more past so_far =
 
 -- a faulty field, with enough behind it
 enough_is : (reading : ℕ → Reading) (c left : ℕ) (rest : List ℕ) → 0 < left → left ≤ length (fields_of rest)
-    → (more : LineMeaning) × (fields_meaning reading c left (fields_of rest) ≡ joined c (value_of (reading c) (before_first is_comma rest)) more)
+    → (more : LineMeaning) × (fields_meaning reading c left (fields_of rest) ≡ field_before c (value_of (reading c) (before_first is_comma rest)) more)
 unfolding row_from
 enough_is reading c left rest some enough =
     let behind : List (List ℕ) = fields_from rest (position_or_len is_comma rest + 1) in
@@ -224,13 +224,13 @@ pub fault_not_whole : (reading : ℕ → Reading) (c left : ℕ) (rest : List �
     → fields_meaning reading c left (fields_of rest) ≡ not_whole c
 fault_not_whole reading c left rest some enough bad =
     let found = enough_is reading c left rest some enough in
-    found.1 ∙ ap (λ v. joined c v found.0) bad
+    found.1 ∙ ap (λ v. field_before c v found.0) bad
 
 pub fault_out_of_range : (reading : ℕ → Reading) (c left : ℕ) (rest : List ℕ) → 0 < left → left ≤ length (fields_of rest) → value_of (reading c) (before_first is_comma rest) ≡ Err OutOfRange
     → fields_meaning reading c left (fields_of rest) ≡ out_of_range c
 fault_out_of_range reading c left rest some enough bad =
     let found = enough_is reading c left rest some enough in
-    found.1 ∙ ap (λ v. joined c v found.0) bad
+    found.1 ∙ ap (λ v. field_before c v found.0) bad
 
 -- what is told of the fields from a fault on, whatever the numbers, is told of the line
 pub told_fault : (result : answer.RowAnswer) (ns values : Row) (x m : LineMeaning) → ((others : Row) → Tells result others x) → onto ns x ≡ m → Tells result values m

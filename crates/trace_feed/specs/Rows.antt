@@ -89,15 +89,15 @@ put_in_front n (not_whole c) = not_whole c
 put_in_front n (out_of_range c) = out_of_range c
 
 -- what the field of column c says, with those behind it
-abbrev pub joined : ℕ → Result ℤ FieldFault → LineMeaning → LineMeaning
-joined c (Ok n) others = put_in_front n others
-joined c (Err NotWhole) others = not_whole c
-joined c (Err OutOfRange) others = out_of_range c
+abbrev pub field_before : ℕ → Result ℤ FieldFault → LineMeaning → LineMeaning
+field_before c (Ok n) others = put_in_front n others
+field_before c (Err NotWhole) others = not_whole c
+field_before c (Err OutOfRange) others = out_of_range c
 
 -- the row of the fields of column c and those behind it, or the first fault
 unfoldable pub row_from : (ℕ → Reading) → ℕ → List (List ℕ) → LineMeaning
 row_from reading c [] = row []
-row_from reading c (field ∷ fields) = joined c (value_of (reading c) field) (row_from reading (suc c) fields)
+row_from reading c (field ∷ fields) = field_before c (value_of (reading c) field) (row_from reading (suc c) fields)
 
 -- what a line says; fields past the width aren't read
 abbrev pub line_meaning : Program → List ℕ → LineMeaning

@@ -7,7 +7,7 @@ use Rattle.unfold.specs.declared.values.Entry.{Entry}
 use Rattle.unfold.specs.declared.values.Entry.TheVariants as entry
 use Rattle.unfold.specs.declared.unfolding.Unfolding.{Unfolding}
 use Rattle.unfold.specs.Environment.{Env, Known, nothing, or_else, declare}
-use Rattle.unfold.specs.Stands.{Means, StandsFor}
+use Rattle.unfold.specs.Holding.{Means, StandsFor}
 
 -- the entry of a name in a table that has one more
 or_entry : {V : Type 0} → Option V → Option V → Option V

@@ -27,7 +27,7 @@ use Rattle.unfold.specs.declared.scope.Quantifier.{Quantifier}
 use Rattle.unfold.specs.declared.unfolding.Unfolding.{Unfolding}
 use Rattle.unfold.specs.Values.{Value, weight, formula_of, members, truth_value, counted_formula}
 use Rattle.unfold.specs.Environment.{Env, bind, value_of}
-use Rattle.unfold.specs.Stands.{Fits, Holds, IsLater}
+use Rattle.unfold.specs.Holding.{Fits, Holds, IsLater}
 use Rattle.unfold.specs.Heads.{Heads}
 use Rattle.unfold.specs.Operators.{bodies_over}
 use Rattle.unfold.specs.Bodies.{AreFormulas, HaveFormulas}

@@ -13,7 +13,7 @@ use Rattle.unfold.specs.declared.scope.Head.TheVariants as head
 use Rattle.unfold.specs.declared.unfolding.Unfolding.{Unfolding}
 use Rattle.unfold.specs.Values.{Value, Values, leaf, structure, set, none, more}
 use Rattle.unfold.specs.Environment.{Env, Known}
-use Rattle.unfold.specs.Stands.{Holds, HoldAll, Means, StandsFor, Fits, Keeps, IsLater}
+use Rattle.unfold.specs.Holding.{Holds, HoldAll, Means, StandsFor, Fits, Keeps, IsLater}
 use Rattle.unfold.specs.Heads.{Heads}
 
 pub later_same : (u : Unfolding) → IsLater u u

@@ -16,9 +16,9 @@ use Rattle.unfold.specs.declared.scope.Quantifier.{Quantifier}
 use Rattle.unfold.specs.declared.operators.BinaryOp.{BinaryOp}
 use Rattle.unfold.specs.declared.operators.BinaryOp.TheVariants as binary
 use Rattle.unfold.specs.declared.unfolding.Unfolding.{Unfolding}
-use Rattle.unfold.specs.Values.{Value, leaf, list_of, weight, formula_of, members, joined, joined_all, counted, counted_some, counting_weight, truth_value}
+use Rattle.unfold.specs.Values.{Value, leaf, list_of, weight, formula_of, members, connected_value, connected_all, counted, counted_some, counting_weight, truth_value}
 use Rattle.unfold.specs.Environment.{Env, bind, value_of, values_of}
-use Rattle.unfold.specs.Stands.{Holds, HoldAll, Fits, IsLater}
+use Rattle.unfold.specs.Holding.{Holds, HoldAll, Fits, IsLater}
 use Rattle.unfold.specs.Heads.{Heads}
 use Rattle.unfold.specs.Operators.{binary_value, bodies_over}
 use Rattle.unfold.proofs.Later.{later_same, later_then, hold_all_later, fits_later}
@@ -92,28 +92,28 @@ built_more old now new scope es i e done s room left b at next holds light =
     })
 
 -- joined bodies
-pub joined_push : (op : LogicOp) (xs : List Value) (v : Value) → 0 < length xs → joined_all op (xs ++ v ∷ []) ≡ joined op (joined_all op xs) v
+pub joined_push : (op : LogicOp) (xs : List Value) (v : Value) → 0 < length xs → connected_all op (xs ++ v ∷ []) ≡ connected_value op (connected_all op xs) v
 joined_push op [] v h = absurd (omega arith)
-joined_push op (x ∷ xs) v h = fold_push (joined op) _ xs v
+joined_push op (x ∷ xs) v h = fold_push (connected_value op) _ xs v
 
-fold_weight : (vs : List Value) (op : LogicOp) (a : Value) → weight (fold (joined op) a vs) ≡ weight a + sum_by weight vs + length vs
+fold_weight : (vs : List Value) (op : LogicOp) (a : Value) → weight (fold (connected_value op) a vs) ≡ weight a + sum_by weight vs + length vs
 fold_weight [] op a = omega arith
 fold_weight (v ∷ vs) op a =
-    let rest : weight (fold (joined op) a (v ∷ vs)) ≡ (1 + weight a + weight v) + sum_by weight vs + length vs = fold_weight vs op (joined op a v) in
+    let rest : weight (fold (connected_value op) a (v ∷ vs)) ≡ (1 + weight a + weight v) + sum_by weight vs + length vs = fold_weight vs op (connected_value op a v) in
     omega (arith, rest, sum_by-cons weight v vs)
 
-pub joined_weight : (op : LogicOp) (vs : List Value) → weight (joined_all op vs) ≡ sum_by weight vs + (length vs - 1)
+pub joined_weight : (op : LogicOp) (vs : List Value) → weight (connected_all op vs) ≡ sum_by weight vs + (length vs - 1)
 joined_weight op [] = omega arith
 joined_weight op (v ∷ vs) =
-    let rest : weight (joined_all op (v ∷ vs)) ≡ weight v + sum_by weight vs + length vs = fold_weight vs op (leaf (formula (formula_of v)) (weight v)) in
+    let rest : weight (connected_all op (v ∷ vs)) ≡ weight v + sum_by weight vs + length vs = fold_weight vs op (leaf (formula (formula_of v)) (weight v)) in
     omega (arith, rest, sum_by-cons weight v vs)
 
 pub joined_within : (op : LogicOp) (vs : List Value) (i : ℕ) (v : Value) → slice_get vs i ≡ Some v → 0 < i →
-    weight (joined_all op (take i vs)) + 1 + weight v ≤ weight (joined_all op vs)
+    weight (connected_all op (take i vs)) + 1 + weight v ≤ weight (connected_all op vs)
 joined_within op vs i v h some =
     omega (arith, joined_weight op (take i vs), joined_weight op vs, sum_within vs i v h, slice_get_within vs i v h, length-take-le i vs (omega (arith, slice_get_within vs i v h)))
 
-pub joined_first : (op : LogicOp) (vs : List Value) (v : Value) → slice_get vs 0 ≡ Some v → weight v ≤ weight (joined_all op vs)
+pub joined_first : (op : LogicOp) (vs : List Value) (v : Value) → slice_get vs 0 ≡ Some v → weight v ≤ weight (connected_all op vs)
 joined_first op vs v h = omega (arith, joined_weight op vs, sum_within vs 0 v h)
 
 -- the values of a body, one for each member of a set that a name stands for
@@ -124,7 +124,7 @@ values_over body name env s = map (λ v. value_of (shape body) (bind name v env)
 pub record JoinedSoFar (old now : Unfolding) (scope : Scope) (set : Head) (q : Quantifier) (op : LogicOp) (room i : ℕ) (all : Stored) : Type 0 where
   pub later : IsLater old now
   pub light : all.weight ≤ room
-  pub holds : (env : Env) (s : Value) → Fits old scope env → Heads old set s → Holds now all (joined_all op (take i (bodies_over q env s)))
+  pub holds : (env : Env) (s : Value) → Fits old scope env → Heads old set s → Holds now all (connected_all op (take i (bodies_over q env s)))
 
 -- a member of a set, and the body with it
 pub member_at : (ms : List Value) (i n : ℕ) → n ≡ length ms → i < n → slice_get ms i ≡ Some (get_or ms i (truth_value false))
@@ -141,15 +141,15 @@ none_left [] n e z = refl
 none_left (x ∷ xs) n e z = absurd (omega arith)
 
 pub joined_one : (op : LogicOp) (vs : List Value) (v : Value) → slice_get vs 0 ≡ Some v →
-    leaf (formula (formula_of v)) (weight v) ≡ joined_all op (take 1 vs)
-joined_one op vs v h = sym (ap (joined_all op) (take_next vs 0 v h))
+    leaf (formula (formula_of v)) (weight v) ≡ connected_all op (take 1 vs)
+joined_one op vs v h = sym (ap (connected_all op) (take_next vs 0 v h))
 
 pub joined_next : (op : LogicOp) (vs : List Value) (i : ℕ) (v : Value) → slice_get vs i ≡ Some v → 0 < i →
-    joined op (joined_all op (take i vs)) v ≡ joined_all op (take (i + 1) vs)
+    connected_value op (connected_all op (take i vs)) v ≡ connected_all op (take (i + 1) vs)
 joined_next op vs i v h some =
     let inside : i < length vs = slice_get_within vs i v h in
     let count : length (take i vs) ≡ i = length-take-le i vs (omega arith) in
-    sym (ap (joined_all op) (take_next vs i v h) ∙ joined_push op (take i vs) v (omega arith))
+    sym (ap (connected_all op) (take_next vs i v h) ∙ joined_push op (take i vs) v (omega arith))
 
 pub bodies_count : (q : Quantifier) (env : Env) (s : Value) → length (bodies_over q env s) ≡ length (members s)
 bodies_count q env s = length-map (members s) (λ v. value_of (shape q.body.now) (bind q.name.now v env))

@@ -16,9 +16,9 @@ use Rattle.plain_nodes.specs.Faults.{or_later}
 use Rattle.plain_nodes.specs.Facts.{told_fault}
 use Rattle.unfold.specs.Faults.{value_fault, values_fault}
 use Rattle.unfold.specs.Parts.{stored_fault}
-use Rattle.unfold.specs.Values.{Value, Values, leaf, structure, set, none, more, list_of, weight, joined, joined_all, counted, members}
+use Rattle.unfold.specs.Values.{Value, Values, leaf, structure, set, none, more, list_of, weight, connected_value, connected_all, counted, members}
 use Rattle.unfold.specs.Environment.{Env, bind, value_of, values_of}
-use Rattle.unfold.specs.Stands.{Holds, HoldAll}
+use Rattle.unfold.specs.Holding.{Holds, HoldAll}
 use Rattle.unfold.specs.Heads.{is_operator}
 
 -- the values of expressions in order
@@ -57,11 +57,11 @@ pub record IsLeaf (v : Value) : Type 0 where
   pub load : ℕ
   pub is : v ≡ leaf tree load
 
-joined_is_leaf : (vs : List Value) (op : LogicOp) (t : Tree) (w : ℕ) → IsLeaf (fold (joined op) (leaf t w) vs)
+joined_is_leaf : (vs : List Value) (op : LogicOp) (t : Tree) (w : ℕ) → IsLeaf (fold (connected_value op) (leaf t w) vs)
 joined_is_leaf [] op t w = record { tree = t; load = w; is = refl }
 joined_is_leaf (v ∷ vs) op t w = joined_is_leaf vs op _ _
 
-pub all_is_leaf : (op : LogicOp) (vs : List Value) → IsLeaf (joined_all op vs)
+pub all_is_leaf : (op : LogicOp) (vs : List Value) → IsLeaf (connected_all op vs)
 all_is_leaf op [] = record { tree = _; load = _; is = refl }
 all_is_leaf op (v ∷ vs) = joined_is_leaf vs op _ _
 

@@ -24,7 +24,7 @@ use Rattle.plain_nodes.specs.Faults.{tree_fault}
 use Rattle.plain_nodes.specs.Facts.{told_fault}
 use Rattle.unfold.specs.Values.{leaf}
 use Rattle.unfold.specs.Environment.{Env, signal_value}
-use Rattle.unfold.specs.Stands.{Holds, IsLater, StandsFor}
+use Rattle.unfold.specs.Holding.{Holds, IsLater, StandsFor}
 use Rattle.unfold.proofs.Later.{stands_kept}
 
 pub later_push : (u : Unfolding) (node : Plain) → ((signals : ℕ) → IsFormed signals (trees u.nodes) node) →

@@ -18,7 +18,7 @@ use Rattle.unfold.specs.declared.scope.Head.TheVariants as head
 use Rattle.unfold.specs.declared.unfolding.Unfolding.{Unfolding}
 use Rattle.unfold.specs.Values.{Value, leaf, structure, set, list_of, members, picked, part_or, built, grouped}
 use Rattle.unfold.specs.Environment.{Env, value_of, values_of}
-use Rattle.unfold.specs.Stands.{Holds, Keeps}
+use Rattle.unfold.specs.Holding.{Holds, Keeps}
 use Rattle.unfold.specs.Heads.{Heads, HoldMembers, is_operator}
 use Rattle.unfold.proofs.Members.{values_count, value_at, hold_count, hold_at, operator_is_leaf}
 

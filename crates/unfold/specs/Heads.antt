@@ -11,7 +11,7 @@ use Rattle.unfold.specs.declared.values.Stored.{Stored}
 use Rattle.unfold.specs.declared.unfolding.Unfolding.{Unfolding}
 use Rattle.unfold.specs.Values.{Value, leaf, structure, set, truth_value, built, grouped}
 use Rattle.unfold.specs.Environment.{Env, Known, nothing, fields, value, value_of, values_of}
-use Rattle.unfold.specs.Stands.{Holds, HoldAll, Fits}
+use Rattle.unfold.specs.Holding.{Holds, HoldAll, Fits}
 
 -- what was found for a name is what it means
 abbrev pub Names : Unfolding → Named → Known → Type 0

@@ -1,6 +1,6 @@
 pub mod Values
 pub mod Environment
-pub mod Stands
+pub mod Holding
 pub mod Heads
 pub mod Operators
 pub mod Leaves

@@ -7,7 +7,7 @@ use Rattle.unfold.specs.declared.operators.UnaryOp.TheVariants as unary
 use Rattle.unfold.specs.declared.operators.BinaryOp.{BinaryOp}
 use Rattle.unfold.specs.declared.operators.BinaryOp.TheVariants as binary
 use Rattle.unfold.specs.declared.scope.Quantifier.{Quantifier}
-use Rattle.unfold.specs.Values.{Value, opposite, inverted, windowed_value, computed, compared, joined, ranged_value, members}
+use Rattle.unfold.specs.Values.{Value, opposite, inverted, windowed_value, computed, compared, connected_value, ranged_value, members}
 use Rattle.unfold.specs.Environment.{Env, bind, value_of}
 
 -- the value of an operator over the value of its operand
@@ -20,7 +20,7 @@ unary_value (unary.Window op a b) v = windowed_value op a b v
 abbrev pub binary_value : BinaryOp → Value → Value → Value
 binary_value (binary.Arith op) v w = computed op v w
 binary_value (binary.Compare op) v w = compared op v w
-binary_value (binary.Logic op) v w = joined op v w
+binary_value (binary.Logic op) v w = connected_value op v w
 binary_value (binary.Between op a b) v w = ranged_value op a b v w
 
 -- the value of a quantifier's body where its variable stands for a value

@@ -84,8 +84,8 @@ abbrev pub compared : CompareOp → Value → Value → Value
 compared op v w = leaf (formula (atom (comparison op (term_of v) (term_of w)))) (1 + weight v + weight w)
 
 -- a logical operator over two formulas: its weight is one more than that of its operands
-abbrev pub joined : LogicOp → Value → Value → Value
-joined op v w = leaf (formula (connected op (formula_of v) (formula_of w))) (1 + weight v + weight w)
+abbrev pub connected_value : LogicOp → Value → Value → Value
+connected_value op v w = leaf (formula (connected op (formula_of v) (formula_of w))) (1 + weight v + weight w)
 
 -- the interval from a to b; where that is out of bounds, the nearest one
 abbrev pub interval : ℕ → ℕ → Interval
@@ -117,9 +117,9 @@ picked fields x (set vs w) = set vs w
 picked fields x (leaf t w) = leaf t w
 
 -- bodies joined by an operator, the brackets to the left
-abbrev pub joined_all : LogicOp → List Value → Value
-joined_all op [] = leaf (formula falsity) 0
-joined_all op (v ∷ vs) = fold (joined op) (leaf (formula (formula_of v)) (weight v)) vs
+abbrev pub connected_all : LogicOp → List Value → Value
+connected_all op [] = leaf (formula falsity) 0
+connected_all op (v ∷ vs) = fold (connected_value op) (leaf (formula (formula_of v)) (weight v)) vs
 
 -- the formula of body i of a counting quantifier
 abbrev pub body_at : List Formula → ℕ → Formula

@@ -8,8 +8,8 @@ ghost use Rattle.unfold.specs.Bodies.{AreFormulas, HaveFormulas};
 ghost use Rattle.unfold.specs.Environment.{Env, value_of, values_of};
 ghost use Rattle.unfold.specs.Heads.{Heads, is_operator};
 ghost use Rattle.unfold.specs.Operators.{binary_value, bodies_of, body_value, unary_value};
-ghost use Rattle.unfold.specs.Stands.{Fits, Holds, HoldAll, IsLater};
-ghost use Rattle.unfold.specs.Values.{Value, counted, formula_of, joined_all, list_of, members, weight};
+ghost use Rattle.unfold.specs.Holding.{Fits, Holds, HoldAll, IsLater};
+ghost use Rattle.unfold.specs.Values.{Value, counted, formula_of, connected_all, list_of, members, weight};
 
 use crate::counting::gates_weight;
 use crate::fault::{deeper, less};
@@ -187,10 +187,10 @@ impl Unfolding {
         ensures later { OnOk result (IsLater self.old self.new) }
         ensures light { IfOk result (λ s. s.weight ≤ room) }
         ensures holds { (env : Env) → Fits self.old at.entry.scope.now env
-            → IfOk result (λ s. Holds self.new s (joined_all op (bodies_of bodies.entry env))) }
+            → IfOk result (λ s. Holds self.new s (connected_all op (bodies_of bodies.entry env))) }
         ensures heavy { (env : Env) → Fits self.old at.entry.scope.now env
             → IfErr result
-            (λ why. why ≡ Heavy → room < weight (joined_all op (bodies_of bodies.entry env))) }
+            (λ why. why ≡ Heavy → room < weight (connected_all op (bodies_of bodies.entry env))) }
     {
         let set = self.head(at.depth, at.scope, bodies.set)?;
         let count = self.member_count(&set);

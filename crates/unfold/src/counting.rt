@@ -8,7 +8,7 @@ ghost use Rattle.count_sets.specs.Gates.{IsNetwork, IsOver, formula_of, last_for
 ghost use Rattle.plain_nodes.specs.Nodes.{Has, IsFormula, formula, trees};
 ghost use Rattle.unfold.specs.declared.fault.UnfoldFault.TheVariants.{Heavy};
 ghost use Rattle.unfold.specs.Bodies.{AreFormulas, HaveFormulas};
-ghost use Rattle.unfold.specs.Stands.{IsLater};
+ghost use Rattle.unfold.specs.Holding.{IsLater};
 ghost use Rattle.unfold.specs.Values.{counted_formula, counting_weight};
 
 use crate::{UnfoldFault, Unfolding};

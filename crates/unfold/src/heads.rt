@@ -6,7 +6,7 @@ ghost use Rattle.c2po_tree.specs.Shape.{shape};
 ghost use Rattle.unfold.specs.declared.fault.UnfoldFault.TheVariants.{Memory};
 ghost use Rattle.unfold.specs.Environment.{Env, bind, fields_in, value_of};
 ghost use Rattle.unfold.specs.Heads.{Heads, HoldMembers, Names};
-ghost use Rattle.unfold.specs.Stands.{Fits, Holds, StandsFor};
+ghost use Rattle.unfold.specs.Holding.{Fits, Holds, StandsFor};
 ghost use Rattle.unfold.specs.Values.{Value, members, picked};
 
 use crate::fault::deeper;

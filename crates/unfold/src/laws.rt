@@ -8,7 +8,7 @@ ghost use Rattle.mltl_base.specs.Atoms.{Row};
 ghost use Rattle.mltl_base.specs.Formula.{Formula};
 ghost use Rattle.mltl_base.specs.Meaning.{count, sat};
 ghost use Rattle.count_sets.specs.Counting.{compares, counting};
-ghost use Rattle.unfold.specs.Values.{Value, counted_formula, interval, joined_all, weight};
+ghost use Rattle.unfold.specs.Values.{Value, counted_formula, interval, connected_all, weight};
 
 /// A counting quantifier holds at a time exactly where the number of its bodies that hold there compares as it says.
 /// Equal bodies count each.
@@ -23,7 +23,7 @@ pub fn quantifiers_count()
 #[tactic(auto, using(crate::proofs::Loops::joined_weight))]
 pub fn joined_bodies_weigh()
     ensures { (op : LogicOp) (bodies : Seq Value)
-        → weight (joined_all op bodies) ≡ sum_by weight bodies + (length bodies - 1) }
+        → weight (connected_all op bodies) ≡ sum_by weight bodies + (length bodies - 1) }
 {}
 
 /// An interval in bounds is itself.

@@ -7,8 +7,8 @@ ghost use Rattle.unfold.specs.declared.fault.UnfoldFault.TheVariants.{Heavy};
 ghost use Rattle.unfold.specs.declared.values.Place.TheVariants.{Node};
 ghost use Rattle.unfold.specs.Leaves.{node_sort, sort_of};
 ghost use Rattle.unfold.specs.Operators.{binary_value, unary_value};
-ghost use Rattle.unfold.specs.Stands.{Holds, IsLater};
-ghost use Rattle.unfold.specs.Values.{Value, compared, computed, formula_of, interval, inverted, leaf, joined, opposite, ranged_value, term_of, weight, windowed_value};
+ghost use Rattle.unfold.specs.Holding.{Holds, IsLater};
+ghost use Rattle.unfold.specs.Values.{Value, compared, computed, formula_of, interval, inverted, leaf, connected_value, opposite, ranged_value, term_of, weight, windowed_value};
 
 use crate::fault::less;
 use crate::operators::{BinaryOp, UnaryOp};
@@ -264,7 +264,7 @@ impl Unfolding {
         ensures later { OnOk result (IsLater self.old self.new) }
         ensures weight { IfOk result (λ s. s.weight ≡ a.weight + b.weight + 1) }
         ensures holds { (v w : Value) → Holds self.old a v → Holds self.old b w
-            → IfOk result (λ s. Holds self.new s (joined op v w)) }
+            → IfOk result (λ s. Holds self.new s (connected_value op v w)) }
     {
         let left = self.formula(a)?;
         let right = self.formula(b)?;

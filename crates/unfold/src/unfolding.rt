@@ -14,7 +14,7 @@ ghost use Rattle.plain_nodes.specs.Tenses.{has_future, has_past};
 ghost use Rattle.unfold.specs.Faults.{value_fault};
 ghost use Rattle.unfold.specs.Leaves.{signal_node};
 ghost use Rattle.unfold.specs.Parts.{stored_fault};
-ghost use Rattle.unfold.specs.Stands.{HoldAll, Holds, IsLater, Means, StandsFor, nodes_of};
+ghost use Rattle.unfold.specs.Holding.{HoldAll, Holds, IsLater, Means, StandsFor, nodes_of};
 ghost use Rattle.unfold.specs.Values.{Value, Values, formula_of, set, structure, weight};
 
 use crate::UnfoldFault;

@@ -3,7 +3,7 @@ use Rattle.std.proofs.lemmas.List.{take_all}
 use Rattle.c2po_lexer.specs.declared.token.Token.{Token}
 use Rattle.c2po_tree.specs.ItemShape.{item_shape}
 use Rattle.c2po_parse.specs.Sections.{pieces, ended_of, tail_of}
-use Rattle.c2po_parse.specs.Specification.{trees, with_first, with_line, piece_body}
+use Rattle.c2po_parse.specs.Specification.{piece_trees, with_first, with_line, piece_body}
 use Rattle.c2po_parse.proofs.Spans.{many_pieces, faulty_pieces, read_pieces}
 use Rattle.c2po_parse.proofs.parser.item_at.Goals as goal
 
@@ -25,7 +25,7 @@ returns-in-Ok-clause-item c =
     let item : with_line line (piece_body c.args.section (ended_of (drop n ts)) (take n ts)) ≡ Ok (item_shape c.in-Ok.item) =
     subst (λ b. with_line line (piece_body c.args.section b (take n ts)) ≡ Ok (item_shape c.in-Ok.item)) ended c.in-Ok.ensures.item in
     read_pieces c.args.section ts c.index-tokens-0.result n (item_shape c.in-Ok.item) c.requires c.piece_end-end.ensures.before (omega arith) item
-    ∙ ap (λ us. with_first (item_shape c.in-Ok.item) (trees (pieces c.args.section 0 [] us))) (sym tail)
+    ∙ ap (λ us. with_first (item_shape c.in-Ok.item) (piece_trees (pieces c.args.section 0 [] us))) (sym tail)
 
 pub returns-in-Err-clause-fault : goal.returns-in-Err-clause-fault
 returns-in-Err-clause-fault c =

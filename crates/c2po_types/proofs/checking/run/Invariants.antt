@@ -3,7 +3,7 @@ use Rattle.mltl_base.specs.declared.limits.TheConstants.{MAX_WEIGHT}
 use Rattle.c2po_tree.specs.ItemShape.{item_shape}
 use Rattle.c2po_kinds.specs.Checking.{in_turn}
 use Rattle.unfold.specs.Environment.{Env}
-use Rattle.unfold.specs.Stands.{StandsFor}
+use Rattle.unfold.specs.Holding.{StandsFor}
 use Rattle.c2po_types.specs.FirstFault.{item_step, checked}
 use Rattle.c2po_types.specs.Reaching.{state_of}
 use Rattle.c2po_types.proofs.checking.run.Given as goal

@@ -1,6 +1,6 @@
 use Rattle.std.proofs.Common.{◌≡◌, drop}
 use Rattle.unfold.specs.Environment.{Env}
-use Rattle.unfold.specs.Stands.{StandsFor}
+use Rattle.unfold.specs.Holding.{StandsFor}
 use Rattle.c2po_types.specs.FirstFault.{with_signals}
 use Rattle.c2po_types.proofs.steps.add_signals.Given as goal
 

@@ -9,7 +9,7 @@ use Rattle.plain_nodes.specs.declared.nodes.Plain.TheVariants.{Truth, Flag, Numb
 use Rattle.plain_nodes.specs.Nodes as plain
 use Rattle.core_graph.specs.Trees.{leaf, number}
 use Rattle.core_graph.specs.Items.{Has}
-use Rattle.core_graph.specs.Reading.{Stands}
+use Rattle.core_graph.specs.Reading.{Represents}
 use Rattle.core_graph.proofs.Forests.{core_here, grows_then}
 use Rattle.core_graph.proofs.Outputs.{number_there, formula_there, number_named, formula_named}
 use Rattle.core_graph.proofs.NodesRead.{formed_here, same_node, truth_stands, flag_stands, number_stands, signal_stands, minus_stands, arith_stands, compare_stands, not_stands, logic_stands, window_stands, between_stands}
@@ -110,7 +110,7 @@ between-requires-clause-right c =
 
 pub returns-in-Truth-clause-stands : goal.returns-in-Truth-clause-stands
 returns-in-Truth-clause-stands c = λ node e.
-    subst (λ (x : Plain). IfOk c.truth.result (λ n. Stands c.args.columns.now c.truth.new.self n (plain.tree_of (plain.trees (take c.args.i c.args.nodes.now)) x)))
+    subst (λ (x : Plain). IfOk c.truth.result (λ n. Represents c.args.columns.now c.truth.new.self n (plain.tree_of (plain.trees (take c.args.i c.args.nodes.now)) x)))
     (same_node c.args.nodes.now c.args.i (Truth c.in-Truth.value) node c.requires.next c.in-Truth.is e)
     (truth_stands c.args.columns.now c.args.forest.now (take c.args.i c.args.nodes.now) c.args.ids.now c.requires.read c.truth.new.self c.truth.result c.in-Truth.value c.truth.ensures.has)
 
@@ -120,7 +120,7 @@ returns-in_ok-atom-in-Flag-clause-grows c =
 
 pub returns-in_ok-atom-in-Flag-clause-stands : goal.returns-in_ok-atom-in-Flag-clause-stands
 returns-in_ok-atom-in-Flag-clause-stands c = λ node e.
-    subst (λ (x : Plain). IfOk c.share-in-Flag.result (λ n. Stands c.args.columns.now c.share-in-Flag.new.self n (plain.tree_of (plain.trees (take c.args.i c.args.nodes.now)) x)))
+    subst (λ (x : Plain). IfOk c.share-in-Flag.result (λ n. Represents c.args.columns.now c.share-in-Flag.new.self n (plain.tree_of (plain.trees (take c.args.i c.args.nodes.now)) x)))
     (same_node c.args.nodes.now c.args.i (Flag c.in-Flag.signal) node c.requires.next c.in-Flag.is e)
     (flag_stands c.args.columns.now c.args.forest.now (take c.args.i c.args.nodes.now) c.args.ids.now c.requires.read c.share-in-Flag.new.self c.share-in-Flag.result c.in-Flag.signal c.in_ok-atom-in-Flag.atom c.share.new.self c.in_ok-atom-in-Flag.ensures.has c.share-in-Flag.ensures.has)
 
@@ -129,55 +129,55 @@ fits c = search rules
 
 pub returns-in-Number-clause-stands : goal.returns-in-Number-clause-stands
 returns-in-Number-clause-stands c = λ node e.
-    subst (λ (x : Plain). IfOk c.share-in-Number.result (λ n. Stands c.args.columns.now c.share-in-Number.new.self n (plain.tree_of (plain.trees (take c.args.i c.args.nodes.now)) x)))
+    subst (λ (x : Plain). IfOk c.share-in-Number.result (λ n. Represents c.args.columns.now c.share-in-Number.new.self n (plain.tree_of (plain.trees (take c.args.i c.args.nodes.now)) x)))
     (same_node c.args.nodes.now c.args.i (Number c.in-Number.number) node c.requires.next c.in-Number.is e)
     (number_stands c.args.columns.now c.args.forest.now (take c.args.i c.args.nodes.now) c.args.ids.now c.requires.read c.share-in-Number.new.self c.share-in-Number.result c.in-Number.number
     (subst (λ (m : ℤ). IfOk c.share-in-Number.result (λ n. Has c.share-in-Number.new.self n (leaf (number m)))) (to_z-of_z w64 c.in-Number.number (fits c)) c.share-in-Number.ensures.has))
 
 pub returns-in-Signal-clause-stands : goal.returns-in-Signal-clause-stands
 returns-in-Signal-clause-stands c = λ node e.
-    subst (λ (x : Plain). IfOk c.share-in-Signal.result (λ n. Stands c.args.columns.now c.share-in-Signal.new.self n (plain.tree_of (plain.trees (take c.args.i c.args.nodes.now)) x)))
+    subst (λ (x : Plain). IfOk c.share-in-Signal.result (λ n. Represents c.args.columns.now c.share-in-Signal.new.self n (plain.tree_of (plain.trees (take c.args.i c.args.nodes.now)) x)))
     (same_node c.args.nodes.now c.args.i (Signal c.in-Signal.signal) node c.requires.next c.in-Signal.is e)
     (signal_stands c.args.columns.now c.args.forest.now (take c.args.i c.args.nodes.now) c.args.ids.now c.requires.read c.share-in-Signal.new.self c.share-in-Signal.result c.in-Signal.signal c.share-in-Signal.ensures.has)
 
 pub returns-in-Minus-clause-stands : goal.returns-in-Minus-clause-stands
 returns-in-Minus-clause-stands c = λ node e.
-    subst (λ (x : Plain). IfOk c.share-in-Minus.result (λ n. Stands c.args.columns.now c.share-in-Minus.new.self n (plain.tree_of (plain.trees (take c.args.i c.args.nodes.now)) x)))
+    subst (λ (x : Plain). IfOk c.share-in-Minus.result (λ n. Represents c.args.columns.now c.share-in-Minus.new.self n (plain.tree_of (plain.trees (take c.args.i c.args.nodes.now)) x)))
     (same_node c.args.nodes.now c.args.i (Minus c.in-Minus.a) node c.requires.next c.in-Minus.is e)
     (minus_stands c.args.columns.now c.args.forest.now (take c.args.i c.args.nodes.now) c.args.ids.now c.requires.read c.share-in-Minus.new.self c.share-in-Minus.result c.in-Minus.a (formed_here (length c.args.columns.now) c.args.nodes.now c.args.i (Minus c.in-Minus.a) c.requires.sound c.requires.next c.in-Minus.is) c.share-in-Minus.ensures.has)
 
 pub returns-in-Arith-clause-stands : goal.returns-in-Arith-clause-stands
 returns-in-Arith-clause-stands c = λ node e.
-    subst (λ (x : Plain). IfOk c.share-in-Arith.result (λ n. Stands c.args.columns.now c.share-in-Arith.new.self n (plain.tree_of (plain.trees (take c.args.i c.args.nodes.now)) x)))
+    subst (λ (x : Plain). IfOk c.share-in-Arith.result (λ n. Represents c.args.columns.now c.share-in-Arith.new.self n (plain.tree_of (plain.trees (take c.args.i c.args.nodes.now)) x)))
     (same_node c.args.nodes.now c.args.i (Arith c.in-Arith.op c.in-Arith.a c.in-Arith.b) node c.requires.next c.in-Arith.is e)
     (arith_stands c.args.columns.now c.args.forest.now (take c.args.i c.args.nodes.now) c.args.ids.now c.requires.read c.share-in-Arith.new.self c.share-in-Arith.result c.in-Arith.op c.in-Arith.a c.in-Arith.b (formed_here (length c.args.columns.now) c.args.nodes.now c.args.i (Arith c.in-Arith.op c.in-Arith.a c.in-Arith.b) c.requires.sound c.requires.next c.in-Arith.is).0 (formed_here (length c.args.columns.now) c.args.nodes.now c.args.i (Arith c.in-Arith.op c.in-Arith.a c.in-Arith.b) c.requires.sound c.requires.next c.in-Arith.is).1 c.share-in-Arith.ensures.has)
 
 pub returns-in-Compare-clause-stands : goal.returns-in-Compare-clause-stands
 returns-in-Compare-clause-stands c = λ node e.
-    subst (λ (x : Plain). IfOk c.comparison.result (λ n. Stands c.args.columns.now c.comparison.new.self n (plain.tree_of (plain.trees (take c.args.i c.args.nodes.now)) x)))
+    subst (λ (x : Plain). IfOk c.comparison.result (λ n. Represents c.args.columns.now c.comparison.new.self n (plain.tree_of (plain.trees (take c.args.i c.args.nodes.now)) x)))
     (same_node c.args.nodes.now c.args.i (Compare c.in-Compare.op c.in-Compare.a c.in-Compare.b) node c.requires.next c.in-Compare.is e)
     (compare_stands c.args.columns.now c.args.forest.now (take c.args.i c.args.nodes.now) c.args.ids.now c.requires.read c.comparison.new.self c.comparison.result c.in-Compare.op c.in-Compare.a c.in-Compare.b (formed_here (length c.args.columns.now) c.args.nodes.now c.args.i (Compare c.in-Compare.op c.in-Compare.a c.in-Compare.b) c.requires.sound c.requires.next c.in-Compare.is).0 (formed_here (length c.args.columns.now) c.args.nodes.now c.args.i (Compare c.in-Compare.op c.in-Compare.a c.in-Compare.b) c.requires.sound c.requires.next c.in-Compare.is).1 c.comparison.ensures.has)
 
 pub returns-in-Not-clause-stands : goal.returns-in-Not-clause-stands
 returns-in-Not-clause-stands c = λ node e.
-    subst (λ (x : Plain). IfOk c.negation.result (λ n. Stands c.args.columns.now c.negation.new.self n (plain.tree_of (plain.trees (take c.args.i c.args.nodes.now)) x)))
+    subst (λ (x : Plain). IfOk c.negation.result (λ n. Represents c.args.columns.now c.negation.new.self n (plain.tree_of (plain.trees (take c.args.i c.args.nodes.now)) x)))
     (same_node c.args.nodes.now c.args.i (Not c.in-Not.a) node c.requires.next c.in-Not.is e)
     (not_stands c.args.columns.now c.args.forest.now (take c.args.i c.args.nodes.now) c.args.ids.now c.requires.read c.negation.new.self c.negation.result c.in-Not.a (formed_here (length c.args.columns.now) c.args.nodes.now c.args.i (Not c.in-Not.a) c.requires.sound c.requires.next c.in-Not.is) c.negation.ensures.has)
 
 pub returns-in-Logic-clause-stands : goal.returns-in-Logic-clause-stands
 returns-in-Logic-clause-stands c = λ node e.
-    subst (λ (x : Plain). IfOk c.connective.result (λ n. Stands c.args.columns.now c.connective.new.self n (plain.tree_of (plain.trees (take c.args.i c.args.nodes.now)) x)))
+    subst (λ (x : Plain). IfOk c.connective.result (λ n. Represents c.args.columns.now c.connective.new.self n (plain.tree_of (plain.trees (take c.args.i c.args.nodes.now)) x)))
     (same_node c.args.nodes.now c.args.i (Logic c.in-Logic.op c.in-Logic.a c.in-Logic.b) node c.requires.next c.in-Logic.is e)
     (logic_stands c.args.columns.now c.args.forest.now (take c.args.i c.args.nodes.now) c.args.ids.now c.requires.read c.connective.new.self c.connective.result c.in-Logic.op c.in-Logic.a c.in-Logic.b (formed_here (length c.args.columns.now) c.args.nodes.now c.args.i (Logic c.in-Logic.op c.in-Logic.a c.in-Logic.b) c.requires.sound c.requires.next c.in-Logic.is).0 (formed_here (length c.args.columns.now) c.args.nodes.now c.args.i (Logic c.in-Logic.op c.in-Logic.a c.in-Logic.b) c.requires.sound c.requires.next c.in-Logic.is).1 c.connective.ensures.has)
 
 pub returns-in-Window-clause-stands : goal.returns-in-Window-clause-stands
 returns-in-Window-clause-stands c = λ node e.
-    subst (λ (x : Plain). IfOk c.window.result (λ n. Stands c.args.columns.now c.window.new.self n (plain.tree_of (plain.trees (take c.args.i c.args.nodes.now)) x)))
+    subst (λ (x : Plain). IfOk c.window.result (λ n. Represents c.args.columns.now c.window.new.self n (plain.tree_of (plain.trees (take c.args.i c.args.nodes.now)) x)))
     (same_node c.args.nodes.now c.args.i (Window c.in-Window.op c.in-Window.interval c.in-Window.a) node c.requires.next c.in-Window.is e)
     (window_stands c.args.columns.now c.args.forest.now (take c.args.i c.args.nodes.now) c.args.ids.now c.requires.read c.window.new.self c.window.result c.in-Window.op c.in-Window.interval c.in-Window.a (formed_here (length c.args.columns.now) c.args.nodes.now c.args.i (Window c.in-Window.op c.in-Window.interval c.in-Window.a) c.requires.sound c.requires.next c.in-Window.is).1 c.window.ensures.has)
 
 pub returns-in-Between-clause-stands : goal.returns-in-Between-clause-stands
 returns-in-Between-clause-stands c = λ node e.
-    subst (λ (x : Plain). IfOk c.between.result (λ n. Stands c.args.columns.now c.between.new.self n (plain.tree_of (plain.trees (take c.args.i c.args.nodes.now)) x)))
+    subst (λ (x : Plain). IfOk c.between.result (λ n. Represents c.args.columns.now c.between.new.self n (plain.tree_of (plain.trees (take c.args.i c.args.nodes.now)) x)))
     (same_node c.args.nodes.now c.args.i (Between c.in-Between.op c.in-Between.interval c.in-Between.a c.in-Between.b) node c.requires.next c.in-Between.is e)
     (between_stands c.args.columns.now c.args.forest.now (take c.args.i c.args.nodes.now) c.args.ids.now c.requires.read c.between.new.self c.between.result c.in-Between.op c.in-Between.interval c.in-Between.a c.in-Between.b (formed_here (length c.args.columns.now) c.args.nodes.now c.args.i (Between c.in-Between.op c.in-Between.interval c.in-Between.a c.in-Between.b) c.requires.sound c.requires.next c.in-Between.is).1 (formed_here (length c.args.columns.now) c.args.nodes.now c.args.i (Between c.in-Between.op c.in-Between.interval c.in-Between.a c.in-Between.b) c.requires.sound c.requires.next c.in-Between.is).2 c.between.ensures.has)

@@ -1,7 +1,7 @@
 -- Two cells of the last row, or `false` and its Not where there are too few bodies.
 use Rattle.std.proofs.Common.{◌≡◌, ◌+◌, false, arith}
 use Rattle.count_sets.specs.Counting.{truth, least}
-use Rattle.count_sets.specs.Tables.{Stands, IsTable}
+use Rattle.count_sets.specs.Tables.{UnfoldsTo, IsTable}
 use Rattle.count_sets.proofs.Thresholds.{least_above}
 use Rattle.count_sets.proofs.Ends.{false_stands, false_formed, cell_stands, both_last, both_formed}
 use Rattle.count_sets.proofs.Sharing.{alone_shared, alone_nots, last_both_shared}
@@ -11,7 +11,7 @@ pub returns-then-m-n-clause-formula : goal.returns-then-m-n-clause-formula
 returns-then-m-n-clause-formula c =
     let less : least c.args.m c.args.n ≡ truth false = least_above c.args.m c.args.n (omega arith) in
     let none : least (c.args.m + 1) c.args.n ≡ truth false = least_above (c.args.m + 1) c.args.n (omega arith) in
-    let stands : Stands c.add.new.gates c.in_ok-no.no (truth false)
+    let stands : UnfoldsTo c.add.new.gates c.in_ok-no.no (truth false)
     = false_stands c.new-gates.result c.add.new.gates c.in_ok-no.no c.new-gates.ensures c.in_ok-no.ensures.added c.in_ok-no.ensures.number in
     rw (less, none) (both_last c.add.new.gates c.add-then-m-n.new.gates c.add-then-m-n-2.new.gates c.in_ok-no.no c.in_ok-no.no c.in_ok-within.within
     (truth false) (truth false) stands stands c.in_ok-within.ensures.added c.in_ok-within.ensures.number c.in_ok-_number.ensures.added)
@@ -38,7 +38,7 @@ returns-clause-formed c =
 
 pub returns-then-m-n-clause-shared : goal.returns-then-m-n-clause-shared
 returns-then-m-n-clause-shared c =
-    let stands : Stands c.add.new.gates c.in_ok-no.no (truth false)
+    let stands : UnfoldsTo c.add.new.gates c.in_ok-no.no (truth false)
     = false_stands c.new-gates.result c.add.new.gates c.in_ok-no.no c.new-gates.ensures c.in_ok-no.ensures.added c.in_ok-no.ensures.number in
     last_both_shared c.args.n c.add.new.gates c.add-then-m-n.new.gates c.add-then-m-n-2.new.gates c.in_ok-no.no c.in_ok-no.no c.in_ok-within.within
     (alone_shared c.new-gates.result c.add.new.gates false c.new-gates.ensures c.in_ok-no.ensures.added)

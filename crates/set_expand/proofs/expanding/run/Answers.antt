@@ -1,7 +1,7 @@
 use Rattle.std.proofs.Common.{refl, subst, map, drop, ◌+◌}
 use Rattle.std.proofs.lemmas.Result.{err_from_is_err_and}
 use Rattle.c2po_tree.specs.ItemShape.{item_shape}
-use Rattle.set_expand.specs.Standing.{Leaves}
+use Rattle.set_expand.specs.Reached.{Leaves}
 use Rattle.set_expand.proofs.Stepping.{leaves-all, first-light, leaves-less, left-first}
 use Rattle.set_expand.proofs.expanding.run.Goals as goal
 

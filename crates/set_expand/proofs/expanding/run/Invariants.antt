@@ -1,6 +1,6 @@
 use Rattle.std.proofs.Common.{drop, map}
 use Rattle.c2po_tree.specs.ItemShape.{item_shape}
-use Rattle.set_expand.specs.Standing.{Leaves}
+use Rattle.set_expand.specs.Reached.{Leaves}
 use Rattle.set_expand.proofs.expanding.run.Given as goal
 
 -- the items that are left

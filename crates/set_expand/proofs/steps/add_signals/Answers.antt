@@ -1,7 +1,7 @@
 use Rattle.std.proofs.Common.{◌∙◌, sym, subst, arith}
 use Rattle.plain_nodes.proofs.Pushing.{grows_then}
 use Rattle.unfold.specs.Environment.{declare, value, signal_value}
-use Rattle.unfold.specs.Stands.{StandsFor, nodes_of}
+use Rattle.unfold.specs.Holding.{StandsFor, nodes_of}
 use Rattle.set_expand.proofs.Stepping.{sound-more, signals-next, signals-end}
 use Rattle.set_expand.proofs.steps.add_signals.Goals as goal
 

@@ -1,9 +1,9 @@
 use Rattle.std.proofs.Common.{◌≡◌, ◌+◌, drop}
 use Rattle.plain_nodes.specs.Nodes.{AreSound, Grows}
 use Rattle.unfold.specs.Environment.{Env}
-use Rattle.unfold.specs.Stands.{StandsFor, nodes_of}
+use Rattle.unfold.specs.Holding.{StandsFor, nodes_of}
 use Rattle.c2po_types.specs.FirstFault.{with_signals}
-use Rattle.set_expand.specs.Standing.{signals_named}
+use Rattle.set_expand.specs.Reached.{signals_named}
 use Rattle.set_expand.proofs.steps.add_signals.Given as goal
 
 -- the signals so far stand for their numbers, and those that are left make the whole

@@ -3,7 +3,7 @@ use Rattle.c2po_tree.specs.Shape.{shape}
 use Rattle.plain_nodes.specs.Nodes.{formula}
 use Rattle.plain_nodes.proofs.Pushing.{grows_then}
 use Rattle.unfold.specs.Environment.{value_of}
-use Rattle.unfold.specs.Stands.{nodes_of}
+use Rattle.unfold.specs.Holding.{nodes_of}
 use Rattle.unfold.specs.Values.{formula_of}
 use Rattle.set_expand.specs.Outputs.{name_of}
 use Rattle.set_expand.proofs.Stepping.{stands-contract}

@@ -3,8 +3,8 @@ use Rattle.std.proofs.lemmas.List.{length-map}
 use Rattle.c2po_tree.specs.ItemShape.{input, type_shape}
 use Rattle.c2po_types.specs.FirstFault.{with_signals}
 use Rattle.c2po_types.specs.Signals.{is_bool}
-use Rattle.unfold.specs.Stands.{StandsFor}
-use Rattle.set_expand.specs.Standing.{signals_named}
+use Rattle.unfold.specs.Holding.{StandsFor}
+use Rattle.set_expand.specs.Reached.{signals_named}
 use Rattle.set_expand.proofs.Stepping.{stands-behind}
 use Rattle.set_expand.proofs.steps.put_input.Goals as goal
 

@@ -2,7 +2,7 @@ use Rattle.std.proofs.Common.{refl, sym, ap, subst, ◌∙◌, arith, map}
 use Rattle.c2po_tree.specs.ItemShape.{structure, field_shape}
 use Rattle.plain_nodes.specs.Nodes.{AreSound}
 use Rattle.unfold.specs.Environment.{declare, fields}
-use Rattle.unfold.specs.Stands.{StandsFor}
+use Rattle.unfold.specs.Holding.{StandsFor}
 use Rattle.set_expand.proofs.Stepping.{stands-behind}
 use Rattle.set_expand.proofs.steps.put_struct.Goals as goal
 

@@ -9,10 +9,10 @@ use Rattle.c2po_tree.specs.Shape.{shape, node_shape}
 use Rattle.unfold.specs.declared.fault.UnfoldFault.TheVariants.{Heavy}
 use Rattle.unfold.specs.declared.values.Place.TheVariants.{Node}
 use Rattle.unfold.specs.declared.values.Stored.{Stored}
-use Rattle.unfold.specs.Values.{weight, members, formula_of, truth_value, joined_all, counted, counted_formula, counting_weight}
+use Rattle.unfold.specs.Values.{weight, members, formula_of, truth_value, connected_all, counted, counted_formula, counting_weight}
 use Rattle.unfold.specs.Environment.{value_of, bind}
 use Rattle.unfold.specs.Operators.{bodies_over, bodies_of}
-use Rattle.unfold.specs.Stands.{Holds, IsLater}
+use Rattle.unfold.specs.Holding.{Holds, IsLater}
 use Rattle.unfold.specs.Bodies.{HaveFormulas}
 use Rattle.unfold.proofs.Later.{holds_later, fits_later, heads_later, later_then}
 use Rattle.unfold.proofs.Members.{holds_weight, found_at}
@@ -43,34 +43,34 @@ binary-returns-clause-holds t c = λ env h.
 
 pub operator-returns-in-Each-clause-holds : goal.operator-returns-in-Each-clause-holds
 operator-returns-in-Each-clause-holds t c = λ env h o.
-    let same : value_of (shape c.args.e.now) env ≡ joined_all And (values_over c.deref-in-Each-2.result.now c.in-Each.name env (value_of (shape c.deref-in-Each.result.now) env)) =
+    let same : value_of (shape c.args.e.now) env ≡ connected_all And (values_over c.deref-in-Each-2.result.now c.in-Each.name env (value_of (shape c.deref-in-Each.result.now) env)) =
     ap (λ n. value_of (node_shape c.args.e.now.line n) env) c.in-Each.is
-    ∙ (ap (λ d. joined_all And (values_over c.in-Each.body.value c.in-Each.name env (value_of (shape d) env))) (sym c.deref-in-Each.ensures)
-    ∙ ap (λ d. joined_all And (values_over d c.in-Each.name env (value_of (shape c.deref-in-Each.result.now) env))) (sym c.deref-in-Each-2.ensures)) in
+    ∙ (ap (λ d. connected_all And (values_over c.in-Each.body.value c.in-Each.name env (value_of (shape d) env))) (sym c.deref-in-Each.ensures)
+    ∙ ap (λ d. connected_all And (values_over d c.in-Each.name env (value_of (shape c.deref-in-Each.result.now) env))) (sym c.deref-in-Each-2.ensures)) in
     subst (λ w. IfOk c.joined_bodies.result (λ s. Holds c.joined_bodies.new.self s w)) (sym same) (c.joined_bodies.ensures.holds env h)
 
 pub operator-returns-in-Each-clause-heavy : goal.operator-returns-in-Each-clause-heavy
 operator-returns-in-Each-clause-heavy t c = λ env h o.
-    let same : value_of (shape c.args.e.now) env ≡ joined_all And (values_over c.deref-in-Each-2.result.now c.in-Each.name env (value_of (shape c.deref-in-Each.result.now) env)) =
+    let same : value_of (shape c.args.e.now) env ≡ connected_all And (values_over c.deref-in-Each-2.result.now c.in-Each.name env (value_of (shape c.deref-in-Each.result.now) env)) =
     ap (λ n. value_of (node_shape c.args.e.now.line n) env) c.in-Each.is
-    ∙ (ap (λ d. joined_all And (values_over c.in-Each.body.value c.in-Each.name env (value_of (shape d) env))) (sym c.deref-in-Each.ensures)
-    ∙ ap (λ d. joined_all And (values_over d c.in-Each.name env (value_of (shape c.deref-in-Each.result.now) env))) (sym c.deref-in-Each-2.ensures)) in
+    ∙ (ap (λ d. connected_all And (values_over c.in-Each.body.value c.in-Each.name env (value_of (shape d) env))) (sym c.deref-in-Each.ensures)
+    ∙ ap (λ d. connected_all And (values_over d c.in-Each.name env (value_of (shape c.deref-in-Each.result.now) env))) (sym c.deref-in-Each-2.ensures)) in
     subst (λ w. IfErr c.joined_bodies.result (λ why. why ≡ Heavy → c.args.room < weight w)) (sym same) (c.joined_bodies.ensures.heavy env h)
 
 pub operator-returns-in-Exists-clause-holds : goal.operator-returns-in-Exists-clause-holds
 operator-returns-in-Exists-clause-holds t c = λ env h o.
-    let same : value_of (shape c.args.e.now) env ≡ joined_all Or (values_over c.deref-in-Exists-2.result.now c.in-Exists.name env (value_of (shape c.deref-in-Exists.result.now) env)) =
+    let same : value_of (shape c.args.e.now) env ≡ connected_all Or (values_over c.deref-in-Exists-2.result.now c.in-Exists.name env (value_of (shape c.deref-in-Exists.result.now) env)) =
     ap (λ n. value_of (node_shape c.args.e.now.line n) env) c.in-Exists.is
-    ∙ (ap (λ d. joined_all Or (values_over c.in-Exists.body.value c.in-Exists.name env (value_of (shape d) env))) (sym c.deref-in-Exists.ensures)
-    ∙ ap (λ d. joined_all Or (values_over d c.in-Exists.name env (value_of (shape c.deref-in-Exists.result.now) env))) (sym c.deref-in-Exists-2.ensures)) in
+    ∙ (ap (λ d. connected_all Or (values_over c.in-Exists.body.value c.in-Exists.name env (value_of (shape d) env))) (sym c.deref-in-Exists.ensures)
+    ∙ ap (λ d. connected_all Or (values_over d c.in-Exists.name env (value_of (shape c.deref-in-Exists.result.now) env))) (sym c.deref-in-Exists-2.ensures)) in
     subst (λ w. IfOk c.joined_bodies-in-Exists.result (λ s. Holds c.joined_bodies-in-Exists.new.self s w)) (sym same) (c.joined_bodies-in-Exists.ensures.holds env h)
 
 pub operator-returns-in-Exists-clause-heavy : goal.operator-returns-in-Exists-clause-heavy
 operator-returns-in-Exists-clause-heavy t c = λ env h o.
-    let same : value_of (shape c.args.e.now) env ≡ joined_all Or (values_over c.deref-in-Exists-2.result.now c.in-Exists.name env (value_of (shape c.deref-in-Exists.result.now) env)) =
+    let same : value_of (shape c.args.e.now) env ≡ connected_all Or (values_over c.deref-in-Exists-2.result.now c.in-Exists.name env (value_of (shape c.deref-in-Exists.result.now) env)) =
     ap (λ n. value_of (node_shape c.args.e.now.line n) env) c.in-Exists.is
-    ∙ (ap (λ d. joined_all Or (values_over c.in-Exists.body.value c.in-Exists.name env (value_of (shape d) env))) (sym c.deref-in-Exists.ensures)
-    ∙ ap (λ d. joined_all Or (values_over d c.in-Exists.name env (value_of (shape c.deref-in-Exists.result.now) env))) (sym c.deref-in-Exists-2.ensures)) in
+    ∙ (ap (λ d. connected_all Or (values_over c.in-Exists.body.value c.in-Exists.name env (value_of (shape d) env))) (sym c.deref-in-Exists.ensures)
+    ∙ ap (λ d. connected_all Or (values_over d c.in-Exists.name env (value_of (shape c.deref-in-Exists.result.now) env))) (sym c.deref-in-Exists-2.ensures)) in
     subst (λ w. IfErr c.joined_bodies-in-Exists.result (λ why. why ≡ Heavy → c.args.room < weight w)) (sym same) (c.joined_bodies-in-Exists.ensures.heavy env h)
 
 pub operator-returns-in-Count-clause-holds : goal.operator-returns-in-Count-clause-holds
@@ -153,7 +153,7 @@ joined_bodies-returns-in_err-left-clause-heavy t c = λ env h.
       arith,
       c.in_err-left.ensures.heavy,
       c.loop-i.invariant.light,
-      holds_weight (joined_all c.args.op (take i bodies)) c.loop-i.self c.loop-i.all (c.loop-i.invariant.holds env s h heads),
+      holds_weight (connected_all c.args.op (take i bodies)) c.loop-i.self c.loop-i.all (c.loop-i.invariant.holds env s h heads),
       joined_within c.args.op bodies i w (body_at c.args.bodies env s v i at) c.loop-i.auto.i,
     ))
 
@@ -175,7 +175,7 @@ joined_bodies-returns-in_err-next-clause-heavy t c = λ env h.
       c.in_err-next.ensures.heavy env s v fits there at e,
       c.in_ok-left.ensures.left,
       c.loop-i.invariant.light,
-      holds_weight (joined_all c.args.op (take i bodies)) c.loop-i.self c.loop-i.all (c.loop-i.invariant.holds env s h heads),
+      holds_weight (connected_all c.args.op (take i bodies)) c.loop-i.self c.loop-i.all (c.loop-i.invariant.holds env s h heads),
       joined_within c.args.op bodies i w (body_at c.args.bodies env s v i at) c.loop-i.auto.i,
     ))
 
@@ -197,8 +197,8 @@ joined_bodies-loop-i-preserved t c =
           let there = heads_later c.in_ok-set.set c.args.self.now now s c.loop-i.invariant.later heads in
           subst (λ x. Holds new c.in_ok-joined.joined x)
           (joined_next c.args.op bodies i w (body_at c.args.bodies env s v i at) c.loop-i.auto.i)
-          (c.in_ok-joined.ensures.holds (joined_all c.args.op (take i bodies)) w
-          (holds_later (joined_all c.args.op (take i bodies)) now mid c.loop-i.all c.in_ok-next.ensures.later (c.loop-i.invariant.holds env s h heads))
+          (c.in_ok-joined.ensures.holds (connected_all c.args.op (take i bodies)) w
+          (holds_later (connected_all c.args.op (take i bodies)) now mid c.loop-i.all c.in_ok-next.ensures.later (c.loop-i.invariant.holds env s h heads))
           (c.in_ok-next.ensures.holds env s v fits there at));
     }
 
@@ -209,7 +209,7 @@ joined_bodies-returns-clause-holds t c = λ env h.
     let bodies = bodies_over c.args.bodies env s in
     let whole : take c.loop-i.i bodies ≡ bodies =
     take_all c.loop-i.i bodies (omega (arith, bodies_count c.args.bodies env s, c.member_count-count.ensures s heads)) in
-    subst (λ vs. Holds c.loop-i.self c.loop-i.all (joined_all c.args.op vs)) whole (c.loop-i.invariant.holds env s h heads)
+    subst (λ vs. Holds c.loop-i.self c.loop-i.all (connected_all c.args.op vs)) whole (c.loop-i.invariant.holds env s h heads)
 
 pub body_nodes-returns-in_err-next-clause-heavy : goal.body_nodes-returns-in_err-next-clause-heavy
 body_nodes-returns-in_err-next-clause-heavy t c = λ env h.

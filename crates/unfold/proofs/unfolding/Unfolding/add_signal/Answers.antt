@@ -3,7 +3,7 @@ use Rattle.plain_nodes.specs.Nodes.{AreSound, Grows, IsFormed, trees}
 use Rattle.plain_nodes.proofs.Pushing.{grows_push, sound_push}
 use Rattle.unfold.specs.Environment.{value, signal_value}
 use Rattle.unfold.specs.declared.values.Place.TheVariants.{Node}
-use Rattle.unfold.specs.Stands.{StandsFor}
+use Rattle.unfold.specs.Holding.{StandsFor}
 use Rattle.unfold.proofs.Nodes.{signal_formed, signal_holds, stands_push}
 use Rattle.unfold.proofs.unfolding.Unfolding.add_signal.Goals as goal
 

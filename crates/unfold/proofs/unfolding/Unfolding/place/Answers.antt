@@ -1,7 +1,7 @@
 use Rattle.std.proofs.Common.{◌++◌, ◌∷◌, [], sym, subst}
 use Rattle.plain_nodes.specs.Nodes.{Has, tree_of, trees}
 use Rattle.plain_nodes.proofs.Pushing.{has_new}
-use Rattle.unfold.specs.Stands.{IsLater}
+use Rattle.unfold.specs.Holding.{IsLater}
 use Rattle.unfold.proofs.Nodes.{later_push}
 use Rattle.unfold.proofs.unfolding.Unfolding.place.Goals as goal
 

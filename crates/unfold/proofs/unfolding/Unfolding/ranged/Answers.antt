@@ -1,7 +1,7 @@
 use Rattle.std.proofs.Common.{subst, arith, ◌+◌}
 use Rattle.plain_nodes.specs.Nodes.{formula, ranged}
 use Rattle.unfold.specs.Values.{leaf, formula_of, weight}
-use Rattle.unfold.specs.Stands.{Holds}
+use Rattle.unfold.specs.Holding.{Holds}
 use Rattle.unfold.proofs.Later.{holds_later, later_then}
 use Rattle.unfold.proofs.Members.{holds_weight}
 use Rattle.unfold.proofs.Nodes.{between_leaf}

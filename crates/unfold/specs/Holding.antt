@@ -1,4 +1,4 @@
--- Which values and which environment an unfolding stands for.
+-- What an unfolding holds: which values, and the environment that it stands for.
 
 use Rattle.std.specs.Prelude.{ℕ, ◌≡◌, Option, Some, None, List, [], ◌∷◌, slice_get}
 use Rattle.plain_nodes.specs.declared.nodes.Plain.{Plain}
