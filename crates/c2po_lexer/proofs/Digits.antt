@@ -1,5 +1,5 @@
 -- Runs of digits: they are ASCII, and `parse` reads them.
-use Rattle.std.proofs.Common.{◌≡◌, ◌<◌, ◌≤◌, ◌↔◌, ◌^◌, ◌+◌, ℕ, ℤ, pos, Bool, true, false, cond, ◌&&◌, List, [], ◌∷◌, length, take, Result, Ok, Err, IsSome, refl, arith, suc}
+use Rattle.std.proofs.Common.{◌≡◌, ◌<◌, ◌≤◌, ◌↔◌, ◌^◌, ◌+◌, ℕ, ℤ, pos, Bool, true, false, cond, List, [], ◌∷◌, length, take, Result, Ok, Err, IsSome, refl, arith, suc}
 use Rattle.std.specs.Result.{OkIff, result_ok}
 use Rattle.std.specs.List.{prefix_len}
 use Rattle.std.specs.Char.{is_ascii_digit}

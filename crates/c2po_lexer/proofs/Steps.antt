@@ -4,7 +4,7 @@ use Rattle.std.proofs.lemmas.List.{drop-drop, length-drop, length-take-le, drop_
 use Rattle.std.proofs.Math.Seq.{take-add}
 use Rattle.std.proofs.lemmas.List.Sums.{sum_by-append}
 use Rattle.c2po_lexer.specs.Cut.{front_of, size_of, piece_at, pieces_from}
-use Rattle.c2po_lexer.specs.Tokens.{line_at, reading_of, reading_at, size_at, before, all_of, tokens_of, result_map}
+use Rattle.c2po_lexer.specs.Tokens.{IsBehind, line_at, reading_of, reading_at, size_at, before, all_of, tokens_of, result_map}
 use Rattle.c2po_lexer.specs.declared.token.Token.{Token}
 use Rattle.c2po_lexer.specs.declared.fault.LexFault.{LexFault}
 
@@ -41,11 +41,24 @@ line_at-add text start n =
     rw cut (omega (arith, joined))
 
 -- the line after a piece
-pub line_past : (text : List ℕ) (start size line count : ℕ) (rest : List ℕ) → rest ≡ drop start text → size ≤ length rest → line ≡ line_at text start → count ≡ count_by (λ b. b == 10) (take size rest) → line + count ≡ line_at text (start + length (take size rest))
+line_past : (text : List ℕ) (start size line count : ℕ) (rest : List ℕ) → rest ≡ drop start text → size ≤ length rest → line ≡ line_at text start → count ≡ count_by (λ b. b == 10) (take size rest) → line + count ≡ line_at text (start + length (take size rest))
 line_past text start size line count rest e inside l k =
     let n : length (take size rest) ≡ size = length-take-le size rest inside in
     let past = line_at-add text start size in
     cc
+
+-- the place behind a piece
+pub behind_piece : (text : List ℕ) (start size line count : ℕ) (rest : List ℕ) → start < length text → rest ≡ drop start text → size ≡ size_of (front_of rest) → size ≤ length rest → line ≡ line_at text start
+    → count ≡ count_by (λ b. b == 10) (take size rest) → IsBehind text start (start + length (take size rest)) (line + count)
+behind_piece text start size line count rest within e is inside l k =
+    let whole : length (take size rest) ≡ size = length-take-le size rest inside in
+    let same : size ≡ size_at text start = is ∙ ap (λ r. size_of (front_of r)) e in
+    let left : length rest ≡ length text - start = ap length e ∙ length-drop start text in
+    record {
+      start = omega (arith, whole, same);
+      inside = omega (arith, whole, inside, left, within);
+      line = line_past text start size line count rest e inside l k;
+    }
 
 -- the tokens of a text from a place on, or the first fault from there on
 unfoldable pub tokens_from : List ℕ → ℕ → Result (List Token) LexFault

@@ -71,6 +71,12 @@ reading_at text start = reading_of text (piece_at start (drop start text))
 abbrev pub size_at : List ℕ → ℕ → ℕ
 size_at text start = size_of (front_of (drop start text))
 
+-- a place and its line, just behind the piece at another place
+pub record IsBehind (text : List ℕ) (first next number : ℕ) : Type 0 where
+  pub start : next ≡ first + size_at text first
+  pub inside : next ≤ length text
+  pub line : number ≡ line_at text next
+
 -- a token comes before the others, and a fault is the first one
 abbrev pub before :
     Result (Option Token) LexFault → Result (List Token) LexFault → Result (List Token) LexFault

@@ -4,7 +4,7 @@ ghost use Rattle.std.specs.Prelude.{◌≡◌, ◌≢◌, ◌==◌, ◌<◌, ◌
 ghost use Rattle.std.specs.Str.{all_ascii_digits};
 ghost use Rattle.std.specs.Str.Parse.{digits_value};
 ghost use Rattle.c2po_lexer.specs.Cut.{HasDigitsAlone};
-ghost use Rattle.c2po_lexer.specs.Tokens.{line_at, word_of, number_of, what_of, reading_at, size_at, tokens_of, HasPlainName, AreInOrder, IsWrittenAs, bytes_of};
+ghost use Rattle.c2po_lexer.specs.Tokens.{line_at, word_of, number_of, what_of, reading_at, size_at, tokens_of, HasPlainName, AreInOrder, IsBehind, IsWrittenAs, bytes_of};
 
 use crate::fault::LexFault;
 use crate::front::Front;
@@ -87,9 +87,7 @@ fn piece(text: &[u8], place: Place) -> Result<(Option<Token>, Place), LexFault>
     requires inside { place.start < length text.now }
     requires line { place.line ≡ line_at text.now place.start }
     ensures token { IfOk result (λ r. reading_at text.now place.start ≡ Ok r.0) }
-    ensures next { IfOk result (λ r. r.1.start ≡ place.start + size_at text.now place.start) }
-    ensures line { IfOk result (λ r. r.1.line ≡ line_at text.now r.1.start) }
-    ensures inside { IfOk result (λ r. r.1.start ≤ length text.now) }
+    ensures next { IfOk result (λ r. IsBehind text.now place.start r.1.start r.1.line) }
     ensures some { 1 ≤ size_at text.now place.start }
     ensures fault { IfErr result (λ fault. reading_at text.now place.start ≡ Err fault) }
 {

@@ -15,9 +15,9 @@ loop-place-init c = record {
 
 pub loop-place-preserved : goal.loop-place-preserved
 loop-place-preserved c = record {
-  inside = c.in_ok-token.ensures.inside;
-  line = c.in_ok-token.ensures.line;
-  tokens = rw c.in_ok-add.ensures.added (c.loop-place.invariant.tokens ∙ tokens_read c.args.text.now c.loop-place.tokens c.loop-place.place.start c.in_ok-token.next.start c.in_ok-token.token c.loop-place-test.true c.in_ok-token.ensures.some c.in_ok-token.ensures.token c.in_ok-token.ensures.next);
+  inside = c.in_ok-token.ensures.next.inside;
+  line = c.in_ok-token.ensures.next.line;
+  tokens = rw c.in_ok-add.ensures.added (c.loop-place.invariant.tokens ∙ tokens_read c.args.text.now c.loop-place.tokens c.loop-place.place.start c.in_ok-token.next.start c.in_ok-token.token c.loop-place-test.true c.in_ok-token.ensures.some c.in_ok-token.ensures.token c.in_ok-token.ensures.next.start);
 }
 
 pub returns-in_err-token-clause-first_fault : goal.returns-in_err-token-clause-first_fault
