@@ -7,11 +7,6 @@ use Rattle.unfold.specs.declared.fault.UnfoldFault.TheVariants.{Heavy}
 use Rattle.c2po_kinds.specs.declared.fault.TypeFault.{TypeFault}
 use Rattle.c2po_kinds.specs.declared.fault.TypeFault.TheVariants.{Wide, Memory}
 use Rattle.c2po_kinds.specs.Checking.{Checked, Fails}
-use Rattle.plain_nodes.specs.Facts.{told_fault}
-use Rattle.plain_nodes.specs.Faults.{formula_fault}
-use Rattle.plain_nodes.specs.Tenses.{has_past, has_future}
-use Rattle.unfold.specs.declared.unfolding.Unfolded.{Unfolded}
-use Rattle.unfold.specs.Values.{Value, formula_of, weight as weight_of}
 use Rattle.unfold.specs.Environment.{Env}
 use Rattle.unfold.specs.Holding.{StandsFor}
 use Rattle.c2po_types.specs.declared.progress.Progress.{Progress}
@@ -30,10 +25,3 @@ Reaches (Err fault) found = Fails fault found
 abbrev pub unfold_fault : ℕ → UnfoldFault → TypeFault
 unfold_fault line Heavy = Wide line
 unfold_fault line unfolded.Memory = Memory
-
--- what is known of an unfolded formula is that of its value
-pub record Unfolds (found : Unfolded) (v : Value) : Type 0 where
-  pub weight : found.weight ≡ weight_of v
-  pub fault : told_fault found.fault ≡ formula_fault (formula_of v)
-  pub past : found.tenses.past ≡ has_past (formula_of v)
-  pub future : found.tenses.future ≡ has_future (formula_of v)

@@ -10,10 +10,10 @@ ghost use Rattle.c2po_kinds.specs.Checking.{Gives};
 ghost use Rattle.c2po_kinds.specs.Items.{with_label};
 ghost use Rattle.plain_nodes.specs.Facts.{told_fault};
 ghost use Rattle.unfold.specs.Environment.{Env, value_of};
-ghost use Rattle.unfold.specs.Holding.{StandsFor};
+ghost use Rattle.unfold.specs.Holding.{StandsFor, Unfolds};
 ghost use Rattle.unfold.specs.Values.{Value};
 ghost use Rattle.c2po_types.specs.FirstFault.{item_step, struct_step, input_step, define_step, formula_step, contract_step, one_out, two_out, with_out, other_tense, range_fault, with_signals};
-ghost use Rattle.c2po_types.specs.Reaching.{Reaches, Unfolds, state_of, unfold_fault};
+ghost use Rattle.c2po_types.specs.Reaching.{Reaches, state_of, unfold_fault};
 
 use crate::progress::Progress;
 use c2po_kinds::{

@@ -11,10 +11,12 @@ use Rattle.unfold.specs.declared.values.Whole.TheVariants as whole
 use Rattle.unfold.specs.declared.values.Parts.{Parts}
 use Rattle.unfold.specs.declared.values.Entry.{Entry}
 use Rattle.unfold.specs.declared.values.Entry.TheVariants as entry
+use Rattle.unfold.specs.declared.unfolding.Unfolded.{Unfolded}
 use Rattle.unfold.specs.declared.unfolding.Unfolding.{Unfolding}
 use Rattle.unfold.specs.declared.scope.Scope.{Scope, Top, Open', Held'}
-use Rattle.unfold.specs.Values.{Value, Values, leaf, structure, set, none, more}
-use Rattle.plain_nodes.specs.Faults.{tree_fault}
+use Rattle.unfold.specs.Values.{Value, Values, leaf, structure, set, none, more, formula_of, weight as weight_of}
+use Rattle.plain_nodes.specs.Faults.{tree_fault, formula_fault}
+use Rattle.plain_nodes.specs.Tenses.{has_past, has_future}
 use Rattle.plain_nodes.specs.Facts.{told_fault}
 use Rattle.unfold.specs.Faults.{values_fault}
 use Rattle.unfold.specs.Environment.{Env, Known, nothing, fields, value, value_of, bind}
@@ -58,6 +60,13 @@ Means u (Some (entry.Value s)) k = (v : Value) × Holds u s v × (k ≡ value v)
 -- an unfolding stands for an environment: for what its names mean
 pub record StandsFor (u : Unfolding) (env : Env) : Type 0 where
   pub means : (x : List ℕ) → Means u (entry_of x u.names) (env x)
+
+-- what is told of an unfolded formula is that of its value
+pub record Unfolds (found : Unfolded) (v : Value) : Type 0 where
+  pub weight : found.weight ≡ weight_of v
+  pub fault : told_fault found.fault ≡ formula_fault (formula_of v)
+  pub past : found.tenses.past ≡ has_past (formula_of v)
+  pub future : found.tenses.future ≡ has_future (formula_of v)
 
 -- variables within an unfolding stand for an environment
 abbrev pub Fits : Unfolding → Scope → Env → Type 0

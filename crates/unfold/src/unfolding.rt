@@ -8,13 +8,11 @@ ghost use Rattle.unfold.specs.declared.fault.UnfoldFault.TheVariants.{Heavy};
 ghost use Rattle.unfold.specs.declared.values.Place.TheVariants.{Parts as PartsAt};
 ghost use Rattle.unfold.specs.declared.values.Whole.TheVariants.{Struct, Set};
 ghost use Rattle.unfold.specs.Environment.{Env, Known, declare, fields, no_names, signal_value, value, value_of};
-ghost use Rattle.plain_nodes.specs.Faults.{formula_fault};
 ghost use Rattle.plain_nodes.specs.Facts.{told_fault};
-ghost use Rattle.plain_nodes.specs.Tenses.{has_future, has_past};
 ghost use Rattle.unfold.specs.Faults.{value_fault};
 ghost use Rattle.unfold.specs.Leaves.{signal_node};
 ghost use Rattle.unfold.specs.Parts.{stored_fault};
-ghost use Rattle.unfold.specs.Holding.{HoldAll, Holds, IsLater, Means, StandsFor, nodes_of};
+ghost use Rattle.unfold.specs.Holding.{HoldAll, Holds, IsLater, Means, StandsFor, Unfolds, nodes_of};
 ghost use Rattle.unfold.specs.Values.{Value, Values, formula_of, set, structure, weight};
 
 use crate::UnfoldFault;
@@ -148,20 +146,11 @@ impl Unfolding {
         ensures has { (env : Env) → StandsFor self.old env
             → IfOk result (λ r. Has (nodes_of self.new) r.node
             (formula (formula_of (value_of (shape e.now) env)))) }
-        ensures weight { (env : Env) → StandsFor self.old env
-            → IfOk result (λ r. r.weight ≡ weight (value_of (shape e.now) env)) }
+        ensures unfolds { (env : Env) → StandsFor self.old env
+            → IfOk result (λ r. Unfolds r (value_of (shape e.now) env)) }
         ensures light { IfOk result (λ r. r.weight ≤ room) }
         ensures heavy { (env : Env) → StandsFor self.old env
             → IfErr result (λ why. why ≡ Heavy → room < weight (value_of (shape e.now) env)) }
-        ensures fault { (env : Env) → StandsFor self.old env
-            → IfOk result
-            (λ r. told_fault r.fault ≡ formula_fault (formula_of (value_of (shape e.now) env))) }
-        ensures past { (env : Env) → StandsFor self.old env
-            → IfOk result
-            (λ r. r.tenses.past ≡ has_past (formula_of (value_of (shape e.now) env))) }
-        ensures future { (env : Env) → StandsFor self.old env
-            → IfOk result
-            (λ r. r.tenses.future ≡ has_future (formula_of (value_of (shape e.now) env))) }
         ensures grows { OnOk result (Grows (nodes_of self.old) (nodes_of self.new)) }
         ensures sound { (signals : ℕ) → AreSound signals (nodes_of self.old)
             → OnOk result (AreSound signals (nodes_of self.new)) }

@@ -3,6 +3,7 @@ use Rattle.plain_nodes.specs.Nodes.{formula}
 use Rattle.unfold.specs.Values.{formula_of}
 use Rattle.unfold.specs.Environment.{value_of}
 use Rattle.unfold.proofs.Later.{stands_later}
+use Rattle.unfold.proofs.Members.{holds_weight}
 use Rattle.unfold.proofs.unfolding.Unfolding.unfold.Goals as goal
 
 pub returns-clause-stands : goal.returns-clause-stands
@@ -10,17 +11,14 @@ returns-clause-stands c = λ env h.
     stands_later c.build.new.self c.formula.new.self env c.in_ok-node.ensures.later
     (stands_later c.args.self.now c.build.new.self env c.in_ok-stored.ensures.later h)
 
-pub returns-clause-fault : goal.returns-clause-fault
-returns-clause-fault c = λ env h.
+pub returns-clause-unfolds : goal.returns-clause-unfolds
+returns-clause-unfolds c = λ env h.
     let v = value_of (shape c.args.e.now) env in
-    c.fault.ensures (formula (formula_of v)) (c.in_ok-node.ensures.has v (c.in_ok-stored.ensures.holds env h))
-
-pub returns-clause-past : goal.returns-clause-past
-returns-clause-past c = λ env h.
-    let v = value_of (shape c.args.e.now) env in
-    c.tenses.ensures.past (formula_of v) (c.in_ok-node.ensures.has v (c.in_ok-stored.ensures.holds env h))
-
-pub returns-clause-future : goal.returns-clause-future
-returns-clause-future c = λ env h.
-    let v = value_of (shape c.args.e.now) env in
-    c.tenses.ensures.future (formula_of v) (c.in_ok-node.ensures.has v (c.in_ok-stored.ensures.holds env h))
+    let holds = c.in_ok-stored.ensures.holds env h in
+    let has = c.in_ok-node.ensures.has v holds in
+    record {
+      weight = holds_weight v c.build.new.self c.in_ok-stored.stored holds;
+      fault = c.fault.ensures (formula (formula_of v)) has;
+      past = c.tenses.ensures.past (formula_of v) has;
+      future = c.tenses.ensures.future (formula_of v) has;
+    }
