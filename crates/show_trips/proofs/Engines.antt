@@ -6,6 +6,7 @@ use Rattle.std.proofs.lemmas.Option.{slice_get_within, slice_get-get_or, same_So
 use Rattle.std.proofs.lemmas.List.{length-append}
 use Rattle.std.proofs.lemmas.Bool.{and_parts}
 use Rattle.std.proofs.lemmas.Bool.Decides.{nat_tests}
+use Rattle.mltl_base.specs.declared.interval.Engine.TheVariants.{Ft, Pt}
 use Rattle.mltl_base.specs.declared.interval.Interval.{Interval}
 use Rattle.mltl_base.specs.declared.limits.TheConstants.{MAX_BOUND}
 use Rattle.mltl_base.specs.declared.operators.BzOp.{BzOp}
@@ -15,7 +16,7 @@ use Rattle.mltl_base.specs.declared.program.Program.{Program}
 use Rattle.mltl_base.specs.Atoms.{Atom, is_true}
 use Rattle.mltl_base.specs.Formula as full
 use Rattle.mltl_base.specs.Formula.{Formula, Core, ctrue, catom, cnot, cand, cuntil, csince, plain, formula_over}
-use Rattle.mltl_base.specs.Programs.{Expression, whole, truth, atom_of, atoms, expressions, core_at, formula_of, past_formula_of, formulas_after, past_formulas_after}
+use Rattle.mltl_base.specs.Programs.{Expression, whole, truth, atom_of, atoms, expressions, core_at, formula_of, past_formula_of, formulas_after, past_formulas_after, cores_of}
 use Rattle.obs_verify.specs.WellFormed.{is_truth, is_window, has_future_operands, has_future_window, has_past_operands, has_past_window}
 use Rattle.unfold.specs.Values.{truth_value, interval}
 use Rattle.unfold.specs.Environment.{Env, value_of}
@@ -23,10 +24,13 @@ use Rattle.set_expand.specs.Outputs.{Place, behind}
 use Rattle.obs_show.specs.Lines.{Reference, always, named, Form, Line, define}
 use Rattle.obs_show.specs.Naming.{ft_name, pt_name, bz_reference, ft_called, ft_reference, pt_called, pt_reference}
 use Rattle.obs_show.specs.Text.{ft_form, pt_form, ft_line, pt_line}
+use Rattle.obs_show.specs.Weight.{formula_weight}
 use Rattle.show_trips.specs.Said.{form_shape, line_body}
 use Rattle.show_trips.specs.Unfolded.{AreNew}
+use Rattle.show_trips.proofs.Passing.{form_value}
+use Rattle.show_trips.proofs.Definable.{IsFormulaDefinable, AreDefinable, formula_definable}
 use Rattle.show_trips.proofs.Values.{IsLater, declared_here, MeansFormula, formula_later, FormSaysFormula, negation_says, and_says, until_says, since_says, window_kept}
-use Rattle.show_trips.proofs.Walk.{Reaches, reaches_at_once, get_push, get_seam, columns_in, IsTruthExpression, KnowsOne, BzKnown, lines_from, put, put_is, defined_later, reaches_define, new_head, knows_later, signals_later}
+use Rattle.show_trips.proofs.Walk.{Reaches, reaches_at_once, get_push, get_seam, get_kept, columns_in, IsTruthExpression, KnowsOne, BzKnown, lines_from, put, put_is, defined_later, reaches_define, new_head, knows_later, signals_later}
 
 -- what is known of the first instructions of an engine, by what each is called
 abbrev pub KnowsCores : (ℕ → Reference) → List ℕ → Env → List Core → Type 0
@@ -55,13 +59,13 @@ abbrev pub OptionMeans : List ℕ → Env → Option Form → Formula → List �
 OptionMeans columns env None p name x = MeansFormula columns env x p
 OptionMeans columns env (Some f) p name x = (x ≡ named name) × FormSaysFormula columns env f p
 
-step_core : (reference : ℕ → Reference) (columns : List ℕ) (J : Place → Type 0) (i n : ℕ) (name : List ℕ) (o : Option Form) (c : Core) (before cores : List Core) (ls more : List Line) (p : Place)
-    → Stays J → length before ≡ i → OptionMeans columns p.values o (plain c) name (reference i) → CoresKnown reference columns J before p
-    → ((m : ℕ) (q : Place) → CoresKnown reference columns J (before ++ c ∷ []) q → AreNew m (ls ++ more) q → Reaches m (ls ++ more) q more (CoresKnown reference columns J cores))
-    → AreNew n (put name o (ls ++ more)) p → Reaches n (put name o (ls ++ more)) p more (CoresKnown reference columns J cores)
-step_core reference columns J i n name None c before cores ls more p stays len m h go new =
+step_core : (program : Program) (reference : ℕ → Reference) (columns : List ℕ) (J : Place → Type 0) (i n : ℕ) (name : List ℕ) (o : Option Form) (c : Core) (before cores : List Core) (ls more : List Line) (p : Place)
+    → Stays J → length before ≡ i → OptionMeans columns p.values o (plain c) name (reference i) → (AreDefinable program → IsFormulaDefinable (plain c)) → CoresKnown reference columns J before p
+    → ((m : ℕ) (q : Place) → CoresKnown reference columns J (before ++ c ∷ []) q → AreNew m (ls ++ more) q → Reaches program m (ls ++ more) q more (CoresKnown reference columns J cores))
+    → AreNew n (put name o (ls ++ more)) p → Reaches program n (put name o (ls ++ more)) p more (CoresKnown reference columns J cores)
+step_core program reference columns J i n name None c before cores ls more p stays len m definable h go new =
     go n p (record { base = h.base; known = cores_push reference columns p.values before c h.known (subst (λ (k : ℕ). MeansFormula columns p.values (reference k) (plain c)) (sym len) m) }) new
-step_core reference columns J i n name (Some f) c before cores ls more p stays len m h go new =
+step_core program reference columns J i n name (Some f) c before cores ls more p stays len m definable h go new =
     let head = new_head n name f (ls ++ more) p new in
     let q : Place = behind (line_body n (define name f)) p in
     let later : IsLater p.values q.values = defined_later n name f p in
@@ -74,7 +78,8 @@ step_core reference columns J i n name (Some f) c before cores ls more p stays l
       base = stays p q later same h.base;
       known = cores_push reference columns q.values before c (cores_later reference columns p.values q.values before later h.known) here;
     } in
-    reaches_define n name f (ls ++ more) more p (CoresKnown reference columns J cores) (go (n + 1) q next head.1)
+    reaches_define program n name f (ls ++ more) more p (CoresKnown reference columns J cores)
+    (λ d. formula_definable columns (form_value n f p) (plain c) (m.1 n) (definable d)) (go (n + 1) q next head.1)
 
 bz_stays : (program : Program) (count : ℕ) (es : List Expression) → Stays (BzKnown program count es)
 bz_stays program count es p q later same h =
@@ -107,7 +112,7 @@ truth_means : (program : Program) (env : Env) (a : ℕ) (e : Expression) → Kno
 truth_means program env a (truth x) k h = record { of = k.means.of; finds = k.means.finds; says = k.means.says }
 truth_means program env a (whole t) k h = absurd h
 
-is_within : (ops : List BzOp) (a : ℕ) → is_truth (slice_get ops a) ≡ true → a < length ops
+pub is_within : (ops : List BzOp) (a : ℕ) → is_truth (slice_get ops a) ≡ true → a < length ops
 is_within ops a h = go (slice_get ops a) refl h
   where
     go : (o : Option BzOp) → slice_get ops a ≡ o → is_truth o ≡ true → a < length ops
@@ -127,8 +132,8 @@ loaded_means program count es p a h len all ok =
     subst (λ (x : Atom). MeansFormula (columns_in program) p.values (bz_reference program a) (full.atom x)) (sym same) m
 
 always_means : (columns : List ℕ) (env : Env) → MeansFormula columns env always (plain ctrue)
-unfolding plain formula_over
-always_means columns env = record { of = truth_value true; finds = refl; says = record { tree = full.truth; weight = 1; is = refl; over = refl } }
+unfolding plain formula_over formula_weight
+always_means columns env = record { of = truth_value true; finds = refl; says = record { tree = full.truth; weight = 1; is = refl; over = refl; weighs = refl } }
 
 -- instructions of future time
 abbrev FtKnown : Program → ℕ → List Expression → List Core → Place → Type 0
@@ -161,24 +166,38 @@ abbrev pub HaveFutureOperands : Program → ℕ → List ft.FtOp → Type 0
 HaveFutureOperands program i [] = Unit {0}
 HaveFutureOperands program i (op ∷ ops) = (has_future_operands program i op ≡ true) × (has_future_window op ≡ true) × HaveFutureOperands program (i + 1) ops
 
+-- the formulas of earlier instructions stay, so an instruction has its own among those of all
+future_kept : (loaded : List Atom) (ops : List ft.FtOp) (before : List Core) (i : ℕ) (c : Core) → slice_get before i ≡ Some c → slice_get (formulas_after loaded before ops) i ≡ Some c
+unfolding formulas_after
+future_kept loaded [] before i c h = h
+future_kept loaded (op ∷ ops) before i c h = future_kept loaded ops (before ++ formula_of loaded before op ∷ []) i c (get_kept before (formula_of loaded before op ∷ []) i c h)
+
+future_here : (program : Program) (op : ft.FtOp) (ops : List ft.FtOp) (before : List Core) → formulas_after (atoms program.bz) before (op ∷ ops) ≡ cores_of program Ft
+    → slice_get (cores_of program Ft) (length before) ≡ Some (formula_of (atoms program.bz) before op)
+unfolding formulas_after
+future_here program op ops before ends =
+    ap (λ (cs : List Core). slice_get cs (length before)) (sym ends)
+    ∙ future_kept (atoms program.bz) ops (before ++ formula_of (atoms program.bz) before op ∷ []) (length before) (formula_of (atoms program.bz) before op) (get_seam before (formula_of (atoms program.bz) before op) [])
+
 pub walk_ft : (program : Program) (count : ℕ) (es : List Expression) (front ops : List ft.FtOp) (before : List Core) (i n : ℕ) (more : List Line) (p : Place)
-    → program.ft ≡ front ++ ops → length front ≡ i → length before ≡ i → length es ≡ length program.bz → es ≡ expressions program.bz → HaveFutureOperands program i ops
+    → program.ft ≡ front ++ ops → length front ≡ i → length before ≡ i → length es ≡ length program.bz → es ≡ expressions program.bz → HaveFutureOperands program i ops → formulas_after (atoms program.bz) before ops ≡ cores_of program Ft
     → CoresKnown (ft_reference program) (columns_in program) (BzKnown program count es) before p
     → AreNew n (lines_from (ft_line program) i ops ++ more) p
-    → Reaches n (lines_from (ft_line program) i ops ++ more) p more (CoresKnown (ft_reference program) (columns_in program) (BzKnown program count es) (formulas_after (atoms program.bz) before ops))
+    → Reaches program n (lines_from (ft_line program) i ops ++ more) p more (CoresKnown (ft_reference program) (columns_in program) (BzKnown program count es) (formulas_after (atoms program.bz) before ops))
 unfolding formulas_after
-walk_ft program count es front [] before i n more p all fronts len le whole_es ok h new = reaches_at_once n more p (FtKnown program count es before) new h
-walk_ft program count es front (op ∷ ops) before i n more p all fronts len le whole_es ok h new =
+walk_ft program count es front [] before i n more p all fronts len le whole_es ok ends h new = reaches_at_once program n more p (FtKnown program count es before) new h
+walk_ft program count es front (op ∷ ops) before i n more p all fronts len le whole_es ok ends h new =
     let at : slice_get program.ft i ≡ Some op = ap (λ (xs : List ft.FtOp). slice_get xs i) all ∙ ap (λ (k : ℕ). slice_get (front ++ op ∷ ops) k) (sym fronts) ∙ get_seam front op ops in
     let c : Core = formula_of (atoms program.bz) before op in
     let lines : lines_from (ft_line program) i (op ∷ ops) ++ more ≡ put (ft_name program i) (ft_form program op) (lines_from (ft_line program) (i + 1) ops ++ more) = put_is (ft_name program i) (ft_form program op) (lines_from (ft_line program) (i + 1) ops) more in
     let m : OptionMeans (columns_in program) p.values (ft_form program op) (plain c) (ft_name program i) (ft_reference program i) =
     subst (λ (o : Option ft.FtOp). OptionMeans (columns_in program) p.values (ft_form program op) (plain c) (ft_name program i) (ft_called program i o)) (sym at)
     (ft_means program count es p i before op le whole_es len ok.0 ok.1 h) in
-    subst (λ (ls : List Line). Reaches n ls p more (FtKnown program count es (formulas_after (atoms program.bz) (before ++ c ∷ []) ops))) (sym lines)
-    (step_core (ft_reference program) (columns_in program) (BzKnown program count es) i n (ft_name program i) (ft_form program op) c before (formulas_after (atoms program.bz) (before ++ c ∷ []) ops) (lines_from (ft_line program) (i + 1) ops) more p
-    (bz_stays program count es) len m h
-    (λ k q known fresh. walk_ft program count es (front ++ op ∷ []) ops (before ++ c ∷ []) (i + 1) k more q (all ∙ sym (append_assoc front (op ∷ []) ops)) (omega (arith, length-append front (op ∷ []))) (omega (arith, length-append before (c ∷ []))) le whole_es ok.2 known fresh)
+    subst (λ (ls : List Line). Reaches program n ls p more (FtKnown program count es (formulas_after (atoms program.bz) (before ++ c ∷ []) ops))) (sym lines)
+    (step_core program (ft_reference program) (columns_in program) (BzKnown program count es) i n (ft_name program i) (ft_form program op) c before (formulas_after (atoms program.bz) (before ++ c ∷ []) ops) (lines_from (ft_line program) (i + 1) ops) more p
+    (bz_stays program count es) len m
+    (λ d. d.ft (length before) c (future_here program op ops before ends)) h
+    (λ k q known fresh. walk_ft program count es (front ++ op ∷ []) ops (before ++ c ∷ []) (i + 1) k more q (all ∙ sym (append_assoc front (op ∷ []) ops)) (omega (arith, length-append front (op ∷ []))) (omega (arith, length-append before (c ∷ []))) le whole_es ok.2 ends known fresh)
     (subst (λ (ls : List Line). AreNew n ls p) lines new))
 
 -- instructions of past time
@@ -212,22 +231,35 @@ abbrev pub HavePastOperands : Program → ℕ → List pt.PtOp → Type 0
 HavePastOperands program i [] = Unit {0}
 HavePastOperands program i (op ∷ ops) = (has_past_operands program i op ≡ true) × (has_past_window op ≡ true) × HavePastOperands program (i + 1) ops
 
+past_kept : (loaded : List Atom) (ops : List pt.PtOp) (before : List Core) (i : ℕ) (c : Core) → slice_get before i ≡ Some c → slice_get (past_formulas_after loaded before ops) i ≡ Some c
+unfolding past_formulas_after
+past_kept loaded [] before i c h = h
+past_kept loaded (op ∷ ops) before i c h = past_kept loaded ops (before ++ past_formula_of loaded before op ∷ []) i c (get_kept before (past_formula_of loaded before op ∷ []) i c h)
+
+past_here : (program : Program) (op : pt.PtOp) (ops : List pt.PtOp) (before : List Core) → past_formulas_after (atoms program.bz) before (op ∷ ops) ≡ cores_of program Pt
+    → slice_get (cores_of program Pt) (length before) ≡ Some (past_formula_of (atoms program.bz) before op)
+unfolding past_formulas_after
+past_here program op ops before ends =
+    ap (λ (cs : List Core). slice_get cs (length before)) (sym ends)
+    ∙ past_kept (atoms program.bz) ops (before ++ past_formula_of (atoms program.bz) before op ∷ []) (length before) (past_formula_of (atoms program.bz) before op) (get_seam before (past_formula_of (atoms program.bz) before op) [])
+
 pub walk_pt : (program : Program) (count : ℕ) (es : List Expression) (fts : List Core) (front ops : List pt.PtOp) (before : List Core) (i n : ℕ) (more : List Line) (p : Place)
-    → program.pt ≡ front ++ ops → length front ≡ i → length before ≡ i → length es ≡ length program.bz → es ≡ expressions program.bz → HavePastOperands program i ops
+    → program.pt ≡ front ++ ops → length front ≡ i → length before ≡ i → length es ≡ length program.bz → es ≡ expressions program.bz → HavePastOperands program i ops → past_formulas_after (atoms program.bz) before ops ≡ cores_of program Pt
     → CoresKnown (pt_reference program) (columns_in program) (CoresKnown (ft_reference program) (columns_in program) (BzKnown program count es) fts) before p
     → AreNew n (lines_from (pt_line program) i ops ++ more) p
-    → Reaches n (lines_from (pt_line program) i ops ++ more) p more (CoresKnown (pt_reference program) (columns_in program) (CoresKnown (ft_reference program) (columns_in program) (BzKnown program count es) fts) (past_formulas_after (atoms program.bz) before ops))
+    → Reaches program n (lines_from (pt_line program) i ops ++ more) p more (CoresKnown (pt_reference program) (columns_in program) (CoresKnown (ft_reference program) (columns_in program) (BzKnown program count es) fts) (past_formulas_after (atoms program.bz) before ops))
 unfolding past_formulas_after
-walk_pt program count es fts front [] before i n more p all fronts len le whole_es ok h new = reaches_at_once n more p (PtKnown program count es fts before) new h
-walk_pt program count es fts front (op ∷ ops) before i n more p all fronts len le whole_es ok h new =
+walk_pt program count es fts front [] before i n more p all fronts len le whole_es ok ends h new = reaches_at_once program n more p (PtKnown program count es fts before) new h
+walk_pt program count es fts front (op ∷ ops) before i n more p all fronts len le whole_es ok ends h new =
     let at : slice_get program.pt i ≡ Some op = ap (λ (xs : List pt.PtOp). slice_get xs i) all ∙ ap (λ (k : ℕ). slice_get (front ++ op ∷ ops) k) (sym fronts) ∙ get_seam front op ops in
     let c : Core = past_formula_of (atoms program.bz) before op in
     let lines : lines_from (pt_line program) i (op ∷ ops) ++ more ≡ put (pt_name program i) (pt_form program op) (lines_from (pt_line program) (i + 1) ops ++ more) = put_is (pt_name program i) (pt_form program op) (lines_from (pt_line program) (i + 1) ops) more in
     let m : OptionMeans (columns_in program) p.values (pt_form program op) (plain c) (pt_name program i) (pt_reference program i) =
     subst (λ (o : Option pt.PtOp). OptionMeans (columns_in program) p.values (pt_form program op) (plain c) (pt_name program i) (pt_called program i o)) (sym at)
     (pt_means program count es fts p i before op le whole_es len ok.0 ok.1 h) in
-    subst (λ (ls : List Line). Reaches n ls p more (PtKnown program count es fts (past_formulas_after (atoms program.bz) (before ++ c ∷ []) ops))) (sym lines)
-    (step_core (pt_reference program) (columns_in program) (CoresKnown (ft_reference program) (columns_in program) (BzKnown program count es) fts) i n (pt_name program i) (pt_form program op) c before (past_formulas_after (atoms program.bz) (before ++ c ∷ []) ops) (lines_from (pt_line program) (i + 1) ops) more p
-    (cores_stay (ft_reference program) (columns_in program) (BzKnown program count es) fts (bz_stays program count es)) len m h
-    (λ k q known fresh. walk_pt program count es fts (front ++ op ∷ []) ops (before ++ c ∷ []) (i + 1) k more q (all ∙ sym (append_assoc front (op ∷ []) ops)) (omega (arith, length-append front (op ∷ []))) (omega (arith, length-append before (c ∷ []))) le whole_es ok.2 known fresh)
+    subst (λ (ls : List Line). Reaches program n ls p more (PtKnown program count es fts (past_formulas_after (atoms program.bz) (before ++ c ∷ []) ops))) (sym lines)
+    (step_core program (pt_reference program) (columns_in program) (CoresKnown (ft_reference program) (columns_in program) (BzKnown program count es) fts) i n (pt_name program i) (pt_form program op) c before (past_formulas_after (atoms program.bz) (before ++ c ∷ []) ops) (lines_from (pt_line program) (i + 1) ops) more p
+    (cores_stay (ft_reference program) (columns_in program) (BzKnown program count es) fts (bz_stays program count es)) len m
+    (λ d. d.pt (length before) c (past_here program op ops before ends)) h
+    (λ k q known fresh. walk_pt program count es fts (front ++ op ∷ []) ops (before ++ c ∷ []) (i + 1) k more q (all ∙ sym (append_assoc front (op ∷ []) ops)) (omega (arith, length-append front (op ∷ []))) (omega (arith, length-append before (c ∷ []))) le whole_es ok.2 ends known fresh)
     (subst (λ (ls : List Line). AreNew n ls p) lines new))

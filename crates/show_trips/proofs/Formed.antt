@@ -17,28 +17,29 @@ use Rattle.mltl_base.specs.declared.program.StoredSignal.{StoredSignal}
 use Rattle.mltl_base.specs.Queues.{worst_delays}
 use Rattle.obs_verify.specs.declared.fault.VerifyFault.{VerifyFault}
 use Rattle.obs_verify.specs.WellFormed.{unless, or_else, first_in, width_fault, is_new_signal, signal_fault, has_operands, bz_fault, has_future_operands, has_future_window, ft_fault, late_fault, has_past_operands, has_past_window, pt_fault, reports_within, output_fault, IsWellFormed}
+use Rattle.obs_verify.proofs.SoundOps.{all_sound}
 use Rattle.show_trips.proofs.Walk.{HaveOwnColumns, HaveOperands}
 use Rattle.show_trips.proofs.Engines.{HaveFutureOperands, HavePastOperands}
 use Rattle.show_trips.proofs.Whole.{HaveReports, CanBeSaid}
 
-none_left : (a b : Option VerifyFault) → or_else a b ≡ None → a ≡ None
+pub none_left : (a b : Option VerifyFault) → or_else a b ≡ None → a ≡ None
 none_left None b e = refl
 none_left (Some f) b e = absurd (cc)
 
-none_right : (a b : Option VerifyFault) → or_else a b ≡ None → b ≡ None
+pub none_right : (a b : Option VerifyFault) → or_else a b ≡ None → b ≡ None
 none_right None b e = e
 none_right (Some f) b e = absurd (cc)
 
-passed : (test : Bool) (fault : VerifyFault) → unless test fault ≡ None → test ≡ true
+pub passed : (test : Bool) (fault : VerifyFault) → unless test fault ≡ None → test ≡ true
 passed true fault e = refl
 passed false fault e = absurd (cc)
 
 -- the first of a list without a fault, and the others
-first_none : {X : Type 0} (rule : ℕ → X → Option VerifyFault) (k : ℕ) (x : X) (xs : List X) → first_in rule k (x ∷ xs) ≡ None → rule k x ≡ None
+pub first_none : {X : Type 0} (rule : ℕ → X → Option VerifyFault) (k : ℕ) (x : X) (xs : List X) → first_in rule k (x ∷ xs) ≡ None → rule k x ≡ None
 unfolding first_in
 first_none rule k x xs e = none_left (rule k x) (first_in rule (suc k) xs) e
 
-others_none : {X : Type 0} (rule : ℕ → X → Option VerifyFault) (k : ℕ) (x : X) (xs : List X) → first_in rule k (x ∷ xs) ≡ None → first_in rule (k + 1) xs ≡ None
+pub others_none : {X : Type 0} (rule : ℕ → X → Option VerifyFault) (k : ℕ) (x : X) (xs : List X) → first_in rule k (x ∷ xs) ≡ None → first_in rule (k + 1) xs ≡ None
 unfolding first_in
 others_none rule k x xs e =
     let same : suc k ≡ k + 1 = omega arith in
@@ -77,7 +78,7 @@ abbrev AreNewBehind : List StoredSignal → List StoredSignal → Type 0
 AreNewBehind front [] = Unit {0}
 AreNewBehind front (s ∷ ss) = (list_any (λ t. t.column == s.column) front ≡ false) × AreNewBehind (front ++ s ∷ []) ss
 
-not_passes : (b : Bool) → not b ≡ true → b ≡ false
+pub not_passes : (b : Bool) → not b ≡ true → b ≡ false
 not_passes true e = absurd (cc)
 not_passes false e = refl
 
@@ -130,6 +131,7 @@ well_formed_said program e version =
       version = version;
       columns = columns_formed [] program.signals (signals_formed program [] program.signals 0 refl refl (none_left (first_in (signal_fault program) 0 program.signals) _ e1));
       bz = operands_formed program 0 program.bz (none_left (first_in (bz_fault program) 0 program.bz) _ e2);
+      sound = all_sound program e;
       ft = future_formed program 0 program.ft (none_left (first_in (ft_fault program) 0 program.ft) _ e3);
       pt = past_formed program 0 program.pt (none_left (first_in (pt_fault program) 0 program.pt) _ e5);
       reports = reports_formed program 0 program.outs (none_left (first_in (output_fault program) 0 program.outs) _ e6);

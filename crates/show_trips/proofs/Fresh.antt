@@ -30,12 +30,12 @@ use Rattle.show_trips.specs.Unfolded.{IsNew, AreNew}
 use Rattle.show_trips.proofs.Whole.{input_declares}
 
 -- a step that succeeds goes on from what the step before found
-bind_ok : {X Y : Type 0} (m : Checked X) (f : X → Checked Y) (y : Y) → (m >>= f) ≡ Ok y → (x : X) × (m ≡ Ok x) × (f x ≡ Ok y)
+pub bind_ok : {X Y : Type 0} (m : Checked X) (f : X → Checked Y) (y : Y) → (m >>= f) ≡ Ok y → (x : X) × (m ≡ Ok x) × (f x ≡ Ok y)
 bind_ok (Ok x) f y e = (x, refl, e)
 bind_ok (Err fault) f y e = absurd (cc)
 
 -- a test that must fail, or hold
-guard_off : {X : Type 0} (b : Bool) (fault : TypeFault) (rest : Checked X) (x : X) → (if b then Err fault else rest) ≡ Ok x → (b ≡ false) × (rest ≡ Ok x)
+pub guard_off : {X : Type 0} (b : Bool) (fault : TypeFault) (rest : Checked X) (x : X) → (if b then Err fault else rest) ≡ Ok x → (b ≡ false) × (rest ≡ Ok x)
 guard_off true fault rest x e = absurd (cc)
 guard_off false fault rest x e = (refl, e)
 
@@ -51,10 +51,10 @@ ok_same : {X : Type 0} (x y : X) → ◌≡◌ {A = Checked X} (Ok x) (Ok y) →
 ok_same x y e = cc
 
 -- a name that no table entry has isn't known
-abbrev Agrees : Table Meaning → Env → Type 0
+abbrev pub Agrees : Table Meaning → Env → Type 0
 Agrees names env = (x : List ℕ) → is_named x names ≡ false → env x ≡ nothing
 
-entry_push : {V : Type 0} (x y : List ℕ) (v : V) (es : Table V) → is_named x (es ++ (y, v) ∷ []) ≡ false → (is_named x es ≡ false) × (bytes_eq x y ≡ false)
+pub entry_push : {V : Type 0} (x y : List ℕ) (v : V) (es : Table V) → is_named x (es ++ (y, v) ∷ []) ≡ false → (is_named x es ≡ false) × (bytes_eq x y ≡ false)
 entry_push x y v [] h = go (bytes_eq x y) refl h
   where
     go : (b : Bool) → bytes_eq x y ≡ b → is_some (if b then Some v else None) ≡ false → (false ≡ false) × (bytes_eq x y ≡ false)
@@ -67,7 +67,7 @@ entry_push x y v (e ∷ es) h = go (entry_push x y v es) (bytes_eq x e.0) refl h
     go ih true i g = absurd (cc)
     go ih false i g = ih g
 
-agrees_push : (names : Table Meaning) (env : Env) (x : List ℕ) (m : Meaning) (k : Known) → Agrees names env → Agrees (names ++ (x, m) ∷ []) (declare x k env)
+pub agrees_push : (names : Table Meaning) (env : Env) (x : List ℕ) (m : Meaning) (k : Known) → Agrees names env → Agrees (names ++ (x, m) ∷ []) (declare x k env)
 agrees_push names env x m k h y g =
     let parts = entry_push y x m names g in
     ap (λ n. or_else n (if bytes_eq y x then k else nothing)) (h y parts.0) ∙ ap (λ (b : Bool). if b then k else nothing) parts.1
@@ -137,18 +137,18 @@ contract_ok n engine label x y s t p e h =
     record { new = tt; together = out_together s t p (behind (line_body n (contract engine label x y)) p) same refl more h }
 
 -- the declarations with a signal
-abbrev signal_added : Bool → List ℕ → Declarations → Declarations
+abbrev pub signal_added : Bool → List ℕ → Declarations → Declarations
 signal_added b x d = record {
   names = d.names ++ (x, Value (signal_kind b)) ∷ [];
   structs = d.structs;
   signals = d.signals ++ record { name = x; truth = b } ∷ [];
 }
 
-with_is : (n : ℕ) (x : List ℕ) (truth : Bool) (d : Declarations) → with_input n (x ∷ []) (type_named (kind_name truth)) d ≡ (with_signal n truth x d >>= λ c. Ok c)
+pub with_is : (n : ℕ) (x : List ℕ) (truth : Bool) (d : Declarations) → with_input n (x ∷ []) (type_named (kind_name truth)) d ≡ (with_signal n truth x d >>= λ c. Ok c)
 with_is n x true d = refl
 with_is n x false d = refl
 
-signal_ok : (n : ℕ) (x : List ℕ) (truth : Bool) (d c : Declarations) → with_input n (x ∷ []) (type_named (kind_name truth)) d ≡ Ok c → (is_named x d.names ≡ false) × (signal_added truth x d ≡ c)
+pub signal_ok : (n : ℕ) (x : List ℕ) (truth : Bool) (d c : Declarations) → with_input n (x ∷ []) (type_named (kind_name truth)) d ≡ Ok c → (is_named x d.names ≡ false) × (signal_added truth x d ≡ c)
 signal_ok n x truth d c e =
     let e1 = bind_ok (with_signal n truth x d) (λ k. Ok k) c (sym (with_is n x truth d) ∙ e) in
     let free = guard_off (is_named x d.names) _ (if nat_le MAX_SIGNALS (length d.signals) then Err (Rattle.c2po_kinds.specs.declared.fault.TypeFault.TheVariants.Signals n) else Ok (signal_added truth x d)) e1.0 e1.1 in

@@ -156,7 +156,7 @@ smaller_labelled columns outs h = go (are_smaller (over_columns columns (simple_
     go true = simple_labelled outs 0 h
     go false = h
 
-smaller_tensed : (columns : Columns) (outs : List Asked) → All IsTensed outs → All IsTensed (smaller_outputs columns outs)
+pub smaller_tensed : (columns : Columns) (outs : List Asked) → All IsTensed outs → All IsTensed (smaller_outputs columns outs)
 unfolding smaller_outputs
 smaller_tensed columns outs h = go (are_smaller (over_columns columns (simple_outputs outs)) (over_columns columns outs))
   where

@@ -3,11 +3,14 @@ pub mod Lines
 pub mod Trees
 pub mod Items
 pub mod Values
+pub mod Passing
+pub mod Definable
 pub mod Walk
 pub mod Engines
 pub mod Whole
 pub mod Fresh
 pub mod Formed
+pub mod LightValues
 pub mod Signals
 pub mod Meaning
 pub mod Returning
@@ -19,3 +22,11 @@ pub mod GoodItems
 pub mod Naturals
 pub mod Constants
 pub mod Images
+pub mod NewNames
+pub mod FormKinds
+pub mod KindWalk
+pub mod RightKinds
+pub mod LightImages
+pub mod ImageLabels
+pub mod NoRefusal
+pub mod ShownImages

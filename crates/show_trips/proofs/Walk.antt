@@ -1,11 +1,11 @@
 -- Going through the lines of a program: what is known behind the lines of its signals and of its instructions.
 
-use Rattle.std.proofs.Common.{◌≡◌, ◌∙◌, ℕ, ◌+◌, ◌<◌, zero, suc, Bool, true, false, not, List, [], ◌∷◌, ◌++◌, length, take, map, Option, Some, None, refl, ap, sym, subst, arith, append_assoc, inl, inr, nat_lt}
-use Rattle.std.specs.Prelude.{slice_get, slice_index, slice_index_or, if◌then◌else◌, ◌⊎◌, ◌==◌, ◌&&◌, ◌||◌, option_map}
+use Rattle.std.proofs.Common.{◌≡◌, ◌∙◌, ℕ, ◌+◌, zero, suc, Bool, true, false, not, List, [], ◌∷◌, ◌++◌, length, map, Option, Some, None, refl, ap, sym, subst, arith, append_assoc, inl, inr, nat_lt}
+use Rattle.std.specs.Prelude.{slice_get, slice_index, if◌then◌else◌, ◌⊎◌, ◌==◌, ◌&&◌, ◌||◌, option_map}
 use Rattle.std.specs.List.{list_any, enumerate_from, filter_map, cons_option}
-use Rattle.std.proofs.lemmas.Option.{slice_get_within, slice_get-get_or, same_Some}
+use Rattle.std.proofs.lemmas.Option.{same_Some}
 use Rattle.std.specs.Cmp.{unsigned_Decides}
-use Rattle.std.proofs.lemmas.List.{length-take, length-append}
+use Rattle.std.proofs.lemmas.List.{length-append}
 use Rattle.std.proofs.lemmas.Bool.{and_parts}
 use Rattle.std.proofs.Math.Bool.{or-true}
 use Rattle.mltl_base.specs.declared.operators.ArithOp as arith_op
@@ -19,28 +19,40 @@ use Rattle.mltl_base.specs.Formula as full
 use Rattle.mltl_base.specs.Formula.{Formula, Core, ctrue, catom, cnot, cand, cuntil, csince, plain, formula_over}
 use Rattle.mltl_base.specs.Programs as programs
 use Rattle.mltl_base.specs.Programs.{Expression, whole, truth, term_at, expression_of, expressions_after, expressions, core_at, formula_of, past_formula_of, formulas_after, past_formulas_after}
-use Rattle.obs_verify.specs.WellFormed.{is_whole, is_truth, is_whole_before, has_kind, has_operands}
+use Rattle.obs_verify.specs.WellFormed.{is_truth, has_kind, has_operands}
+use Rattle.obs_verify.specs.Soundness.{IsWhole, IsWholeExpression, AreWhole, IsSound, AreSound}
 use Rattle.plain_nodes.specs.Nodes.{arithmetic, comparison}
 use Rattle.unfold.specs.Values.{number_value}
 use Rattle.unfold.specs.Environment.{Env, nothing, value, signal_value, value_of}
 use Rattle.set_expand.specs.Outputs.{Place, behind, asked_from}
-use Rattle.obs_show.specs.Lines.{Reference, named, Form, minus, arith as computes, compare, Line, define}
+use Rattle.obs_show.specs.Lines.{Reference, named, Form, arith as computes, compare, Line, define}
 use Rattle.obs_show.specs.Naming.{name_in, bz_name, bz_called, bz_reference}
 use Rattle.obs_show.specs.Text.{bz_form, bz_line}
+use Rattle.obs_show.specs.Weight.{term_weight, formula_weight}
 use Rattle.show_trips.specs.Said.{form_shape, line_body, line_items}
 use Rattle.show_trips.specs.Unfolded.{AreNew}
+use Rattle.show_trips.proofs.Passing.{form_value, ValuesPass}
 use Rattle.show_trips.proofs.Values.{IsLater, declare_later, declared_here, Means, means_later, FormSays, minus_says, arith_says, compare_says}
+use Rattle.show_trips.proofs.Definable.{IsDefinable, AreDefinable, IsValueDefinable, value_definable}
 
--- lines behind some others, and what holds where they begin
-pub record Reaches (n : ℕ) (lines : List Line) (p : Place) (more : List Line) (I : Place → Type 0) : Type 0 where
+-- lines behind some others, and what holds where they begin; where the instructions of the program may be defined, no
+-- value of the lines before them is refused
+pub record Reaches (program : Program) (n : ℕ) (lines : List Line) (p : Place) (more : List Line) (I : Place → Type 0) : Type 0 where
   pub line : ℕ
   pub place : Place
   pub new : AreNew line more place
   pub holds : I place
   pub same : asked_from (line_items n lines) p ≡ asked_from (line_items line more) place
+  pub passes : AreDefinable program → (total : ℕ) → ValuesPass line more place total → ValuesPass n lines p total
 
-pub reaches_at_once : (n : ℕ) (lines : List Line) (p : Place) (I : Place → Type 0) → AreNew n lines p → I p → Reaches n lines p lines I
-reaches_at_once n lines p I new h = record { line = n; place = p; new = new; holds = h; same = refl }
+pub reaches_at_once : (program : Program) (n : ℕ) (lines : List Line) (p : Place) (I : Place → Type 0) → AreNew n lines p → I p → Reaches program n lines p lines I
+reaches_at_once program n lines p I new h = record { line = n; place = p; new = new; holds = h; same = refl; passes = λ d total pass. pass }
+
+-- from there further on
+pub reaches_on : (program : Program) (n : ℕ) (lines middle more : List Line) (p : Place) (I J : Place → Type 0)
+    → (r : Reaches program n lines p middle I) → Reaches program r.line middle r.place more J → Reaches program n lines p more J
+reaches_on program n lines middle more p I J r s =
+    record { line = s.line; place = s.place; new = s.new; holds = s.holds; same = r.same ∙ s.same; passes = λ d total pass. r.passes d total (s.passes d total pass) }
 
 -- a member of a list with one more is one of before, or the one more
 pub get_push : {X : Type 0} (xs : List X) (x y : X) (i : ℕ) → slice_get (xs ++ x ∷ []) i ≡ Some y → (slice_get xs i ≡ Some y) ⊎ ((i ≡ length xs) × (x ≡ y))
@@ -91,61 +103,43 @@ knows_push program env before e h k j d i = pick (get_push before e d j i)
     pick (inl old) = h j d old
     pick (inr last) = subst (λ (m : ℕ). KnowsOne program env m d) (sym last.0) (subst (KnowsOne program env (length before)) last.1 k)
 
--- an operand before the number of its reader
-is_before : (program : Program) (i a : ℕ) → is_whole_before program i a ≡ true → a < i
-is_before program i a h = go (slice_get (take i program.bz) a) refl h
+-- a whole number that an earlier instruction gives
+operand : (program : Program) (env : Env) (before : List Expression) (a : ℕ) → Knows program env before → IsWhole before a → Means (columns_in program) env (bz_reference program a) (whole (term_at before a))
+operand program env before a h is = go (slice_get before a) refl is
   where
-    go : (o : Option bz.BzOp) → slice_get (take i program.bz) a ≡ o → is_whole o ≡ true → a < i
-    go None e g = absurd (cc)
-    go (Some op) e g = omega (arith, slice_get_within (take i program.bz) a op e, length-take i program.bz)
-
-operand : (program : Program) (env : Env) (before : List Expression) (a : ℕ) → Knows program env before → a < length before
-    → (e : Expression) × (term_at before a ≡ programs.term_of (Some e)) × Means (columns_in program) env (bz_reference program a) e
-operand program env before a h inside =
-    let found : slice_get before a ≡ Some (slice_index_or before a (whole (atoms.column 0))) = slice_get-get_or before a (whole (atoms.column 0)) inside in
-    (slice_index_or before a (whole (atoms.column 0)), ap programs.term_of found, (h a (slice_index_or before a (whole (atoms.column 0))) found).means)
+    go : (o : Option Expression) → slice_get before a ≡ o → IsWholeExpression o → Means (columns_in program) env (bz_reference program a) (whole (programs.term_of (slice_get before a)))
+    go None e g = absurd g
+    go (Some (truth t)) e g = absurd g
+    go (Some (whole t)) e g = subst (λ (o : Option Expression). Means (columns_in program) env (bz_reference program a) (whole (programs.term_of o))) (sym e) (h a (whole t) e).means
 
 -- what a form says, where there is one
 abbrev pub OptionSays : List ℕ → Env → Option Form → Expression → Type 0
 OptionSays columns env None e = Unit {0}
 OptionSays columns env (Some f) e = FormSays columns env f e
 
-arith_operands : (program : Program) (env : Env) (before : List Expression) (op : arith_op.ArithOp) (a b : ℕ) → Knows program env before
-    → (is_whole_before program (length before) a && is_whole_before program (length before) b) ≡ true
+arith_operands : (program : Program) (env : Env) (before : List Expression) (op : arith_op.ArithOp) (a b : ℕ) → Knows program env before → AreWhole before a b
     → FormSays (columns_in program) env (computes op (bz_reference program a) (bz_reference program b)) (whole (arithmetic op (term_at before a) (term_at before b)))
-arith_operands program env before op a b h ok =
-    let parts : (is_whole_before program (length before) a ≡ true) × (is_whole_before program (length before) b ≡ true) = and_parts (is_whole_before program (length before) a) (is_whole_before program (length before) b) ok in
-    let x = operand program env before a h (is_before program (length before) a parts.0) in
-    let y = operand program env before b h (is_before program (length before) b parts.1) in
-    subst (λ t. FormSays (columns_in program) env (computes op (bz_reference program a) (bz_reference program b)) (whole (arithmetic op t (term_at before b)))) (sym x.1)
-    (subst (λ t. FormSays (columns_in program) env (computes op (bz_reference program a) (bz_reference program b)) (whole (arithmetic op (programs.term_of (Some x.0)) t))) (sym y.1)
-    (arith_says (columns_in program) env op (bz_reference program a) (bz_reference program b) x.0 y.0 x.2 y.2))
+arith_operands program env before op a b h are =
+    arith_says (columns_in program) env op (bz_reference program a) (bz_reference program b) (term_at before a) (term_at before b)
+    (operand program env before a h are.0) (operand program env before b h are.1)
 
-compare_operands : (program : Program) (env : Env) (before : List Expression) (op : compare_op.CompareOp) (a b : ℕ) → Knows program env before
-    → (is_whole_before program (length before) a && is_whole_before program (length before) b) ≡ true
+compare_operands : (program : Program) (env : Env) (before : List Expression) (op : compare_op.CompareOp) (a b : ℕ) → Knows program env before → AreWhole before a b
     → FormSays (columns_in program) env (compare op (bz_reference program a) (bz_reference program b)) (truth (comparison op (term_at before a) (term_at before b)))
-compare_operands program env before op a b h ok =
-    let parts : (is_whole_before program (length before) a ≡ true) × (is_whole_before program (length before) b ≡ true) = and_parts (is_whole_before program (length before) a) (is_whole_before program (length before) b) ok in
-    let x = operand program env before a h (is_before program (length before) a parts.0) in
-    let y = operand program env before b h (is_before program (length before) b parts.1) in
-    subst (λ t. FormSays (columns_in program) env (compare op (bz_reference program a) (bz_reference program b)) (truth (comparison op t (term_at before b)))) (sym x.1)
-    (subst (λ t. FormSays (columns_in program) env (compare op (bz_reference program a) (bz_reference program b)) (truth (comparison op (programs.term_of (Some x.0)) t))) (sym y.1)
-    (compare_says (columns_in program) env op (bz_reference program a) (bz_reference program b) x.0 y.0 x.2 y.2))
+compare_operands program env before op a b h are =
+    compare_says (columns_in program) env op (bz_reference program a) (bz_reference program b) (term_at before a) (term_at before b)
+    (operand program env before a h are.0) (operand program env before b h are.1)
 
-bz_says : (program : Program) (env : Env) (before : List Expression) (op : bz.BzOp) → Knows program env before → has_operands program (length before) op ≡ true
+bz_says : (program : Program) (env : Env) (before : List Expression) (op : bz.BzOp) → Knows program env before → IsSound program.width before op
     → OptionSays (columns_in program) env (bz_form program op) (expression_of before op)
 bz_says program env before (bz.TheVariants.Column c) h ok = tt
 bz_says program env before (bz.TheVariants.IsTrue c) h ok = tt
 bz_says program env before (bz.TheVariants.Const n) h ok = tt
-bz_says program env before (bz.TheVariants.Neg a) h ok =
-    let x = operand program env before a h (is_before program (length before) a ok) in
-    subst (λ t. FormSays (columns_in program) env (minus (bz_reference program a)) (whole (atoms.negative t))) (sym x.1)
-    (minus_says (columns_in program) env (bz_reference program a) x.0 x.2)
-bz_says program env before (bz.TheVariants.Add a b) h ok = arith_operands program env before arith_op.TheVariants.Add a b h ok
-bz_says program env before (bz.TheVariants.Sub a b) h ok = arith_operands program env before arith_op.TheVariants.Sub a b h ok
-bz_says program env before (bz.TheVariants.Mul a b) h ok = arith_operands program env before arith_op.TheVariants.Mul a b h ok
-bz_says program env before (bz.TheVariants.Div a b) h ok = arith_operands program env before arith_op.TheVariants.Div a b h ok
-bz_says program env before (bz.TheVariants.Rem a b) h ok = arith_operands program env before arith_op.TheVariants.Rem a b h ok
+bz_says program env before (bz.TheVariants.Neg a) h ok = minus_says (columns_in program) env (bz_reference program a) (term_at before a) (operand program env before a h ok.0)
+bz_says program env before (bz.TheVariants.Add a b) h ok = arith_operands program env before arith_op.TheVariants.Add a b h ok.0
+bz_says program env before (bz.TheVariants.Sub a b) h ok = arith_operands program env before arith_op.TheVariants.Sub a b h ok.0
+bz_says program env before (bz.TheVariants.Mul a b) h ok = arith_operands program env before arith_op.TheVariants.Mul a b h ok.0
+bz_says program env before (bz.TheVariants.Div a b) h ok = arith_operands program env before arith_op.TheVariants.Div a b h ok.0
+bz_says program env before (bz.TheVariants.Rem a b) h ok = arith_operands program env before arith_op.TheVariants.Rem a b h ok.0
 bz_says program env before (bz.TheVariants.Eq a b) h ok = compare_operands program env before compare_op.TheVariants.Eq a b h ok
 bz_says program env before (bz.TheVariants.Lt a b) h ok = compare_operands program env before compare_op.TheVariants.Lt a b h ok
 bz_says program env before (bz.TheVariants.Le a b) h ok = compare_operands program env before compare_op.TheVariants.Le a b h ok
@@ -238,23 +232,23 @@ kind_for program i (bz.TheVariants.Le a b) v h = tt
 
 bz_reads : (program : Program) (env : Env) (i : ℕ) (before : List Expression) (op : bz.BzOp) → KnowsSignals program.signals env → HaveOwnColumns program.signals → HasKindFor program op → bz_form program op ≡ None
     → Means (columns_in program) env (bz_called program i (Some op)) (expression_of before op)
-unfolding term_over formula_over atom_over
+unfolding term_over formula_over atom_over term_weight formula_weight
 bz_reads program env i before (bz.TheVariants.Column c) know own kind none =
     let s = in_column program.signals c false own kind in
     record {
       of = signal_value false s.number_is;
       finds = ap env s.name_is ∙ know s.number_is s.signal s.stands ∙ ap (λ b. value (signal_value b s.number_is)) s.kind_is;
-      says = record { tree = atoms.column s.number_is; weight = 1; is = refl; over = ap atoms.column (column_by program.signals s.number_is s.signal s.stands ∙ s.column_is) };
+      says = record { tree = atoms.column s.number_is; weight = 1; is = refl; over = ap atoms.column (column_by program.signals s.number_is s.signal s.stands ∙ s.column_is); weighs = refl };
     }
 bz_reads program env i before (bz.TheVariants.IsTrue c) know own kind none =
     let s = in_column program.signals c true own kind in
     record {
       of = signal_value true s.number_is;
       finds = ap env s.name_is ∙ know s.number_is s.signal s.stands ∙ ap (λ b. value (signal_value b s.number_is)) s.kind_is;
-      says = record { tree = full.atom (atoms.is_true s.number_is); weight = 1; is = refl; over = ap (λ n. full.atom (atoms.is_true n)) (column_by program.signals s.number_is s.signal s.stands ∙ s.column_is) };
+      says = record { tree = full.atom (atoms.is_true s.number_is); weight = 1; is = refl; over = ap (λ n. full.atom (atoms.is_true n)) (column_by program.signals s.number_is s.signal s.stands ∙ s.column_is); weighs = refl };
     }
 bz_reads program env i before (bz.TheVariants.Const n) know own kind none =
-    record { of = number_value n; finds = refl; says = record { tree = atoms.constant n; weight = 1; is = refl; over = refl } }
+    record { of = number_value n; finds = refl; says = record { tree = atoms.constant n; weight = 1; is = refl; over = refl; weighs = refl } }
 bz_reads program env i before (bz.TheVariants.Neg a) know own kind none = absurd (cc)
 bz_reads program env i before (bz.TheVariants.Add a b) know own kind none = absurd (cc)
 bz_reads program env i before (bz.TheVariants.Sub a b) know own kind none = absurd (cc)
@@ -303,11 +297,22 @@ pub record BzKnown (program : Program) (count : ℕ) (es : List Expression) (p :
 pub defined_later : (n : ℕ) (x : List ℕ) (f : Form) (p : Place) → IsLater p.values (behind (line_body n (define x f)) p).values
 defined_later n x f p = declare_later x (value (value_of (form_shape n f) p.values)) p.values
 
+-- a signal and a definition add nothing to the weight of the outputs
+pub nothing_added : (total : ℕ) → total ≡ total + 0
+nothing_added total = omega arith
+
 -- one more line: what was reached behind it is reached from it
-pub reaches_define : (n : ℕ) (x : List ℕ) (f : Form) (ls more : List Line) (p : Place) (I : Place → Type 0)
-    → Reaches (n + 1) ls (behind (line_body n (define x f)) p) more I → Reaches n (define x f ∷ ls) p more I
-unfolding asked_from line_items
-reaches_define n x f ls more p I r = record { line = r.line; place = r.place; new = r.new; holds = r.holds; same = r.same }
+pub reaches_define : (program : Program) (n : ℕ) (x : List ℕ) (f : Form) (ls more : List Line) (p : Place) (I : Place → Type 0) → (AreDefinable program → IsValueDefinable (form_value n f p))
+    → Reaches program (n + 1) ls (behind (line_body n (define x f)) p) more I → Reaches program n (define x f ∷ ls) p more I
+unfolding asked_from line_items ValuesPass
+reaches_define program n x f ls more p I definable r = record {
+  line = r.line;
+  place = r.place;
+  new = r.new;
+  holds = r.holds;
+  same = r.same;
+  passes = λ d total pass. (definable d, subst (ValuesPass (n + 1) ls (behind (line_body n (define x f)) p)) (nothing_added total) (r.passes d total pass));
+}
 
 pub new_head : (n : ℕ) (x : List ℕ) (f : Form) (ls : List Line) (p : Place) → AreNew n (define x f ∷ ls) p → (p.values x ≡ nothing) × AreNew (n + 1) ls (behind (line_body n (define x f)) p)
 unfolding AreNew
@@ -323,17 +328,17 @@ bz_means program env i op e at m kind = record {
 
 step_bz : (program : Program) (i n outputs : ℕ) (op : bz.BzOp) (before es : List Expression) (ls more : List Line) (p : Place) (o : Option Form)
     → bz_form program op ≡ o → slice_get program.bz i ≡ Some op → length before ≡ i → has_operands program i op ≡ true → program.version ≡ 2 → HaveOwnColumns program.signals
-    → BzKnown program outputs before p
-    → ((m : ℕ) (q : Place) → BzKnown program outputs (before ++ expression_of before op ∷ []) q → AreNew m (ls ++ more) q → Reaches m (ls ++ more) q more (BzKnown program outputs es))
-    → AreNew n (put (bz_name program i) o (ls ++ more)) p → Reaches n (put (bz_name program i) o (ls ++ more)) p more (BzKnown program outputs es)
-step_bz program i n outputs op before es ls more p None none at len ok version own h go new =
+    → IsSound program.width before op → (AreDefinable program → IsDefinable (expression_of before op)) → BzKnown program outputs before p
+    → ((m : ℕ) (q : Place) → BzKnown program outputs (before ++ expression_of before op ∷ []) q → AreNew m (ls ++ more) q → Reaches program m (ls ++ more) q more (BzKnown program outputs es))
+    → AreNew n (put (bz_name program i) o (ls ++ more)) p → Reaches program n (put (bz_name program i) o (ls ++ more)) p more (BzKnown program outputs es)
+step_bz program i n outputs op before es ls more p None none at len ok version own sound definable h go new =
     let m = bz_reads program p.values i before op h.signals own (kind_for program i op version ok) none in
     let one : KnowsOne program p.values i (expression_of before op) = bz_means program p.values i op (expression_of before op) at m (kind_of_op before op) in
     go n p (record { knows = knows_push program p.values before (expression_of before op) h.knows (subst (λ (k : ℕ). KnowsOne program p.values k (expression_of before op)) (sym len) one); signals = h.signals; outputs = h.outputs }) new
-step_bz program i n outputs op before es ls more p (Some f) some at len ok version own h go new =
+step_bz program i n outputs op before es ls more p (Some f) some at len ok version own sound definable h go new =
     let says : FormSays (columns_in program) p.values f (expression_of before op) =
     subst (λ (o : Option Form). OptionSays (columns_in program) p.values o (expression_of before op)) some
-    (bz_says program p.values before op h.knows (subst (λ (k : ℕ). has_operands program k op ≡ true) (sym len) ok)) in
+    (bz_says program p.values before op h.knows sound) in
     let head = new_head n (bz_name program i) f (ls ++ more) p new in
     let q : Place = behind (line_body n (define (bz_name program i) f)) p in
     let later : IsLater p.values q.values = defined_later n (bz_name program i) f p in
@@ -346,22 +351,44 @@ step_bz program i n outputs op before es ls more p (Some f) some at len ok versi
       signals = signals_later program.signals p.values q.values later h.signals;
       outputs = let same : p.outputs + 0 ≡ p.outputs = omega arith in same ∙ h.outputs;
     } in
-    reaches_define n (bz_name program i) f (ls ++ more) more p (BzKnown program outputs es) (go (n + 1) q next head.1)
+    reaches_define program n (bz_name program i) f (ls ++ more) more p (BzKnown program outputs es)
+    (λ d. value_definable (columns_in program) (form_value n f p) (expression_of before op) (says n) (definable d)) (go (n + 1) q next head.1)
 
 -- each instruction from a number on has its operands
 abbrev pub HaveOperands : Program → ℕ → List bz.BzOp → Type 0
 HaveOperands program i [] = Unit {0}
 HaveOperands program i (op ∷ ops) = (has_operands program i op ≡ true) × HaveOperands program (i + 1) ops
 
-pub walk_bz : (program : Program) (front ops : List bz.BzOp) (before : List Expression) (i n outputs : ℕ) (more : List Line) (p : Place)
-    → program.bz ≡ front ++ ops → length front ≡ i → length before ≡ i → HaveOperands program i ops → program.version ≡ 2 → HaveOwnColumns program.signals → BzKnown program outputs before p
-    → AreNew n (lines_from (bz_line program) i ops ++ more) p → Reaches n (lines_from (bz_line program) i ops ++ more) p more (BzKnown program outputs (expressions_after before ops))
+-- the expressions of earlier instructions stay
+pub get_kept : {X : Type 0} (xs ys : List X) (i : ℕ) (x : X) → slice_get xs i ≡ Some x → slice_get (xs ++ ys) i ≡ Some x
+get_kept [] ys i x e = absurd (cc)
+get_kept (z ∷ xs) ys zero x e = e
+get_kept (z ∷ xs) ys (suc i) x e = get_kept xs ys i x e
+
+pub expressions_kept : (ops : List bz.BzOp) (before : List Expression) (i : ℕ) (e : Expression) → slice_get before i ≡ Some e → slice_get (expressions_after before ops) i ≡ Some e
 unfolding expressions_after
-walk_bz program front [] before i n outputs more p all fronts len ok version own h new = reaches_at_once n more p (BzKnown program outputs before) new h
-walk_bz program front (op ∷ ops) before i n outputs more p all fronts len ok version own h new =
+expressions_kept [] before i e h = h
+expressions_kept (op ∷ ops) before i e h = expressions_kept ops (before ++ expression_of before op ∷ []) i e (get_kept before (expression_of before op ∷ []) i e h)
+
+-- so an instruction has its own among those of all
+expression_here : (program : Program) (op : bz.BzOp) (ops : List bz.BzOp) (before : List Expression) → expressions_after before (op ∷ ops) ≡ expressions program.bz
+    → slice_get (expressions program.bz) (length before) ≡ Some (expression_of before op)
+unfolding expressions_after
+expression_here program op ops before ends =
+    ap (λ (es : List Expression). slice_get es (length before)) (sym ends)
+    ∙ expressions_kept ops (before ++ expression_of before op ∷ []) (length before) (expression_of before op) (get_seam before (expression_of before op) [])
+
+pub walk_bz : (program : Program) (front ops : List bz.BzOp) (before : List Expression) (i n outputs : ℕ) (more : List Line) (p : Place)
+    → program.bz ≡ front ++ ops → length front ≡ i → length before ≡ i → HaveOperands program i ops → program.version ≡ 2 → HaveOwnColumns program.signals
+    → AreSound program.width before ops → expressions_after before ops ≡ expressions program.bz → BzKnown program outputs before p
+    → AreNew n (lines_from (bz_line program) i ops ++ more) p → Reaches program n (lines_from (bz_line program) i ops ++ more) p more (BzKnown program outputs (expressions_after before ops))
+unfolding expressions_after AreSound
+walk_bz program front [] before i n outputs more p all fronts len ok version own sound ends h new = reaches_at_once program n more p (BzKnown program outputs before) new h
+walk_bz program front (op ∷ ops) before i n outputs more p all fronts len ok version own sound ends h new =
     let at : slice_get program.bz i ≡ Some op = ap (λ (xs : List bz.BzOp). slice_get xs i) all ∙ ap (λ (k : ℕ). slice_get (front ++ op ∷ ops) k) (sym fronts) ∙ get_seam front op ops in
     let lines : lines_from (bz_line program) i (op ∷ ops) ++ more ≡ put (bz_name program i) (bz_form program op) (lines_from (bz_line program) (i + 1) ops ++ more) = put_is (bz_name program i) (bz_form program op) (lines_from (bz_line program) (i + 1) ops) more in
-    subst (λ (ls : List Line). Reaches n ls p more (BzKnown program outputs (expressions_after (before ++ expression_of before op ∷ []) ops))) (sym lines)
-    (step_bz program i n outputs op before (expressions_after (before ++ expression_of before op ∷ []) ops) (lines_from (bz_line program) (i + 1) ops) more p (bz_form program op) refl at len ok.0 version own h
-    (λ m q k fresh. walk_bz program (front ++ op ∷ []) ops (before ++ expression_of before op ∷ []) (i + 1) m outputs more q (all ∙ sym (append_assoc front (op ∷ []) ops)) (omega (arith, length-append front (op ∷ []))) (omega (arith, length-append before (expression_of before op ∷ []))) ok.1 version own k fresh)
+    subst (λ (ls : List Line). Reaches program n ls p more (BzKnown program outputs (expressions_after (before ++ expression_of before op ∷ []) ops))) (sym lines)
+    (step_bz program i n outputs op before (expressions_after (before ++ expression_of before op ∷ []) ops) (lines_from (bz_line program) (i + 1) ops) more p (bz_form program op) refl at len ok.0 version own sound.0
+    (λ d. d.bz (length before) (expression_of before op) (expression_here program op ops before ends)) h
+    (λ m q k fresh. walk_bz program (front ++ op ∷ []) ops (before ++ expression_of before op ∷ []) (i + 1) m outputs more q (all ∙ sym (append_assoc front (op ∷ []) ops)) (omega (arith, length-append front (op ∷ []))) (omega (arith, length-append before (expression_of before op ∷ []))) ok.1 version own sound.1 ends k fresh)
     (subst (λ (ls : List Line). AreNew n ls p) lines new))

@@ -23,6 +23,7 @@ use Rattle.mltl_base.specs.Reports.{Output}
 use Rattle.mltl_base.specs.Programs.{Expression, expression_of, expressions_after, expressions, atoms, formula_of, past_formula_of, formulas_after, past_formulas_after, formula_at}
 use Rattle.mltl_base.specs.Subformulas.{Asked, asked_by, unfolded_outputs}
 use Rattle.plain_nodes.specs.Outputs.{asked_over}
+use Rattle.obs_verify.specs.Soundness.{AreSound}
 use Rattle.obs_verify.specs.WellFormed.{reports_within}
 use Rattle.unfold.specs.Values as values
 use Rattle.unfold.specs.Environment.{Env, nothing, value, declare, signal_value, value_of}
@@ -32,9 +33,10 @@ use Rattle.obs_show.specs.Naming.{ft_reference, pt_reference}
 use Rattle.obs_show.specs.Text.{signal_line, bz_line, ft_line, pt_line, label_of, output_line, lines_by, output_lines, lines}
 use Rattle.show_trips.specs.Said.{reference_shape, line_body, line_items}
 use Rattle.show_trips.specs.Unfolded.{AreNew}
+use Rattle.show_trips.proofs.Passing.{ValuesPass}
 use Rattle.show_trips.proofs.Values.{IsLater, declare_later, declared_here, MeansFormula, formula_by}
-use Rattle.show_trips.proofs.Walk.{Reaches, reaches_at_once, get_push, columns_in, KnowsSignals, BzKnown, HaveOwnColumns, HaveOperands, walk_bz}
-use Rattle.show_trips.proofs.Engines.{CoresKnown, core_operand, HaveFutureOperands, walk_ft, HavePastOperands, walk_pt}
+use Rattle.show_trips.proofs.Walk.{Reaches, reaches_at_once, reaches_on, nothing_added, get_push, columns_in, KnowsSignals, Knows, BzKnown, HaveOwnColumns, HaveOperands, walk_bz}
+use Rattle.show_trips.proofs.Engines.{KnowsCores, CoresKnown, core_operand, HaveFutureOperands, walk_ft, HavePastOperands, walk_pt}
 
 -- behind the lines of signals
 record SignalsKnown (program : Program) (count : ℕ) (p : Place) : Type 0 where
@@ -58,16 +60,23 @@ input_head : (n : ℕ) (x : List ℕ) (truth : Bool) (ls : List Line) (p : Place
 unfolding AreNew
 input_head n x truth ls p h = h
 
-reaches_input : (n : ℕ) (x : List ℕ) (truth : Bool) (ls more : List Line) (p : Place) (I : Place → Type 0)
-    → Reaches (n + 1) ls (behind (line_body n (input x truth)) p) more I → Reaches n (input x truth ∷ ls) p more I
-unfolding asked_from line_items
-reaches_input n x truth ls more p I r = record { line = r.line; place = r.place; new = r.new; holds = r.holds; same = r.same }
+reaches_input : (program : Program) (n : ℕ) (x : List ℕ) (truth : Bool) (ls more : List Line) (p : Place) (I : Place → Type 0)
+    → Reaches program (n + 1) ls (behind (line_body n (input x truth)) p) more I → Reaches program n (input x truth ∷ ls) p more I
+unfolding asked_from line_items ValuesPass
+reaches_input program n x truth ls more p I r = record {
+  line = r.line;
+  place = r.place;
+  new = r.new;
+  holds = r.holds;
+  same = r.same;
+  passes = λ d total pass. (tt, subst (ValuesPass (n + 1) ls (behind (line_body n (input x truth)) p)) (nothing_added total) (r.passes d total pass));
+}
 
 walk_signals : (program : Program) (count : ℕ) (front signals : List StoredSignal) (n : ℕ) (more : List Line) (p : Place)
     → program.signals ≡ front ++ signals → length front ≡ p.signals → KnowsSignals front p.values → p.outputs ≡ count → AreNew n (map signal_line signals ++ more) p
-    → Reaches n (map signal_line signals ++ more) p more (SignalsKnown program count)
+    → Reaches program n (map signal_line signals ++ more) p more (SignalsKnown program count)
 walk_signals program count front [] n more p all len h outs new =
-    reaches_at_once n more p (SignalsKnown program count) new (record { signals = subst (λ (ss : List StoredSignal). KnowsSignals ss p.values) (sym (all ∙ append-nil front)) h; outputs = outs })
+    reaches_at_once program n more p (SignalsKnown program count) new (record { signals = subst (λ (ss : List StoredSignal). KnowsSignals ss p.values) (sym (all ∙ append-nil front)) h; outputs = outs })
 walk_signals program count front (s ∷ signals) n more p all len h outs new =
     let head = input_head n s.name s.truth (map signal_line signals ++ more) p new in
     let q : Place = behind (line_body n (input s.name s.truth)) p in
@@ -76,7 +85,7 @@ walk_signals program count front (s ∷ signals) n more p all len h outs new =
     let here : q.values s.name ≡ value (signal_value s.truth p.signals) = ap (λ (e : Env). e s.name) is ∙ declared_here s.name (signal_value s.truth p.signals) p.values head.0 in
     let more_outs : q.outputs ≡ p.outputs = omega arith in
     let longer : length (front ++ s ∷ []) ≡ q.signals = omega (arith, length-append front (s ∷ [])) in
-    reaches_input n s.name s.truth (map signal_line signals ++ more) more p (SignalsKnown program count)
+    reaches_input program n s.name s.truth (map signal_line signals ++ more) more p (SignalsKnown program count)
     (walk_signals program count (front ++ s ∷ []) signals (n + 1) more q (all ∙ sym (append_assoc front (s ∷ []) signals)) longer
     (signals_push front s p.signals p.values q.values len later here h) (more_outs ∙ outs) head.1)
 
@@ -89,15 +98,15 @@ name_kept k name = go (bytes_eq name (decimal k)) refl
     go false e = refl
 
 -- references of both engines mean the formulas of their instructions
-record EnginesKnown (program : Program) (env : Env) : Type 0 where
-  ft : (i : ℕ) → i < length program.ft → MeansFormula (columns_in program) env (ft_reference program i) (plain (formula_at program Ft i))
-  pt : (i : ℕ) → i < length program.pt → MeansFormula (columns_in program) env (pt_reference program i) (plain (formula_at program Pt i))
+pub record EnginesKnown (program : Program) (env : Env) : Type 0 where
+  pub ft : (i : ℕ) → i < length program.ft → MeansFormula (columns_in program) env (ft_reference program i) (plain (formula_at program Ft i))
+  pub pt : (i : ℕ) → i < length program.pt → MeansFormula (columns_in program) env (pt_reference program i) (plain (formula_at program Pt i))
 
 -- what an output asks for
-abbrev Within : Program → out.Out → Type 0
+abbrev pub Within : Program → out.Out → Type 0
 Within program o = reports_within (length program.ft) (length program.pt) o ≡ true
 
-under : (a b : ℕ) → nat_lt a b ≡ true → a < b
+pub under : (a b : ℕ) → nat_lt a b ≡ true → a < b
 under a b h = grind (arith, nat_tests)
 
 abbrev one_asked : Engine → List ℕ → Formula → Asked
@@ -132,7 +141,7 @@ output_asks program n k p (out.TheVariants.Contract Pt i j name) e h w =
     (formula_by (columns_in program) p.values n (pt_reference program j) (plain (formula_at program Pt j)) (h.pt j (under j (length program.pt) parts.1)))
 
 -- behind an output nothing but its number is new
-behind_output : (program : Program) (n k : ℕ) (o : out.Out) (p : Place) → ((behind (line_body n (output_line program k o)) p).values ≡ p.values) × ((behind (line_body n (output_line program k o)) p).outputs ≡ p.outputs + 1)
+pub behind_output : (program : Program) (n k : ℕ) (o : out.Out) (p : Place) → ((behind (line_body n (output_line program k o)) p).values ≡ p.values) × ((behind (line_body n (output_line program k o)) p).outputs ≡ p.outputs + 1)
 behind_output program n k (out.TheVariants.Formula engine i name) p = (refl, refl)
 behind_output program n k (out.TheVariants.Contract engine i j name) p = (refl, refl)
 
@@ -157,54 +166,74 @@ pub record CanBeSaid (program : Program) : Type 0 where
   pub version : program.version ≡ 2
   pub columns : HaveOwnColumns program.signals
   pub bz : HaveOperands program 0 program.bz
+  pub sound : AreSound program.width [] program.bz
   pub ft : HaveFutureOperands program 0 program.ft
   pub pt : HavePastOperands program 0 program.pt
   pub reports : HaveReports program program.outs
 
-expressions_count : (ops : List BzOp) (before : List Expression) → length (expressions_after before ops) ≡ length before + length ops
+pub expressions_count : (ops : List BzOp) (before : List Expression) → length (expressions_after before ops) ≡ length before + length ops
 unfolding expressions_after
 expressions_count [] before = omega arith
 expressions_count (op ∷ ops) before = omega (arith, expressions_count ops (before ++ expression_of before op ∷ []), length-append before (expression_of before op ∷ []))
 
-formulas_count : (loaded : List Atom) (ops : List FtOp) (before : List Core) → length (formulas_after loaded before ops) ≡ length before + length ops
+pub formulas_count : (loaded : List Atom) (ops : List FtOp) (before : List Core) → length (formulas_after loaded before ops) ≡ length before + length ops
 unfolding formulas_after
 formulas_count loaded [] before = omega arith
 formulas_count loaded (op ∷ ops) before = omega (arith, formulas_count loaded ops (before ++ formula_of loaded before op ∷ []), length-append before (formula_of loaded before op ∷ []))
 
-past_count : (loaded : List Atom) (ops : List PtOp) (before : List Core) → length (past_formulas_after loaded before ops) ≡ length before + length ops
+pub past_count : (loaded : List Atom) (ops : List PtOp) (before : List Core) → length (past_formulas_after loaded before ops) ≡ length before + length ops
 unfolding past_formulas_after
 past_count loaded [] before = omega arith
 past_count loaded (op ∷ ops) before = omega (arith, past_count loaded ops (before ++ past_formula_of loaded before op ∷ []), length-append before (past_formula_of loaded before op ∷ []))
 
 -- everything that is known behind the lines of instructions
-abbrev AllKnown : Program → Place → Type 0
+abbrev pub AllKnown : Program → Place → Type 0
 AllKnown program p =
     CoresKnown (pt_reference program) (columns_in program)
     (CoresKnown (ft_reference program) (columns_in program) (BzKnown program 0 (expressions program.bz)) (formulas_after (atoms program.bz) [] program.ft))
     (past_formulas_after (atoms program.bz) [] program.pt) p
 
-engines_known : (program : Program) (p : Place) → AllKnown program p → EnginesKnown program p.values
+pub engines_known : (program : Program) (p : Place) → AllKnown program p → EnginesKnown program p.values
 engines_known program p h = record {
   ft = λ i inside. core_operand (ft_reference program) (columns_in program) p.values (formulas_after (atoms program.bz) [] program.ft) i h.base.known (omega (arith, formulas_count (atoms program.bz) program.ft []));
   pt = λ i inside. core_operand (pt_reference program) (columns_in program) p.values (past_formulas_after (atoms program.bz) [] program.pt) i h.known (omega (arith, past_count (atoms program.bz) program.pt []));
 }
+
+-- before any line nothing is known
+no_signals : (env : Env) → KnowsSignals [] env
+no_signals env k s e = absurd (cc)
+
+no_expressions : (program : Program) (env : Env) → Knows program env []
+no_expressions program env j e i = absurd (cc)
+
+no_cores : (reference : ℕ → Reference) (columns : List ℕ) (env : Env) → KnowsCores reference columns env []
+no_cores reference columns env j c i = absurd (cc)
+
+-- through all lines of a program up to those of its outputs
+pub lines_reach : (program : Program) → CanBeSaid program → AreNew 1 (lines program) before → Reaches program 1 (lines program) before (output_lines program program.outs) (AllKnown program)
+lines_reach program h new =
+    let outs : List Line = output_lines program program.outs in
+    let pts : List Line = lines_by (pt_line program) program.pt ++ outs in
+    let fts : List Line = lines_by (ft_line program) program.ft ++ pts in
+    let bzs : List Line = lines_by (bz_line program) program.bz ++ fts in
+    let first = walk_signals program 0 [] program.signals 1 bzs before refl refl (no_signals before.values) refl new in
+    let second = walk_bz program [] program.bz [] 0 first.line 0 fts first.place refl refl refl h.bz h.version h.columns h.sound refl
+    (record { knows = no_expressions program first.place.values; signals = first.holds.signals; outputs = first.holds.outputs }) first.new in
+    let count : length (expressions program.bz) ≡ length program.bz = omega (arith, expressions_count program.bz []) in
+    let third = walk_ft program 0 (expressions program.bz) [] program.ft [] 0 second.line pts second.place refl refl refl count refl h.ft refl
+    (record { base = second.holds; known = no_cores (ft_reference program) (columns_in program) second.place.values }) second.new in
+    let fourth = walk_pt program 0 (expressions program.bz) (formulas_after (atoms program.bz) [] program.ft) [] program.pt [] 0 third.line outs third.place refl refl refl count refl h.pt refl
+    (record { base = third.holds; known = no_cores (pt_reference program) (columns_in program) third.place.values }) third.new in
+    reaches_on program 1 (lines program) bzs outs before (SignalsKnown program 0) (AllKnown program) first
+    (reaches_on program first.line bzs fts outs first.place (BzKnown program 0 (expressions program.bz)) (AllKnown program) second
+    (reaches_on program second.line fts pts outs second.place
+    (CoresKnown (ft_reference program) (columns_in program) (BzKnown program 0 (expressions program.bz)) (formulas_after (atoms program.bz) [] program.ft)) (AllKnown program) third fourth))
 
 -- the lines of a program ask for what its outputs unfold to
 pub lines_ask : (program : Program) → CanBeSaid program → AreNew 1 (lines program) before
     → map (asked_over (columns_in program)) (outputs_of (line_items 1 (lines program))) ≡ unfolded_outputs program
 unfolding outputs_of
 lines_ask program h new =
-    let outs : List Line = output_lines program program.outs in
-    let pts : List Line = lines_by (pt_line program) program.pt ++ outs in
-    let fts : List Line = lines_by (ft_line program) program.ft ++ pts in
-    let bzs : List Line = lines_by (bz_line program) program.bz ++ fts in
-    let first = walk_signals program 0 [] program.signals 1 bzs before refl refl (λ k s e. absurd (cc)) refl new in
-    let second = walk_bz program [] program.bz [] 0 first.line 0 fts first.place refl refl refl h.bz h.version h.columns
-    (record { knows = λ j e i. absurd (cc); signals = first.holds.signals; outputs = first.holds.outputs }) first.new in
-    let count : length (expressions program.bz) ≡ length program.bz = omega (arith, expressions_count program.bz []) in
-    let third = walk_ft program 0 (expressions program.bz) [] program.ft [] 0 second.line pts second.place refl refl refl count refl h.ft
-    (record { base = second.holds; known = λ j c i. absurd (cc) }) second.new in
-    let fourth = walk_pt program 0 (expressions program.bz) (formulas_after (atoms program.bz) [] program.ft) [] program.pt [] 0 third.line outs third.place refl refl refl count refl h.pt
-    (record { base = third.holds; known = λ j c i. absurd (cc) }) third.new in
-    ap (λ (xs : List Asked). map (asked_over (columns_in program)) xs) (first.same ∙ second.same ∙ third.same ∙ fourth.same)
-    ∙ outputs_ask program program.outs fourth.line 0 fourth.place fourth.holds.base.base.outputs (engines_known program fourth.place fourth.holds) h.reports
+    let r = lines_reach program h new in
+    ap (λ (xs : List Asked). map (asked_over (columns_in program)) xs) r.same
+    ∙ outputs_ask program program.outs r.line 0 r.place r.holds.base.base.outputs (engines_known program r.place r.holds) h.reports

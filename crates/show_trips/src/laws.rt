@@ -12,6 +12,7 @@ ghost use Rattle.plain_nodes.specs.Outputs.{asked_over};
 ghost use Rattle.obs_verify.specs.Layout.{HasLayout};
 ghost use Rattle.spec_compile.specs.Simplified.{simple_image_in};
 ghost use Rattle.show_trips.specs.Named.{HasOwnWords};
+ghost use Rattle.obs_show.specs.Limits.{show_fault};
 ghost use Rattle.obs_verify.specs.WellFormed.{IsWellFormed};
 ghost use Rattle.c2po_types.specs.FirstFault.{first_fault};
 ghost use Rattle.c2po_types.specs.Signals.{signals_of};
@@ -104,4 +105,18 @@ pub fn shown_images_return()
         first_refusal source ≡ None → program ≡ simple_image_in source columns →
         HasLayout program → IsWellFormed program → first_refusal (text program) ≡ None →
         image_in (text program) (stored_columns program) ≡ program }
+{}
+
+/// The text of an image, simplified or not, has no fault where the image is within the limits of
+/// what is shown.
+#[tactic(auto, using(crate::proofs::ShownImages::image_passes, crate::proofs::ShownImages::simple_passes))]
+pub fn shown_images_have_no_fault()
+    ensures plain { (source : List ℕ) (columns : Places) (program : Observer) →
+        first_refusal source ≡ None → program ≡ image_in source columns →
+        HasLayout program → IsWellFormed program → show_fault program ≡ None →
+        first_refusal (text program) ≡ None }
+    ensures simple { (source : List ℕ) (columns : Places) (program : Observer) →
+        first_refusal source ≡ None → program ≡ simple_image_in source columns →
+        HasLayout program → IsWellFormed program → show_fault program ≡ None →
+        first_refusal (text program) ≡ None }
 {}
