@@ -34,13 +34,13 @@ use Rattle.spec_compile.specs.Image.{over_columns}
 use Rattle.spec_compile.specs.ImageFiles.{image_in}
 use Rattle.spec_compile.specs.Simplified.{are_smaller, smaller_outputs, simple_image_in}
 use Rattle.spec_compile.proofs.ImageLaws.{image_of}
+use Rattle.spec_compile.proofs.TellingLaws.{no_fault}
 use Rattle.obs_show.specs.Lines.{Form, Line, define}
 use Rattle.obs_show.specs.Naming.{bz_name, ft_name, pt_name}
 use Rattle.obs_show.specs.Text.{signal_line, bz_form, ft_form, pt_form, label_of, output_line, output_lines, lines}
 use Rattle.show_trips.proofs.Passing.{label_in, LabelsPass}
 use Rattle.show_trips.proofs.Walk.{lines_from}
 use Rattle.show_trips.proofs.Fresh.{entry_push}
-use Rattle.show_trips.proofs.Returning.{no_fault}
 
 -- ---- labels that are new
 

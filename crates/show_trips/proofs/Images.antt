@@ -32,7 +32,7 @@ use Rattle.spec_compile.specs.Image.{over_columns, image}
 use Rattle.spec_compile.specs.ImageFiles.{image_in, stored_columns}
 use Rattle.spec_compile.specs.Simplified.{are_smaller, smaller_outputs, simple_image_in}
 use Rattle.spec_compile.proofs.ImageLaws.{image_of}
-use Rattle.spec_compile.proofs.TellingLaws.{tensed}
+use Rattle.spec_compile.proofs.TellingLaws.{second_none, tensed}
 use Rattle.mltl_simplify.proofs.Ending.{simple_tensed}
 use Rattle.obs_show.specs.Text.{text}
 use Rattle.show_trips.specs.Written.{IsName}
@@ -51,10 +51,6 @@ use Rattle.show_trips.proofs.Returning.{program_returns}
 first_none : (o p : Option CompileFault) → option_or o p ≡ None → o ≡ None
 first_none (Some fault) p h = absurd (cc)
 first_none None p h = refl
-
-second_none : (o p : Option CompileFault) → option_or o p ≡ None → p ≡ None
-second_none (Some fault) p h = absurd (cc)
-second_none None p h = h
 
 read_ok : {A E : Type 0} (refusal : E → CompileFault) (r : Result (List A) E) → refusal_in refusal r ≡ None → r ≡ Ok (result_unwrap_or r [])
 read_ok refusal (Ok x) h = refl

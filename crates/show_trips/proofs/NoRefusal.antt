@@ -14,7 +14,7 @@ use Rattle.c2po_kinds.specs.declared.declarations.Declarations.{Declarations}
 use Rattle.c2po_kinds.specs.declared.fault.TypeFault.TheVariants as fault
 use Rattle.c2po_kinds.specs.Checking.{Checked, ◌>>=◌, in_turn}
 use Rattle.c2po_kinds.specs.Items.{Labels, nothing, with_value, with_label, formula_kind, contract_kind}
-use Rattle.c2po_types.specs.FirstFault.{State, ranged, one_tense, defined, with_out, one_out, two_out, item_step, checked, fault_of, first_fault, with_signals, is_mixed}
+use Rattle.c2po_types.specs.FirstFault.{State, when_ranged, one_tense, defined, with_out, one_out, two_out, item_step, checked, fault_of, first_fault, with_signals, is_mixed}
 use Rattle.plain_nodes.specs.Faults.{formula_fault, or_later}
 use Rattle.unfold.specs.Values as values
 use Rattle.unfold.specs.Values.{Value, formula_of}
@@ -89,8 +89,8 @@ define_goes n x f d later labels next p total count kinds label passes =
     record {
       step =
           ap (λ (m : Checked Kind). m >>= λ k. defined n x (with_value x k d) v s) kinds.1
-          ∙ ap (λ (b : Bool). if b then ranged n (value_fault v) after else Err (fault.Wide n)) (at_most (values.weight v) MAX_WEIGHT passes.0)
-          ∙ ap (λ (o : Option NoRange). ranged n o after) passes.1
+          ∙ ap (λ (b : Bool). if b then when_ranged n (value_fault v) after else Err (fault.Wide n)) (at_most (values.weight v) MAX_WEIGHT passes.0)
+          ∙ ap (λ (o : Option NoRange). when_ranged n o after) passes.1
           ∙ same_way (with_value x kinds.0 d) later labels next (declare x (value v) p.values) (declare x (value v) p.values) total (total + 0) kinds.2 (ok_same labels next label) refl none;
       counted = ap (λ (c : Declarations). length c.signals) (sym kinds.2) ∙ count ∙ more;
     }
@@ -100,8 +100,8 @@ out_goes : (n : ℕ) (d later : Declarations) (labels : Labels) (w : ℕ) (why :
     → d ≡ later → total + w ≤ MAX_WEIGHT → why ≡ None → mixed ≡ false → with_out n labels w why mixed (known d labels env total) ≡ goes_on later labels env (total + w)
 out_goes n d later labels w why mixed env total same light range tense =
     let after : Checked State = goes_on d labels env (total + w) in
-    ap (λ (b : Bool). if b then ranged n why (one_tense n mixed after) else Err (fault.Wide n)) (at_most (total + w) MAX_WEIGHT light)
-    ∙ ap (λ (o : Option NoRange). ranged n o (one_tense n mixed after)) range
+    ap (λ (b : Bool). if b then when_ranged n why (one_tense n mixed after) else Err (fault.Wide n)) (at_most (total + w) MAX_WEIGHT light)
+    ∙ ap (λ (o : Option NoRange). when_ranged n o (one_tense n mixed after)) range
     ∙ ap (λ (b : Bool). one_tense n b after) tense
     ∙ ap (λ (c : Declarations). goes_on c labels env (total + w)) same
 

@@ -1,8 +1,6 @@
 -- A program that has the lists of a specification is the image of its own text.
 
-use Rattle.std.proofs.Common.{◌≡◌, ◌∙◌, ℕ, List, [], map, All, Option, Some, None, refl, ap, sym, subst}
-use Rattle.std.specs.Prelude.{option_map}
-use Rattle.std.specs.Option.{option_or}
+use Rattle.std.proofs.Common.{◌≡◌, ◌∙◌, ℕ, List, [], map, All, None, refl, ap, sym, subst}
 use Rattle.std.specs.Result.{result_unwrap_or}
 use Rattle.mltl_base.specs.declared.program.Columns.{Columns}
 use Rattle.mltl_base.specs.declared.program.Program.{Program}
@@ -12,19 +10,16 @@ use Rattle.mltl_base.proofs.Returning.{lists_return}
 use Rattle.plain_nodes.specs.Outputs.{asked_over}
 use Rattle.obs_verify.specs.WellFormed.{IsWellFormed}
 use Rattle.obs_build.specs.Image.{IsImageOf, stored_signals}
-use Rattle.c2po_lexer.specs.Tokens.{tokens_of}
 use Rattle.c2po_tree.specs.ItemShape.{ItemShape}
 use Rattle.c2po_parse.specs.Specification.{spec_of}
-use Rattle.c2po_kinds.specs.declared.fault.TypeFault.{TypeFault}
 use Rattle.c2po_types.specs.FirstFault.{first_fault}
 use Rattle.c2po_types.specs.Signals.{signals_of}
 use Rattle.set_expand.specs.Outputs.{outputs_of}
-use Rattle.spec_compile.specs.declared.fault.CompileFault.{CompileFault}
-use Rattle.spec_compile.specs.Refusals.{token_refusal, tree_refusal, check_refusal}
-use Rattle.spec_compile.specs.Front.{tokens_in, items_in, refusal_in, first_refusal}
+use Rattle.spec_compile.specs.Front.{items_in, first_refusal}
 use Rattle.spec_compile.specs.Compiled.{signals_in, outputs_in}
 use Rattle.spec_compile.specs.ImageFiles.{image_in, stored_columns}
 use Rattle.spec_compile.proofs.ImageLaws.{image_is}
+use Rattle.spec_compile.proofs.TellingLaws.{no_fault}
 use Rattle.obs_show.specs.Text.{lines, text}
 use Rattle.show_trips.specs.Said.{HaveWords, line_items}
 use Rattle.show_trips.specs.Unfolded.{declared_by}
@@ -38,19 +33,6 @@ pub items_said : (program : Program) → HaveWords (lines program) → items_in 
 items_said program h =
     ap (λ r. result_unwrap_or (spec_of (result_unwrap_or r [])) []) (lines_tokens (lines program) h)
     ∙ ap (λ r. result_unwrap_or r []) (lines_items (lines program))
-
--- nothing first, and nothing then
-second_none : (o p : Option CompileFault) → option_or o p ≡ None → p ≡ None
-second_none (Some fault) p h = absurd (cc)
-second_none None p h = h
-
-map_none : (o : Option TypeFault) → option_map check_refusal o ≡ None → o ≡ None
-map_none (Some fault) h = absurd (cc)
-map_none None h = refl
-
-pub no_fault : (source : List ℕ) → first_refusal source ≡ None → first_fault (items_in source) ≡ None
-no_fault source h = map_none (first_fault (items_in source))
-    (second_none (refusal_in tree_refusal (spec_of (tokens_in source))) _ (second_none (refusal_in token_refusal (tokens_of source)) _ h))
 
 -- the text of a program is that of a specification whose image the program is
 pub program_returns : (signals : List Signal) (columns : Columns) (outs : List Asked) (program : Program) → IsImageOf signals columns outs program → All IsTensed outs
