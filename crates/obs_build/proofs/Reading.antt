@@ -34,7 +34,7 @@ pub record AreOfKinds (program : Program) (kinds : List Bool) (columns : List �
   pub serves : (s : ℕ) (b : Bool) → slice_get kinds s ≡ Some b → is_column_of program (slice_index columns s) b ≡ true
 
 -- columns don't change a range
-range_over : (columns : List ℕ) (a : Term) → range (term_over columns a) ≡ range a
+pub range_over : (columns : List ℕ) (a : Term) → range (term_over columns a) ≡ range a
 unfolding range term_over
 range_over columns (column s) = refl
 range_over columns (constant n) = refl

@@ -13,6 +13,7 @@ use Rattle.mltl_base.specs.Programs.{Expression, whole, truth, expressions, core
 use Rattle.mltl_base.specs.Ranges.{NoRange, range, negated, summed, lessened, multiplied, divided, left_over, over, over_both, over_divisor}
 use Rattle.plain_nodes.specs.Faults.{why_none, or_later, term_fault, atom_fault, formula_fault}
 use Rattle.plain_nodes.specs.Tenses.{has_past, has_future}
+use Rattle.obs_build.proofs.Reading.{range_over}
 use Rattle.unfold.specs.Values.{Value, weight}
 use Rattle.unfold.specs.Faults.{value_fault}
 use Rattle.obs_show.specs.Weight.{formula_weight}
@@ -21,25 +22,13 @@ use Rattle.show_trips.proofs.Values.{SaysWhole, SaysFormula, Says}
 
 -- ---- columns
 
--- columns don't change a range
-range_over : (columns : List ℕ) (a : Term) → range (term_over columns a) ≡ range a
-unfolding range term_over
-range_over columns (column s) = refl
-range_over columns (constant n) = refl
-range_over columns (negative a) = ap (over negated) (range_over columns a)
-range_over columns (plus a b) = ap₂ (over_both summed) (range_over columns a) (range_over columns b)
-range_over columns (minus a b) = ap₂ (over_both lessened) (range_over columns a) (range_over columns b)
-range_over columns (times a b) = ap₂ (over_both multiplied) (range_over columns a) (range_over columns b)
-range_over columns (quotient a b) = ap₂ (over_divisor divided) (range_over columns a) (range_over columns b)
-range_over columns (remainder a b) = ap₂ (over_divisor left_over) (range_over columns a) (range_over columns b)
-
+-- columns don't change a fault
 term_fault_over : (columns : List ℕ) (a : Term) → term_fault (term_over columns a) ≡ term_fault a
 term_fault_over columns a = ap why_none (range_over columns a)
 
 both_over : (columns : List ℕ) (a b : Term) → or_later (term_fault (term_over columns a)) (term_fault (term_over columns b)) ≡ or_later (term_fault a) (term_fault b)
 both_over columns a b = ap₂ or_later (term_fault_over columns a) (term_fault_over columns b)
 
--- nor a fault
 atom_fault_over : (columns : List ℕ) (a : Atom) → atom_fault (atom_over columns a) ≡ atom_fault a
 unfolding atom_over
 atom_fault_over columns (is_true s) = refl
