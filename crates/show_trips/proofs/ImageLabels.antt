@@ -26,7 +26,7 @@ use Rattle.mltl_base.specs.Ranges.{NoRange}
 use Rattle.unfold.specs.Environment.{value_of}
 use Rattle.unfold.specs.Faults.{value_fault}
 use Rattle.c2po_types.specs.FirstFault.{State, start, with_out, body_step, item_step, checked, fault_of, first_fault}
-use Rattle.c2po_types.proofs.Parts.{bind-ok, unless-ok, when-ok, ranged-ok, ok-inj}
+use Rattle.c2po_types.proofs.Parts.{bind-ok, unless-ok, when-ok, when_ranged-ok, ok-inj}
 use Rattle.set_expand.specs.Outputs.{Place, before, behind, name_of, asked_at, asked_from, outputs_of}
 use Rattle.spec_compile.specs.Front.{items_in, first_refusal}
 use Rattle.spec_compile.specs.Compiled.{signals_in, outputs_in}
@@ -85,7 +85,7 @@ labels_of [] = []
 labels_of (i ∷ items) = body_labels i.body ++ labels_of items
 
 out_labels : (line : ℕ) (labels : Labels) (w : ℕ) (why : Option NoRange) (mixed : Bool) (s t : State) → with_out line labels w why mixed s ≡ Ok t → labels ≡ t.labels
-out_labels line labels w why mixed s t h = ap (λ (r : State). r.labels) (ok-inj _ t (unless-ok mixed _ _ t (ranged-ok line why _ t (when-ok _ _ _ t h))))
+out_labels line labels w why mixed s t h = ap (λ (r : State). r.labels) (ok-inj _ t (unless-ok mixed _ _ t (when_ranged-ok line why _ t (when-ok _ _ _ t h))))
 
 labels_stay : (s t : State) (os : List (Option (List ℕ))) → s.labels ≡ t.labels → AreNewLabels t.labels os → AreNewLabels s.labels os
 labels_stay s t os same g = subst (λ (labels : Labels). AreNewLabels labels os) (sym same) g
@@ -100,7 +100,7 @@ body_new line (item.input xs ty) s t os h g =
 body_new line (item.define x e) s t os h g =
     let p = bind-ok (define_kind line x e s.declared) _ t h in
     let v = value_of e s.values in
-    labels_stay s t os (ap (λ (r : State). r.labels) (ok-inj _ t (ranged-ok line (value_fault v) _ t (when-ok _ _ _ t p.2)))) g
+    labels_stay s t os (ap (λ (r : State). r.labels) (ok-inj _ t (when_ranged-ok line (value_fault v) _ t (when-ok _ _ _ t p.2)))) g
 body_new line (item.formula engine label e) s t os h g =
     let p = bind-ok (with_label line label s.labels) _ t h in
     let q = bind-ok (formula_kind line e s.declared) _ t p.2 in

@@ -36,7 +36,7 @@ use Rattle.spec_compile.specs.Simplified.{smaller_outputs, simple_image_in}
 use Rattle.spec_compile.proofs.ImageLaws.{image_of}
 use Rattle.spec_compile.proofs.TellingLaws.{no_fault, tensed}
 use Rattle.show_trips.proofs.Passing.{IsLight}
-use Rattle.show_trips.proofs.Tenses.{tensed_over}
+use Rattle.obs_build.proofs.Tenses.{tensed_over}
 use Rattle.show_trips.proofs.Images.{smaller_tensed}
 
 -- ---- weights
