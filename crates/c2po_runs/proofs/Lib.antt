@@ -5,3 +5,4 @@ pub mod AskedRuns
 pub mod MainLaws
 pub mod MakingLaws
 pub mod HeadLaws
+pub mod ShownRuns

@@ -1,4 +1,5 @@
 pub mod Asking
 pub mod Made
 pub mod Run
+pub mod Showing
 pub mod Phases

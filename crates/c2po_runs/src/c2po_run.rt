@@ -8,6 +8,7 @@ ghost use Rattle.tool_words.specs.C2poWords.{asked_of};
 ghost use Rattle.tool_runs.specs.Causes.{CauseAt, RunCause};
 ghost use Rattle.c2po_runs.specs.Asking.{ask, from_text as is_text, help, make as made_so, make_of, nothing, served};
 ghost use Rattle.c2po_runs.specs.Run.{IsMade, Ran};
+ghost use Rattle.c2po_runs.specs.Showing.{ShowsProgram};
 
 use crate::gathering::gather;
 use crate::make::{Make, compilation, showing, upgrading};
@@ -62,7 +63,8 @@ fn run<H: Host>(alloc: Global, words: &Words, host: &mut H) -> Status
 ///
 /// It writes the image of a specification or its instruction table, maybe in simplified form; a program in version 2, or
 /// its text; or it gives help. The output is attached, and written, only once the bytes stand whole; so an older file
-/// stays as it was where something is refused.
+/// stays as it was where something is refused. The text of an image is a specification without a fault, whose image over
+/// the stored columns is the file.
 pub fn c2po_main<H: Host>(alloc: Global, words: &Words, host: &mut H) -> Status
     ensures usage { result ≢ Status.Memory → (result ≡ Status.Usage) ↔ (ask words.now ≡ nothing) }
     ensures helped { result ≡ Status.Helped → ask words.now ≡ help }
@@ -70,6 +72,8 @@ pub fn c2po_main<H: Host>(alloc: Global, words: &Words, host: &mut H) -> Status
         → CauseAt result p (H.faults host.old p) (H.faults host.new p) }
     ensures log { OnLog (H.log host.old) (H.log host.new)
         (IsMade (ask words.now) result (H.faults host.old) (H.faults host.new)) }
+    ensures returns { OnLog (H.log host.old) (H.log host.new)
+        (ShowsProgram (ask words.now) result) }
 {
     let status = run(alloc, words, host);
     let _ = tell_user(Tool::C2po, &status, host);
