@@ -63,9 +63,17 @@ seed_and_rows : r2u2.ask (codes "--demo" ∷ codes "07,100" ∷ []) ≡ r2u2.dem
 unfolding clap_on_literals is_utf8 chars r2u2.command
 seed_and_rows = refl
 
+greatest_seed_and_rows : r2u2.ask (codes "--demo=4294967295,10000000" ∷ []) ≡ r2u2.demo 4294967295 10000000
+unfolding clap_on_literals is_utf8 chars r2u2.command
+greatest_seed_and_rows = refl
+
 demo_beside_file : r2u2.ask (codes "--demo" ∷ codes "7,100" ∷ codes "a" ∷ []) ≡ r2u2.nothing
 unfolding clap_on_literals is_utf8 chars r2u2.command
 demo_beside_file = refl
+
+help_before_file : c2po.ask (codes "-h" ∷ codes "a" ∷ []) ≡ c2po.nothing
+unfolding clap_on_literals is_utf8 chars c2po.command
+help_before_file = refl
 
 out_in_one_word : c2po.ask (codes "-oa" ∷ codes "b" ∷ []) ≡ plain_image (codes "a") (codes "b")
 unfolding clap_on_literals is_utf8 chars c2po.command
