@@ -6,7 +6,5 @@
 
 mod runs;
 pub mod steps;
-#[cfg(test)]
-mod tests;
 
 pub use runs::{Ring, Seen, Slot, ring_index};

@@ -252,6 +252,3 @@ impl LineCut {
         }
     }
 }
-
-#[cfg(test)]
-mod tests;

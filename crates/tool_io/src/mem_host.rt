@@ -267,6 +267,3 @@ impl Host for MemHost {
         self.write_piece(place, piece)
     }
 }
-
-#[cfg(test)]
-mod tests;

@@ -199,6 +199,3 @@ impl Host for RealHost {
         }
     }
 }
-
-#[cfg(test)]
-mod tests;

@@ -1,50 +1,67 @@
 //! Lines over a host in memory, whose reads give few bytes or many.
 
-ghost use Rattle.std.specs.Prelude.{◌≤◌};
+ghost use Rattle.std.specs.Prelude.{◌≤◌, IsSome};
 
-use super::*;
-use crate::mem_host::MemHost;
+use std::alloc::{AllocError, Global};
 use std::test::Fail;
+use tool_io::{Host, Line, LineCut, MemHost, Place};
 
 /// A host that has the bytes as its trace, with reads of at most so many bytes.
 fn trace_of(alloc: Global, bytes: &[u8], block: usize) -> Result<MemHost, AllocError>
     requires { 1 ≤ block }
 {
-    let mut host = MemHost::make(alloc, 70_000, 140_000)?;
+    let mut host = MemHost::make(alloc, 20, 40)?;
     host.put_file("rows", bytes)?;
     host.set_block(block);
     let _ = host.attach(Place::Trace, "rows");
     Ok(host)
 }
 
-/// What so many calls answer: a row as the last digit of its number and its text, between `:` and `|`; the end as
-/// `.`, a long line as `!` and a fault as `?`. Where `keeps` says so, every row is kept once.
-fn shown(
+/// Puts the row that was cut behind the text: the last digit of its number and its text, between `:` and `|`.
+fn push_row(text: &mut Vec<u8>, cut: &LineCut) -> Result<(), AllocError>
+    requires { IsSome cut.now.row }
+{
+    let digit = (cut.number() % 10) as u8;
+    text.push(b'0' + digit)?;
+    text.push(b':')?;
+    text.extend_from_slice(cut.line())?;
+    text.push(b'|')?;
+    Ok(())
+}
+
+/// Puts the answer of the next call behind the text: a row, the end as `.`, a long line as `!` and a fault as `?`.
+/// Where `keeps` says so, the row is kept.
+fn push_answer<H: Host>(
+    text: &mut Vec<u8>,
+    cut: &mut LineCut,
+    host: &mut H,
+    keeps: bool,
+) -> Result<(), AllocError> {
+    match cut.next_line(host, Place::Trace) {
+        Line::Row => {
+            push_row(text, cut)?;
+            if keeps {
+                cut.keep();
+            }
+        }
+        Line::End => text.push(b'.')?,
+        Line::LongLine => text.push(b'!')?,
+        Line::ReadFault => text.push(b'?')?,
+    }
+    Ok(())
+}
+
+/// What so many calls answer. Where `keeps` says so, the row of each second call is kept.
+fn shown<H: Host>(
     alloc: Global,
-    host: &mut MemHost,
+    host: &mut H,
     calls: usize,
     keeps: bool,
 ) -> Result<Vec<u8>, AllocError> {
     let mut cut = LineCut::make(alloc)?;
     let mut text = Vec::new(alloc);
-    let mut kept = false;
-    for _ in 0..calls {
-        match cut.next_line(host, Place::Trace) {
-            Line::Row => {
-                let digit = (cut.number() % 10) as u8;
-                text.push(b'0' + digit)?;
-                text.push(b':')?;
-                text.extend_from_slice(cut.line())?;
-                text.push(b'|')?;
-                if keeps && !kept {
-                    cut.keep();
-                }
-                kept = !kept;
-            }
-            Line::End => text.push(b'.')?,
-            Line::LongLine => text.push(b'!')?,
-            Line::ReadFault => text.push(b'?')?,
-        }
+    for call in 0..calls {
+        push_answer(&mut text, &mut cut, host, keeps && call % 2 == 0)?;
     }
     Ok(text)
 }

@@ -1,7 +1,9 @@
+//! Verdicts in a ring over few slots.
+
 ghost use Rattle.std.specs.Prelude.{◌≡◌, ◌<◌, length};
 
-use super::*;
-use crate::steps::Steps;
+use scq_ring::steps::Steps;
+use scq_ring::{Ring, Seen, Slot};
 use std::marker::Brand;
 use std::process::Abort;
 use std::sync::ledger::{Blank, Ledger};

@@ -1,0 +1,11 @@
+//! Tests of calls that no program makes: on hosts, of a cut into lines behind a fault, and on a queue.
+//!
+//! They stand apart from the crates that they test, since a crate with tests is proved twice.
+#![tactic(auto)]
+
+#[cfg(test)]
+mod hosts;
+#[cfg(test)]
+mod lines;
+#[cfg(test)]
+mod rings;
