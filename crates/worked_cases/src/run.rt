@@ -10,7 +10,7 @@ use crate::scene::Scenes;
 use anyhow::{Context, Result, bail};
 use mltl_tools::{Words, c2po_main, r2u2_main};
 use std::alloc::{AllocError, Global};
-use tool_io::{MemHost, Place};
+use tool_io::{Host, MemHost, Place};
 
 /// The events and bytes for which a host has room: more than the longest case needs.
 const EVENTS: usize = 2_000_000;
@@ -67,11 +67,21 @@ fn words_of(alloc: Global, text: &str) -> Result<Words, AllocError> {
     Ok(words)
 }
 
+/// The exit status of `r2u2` with these words.
+fn r2u2_code<H: Host>(alloc: Global, words: &Words, host: &mut H) -> u8 {
+    r2u2_main(alloc, words, host, &mut None).code()
+}
+
+/// The exit status of `c2po` with these words.
+fn c2po_code<H: Host>(alloc: Global, words: &Words, host: &mut H) -> u8 {
+    c2po_main(alloc, words, host).code()
+}
+
 /// The exit status of a program with these words.
 fn status_of(alloc: Global, tool: &str, words: &Words, host: &mut MemHost) -> Result<u8> {
     match tool {
-        "r2u2" => Ok(r2u2_main(alloc, words, host, &mut None).code()),
-        "c2po" => Ok(c2po_main(alloc, words, host).code()),
+        "r2u2" => Ok(r2u2_code(alloc, words, host)),
+        "c2po" => Ok(c2po_code(alloc, words, host)),
         _ => bail!("no such program: {tool}"),
     }
 }
