@@ -1,4 +1,5 @@
-//! What both engines show of the outputs.
+//! What both engines show of the outputs. These calls are inlined, so that a stretch stays in registers: through memory it
+//! would take longer than to find it.
 
 ghost use Rattle.std.specs.Prelude.{◌≡◌, ℕ, ◌+◌, ◌^◌, ◌<◌, ◌≤◌, true as holds, List, length, slice_get, slice_index, Some};
 ghost use Rattle.mltl_base.specs.Atoms.{Row};
@@ -34,6 +35,7 @@ impl Engines<'_> {
     ghost use Rattle.contract_status.specs.Open.{AreKnown};
 
     /// The verdict of an instruction at a time, and a time up to which it stays the same.
+    #[inline(always)]
     fn verdicts_from(&self, engine: Engine, i: u32, from: u64) -> Seen
         requires readable { CanRead self.now engine i from }
         ensures shows { (program : Observer) (rows : List Row) → HaveTaken program rows self.now
@@ -46,6 +48,7 @@ impl Engines<'_> {
     }
 
     /// The verdict of a past-time instruction at a time that is not before that of the last row.
+    #[inline(always)]
     fn last_verdict(&self, i: u32, from: u64) -> Seen
         requires readable { CanRead self.now past i from }
         ensures shows { (program : Observer) (rows : List Row) → HaveTaken program rows self.now
@@ -59,6 +62,7 @@ impl Engines<'_> {
     }
 
     /// The word of a formula at a time, and a time up to which it stays the same.
+    #[inline(always)]
     fn formula_from(&self, engine: Engine, i: u32, from: u64) -> Option<Stretch>
         requires readable { CanRead self.now engine i from }
         ensures shows { (program : Observer) (rows : List Row) → HaveTaken program rows self.now
@@ -79,6 +83,7 @@ impl Engines<'_> {
 
     /// The status of a contract of two instructions at a time, and a time up to which it stays the same. Where the
     /// first is false, the second needn't be known.
+    #[inline(always)]
     fn contract_from(&self, engine: Engine, i: u32, j: u32, from: u64) -> Option<Stretch>
         requires first { CanRead self.now engine i from }
         requires second { CanRead self.now engine j from }
@@ -96,6 +101,7 @@ impl Engines<'_> {
     }
 
     /// The status of a contract whose first instruction is true from a time up to `last`.
+    #[inline(always)]
     fn guarantee_from(&self, engine: Engine, j: u32, from: u64, last: u64) -> Option<Stretch>
         requires readable { CanRead self.now engine j from }
         ensures shows { (program : Observer) (rows : List Row) (i : ℕ)
@@ -117,6 +123,7 @@ impl Engines<'_> {
     }
 
     /// The word of an output at a time, and a time up to which it stays the same.
+    #[inline(always)]
     fn stretch_from(&self, out: &Out, from: u64) -> Option<Stretch>
         requires readable { CanReport self.now out.now from }
         ensures shows { (program : Observer) (rows : List Row) → HaveTaken program rows self.now
@@ -165,6 +172,7 @@ impl Engines<'_> {
     }
 
     /// The first output from `first` on with a known word at its next time, and a stretch of that word.
+    #[inline(always)]
     pub fn first_open(
         &self,
         program: &Program,
@@ -189,6 +197,7 @@ impl Engines<'_> {
     }
 
     /// The first output with a known word at its next time, and a stretch of that word; the search goes on at a cursor.
+    #[inline(always)]
     pub fn next_open(
         &self,
         program: &Program,

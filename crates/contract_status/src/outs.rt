@@ -81,6 +81,7 @@ impl Outs {
     }
 
     /// The first report that is open after `n` rows, in a style. The search goes on at the cursor of these rows.
+    #[inline(always)]
     pub fn next_at(
         &mut self,
         style: Style,

@@ -13,6 +13,7 @@ use mltl_base::{Program, Report, Style};
 
 /// Gives the first report that the outputs' next times leave open, and moves its output's next time past it. `None`, and no
 /// change, where none is open. The search goes on at the cursor.
+#[inline(always)]
 pub fn tell_first(
     style: Style,
     program: &Program,

@@ -162,6 +162,7 @@ impl Monitor {
     }
 
     /// The next report of the last row, in a style. `None`, and no change, where none is left.
+    #[inline(always)]
     pub fn next(&mut self, style: Style) -> Option<Report>
         ensures first { (rows : List Row) → Stands self.old rows
             → GivesFirst style result self.old self.new rows }

@@ -68,6 +68,7 @@ impl Running {
     }
 
     /// The first report that is open, in a style. `None`, and no change, where none is. The search goes on at the cursor.
+    #[inline(always)]
     pub fn next(&mut self, style: Style, cursor: &mut Cursor) -> Option<Report>
         requires some { (rows : List Row) × HasTaken self.old rows }
         requires early { self.old.taken ≤ 2 ^ 40 }
