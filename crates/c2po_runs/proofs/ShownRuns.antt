@@ -10,16 +10,15 @@ use Rattle.tool_io.specs.Log.{Event}
 use Rattle.tool_io.specs.Host.{WriteCause}
 use Rattle.tool_io.specs.Whole.{PutAllLog}
 use Rattle.obs_binary.specs.Layout.{Fits, spelling}
-use Rattle.obs_binary.proofs.Whole.{program-again}
 use Rattle.obs_files.specs.declared.fault.FileFault.{FileFault}
-use Rattle.obs_files.specs.Faults.{opened, unless_found, verified}
+use Rattle.obs_files.specs.Faults.{opened}
+use Rattle.obs_files.proofs.Spelled.{opened_spelled}
 use Rattle.obs_show.specs.declared.fault.ShowFault.{ShowFault}
 use Rattle.obs_show.specs.Limits.{show_fault}
 use Rattle.obs_show.specs.Text.{text}
-use Rattle.obs_verify.specs.declared.fault.VerifyFault.{VerifyFault}
 use Rattle.obs_verify.specs.Layout.{HasLayout}
 use Rattle.obs_verify.specs.Upgrade.{clash_of, up}
-use Rattle.obs_verify.specs.WellFormed.{IsWellFormed, first_fault}
+use Rattle.obs_verify.specs.WellFormed.{IsWellFormed}
 use Rattle.spec_compile.specs.Front.{first_refusal}
 use Rattle.spec_compile.specs.Image.{image}
 use Rattle.spec_compile.specs.ImageFiles.{image_in, stored_columns}
@@ -38,16 +37,6 @@ use Rattle.c2po_runs.specs.Made.{made, made_as, opened_as, raised_as, text_withi
 use Rattle.c2po_runs.specs.Run.{seen, MakeOutcome, OutcomeOf, Ran}
 use Rattle.c2po_runs.specs.Showing.{Returns, IsShown, ShowsFile, ShowsProgram}
 use Rattle.c2po_runs.proofs.MainLaws.{main_ran}
-
--- a program without a fault is opened as itself
-unless_same : (p program : Program) (fault : Option VerifyFault) → unless_found p fault ≡ Ok program → (fault ≡ None) × (p ≡ program)
-unless_same p program None is = (refl, (let same : p ≡ program = cc in same))
-unless_same p program (Some fault) is = absurd (cc)
-
--- so is one that bytes spell
-opened_spelled : (p program : Program) (file : List ℕ) → Fits p → file ≡ spelling p → opened file ≡ Ok program → IsWellFormed p × (p ≡ program)
-opened_spelled p program file fits is opens =
-    unless_same p program (first_fault p) (sym (ap verified (program-again p fits)) ∙ sym (ap opened is) ∙ opens)
 
 -- what is within both limits is written as its text
 within_both : (fault : Option ShowFault) (bytes written : List ℕ) → unless_past fault bytes ≡ Ok written → (fault ≡ None) × (bytes ≡ written)

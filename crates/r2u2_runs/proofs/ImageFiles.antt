@@ -14,12 +14,11 @@ use Rattle.mltl_base.specs.Subformulas.{Asked}
 use Rattle.mltl_base.proofs.Telling.{told_words, reports_rise}
 use Rattle.mltl_base.proofs.Words.{word_settled, word_known}
 use Rattle.obs_binary.specs.Layout.{Fits, spelling}
-use Rattle.obs_binary.proofs.Whole.{program-again}
 use Rattle.obs_verify.specs.Bound.{bound}
-use Rattle.obs_verify.specs.WellFormed.{IsWellFormed, first_fault}
-use Rattle.obs_verify.specs.declared.fault.VerifyFault.{VerifyFault}
+use Rattle.obs_verify.specs.WellFormed.{IsWellFormed}
 use Rattle.obs_files.specs.declared.fault.FileFault.{FileFault}
-use Rattle.obs_files.specs.Faults.{opened, unless_found, verified}
+use Rattle.obs_files.specs.Faults.{opened}
+use Rattle.obs_files.proofs.Spelled.{opened_spelled}
 use Rattle.trace_feed.specs.declared.header_fault.HeaderFault.{HeaderFault}
 use Rattle.trace_feed.specs.declared.header_fault.HeaderFault.TheVariants.{NoHeader}
 use Rattle.trace_feed.specs.Header.{begins_header, columns_of, header_meaning, names_of, of_width}
@@ -51,16 +50,6 @@ tells_text style text columns program rows called told = record {
 }
 
 -- ---- what was opened
-
--- a program without a fault is opened as itself
-unless_same : (p program : Program) (fault : Option VerifyFault) → unless_found p fault ≡ Ok program → (fault ≡ None) × (p ≡ program)
-unless_same p program None is = (refl, (let same : p ≡ program = cc in same))
-unless_same p program (Some fault) is = absurd (cc)
-
--- so is one that bytes spell
-opened_spelled : (p program : Program) (file : List ℕ) → Fits p → file ≡ spelling p → opened file ≡ Ok program → IsWellFormed p × (p ≡ program)
-opened_spelled p program file fits is opens =
-    unless_same p program (first_fault p) (sym (ap verified (program-again p fits)) ∙ sym (ap opened is) ∙ opens)
 
 -- what runs was opened, and bound to the header
 record IsOpenedBy (file : List ℕ) (header : Option (List ℕ)) (program : Program) : Type 0 where
