@@ -1,7 +1,8 @@
 -- The turns of the loop over a trace whose lines are plain rows.
 
-use Rattle.std.proofs.Common.{◌≡◌, ℕ, ◌+◌, ◌-◌, ◌<◌, ◌≤◌, ◌^◌, true, false, Ok, Err, List, [], ◌∷◌, ◌++◌, length, refl, sym, ◌∙◌, ap, subst, arith, append_assoc, inl, inr}
+use Rattle.std.proofs.Common.{◌≡◌, ℕ, ◌+◌, ◌-◌, ◌<◌, ◌≤◌, ◌^◌, true, false, List, [], ◌∷◌, ◌++◌, length, refl, sym, ◌∙◌, ap, subst, arith, append_assoc, inl, inr}
 use Rattle.std.proofs.lemmas.List.{length-append}
+use Rattle.std.specs.declared.ops.ControlFlow.TheVariants.{Continue, Break}
 use Rattle.mltl_base.specs.declared.report.Style.{Style}
 use Rattle.mltl_base.specs.declared.program.Program.{Program}
 use Rattle.mltl_base.specs.Atoms.{Row}
@@ -69,7 +70,7 @@ module _ (program : Program) (style : Style) (mission : ℕ) (start cut new : Cu
       refl none has.keeps (omega (arith, next, is_first))
 
   -- a row, and a blank line
-  taken_goes : (reads wrote : List Event) → mission ≤ 2 ^ 40 → (cuts : CutsLine Trace cut new line_answer.TheVariants.Row reads) → Counts mission before new → TakesIt (Ok tt) program style has.rows new after wrote → HasRows program style mission start new after (before + 1) ((events ++ reads) ++ wrote)
+  taken_goes : (reads wrote : List Event) → mission ≤ 2 ^ 40 → (cuts : CutsLine Trace cut new line_answer.TheVariants.Row reads) → Counts mission before new → TakesIt (Continue tt) program style has.rows new after wrote → HasRows program style mission start new after (before + 1) ((events ++ reads) ++ wrote)
   taken_goes reads wrote far cuts counts (inl brings) =
       let next = line_next program style rows_in start cut new monitor rest before Keeps events reads has cuts (omega (arith, counts.within, far)) in
       let is = fields_are reads cuts (IsRow brings.row) counts.within brings.is in
@@ -89,7 +90,7 @@ module _ (program : Program) (style : Style) (mission : ℕ) (start cut new : Cu
     pub has_rows : HasRows program style mission start new after now all
     pub fewer : (mission - now) + (2 - next_number new) < (mission - before) + (2 - next_number cut)
 
-  step_goes : (now : ℕ) (reads wrote : List Event) → before ≤ mission → mission ≤ 2 ^ 40 → CutsLine Trace cut new line_answer.TheVariants.Row reads → RowSteps (Ok now) program style mission before has.rows new after wrote → GoesOn now ((events ++ reads) ++ wrote)
+  step_goes : (now : ℕ) (reads wrote : List Event) → before ≤ mission → mission ≤ 2 ^ 40 → CutsLine Trace cut new line_answer.TheVariants.Row reads → RowSteps (Continue now) program style mission before has.rows new after wrote → GoesOn now ((events ++ reads) ++ wrote)
   step_goes now reads wrote within far cuts (inl header) =
       let next = line_next program style rows_in start cut new monitor rest before Keeps events reads has cuts (omega (arith, within, far)) in
       let is_first : next_number cut ≡ 1 = sym cuts.answer.1.number ∙ marked_first new.number (text_of new) header.1 in
@@ -106,13 +107,13 @@ module _ (program : Program) (style : Style) (mission : ℕ) (start cut new : Cu
         fewer = omega (arith, taken.0, taken.1.within, next);
       }
 
-  pub turn_goes : (now : ℕ) (second : List Event) → before ≤ mission → mission ≤ 2 ^ 40 → Turns (Ok now) program mission before has.rows cut new after (RowSteps (Ok now) program style mission before has.rows new after) second → GoesOn now (events ++ second)
+  pub turn_goes : (now : ℕ) (second : List Event) → before ≤ mission → mission ≤ 2 ^ 40 → Turns (Continue now) program mission before has.rows cut new after (RowSteps (Continue now) program style mission before has.rows new after) second → GoesOn now (events ++ second)
   turn_goes now second within far (inl long) = absurd long.0
   turn_goes now second within far (inr line) =
       subst (GoesOn now) (append_assoc events line.first line.second ∙ ap (λ rest. events ++ rest) (sym line.split)) (step_goes now line.first line.second within far line.cuts line.next)
 
   -- how a line that is too long ends the loop
-  pub long_turn : (answer : watched.Watched) (second : List Event) → Turns {T = ℕ} (Err answer) program mission before has.rows cut new after (λ events. ⊥) second → IsWatch program style rows_in start new after answer (events ++ second)
+  pub long_turn : (answer : watched.Watched) (second : List Event) → Turns {T = ℕ} (Break answer) program mission before has.rows cut new after (λ events. ⊥) second → IsWatch program style rows_in start new after answer (events ++ second)
   long_turn watched.TheVariants.Done second none = done_is program style rows_in start cut new monitor after rest before Keeps events second has none
   long_turn watched.TheVariants.ReadFault second none = read_fault_is program style rows_in start cut new monitor after rest before Keeps events second has none
   long_turn watched.TheVariants.TooLong second (inl long) =
@@ -131,7 +132,7 @@ module _ (program : Program) (style : Style) (mission : ℕ) (start cut new : Cu
   long_turn watched.TheVariants.WriteFault second (inr line) = absurd line.next
 
   -- how a turn that ends the loop ends the run
-  pub turn_ends : (answer : watched.Watched) (second : List Event) → Turns {T = ℕ} (Err answer) program mission before has.rows cut new after (RowSteps (Err answer) program style mission before has.rows new after) second → IsWatch program style rows_in start new after answer (events ++ second)
+  pub turn_ends : (answer : watched.Watched) (second : List Event) → Turns {T = ℕ} (Break answer) program mission before has.rows cut new after (RowSteps (Break answer) program style mission before has.rows new after) second → IsWatch program style rows_in start new after answer (events ++ second)
   turn_ends watched.TheVariants.Done second none = long_turn watched.TheVariants.Done second none
   turn_ends watched.TheVariants.ReadFault second none = long_turn watched.TheVariants.ReadFault second none
   turn_ends answer second (inl long) = long_turn answer second (inl long)

@@ -1,8 +1,10 @@
 -- The turns of the loop over a trace of stamped rows.
 
-use Rattle.std.proofs.Common.{◌≡◌, ℕ, ◌+◌, ◌-◌, ◌<◌, ◌≤◌, ◌^◌, nat_le, nat_lt, true, false, if◌then◌else◌, IsTrue, Option, Some, None, Ok, Err, Result, List, [], ◌∷◌, ◌++◌, length, drop, replicate, refl, sym, ◌∙◌, ap, subst, arith, append_assoc, inl, inr}
+use Rattle.std.proofs.Common.{◌≡◌, ℕ, ◌+◌, ◌-◌, ◌<◌, ◌≤◌, ◌^◌, nat_le, nat_lt, true, false, if◌then◌else◌, IsTrue, Option, Some, None, List, [], ◌∷◌, ◌++◌, length, drop, replicate, refl, sym, ◌∙◌, ap, subst, arith, append_assoc, inl, inr}
 use Rattle.std.proofs.lemmas.List.{append-nil, length-append, length-replicate}
 use Rattle.std.proofs.lemmas.Bool.Decides.{nat_tests}
+use Rattle.std.specs.declared.ops.ControlFlow.{ControlFlow}
+use Rattle.std.specs.declared.ops.ControlFlow.TheVariants.{Continue, Break}
 use Rattle.mltl_base.specs.declared.report.Style.{Style}
 use Rattle.mltl_base.specs.declared.program.Program.{Program}
 use Rattle.mltl_base.specs.Atoms.{Row}
@@ -51,7 +53,7 @@ stamped_is : (program : Program) (mission : ℕ) (last : Option ℕ) (line : Lis
 stamped_is program mission last line time place is = ap (line_at program line) (sym is)
 
 -- what such a line brought, behind the copies that the monitor took
-pub Brings-stamped : (result : Result (Unit {0}) watched.Watched) (program : Program) (style : Style) (rows : List Row) (before : Option (ℕ × Row)) (monitor after : State) (last : Option ℕ) (mission times time place : ℕ) (line : List ℕ) (number : ℕ) (events : List Event) → At time place ≡ stamp_meaning line last mission → times ≡ times_between last time → IsLast before rows → Stands monitor rows → time_of before ≡ last
+pub Brings-stamped : (result : ControlFlow watched.Watched (Unit {0})) (program : Program) (style : Style) (rows : List Row) (before : Option (ℕ × Row)) (monitor after : State) (last : Option ℕ) (mission times time place : ℕ) (line : List ℕ) (number : ℕ) (events : List Event) → At time place ≡ stamp_meaning line last mission → times ≡ times_between last time → IsLast before rows → Stands monitor rows → time_of before ≡ last
     → Brings result (fields_at time (line_meaning program (drop place line))) program style rows (λ then_. replicate times (last_of monitor)) number after events → Brings result (stamped_text program mission last line) program style rows (held before) number after events
 Brings-stamped result program style rows before monitor after last mission times time place line number events is between is_last stands same brings =
     let meaning = line_meaning program (drop place line) in
@@ -60,7 +62,7 @@ Brings-stamped result program style rows before monitor after last mission times
     (λ then_ values holds. held_is before rows monitor last times then_ is_last stands same (between ∙ ap (times_between last) (sym (fields_at-time time then_ meaning values holds)))) brings)
 
 -- its time is that of the last row behind it
-pub stamped_time : (program : Program) (style : Style) (rows : List Row) (copies : ℕ → List Row) (last : Option ℕ) (mission time place : ℕ) (line : List ℕ) (number : ℕ) (after : State) (events : List Event) → At time place ≡ stamp_meaning line last mission → Brings (Ok tt) (fields_at time (line_meaning program (drop place line))) program style rows copies number after events → Some time ≡ time_behind last (stamped_text program mission last line)
+pub stamped_time : (program : Program) (style : Style) (rows : List Row) (copies : ℕ → List Row) (last : Option ℕ) (mission time place : ℕ) (line : List ℕ) (number : ℕ) (after : State) (events : List Event) → At time place ≡ stamp_meaning line last mission → Brings (Continue tt) (fields_at time (line_meaning program (drop place line))) program style rows copies number after events → Some time ≡ time_behind last (stamped_text program mission last line)
 stamped_time program style rows copies last mission time place line number after events is brings =
     time_behind-fields last time (line_meaning program (drop place line)) program style rows copies number after events brings ∙ ap (time_behind last) (sym (stamped_is program mission last line time place is))
 
@@ -195,7 +197,7 @@ module _ (program : Program) (style : Style) (mission : ℕ) (start cut new : Cu
       refl none has.keeps (omega (arith, next, is_first))
 
   -- another line
-  line_goes : (what : StampedLine) (reads wrote : List Event) → clock.lines ≤ mission → mission ≤ 2 ^ 40 → (cuts : CutsLine Trace cut new line_answer.TheVariants.Row reads) → is_marked new.number (text_of new) ≡ false → stamped_meaning program mission clock.lines (time_of last) cuts.answer.0 ≡ what → IsTimely (time_of last) what → Brings (Ok tt) what program style has.rows (held last) new.number after wrote → HasStamped program style mission start new after (clock.lines + 1) (last_behind last what) ((events ++ reads) ++ wrote)
+  line_goes : (what : StampedLine) (reads wrote : List Event) → clock.lines ≤ mission → mission ≤ 2 ^ 40 → (cuts : CutsLine Trace cut new line_answer.TheVariants.Row reads) → is_marked new.number (text_of new) ≡ false → stamped_meaning program mission clock.lines (time_of last) cuts.answer.0 ≡ what → IsTimely (time_of last) what → Brings (Continue tt) what program style has.rows (held last) new.number after wrote → HasStamped program style mission start new after (clock.lines + 1) (last_behind last what) ((events ++ reads) ++ wrote)
   line_goes (HoldsFrom time values) reads wrote within far cuts plain is timely tells =
       let next = line_next program style rows_in start cut new monitor rest clock.lines (IsLast last) events reads has cuts (omega (arith, within, far)) in
       let what = HoldsFrom time values in
@@ -221,7 +223,7 @@ module _ (program : Program) (style : Style) (mission : ℕ) (start cut new : Cu
   GoesOn-same : (now then_ : Clock) (all : List Event) → now ≡ then_ → GoesOn then_ all → GoesOn now all
   GoesOn-same now then_ all is goes = subst (λ c. GoesOn c all) (sym is) goes
 
-  step_goes : (now : Clock) (reads wrote : List Event) → clock.lines ≤ mission → mission ≤ 2 ^ 40 → CutsLine Trace cut new line_answer.TheVariants.Row reads → StampedSteps (Ok now) program style mission clock has.rows last new after wrote → GoesOn now ((events ++ reads) ++ wrote)
+  step_goes : (now : Clock) (reads wrote : List Event) → clock.lines ≤ mission → mission ≤ 2 ^ 40 → CutsLine Trace cut new line_answer.TheVariants.Row reads → StampedSteps (Continue now) program style mission clock has.rows last new after wrote → GoesOn now ((events ++ reads) ++ wrote)
   step_goes now reads wrote within far cuts (inl header) =
       let next = line_next program style rows_in start cut new monitor rest clock.lines (IsLast last) events reads has cuts (omega (arith, within, far)) in
       let is_first : next_number cut ≡ 1 = sym cuts.answer.1.number ∙ marked_first new.number (text_of new) header.1 in
@@ -243,7 +245,7 @@ module _ (program : Program) (style : Style) (mission : ℕ) (start cut new : Cu
         fewer = omega (arith, counts.within, next);
       })
 
-  pub turn_goes : (now : Clock) (second : List Event) → clock.lines ≤ mission → mission ≤ 2 ^ 40 → Turns (Ok now) program mission clock.lines has.rows cut new after (StampedSteps (Ok now) program style mission clock has.rows last new after) second → GoesOn now (events ++ second)
+  pub turn_goes : (now : Clock) (second : List Event) → clock.lines ≤ mission → mission ≤ 2 ^ 40 → Turns (Continue now) program mission clock.lines has.rows cut new after (StampedSteps (Continue now) program style mission clock has.rows last new after) second → GoesOn now (events ++ second)
   turn_goes now second within far (inl long) = absurd long.0
   turn_goes now second within far (inr line) =
       subst (GoesOn now) (append_assoc events line.first line.second ∙ ap (λ rest. events ++ rest) (sym line.split)) (step_goes now line.first line.second within far line.cuts line.next)
@@ -253,7 +255,7 @@ module _ (program : Program) (style : Style) (mission : ℕ) (start cut new : Cu
   unwritten answer reads wrote none is = subst (IsWatch program style rows_in start new after answer) (sym (ap (λ w. (events ++ reads) ++ w) none ∙ append-nil (events ++ reads))) is
 
   -- the rows end at a line that was cut
-  cut_ends : (answer : watched.Watched) (what : StampedLine) (reads wrote : List Event) (cuts : CutsLine Trace cut new line_answer.TheVariants.Row reads) → is_marked new.number (text_of new) ≡ false → stamped_meaning program mission clock.lines (time_of last) cuts.answer.0 ≡ what → Brings (Err answer) what program style has.rows (held last) new.number after wrote → IsWatch program style rows_in start new after answer ((events ++ reads) ++ wrote)
+  cut_ends : (answer : watched.Watched) (what : StampedLine) (reads wrote : List Event) (cuts : CutsLine Trace cut new line_answer.TheVariants.Row reads) → is_marked new.number (text_of new) ≡ false → stamped_meaning program mission clock.lines (time_of last) cuts.answer.0 ≡ what → Brings (Break answer) what program style has.rows (held last) new.number after wrote → IsWatch program style rows_in start new after answer ((events ++ reads) ++ wrote)
   cut_ends watched.TheVariants.WriteFault (HoldsFrom time values) reads wrote cuts plain is tells =
       let what = HoldsFrom time values in
       let tail = rest_behind what (behind_header (next_number cut + 1) (lines_of new.ended new.pending)) in
@@ -269,11 +271,11 @@ module _ (program : Program) (style : Style) (mission : ℕ) (start cut new : Cu
   cut_ends answer what reads wrote cuts plain is none = absurd none
 
   -- a line that was cut, and what it brought
-  step_ends : (answer : watched.Watched) (reads wrote : List Event) (cuts : CutsLine Trace cut new line_answer.TheVariants.Row reads) → Counts mission clock.lines new → Brings (Err answer) here program style has.rows (held last) new.number after wrote → IsWatch program style rows_in start new after answer ((events ++ reads) ++ wrote)
+  step_ends : (answer : watched.Watched) (reads wrote : List Event) (cuts : CutsLine Trace cut new line_answer.TheVariants.Row reads) → Counts mission clock.lines new → Brings (Break answer) here program style has.rows (held last) new.number after wrote → IsWatch program style rows_in start new after answer ((events ++ reads) ++ wrote)
   step_ends answer reads wrote cuts counts brings = cut_ends answer here reads wrote cuts counts.no_header (here_is reads cuts counts.within) brings
 
   -- how a line that was cut ends the run
-  cut_turn : (answer : watched.Watched) (reads wrote : List Event) (cuts : CutsLine Trace cut new line_answer.TheVariants.Row reads) → StampedSteps (Err answer) program style mission clock has.rows last new after wrote → IsWatch program style rows_in start new after answer ((events ++ reads) ++ wrote)
+  cut_turn : (answer : watched.Watched) (reads wrote : List Event) (cuts : CutsLine Trace cut new line_answer.TheVariants.Row reads) → StampedSteps (Break answer) program style mission clock has.rows last new after wrote → IsWatch program style rows_in start new after answer ((events ++ reads) ++ wrote)
   cut_turn watched.TheVariants.TooLong reads wrote cuts (inl past) =
       cut_ends watched.TheVariants.TooLong OverTime reads wrote cuts past.1 (stamped_meaning-past program mission clock.lines (time_of last) cuts.answer.0 past.0) past.2
   cut_turn watched.TheVariants.TooLong reads wrote cuts (inr step) = step_ends watched.TheVariants.TooLong reads wrote cuts step.0 step.1
@@ -283,7 +285,7 @@ module _ (program : Program) (style : Style) (mission : ℕ) (start cut new : Cu
   cut_turn (watched.TheVariants.BadTrace number why) reads wrote cuts step = step_ends (watched.TheVariants.BadTrace number why) reads wrote cuts step.0 step.1
 
   -- how a turn that ends the loop ends the run
-  pub turn_ends : (answer : watched.Watched) (second : List Event) → Turns {T = Clock} (Err answer) program mission clock.lines has.rows cut new after (StampedSteps (Err answer) program style mission clock has.rows last new after) second → IsWatch program style rows_in start new after answer (events ++ second)
+  pub turn_ends : (answer : watched.Watched) (second : List Event) → Turns {T = Clock} (Break answer) program mission clock.lines has.rows cut new after (StampedSteps (Break answer) program style mission clock has.rows last new after) second → IsWatch program style rows_in start new after answer (events ++ second)
   turn_ends watched.TheVariants.Done second none = done_is program style rows_in start cut new monitor after rest clock.lines (IsLast last) events second has none
   turn_ends watched.TheVariants.ReadFault second none = read_fault_is program style rows_in start cut new monitor after rest clock.lines (IsLast last) events second has none
   turn_ends watched.TheVariants.TooLong second (inl long) =

@@ -1,9 +1,11 @@
 -- The lines of reports, told one after another.
 
-use Rattle.std.proofs.Common.{◌≡◌, ℕ, ◌+◌, ◌-◌, ◌≤◌, arith, replicate, List, [], ◌∷◌, ◌++◌, Bool, true, false, map, Option, Some, Result, Ok, Err, refl, sym, ◌∙◌, ap, subst, append_assoc, inr}
+use Rattle.std.proofs.Common.{◌≡◌, ℕ, ◌+◌, ◌-◌, ◌≤◌, arith, replicate, List, [], ◌∷◌, ◌++◌, Bool, true, false, map, Option, Some, refl, sym, ◌∙◌, ap, subst, append_assoc, inr}
 use Rattle.std.specs.List.{concat}
 use Rattle.std.proofs.lemmas.List.{append-nil, map-append, replicate-append-replicate}
 use Rattle.std.proofs.lemmas.List.Folds.{concat-append}
+use Rattle.std.specs.declared.ops.ControlFlow.{ControlFlow}
+use Rattle.std.specs.declared.ops.ControlFlow.TheVariants.{Continue, Break}
 use Rattle.mltl_base.specs.Programs.{outputs, output_names}
 use Rattle.mltl_base.specs.Reports.{Output, of_row, reports_after}
 use Rattle.mltl_base.proofs.Telling.{after_append}
@@ -71,15 +73,15 @@ next_line names now all rest report text piece first same written sent =
     ap (lines_of_reports names) first ∙ ap (λ bytes. bytes ++ lines_of_reports names rest) (sym is)
 
 -- an answer to a line that was cut
-abbrev pub IsStep : {T : Type 0} → Result T watched.Watched → Type 0
-IsStep (Err watched.TheVariants.Done) = ⊥
-IsStep (Err watched.TheVariants.ReadFault) = ⊥
+abbrev pub IsStep : {T : Type 0} → ControlFlow watched.Watched T → Type 0
+IsStep (Break watched.TheVariants.Done) = ⊥
+IsStep (Break watched.TheVariants.ReadFault) = ⊥
 IsStep answer = Unit {0}
 
 -- a line was cut, and then its step
-pub Turns-step : {T : Type 0} (result : Result T watched.Watched) (before between now : Option (List Event)) (program : Program) (mission lines : ℕ) (rows : List Row) (start cut : Cutting) (monitor : State) (Step : List Event → Type 0) → IsStep result → OnLog before between (CutsLine Trace start cut line_answer.TheVariants.Row) → OnLog between now Step → OnLog before now (Turns result program mission lines rows start cut monitor Step)
-Turns-step (Err watched.TheVariants.Done) before between now program mission lines rows start cut monitor Step is cuts steps = absurd is
-Turns-step (Err watched.TheVariants.ReadFault) before between now program mission lines rows start cut monitor Step is cuts steps = absurd is
+pub Turns-step : {T : Type 0} (result : ControlFlow watched.Watched T) (before between now : Option (List Event)) (program : Program) (mission lines : ℕ) (rows : List Row) (start cut : Cutting) (monitor : State) (Step : List Event → Type 0) → IsStep result → OnLog before between (CutsLine Trace start cut line_answer.TheVariants.Row) → OnLog between now Step → OnLog before now (Turns result program mission lines rows start cut monitor Step)
+Turns-step (Break watched.TheVariants.Done) before between now program mission lines rows start cut monitor Step is cuts steps = absurd is
+Turns-step (Break watched.TheVariants.ReadFault) before between now program mission lines rows start cut monitor Step is cuts steps = absurd is
 Turns-step result before between now program mission lines rows start cut monitor Step is cuts steps = record {
   events = cuts.events ++ steps.events;
   appended = Appends-then before between now cuts.events steps.events cuts.appended steps.appended;
@@ -87,13 +89,13 @@ Turns-step result before between now program mission lines rows start cut monito
 }
 
 -- the line of a plain row is a step
-pub IsStep-row : (result : Result ℕ watched.Watched) (program : Program) (style : Style) (mission lines : ℕ) (rows : List Row) (cut : Cutting) (monitor : State) (events : List Event) → RowSteps result program style mission lines rows cut monitor events → IsStep result
-IsStep-row (Ok now) program style mission lines rows cut monitor events steps = tt
-IsStep-row (Err watched.TheVariants.Done) program style mission lines rows cut monitor events steps = steps.1
-IsStep-row (Err watched.TheVariants.ReadFault) program style mission lines rows cut monitor events steps = steps.1
-IsStep-row (Err watched.TheVariants.TooLong) program style mission lines rows cut monitor events steps = tt
-IsStep-row (Err (watched.TheVariants.BadTrace number why)) program style mission lines rows cut monitor events steps = tt
-IsStep-row (Err watched.TheVariants.WriteFault) program style mission lines rows cut monitor events steps = tt
+pub IsStep-row : (result : ControlFlow watched.Watched ℕ) (program : Program) (style : Style) (mission lines : ℕ) (rows : List Row) (cut : Cutting) (monitor : State) (events : List Event) → RowSteps result program style mission lines rows cut monitor events → IsStep result
+IsStep-row (Continue now) program style mission lines rows cut monitor events steps = tt
+IsStep-row (Break watched.TheVariants.Done) program style mission lines rows cut monitor events steps = steps.1
+IsStep-row (Break watched.TheVariants.ReadFault) program style mission lines rows cut monitor events steps = steps.1
+IsStep-row (Break watched.TheVariants.TooLong) program style mission lines rows cut monitor events steps = tt
+IsStep-row (Break (watched.TheVariants.BadTrace number why)) program style mission lines rows cut monitor events steps = tt
+IsStep-row (Break watched.TheVariants.WriteFault) program style mission lines rows cut monitor events steps = tt
 
 -- what is due for one more row
 pub due_row : (style : Style) (rows : List Row) (row : Row) (before between : State) → TakesRow row before between → Stands before rows → lines_of_reports (output_names (program_of between)) (open_of style between (rows ++ row ∷ [])) ≡ lines_of_reports (output_names (program_of before)) (reports_after style (outputs (program_of before)) rows (row ∷ []))
@@ -158,19 +160,19 @@ TellsRows-tell false style rows row before between after events took stands send
 }
 
 -- the line of a stamped row is a step
-pub IsStep-stamped : (result : Result Clock watched.Watched) (program : Program) (style : Style) (mission : ℕ) (clock : Clock) (rows : List Row) (last : Option (ℕ × Row)) (cut : Cutting) (monitor : State) (events : List Event) → StampedSteps result program style mission clock rows last cut monitor events → IsStep result
-IsStep-stamped (Ok now) program style mission clock rows last cut monitor events steps = tt
-IsStep-stamped (Err watched.TheVariants.Done) program style mission clock rows last cut monitor events steps = no_answer (line_of program mission clock.last cut) steps.1
+pub IsStep-stamped : (result : ControlFlow watched.Watched Clock) (program : Program) (style : Style) (mission : ℕ) (clock : Clock) (rows : List Row) (last : Option (ℕ × Row)) (cut : Cutting) (monitor : State) (events : List Event) → StampedSteps result program style mission clock rows last cut monitor events → IsStep result
+IsStep-stamped (Continue now) program style mission clock rows last cut monitor events steps = tt
+IsStep-stamped (Break watched.TheVariants.Done) program style mission clock rows last cut monitor events steps = no_answer (line_of program mission clock.last cut) steps.1
   where
-    no_answer : (what : StampedLine) → Brings (Err watched.TheVariants.Done) what program style rows (held last) cut.number monitor events → ⊥
+    no_answer : (what : StampedLine) → Brings (Break watched.TheVariants.Done) what program style rows (held last) cut.number monitor events → ⊥
     no_answer what brings = absurd brings
-IsStep-stamped (Err watched.TheVariants.ReadFault) program style mission clock rows last cut monitor events steps = no_answer (line_of program mission clock.last cut) steps.1
+IsStep-stamped (Break watched.TheVariants.ReadFault) program style mission clock rows last cut monitor events steps = no_answer (line_of program mission clock.last cut) steps.1
   where
-    no_answer : (what : StampedLine) → Brings (Err watched.TheVariants.ReadFault) what program style rows (held last) cut.number monitor events → ⊥
+    no_answer : (what : StampedLine) → Brings (Break watched.TheVariants.ReadFault) what program style rows (held last) cut.number monitor events → ⊥
     no_answer what brings = absurd brings
-IsStep-stamped (Err watched.TheVariants.TooLong) program style mission clock rows last cut monitor events steps = tt
-IsStep-stamped (Err (watched.TheVariants.BadTrace number why)) program style mission clock rows last cut monitor events steps = tt
-IsStep-stamped (Err watched.TheVariants.WriteFault) program style mission clock rows last cut monitor events steps = tt
+IsStep-stamped (Break watched.TheVariants.TooLong) program style mission clock rows last cut monitor events steps = tt
+IsStep-stamped (Break (watched.TheVariants.BadTrace number why)) program style mission clock rows last cut monitor events steps = tt
+IsStep-stamped (Break watched.TheVariants.WriteFault) program style mission clock rows last cut monitor events steps = tt
 
 -- one more row was taken, and then told
 pub TellsRows-one : (whole : Bool) (program : Program) (style : Style) (rows more : List Row) (row : Row) (before between after : State) (first second : List Event) → TellsAll program style rows more before first → TakesRow row before between
@@ -187,12 +189,12 @@ TellsFront-held program style rows row done times monitor events within a =
     subst (λ all. TellsFront program style rows all monitor events) (replicate-append-replicate done (times - done) row ∙ ap (λ n. replicate n row) sum) (TellsFront-more program style rows (replicate done row) (replicate (times - done) row) monitor events a)
 
 -- copies that are the same bring the same
-pub Brings-copies : (result : Result (Unit {0}) watched.Watched) (what : StampedLine) (program : Program) (style : Style) (rows : List Row) (copies others : ℕ → List Row) (number : ℕ) (monitor : State) (events : List Event) → ((time : ℕ) (values : Row) → what ≡ HoldsFrom time values → copies time ≡ others time) → Brings result what program style rows copies number monitor events → Brings result what program style rows others number monitor events
-Brings-copies (Ok u) (HoldsFrom time values) program style rows copies others number monitor events same brings = subst (λ held. TellsAll program style rows (held ++ values ∷ []) monitor events) (same time values refl) brings
-Brings-copies (Ok u) Empty program style rows copies others number monitor events same brings = brings
-Brings-copies (Err watched.TheVariants.WriteFault) (HoldsFrom time values) program style rows copies others number monitor events same brings = subst (λ held. TellsFront program style rows (held ++ values ∷ []) monitor events) (same time values refl) brings
-Brings-copies (Err (watched.TheVariants.BadTrace line why)) (Faulty cause) program style rows copies others number monitor events same brings = brings
-Brings-copies (Err watched.TheVariants.TooLong) OverTime program style rows copies others number monitor events same brings = brings
+pub Brings-copies : (result : ControlFlow watched.Watched (Unit {0})) (what : StampedLine) (program : Program) (style : Style) (rows : List Row) (copies others : ℕ → List Row) (number : ℕ) (monitor : State) (events : List Event) → ((time : ℕ) (values : Row) → what ≡ HoldsFrom time values → copies time ≡ others time) → Brings result what program style rows copies number monitor events → Brings result what program style rows others number monitor events
+Brings-copies (Continue u) (HoldsFrom time values) program style rows copies others number monitor events same brings = subst (λ held. TellsAll program style rows (held ++ values ∷ []) monitor events) (same time values refl) brings
+Brings-copies (Continue u) Empty program style rows copies others number monitor events same brings = brings
+Brings-copies (Break watched.TheVariants.WriteFault) (HoldsFrom time values) program style rows copies others number monitor events same brings = subst (λ held. TellsFront program style rows (held ++ values ∷ []) monitor events) (same time values refl) brings
+Brings-copies (Break (watched.TheVariants.BadTrace line why)) (Faulty cause) program style rows copies others number monitor events same brings = brings
+Brings-copies (Break watched.TheVariants.TooLong) OverTime program style rows copies others number monitor events same brings = brings
 Brings-copies result what program style rows copies others number monitor events same brings = absurd brings
 
 -- fields behind a stamp hold from its time, or from none
@@ -204,7 +206,7 @@ fields_at-time time then_ (feed.not_whole column) values is = cc
 fields_at-time time then_ (feed.out_of_range column) values is = cc
 
 -- fields that were taken hold from their time
-pub time_behind-fields : (last : Option ℕ) (time : ℕ) (meaning : LineMeaning) (program : Program) (style : Style) (rows : List Row) (copies : ℕ → List Row) (number : ℕ) (monitor : State) (events : List Event) → Brings (Ok tt) (fields_at time meaning) program style rows copies number monitor events → Some time ≡ time_behind last (fields_at time meaning)
+pub time_behind-fields : (last : Option ℕ) (time : ℕ) (meaning : LineMeaning) (program : Program) (style : Style) (rows : List Row) (copies : ℕ → List Row) (number : ℕ) (monitor : State) (events : List Event) → Brings (Continue tt) (fields_at time meaning) program style rows copies number monitor events → Some time ≡ time_behind last (fields_at time meaning)
 time_behind-fields last time (feed.row row) program style rows copies number monitor events brings = refl
 time_behind-fields last time feed.blank program style rows copies number monitor events brings = absurd brings
 time_behind-fields last time feed.too_few program style rows copies number monitor events brings = absurd brings

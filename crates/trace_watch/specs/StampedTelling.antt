@@ -1,6 +1,8 @@
 -- What one turn of the loop over a trace of stamped rows tells in its log.
 
-use Rattle.std.specs.Prelude.{◌≡◌, ℕ, ◌+◌, ◌⊎◌, Bool, true, false, Option, Some, None, Result, Ok, Err, List, [], ◌∷◌, ◌++◌, length}
+use Rattle.std.specs.Prelude.{◌≡◌, ℕ, ◌+◌, ◌⊎◌, Bool, true, false, Option, Some, None, List, [], ◌∷◌, ◌++◌, length}
+use Rattle.std.specs.declared.ops.ControlFlow.{ControlFlow}
+use Rattle.std.specs.declared.ops.ControlFlow.TheVariants.{Continue, Break}
 use Rattle.mltl_base.specs.declared.report.Style.{Style}
 use Rattle.mltl_base.specs.declared.program.Program.{Program}
 use Rattle.mltl_base.specs.Atoms.{Row}
@@ -25,14 +27,14 @@ HasHeld true times before after = (taken_by after ≡ taken_by before + times) �
 HasHeld false times before after = Unit {0}
 
 -- what a line of this number brought, with so many copies of the last row before a time; else how the loop ends
-abbrev pub Brings : Result (Unit {0}) watched.Watched → StampedLine → Program → Style → List Row → (ℕ → List Row) → ℕ → State → List Event → Type 0
-Brings (Ok u) (HoldsFrom time values) program style rows copies number monitor events = TellsAll program style rows (copies time ++ values ∷ []) monitor events
-Brings (Ok u) Empty program style rows copies number monitor events = WritesNone program rows monitor events
-Brings (Err watched.TheVariants.WriteFault) (HoldsFrom time values) program style rows copies number monitor events =
+abbrev pub Brings : ControlFlow watched.Watched (Unit {0}) → StampedLine → Program → Style → List Row → (ℕ → List Row) → ℕ → State → List Event → Type 0
+Brings (Continue u) (HoldsFrom time values) program style rows copies number monitor events = TellsAll program style rows (copies time ++ values ∷ []) monitor events
+Brings (Continue u) Empty program style rows copies number monitor events = WritesNone program rows monitor events
+Brings (Break watched.TheVariants.WriteFault) (HoldsFrom time values) program style rows copies number monitor events =
     TellsFront program style rows (copies time ++ values ∷ []) monitor events
-Brings (Err (watched.TheVariants.BadTrace line why)) (Faulty cause) program style rows copies number monitor events =
+Brings (Break (watched.TheVariants.BadTrace line why)) (Faulty cause) program style rows copies number monitor events =
     (line ≡ number) × (why ≡ cause) × WritesNone program rows monitor events
-Brings (Err watched.TheVariants.TooLong) OverTime program style rows copies number monitor events = WritesNone program rows monitor events
+Brings (Break watched.TheVariants.TooLong) OverTime program style rows copies number monitor events = WritesNone program rows monitor events
 Brings answer what program style rows copies number monitor events = ⊥
 
 -- the time of the last row behind a line
@@ -43,9 +45,9 @@ time_behind last Empty = last
 time_behind last OverTime = last
 
 -- what a line that was cut brought, with the time of the last row behind it; else how the loop ends
-abbrev pub TakesStamped : Result (Option ℕ) watched.Watched → Option ℕ → StampedLine → Program → Style → List Row → (ℕ → List Row) → ℕ → State → List Event → Type 0
-TakesStamped (Ok now) last what program style rows copies number monitor events = (now ≡ time_behind last what) × Brings (Ok tt) what program style rows copies number monitor events
-TakesStamped (Err answer) last what program style rows copies number monitor events = Brings (Err answer) what program style rows copies number monitor events
+abbrev pub TakesStamped : ControlFlow watched.Watched (Option ℕ) → Option ℕ → StampedLine → Program → Style → List Row → (ℕ → List Row) → ℕ → State → List Event → Type 0
+TakesStamped (Continue now) last what program style rows copies number monitor events = (now ≡ time_behind last what) × Brings (Continue tt) what program style rows copies number monitor events
+TakesStamped (Break answer) last what program style rows copies number monitor events = Brings (Break answer) what program style rows copies number monitor events
 
 -- the last of the rows and its time, by which there are as many rows as times up to it
 abbrev pub IsLast : Option (ℕ × Row) → List Row → Type 0
@@ -63,13 +65,13 @@ line_of program mission last cut = stamped_text program mission last (text_of cu
 
 -- what a line that was cut is, where so many lines behind the header stand before it; the answer is how many stand
 -- behind it, with the time of the last row, else how the loop ends
-abbrev pub StampedSteps : Result Clock watched.Watched → Program → Style → ℕ → Clock → List Row → Option (ℕ × Row) → Cutting → State → List Event → Type 0
-StampedSteps (Ok now) program style mission clock rows last cut monitor events =
+abbrev pub StampedSteps : ControlFlow watched.Watched Clock → Program → Style → ℕ → Clock → List Row → Option (ℕ × Row) → Cutting → State → List Event → Type 0
+StampedSteps (Continue now) program style mission clock rows last cut monitor events =
     (now ≡ clock) × (is_marked cut.number (text_of cut) ≡ true) × WritesNone program rows monitor events
     ⊎ (now ≡ record { lines = clock.lines + 1; last = time_behind clock.last (line_of program mission clock.last cut) })
-    × Counts mission clock.lines cut × Brings (Ok tt) (line_of program mission clock.last cut) program style rows (held last) cut.number monitor events
-StampedSteps (Err watched.TheVariants.TooLong) program style mission clock rows last cut monitor events =
+    × Counts mission clock.lines cut × Brings (Continue tt) (line_of program mission clock.last cut) program style rows (held last) cut.number monitor events
+StampedSteps (Break watched.TheVariants.TooLong) program style mission clock rows last cut monitor events =
     (clock.lines ≡ mission) × (is_marked cut.number (text_of cut) ≡ false) × WritesNone program rows monitor events
-    ⊎ Counts mission clock.lines cut × Brings (Err watched.TheVariants.TooLong) (line_of program mission clock.last cut) program style rows (held last) cut.number monitor events
-StampedSteps (Err answer) program style mission clock rows last cut monitor events =
-    Counts mission clock.lines cut × Brings (Err answer) (line_of program mission clock.last cut) program style rows (held last) cut.number monitor events
+    ⊎ Counts mission clock.lines cut × Brings (Break watched.TheVariants.TooLong) (line_of program mission clock.last cut) program style rows (held last) cut.number monitor events
+StampedSteps (Break answer) program style mission clock rows last cut monitor events =
+    Counts mission clock.lines cut × Brings (Break answer) (line_of program mission clock.last cut) program style rows (held last) cut.number monitor events

@@ -1,6 +1,8 @@
 -- What one turn of the loop over a trace tells in its log.
 
-use Rattle.std.specs.Prelude.{◌≡◌, ℕ, ◌+◌, ◌<◌, ◌⊎◌, Bool, true, false, Result, Ok, Err, List, [], ◌∷◌, ◌++◌}
+use Rattle.std.specs.Prelude.{◌≡◌, ℕ, ◌+◌, ◌<◌, ◌⊎◌, Bool, true, false, List, [], ◌∷◌, ◌++◌}
+use Rattle.std.specs.declared.ops.ControlFlow.{ControlFlow}
+use Rattle.std.specs.declared.ops.ControlFlow.TheVariants.{Continue, Break}
 use Rattle.mltl_base.specs.declared.report.Style.{Style}
 use Rattle.mltl_base.specs.declared.program.Program.{Program}
 use Rattle.mltl_base.specs.Atoms.{Row}
@@ -34,9 +36,9 @@ TellCause true before now = NoFault before now
 TellCause false before now = RoseAt before now Out
 
 -- a read or a write that failed raised the count of its place, and nothing else changes a count
-abbrev pub StepCause : {T : Type 0} → Result T watched.Watched → (Place → ℕ) → (Place → ℕ) → Type 0
-StepCause (Ok value) before now = NoFault before now
-StepCause (Err answer) before now = WatchCause answer before now
+abbrev pub StepCause : {T : Type 0} → ControlFlow watched.Watched T → (Place → ℕ) → (Place → ℕ) → Type 0
+StepCause (Continue value) before now = NoFault before now
+StepCause (Break answer) before now = WatchCause answer before now
 
 -- a monitor that told all is drained
 abbrev pub IsDrainedIf : Bool → State → Type 0
@@ -74,14 +76,14 @@ pub record BringsRow (program : Program) (cut : Cutting) (Tells : List Row → T
   pub tells : Tells (row ∷ [])
 
 -- what a line that was cut brought: blank, or a row whose lines are out; else how the loop ends
-abbrev pub TakesIt : Result (Unit {0}) watched.Watched → Program → Style → List Row → Cutting → State → List Event → Type 0
-TakesIt (Ok u) program style rows cut monitor events =
+abbrev pub TakesIt : ControlFlow watched.Watched (Unit {0}) → Program → Style → List Row → Cutting → State → List Event → Type 0
+TakesIt (Continue u) program style rows cut monitor events =
     BringsRow program cut (λ more. TellsAll program style rows more monitor events) ⊎ BringsNone program rows cut IsBlank monitor events
-TakesIt (Err watched.TheVariants.WriteFault) program style rows cut monitor events =
+TakesIt (Break watched.TheVariants.WriteFault) program style rows cut monitor events =
     BringsRow program cut (λ more. TellsFront program style rows more monitor events)
-TakesIt (Err (watched.TheVariants.BadTrace number why)) program style rows cut monitor events =
+TakesIt (Break (watched.TheVariants.BadTrace number why)) program style rows cut monitor events =
     (number ≡ cut.number) × BringsNone program rows cut (IsFaulty why) monitor events
-TakesIt (Err answer) program style rows cut monitor events = ⊥
+TakesIt (Break answer) program style rows cut monitor events = ⊥
 
 -- the line that a cut gave counts: it isn't the header, and is within the mission time
 pub record Counts (mission before : ℕ) (cut : Cutting) : Type 0 where
@@ -90,13 +92,13 @@ pub record Counts (mission before : ℕ) (cut : Cutting) : Type 0 where
 
 -- What a line that was cut is, where so many lines behind the header stand before it. The answer is how many stand
 -- behind it, the header not counted; else how the loop ends.
-abbrev pub RowSteps : Result ℕ watched.Watched → Program → Style → ℕ → ℕ → List Row → Cutting → State → List Event → Type 0
-RowSteps (Ok now) program style mission before rows cut monitor events =
+abbrev pub RowSteps : ControlFlow watched.Watched ℕ → Program → Style → ℕ → ℕ → List Row → Cutting → State → List Event → Type 0
+RowSteps (Continue now) program style mission before rows cut monitor events =
     (now ≡ before) × (is_marked cut.number (text_of cut) ≡ true) × WritesNone program rows monitor events
-    ⊎ (now ≡ before + 1) × Counts mission before cut × TakesIt (Ok tt) program style rows cut monitor events
-RowSteps (Err watched.TheVariants.TooLong) program style mission before rows cut monitor events =
+    ⊎ (now ≡ before + 1) × Counts mission before cut × TakesIt (Continue tt) program style rows cut monitor events
+RowSteps (Break watched.TheVariants.TooLong) program style mission before rows cut monitor events =
     (before ≡ mission) × (is_marked cut.number (text_of cut) ≡ false) × WritesNone program rows monitor events
-RowSteps (Err answer) program style mission before rows cut monitor events = Counts mission before cut × TakesIt (Err answer) program style rows cut monitor events
+RowSteps (Break answer) program style mission before rows cut monitor events = Counts mission before cut × TakesIt (Break answer) program style rows cut monitor events
 
 -- a line was cut, and then this
 pub record CutsThen (start cut : Cutting) (P : List Event → Type 0) (events : List Event) : Type 0 where
@@ -112,15 +114,15 @@ pub record CutsNone (program : Program) (rows : List Row) (start cut : Cutting) 
   pub told : HasTold program monitor rows
 
 -- how the loop ends by a line that is too long
-abbrev pub EndsLong : {T : Type 0} → Result T watched.Watched → ℕ → ℕ → Cutting → Type 0
-EndsLong (Err watched.TheVariants.TooLong) mission before start = before ≡ mission
-EndsLong (Err (watched.TheVariants.BadTrace number why)) mission before start = (before < mission) × (number ≡ next_number start) × (why ≡ LongLine)
+abbrev pub EndsLong : {T : Type 0} → ControlFlow watched.Watched T → ℕ → ℕ → Cutting → Type 0
+EndsLong (Break watched.TheVariants.TooLong) mission before start = before ≡ mission
+EndsLong (Break (watched.TheVariants.BadTrace number why)) mission before start = (before < mission) × (number ≡ next_number start) × (why ≡ LongLine)
 EndsLong answer mission before start = ⊥
 
 -- what one more line brought, where so many lines behind the header stand before it, and what a line that was cut is
-abbrev pub Turns : {T : Type 0} → Result T watched.Watched → Program → ℕ → ℕ → List Row → Cutting → Cutting → State → (List Event → Type 0) → List Event → Type 0
-Turns (Err watched.TheVariants.Done) program mission before rows start cut monitor Step events = CutsNone program rows start cut line.TheVariants.End monitor events
-Turns (Err watched.TheVariants.ReadFault) program mission before rows start cut monitor Step events = CutsNone program rows start cut line.TheVariants.ReadFault monitor events
+abbrev pub Turns : {T : Type 0} → ControlFlow watched.Watched T → Program → ℕ → ℕ → List Row → Cutting → Cutting → State → (List Event → Type 0) → List Event → Type 0
+Turns (Break watched.TheVariants.Done) program mission before rows start cut monitor Step events = CutsNone program rows start cut line.TheVariants.End monitor events
+Turns (Break watched.TheVariants.ReadFault) program mission before rows start cut monitor Step events = CutsNone program rows start cut line.TheVariants.ReadFault monitor events
 Turns answer program mission before rows start cut monitor Step events =
     EndsLong answer mission before start × CutsNone program rows start cut line.TheVariants.LongLine monitor events
     ⊎ CutsThen start cut Step events

@@ -18,6 +18,7 @@ use mltl_monitor::Monitor;
 use scq_ring::steps::Steps;
 use sparse_feed::{Stamp, gap, stamp_of};
 use std::marker::Brand;
+use std::ops::ControlFlow::{self, Break, Continue};
 use std::sync::ledger::{Blank, Ledger};
 use tool_io::{Host, Line, LineCut, Place};
 use trace_feed::RowAnswer;
@@ -93,7 +94,7 @@ fn take_fields<H: Host, L: Ledger>(
     times: u64,
     style: Style,
     steps: &mut Steps<L>,
-) -> Result<(), Watched>
+) -> ControlFlow<Watched, ()>
     requires drained { IsDrained monitor.old }
     requires begun { 0 < times → 0 < taken_by monitor.old }
     requires early { taken_by monitor.old + times < 2 ^ 40 }
@@ -108,18 +109,18 @@ fn take_fields<H: Host, L: Ledger>(
     match monitor.read_line(fields) {
         RowAnswer::Good => {
             if take_behind(monitor, host, times, style, steps) {
-                Ok(())
+                Continue(())
             } else {
-                Err(Watched::WriteFault)
+                Break(Watched::WriteFault)
             }
         }
-        RowAnswer::Blank => Err(Watched::BadTrace(number, TraceWhy::Width)),
-        RowAnswer::Width => Err(Watched::BadTrace(number, TraceWhy::Width)),
+        RowAnswer::Blank => Break(Watched::BadTrace(number, TraceWhy::Width)),
+        RowAnswer::Width => Break(Watched::BadTrace(number, TraceWhy::Width)),
         RowAnswer::NotWhole(column) => {
-            Err(Watched::BadTrace(number, TraceWhy::NotWhole(column)))
+            Break(Watched::BadTrace(number, TraceWhy::NotWhole(column)))
         }
         RowAnswer::OutOfRange(column) => {
-            Err(Watched::BadTrace(number, TraceWhy::OutOfRange(column)))
+            Break(Watched::BadTrace(number, TraceWhy::OutOfRange(column)))
         }
     }
 }
@@ -133,7 +134,7 @@ fn take_line<H: Host, L: Ledger>(
     last: Option<u64>,
     style: Style,
     steps: &mut Steps<L>,
-) -> Result<Option<u64>, Watched>
+) -> ControlFlow<Watched, Option<u64>>
     requires row { IsSome cut.now.row }
     requires drained { IsDrained monitor.old }
     requires counted { taken_by monitor.old ≡ times_until last }
@@ -149,15 +150,15 @@ fn take_line<H: Host, L: Ledger>(
     let number = cut.number();
     let line = cut.line();
     match stamp_of(line, last, mission) {
-        Stamp::Blank => Ok(last),
-        Stamp::Bad => Err(Watched::BadTrace(number, TraceWhy::Stamp)),
-        Stamp::Order => Err(Watched::BadTrace(number, TraceWhy::Order)),
-        Stamp::Late => Err(Watched::TooLong),
+        Stamp::Blank => Continue(last),
+        Stamp::Bad => Break(Watched::BadTrace(number, TraceWhy::Stamp)),
+        Stamp::Order => Break(Watched::BadTrace(number, TraceWhy::Order)),
+        Stamp::Late => Break(Watched::TooLong),
         Stamp::At(time, place) => {
             let times = gap(last, time);
             match take_fields(monitor, &line[place..], number, host, times, style, steps) {
-                Ok(()) => Ok(Some(time)),
-                Err(watched) => Err(watched),
+                Continue(()) => Continue(Some(time)),
+                Break(watched) => Break(watched),
             }
         }
     }
@@ -173,7 +174,7 @@ fn timed_step<H: Host, L: Ledger>(
     clock: Clock,
     style: Style,
     steps: &mut Steps<L>,
-) -> Result<Clock, Watched>
+) -> ControlFlow<Watched, Clock>
     requires row { IsSome cut.now.row }
     requires drained { IsDrained monitor.old }
     requires counted { taken_by monitor.old ≡ times_until clock.last }
@@ -187,14 +188,14 @@ fn timed_step<H: Host, L: Ledger>(
     ensures program { program_of monitor.new ≡ program_of monitor.old }
 {
     if is_header(cut) {
-        return Ok(clock);
+        return Continue(clock);
     }
     if clock.lines == mission {
-        return Err(Watched::TooLong);
+        return Break(Watched::TooLong);
     }
     let last = take_line(monitor, cut, host, mission, clock.last, style, steps)?;
     let lines = clock.lines + 1;
-    Ok(Clock { lines, last })
+    Continue(Clock { lines, last })
 }
 
 /// Cuts one more line, and takes it.
@@ -206,7 +207,7 @@ fn timed_turn<H: Host, L: Ledger>(
     clock: Clock,
     style: Style,
     steps: &mut Steps<L>,
-) -> Result<Clock, Watched>
+) -> ControlFlow<Watched, Clock>
     requires drained { IsDrained monitor.old }
     requires counted { taken_by monitor.old ≡ times_until clock.last }
     requires within { clock.lines ≤ mission }
@@ -221,12 +222,12 @@ fn timed_turn<H: Host, L: Ledger>(
 {
     match cut.next_line(host, Place::Trace) {
         Line::Row => timed_step(monitor, cut, host, mission, clock, style, steps),
-        Line::End => Err(Watched::Done),
-        Line::ReadFault => Err(Watched::ReadFault),
-        Line::LongLine if clock.lines == mission => Err(Watched::TooLong),
+        Line::End => Break(Watched::Done),
+        Line::ReadFault => Break(Watched::ReadFault),
+        Line::LongLine if clock.lines == mission => Break(Watched::TooLong),
         Line::LongLine => {
             let number = cut.number().saturating_add(1);
-            Err(Watched::BadTrace(number, TraceWhy::LongLine))
+            Break(Watched::BadTrace(number, TraceWhy::LongLine))
         }
     }
 }
@@ -257,8 +258,8 @@ fn timed_turns<H: Host, L: Ledger>(
     };
     loop {
         match timed_turn(monitor, cut, host, mission, clock, style, &mut steps) {
-            Ok(now) => clock = now,
-            Err(watched) => return watched,
+            Continue(now) => clock = now,
+            Break(watched) => return watched,
         }
     }
 }

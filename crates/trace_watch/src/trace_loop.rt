@@ -17,6 +17,7 @@ use mltl_base::Style;
 use mltl_monitor::Monitor;
 use scq_ring::steps::Steps;
 use std::marker::Brand;
+use std::ops::ControlFlow::{self, Break, Continue};
 use std::sync::ledger::{Blank, Ledger};
 use tool_io::{Host, Line, LineCut, Place, Put, put_all};
 use trace_feed::RowAnswer;
@@ -52,7 +53,7 @@ fn take<H: Host, L: Ledger>(
     host: &mut H,
     style: Style,
     steps: &mut Steps<L>,
-) -> Result<(), Watched>
+) -> ControlFlow<Watched, ()>
     requires row { IsSome cut.now.row }
     requires drained { IsDrained monitor.old }
     requires early { taken_by monitor.old < 2 ^ 40 }
@@ -66,18 +67,18 @@ fn take<H: Host, L: Ledger>(
     match monitor.take_line(cut.line(), steps) {
         RowAnswer::Good => {
             if tell(monitor, host, style) {
-                Ok(())
+                Continue(())
             } else {
-                Err(Watched::WriteFault)
+                Break(Watched::WriteFault)
             }
         }
-        RowAnswer::Blank => Ok(()),
-        RowAnswer::Width => Err(Watched::BadTrace(number, TraceWhy::Width)),
+        RowAnswer::Blank => Continue(()),
+        RowAnswer::Width => Break(Watched::BadTrace(number, TraceWhy::Width)),
         RowAnswer::NotWhole(column) => {
-            Err(Watched::BadTrace(number, TraceWhy::NotWhole(column)))
+            Break(Watched::BadTrace(number, TraceWhy::NotWhole(column)))
         }
         RowAnswer::OutOfRange(column) => {
-            Err(Watched::BadTrace(number, TraceWhy::OutOfRange(column)))
+            Break(Watched::BadTrace(number, TraceWhy::OutOfRange(column)))
         }
     }
 }
@@ -100,7 +101,7 @@ fn step<H: Host, L: Ledger>(
     before: u64,
     style: Style,
     steps: &mut Steps<L>,
-) -> Result<u64, Watched>
+) -> ControlFlow<Watched, u64>
     requires row { IsSome cut.now.row }
     requires drained { IsDrained monitor.old }
     requires counted { taken_by monitor.old ≤ before }
@@ -113,13 +114,13 @@ fn step<H: Host, L: Ledger>(
     ensures program { program_of monitor.new ≡ program_of monitor.old }
 {
     if is_header(cut) {
-        return Ok(before);
+        return Continue(before);
     }
     if before == mission {
-        return Err(Watched::TooLong);
+        return Break(Watched::TooLong);
     }
     take(monitor, cut, host, style, steps)?;
-    Ok(before + 1)
+    Continue(before + 1)
 }
 
 /// Cuts one more line, where `before` lines behind the header stand before it, and takes it. Answers how many stand
@@ -132,7 +133,7 @@ fn turn<H: Host, L: Ledger>(
     before: u64,
     style: Style,
     steps: &mut Steps<L>,
-) -> Result<u64, Watched>
+) -> ControlFlow<Watched, u64>
     requires drained { IsDrained monitor.old }
     requires counted { taken_by monitor.old ≤ before }
     requires within { before ≤ mission }
@@ -146,12 +147,12 @@ fn turn<H: Host, L: Ledger>(
 {
     match cut.next_line(host, Place::Trace) {
         Line::Row => step(monitor, cut, host, mission, before, style, steps),
-        Line::End => Err(Watched::Done),
-        Line::ReadFault => Err(Watched::ReadFault),
-        Line::LongLine if before == mission => Err(Watched::TooLong),
+        Line::End => Break(Watched::Done),
+        Line::ReadFault => Break(Watched::ReadFault),
+        Line::LongLine if before == mission => Break(Watched::TooLong),
         Line::LongLine => {
             let number = cut.number().saturating_add(1);
-            Err(Watched::BadTrace(number, TraceWhy::LongLine))
+            Break(Watched::BadTrace(number, TraceWhy::LongLine))
         }
     }
 }
@@ -179,8 +180,8 @@ fn turns<H: Host, L: Ledger>(
     let mut before = 0;
     loop {
         match turn(monitor, cut, host, mission, before, style, &mut steps) {
-            Ok(now) => before = now,
-            Err(watched) => return watched,
+            Continue(now) => before = now,
+            Break(watched) => return watched,
         }
     }
 }

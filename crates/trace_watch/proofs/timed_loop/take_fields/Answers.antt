@@ -1,4 +1,5 @@
-use Rattle.std.proofs.Common.{◌≡◌, ◌∙◌, ℕ, List, [], Err, replicate, refl, sym, ap, subst}
+use Rattle.std.proofs.Common.{◌≡◌, ◌∙◌, ℕ, List, [], replicate, refl, sym, ap, subst}
+use Rattle.std.specs.declared.ops.ControlFlow.TheVariants.{Break}
 use Rattle.mltl_base.specs.declared.report.Style.{Style}
 use Rattle.mltl_base.specs.Atoms.{Row}
 use Rattle.tool_io.proofs.LogLaws.{OnLog-none}
@@ -15,9 +16,9 @@ use Rattle.trace_watch.specs.StampedTelling.{Brings}
 use Rattle.trace_watch.proofs.timed_loop.take_fields.Goals as goal
 
 -- the fields are no row
-brings_fault : (style : Style) (rows : List Row) (copies : ℕ → List Row) (number time : ℕ) (before after : State) (line : List ℕ) (meaning : LineMeaning) (why : TraceWhy) → line_meaning (program_of before) line ≡ meaning → fields_at time meaning ≡ Faulty why → IsSame before after → Stands before rows → IsDrained before → Brings (Err (watched.TheVariants.BadTrace number why)) (fields_at time (line_meaning (program_of before) line)) (program_of before) style rows copies number after []
+brings_fault : (style : Style) (rows : List Row) (copies : ℕ → List Row) (number time : ℕ) (before after : State) (line : List ℕ) (meaning : LineMeaning) (why : TraceWhy) → line_meaning (program_of before) line ≡ meaning → fields_at time meaning ≡ Faulty why → IsSame before after → Stands before rows → IsDrained before → Brings (Break (watched.TheVariants.BadTrace number why)) (fields_at time (line_meaning (program_of before) line)) (program_of before) style rows copies number after []
 brings_fault style rows copies number time before after line meaning why is fault same stands drained =
-    subst (λ what. Brings (Err (watched.TheVariants.BadTrace number why)) what (program_of before) style rows copies number after []) (sym (ap (fields_at time) is ∙ fault))
+    subst (λ what. Brings (Break (watched.TheVariants.BadTrace number why)) what (program_of before) style rows copies number after []) (sym (ap (fields_at time) is ∙ fault))
     (refl, refl, record { none = refl; told = record { program_kept = ap (λ (r : Running). r.checked) same.running; stands = same_stands before after rows same stands; drained = same_drained before after same drained } })
 
 pub returns-in-Blank-clause-log : goal.returns-in-Blank-clause-log

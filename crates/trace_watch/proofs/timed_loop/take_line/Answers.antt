@@ -1,5 +1,7 @@
-use Rattle.std.proofs.Common.{◌≡◌, ℕ, Option, Some, ◌-◌, Ok, Err, Result, List, [], drop, length, refl, replicate, subst, sym, take}
+use Rattle.std.proofs.Common.{◌≡◌, ℕ, Option, Some, ◌-◌, List, [], drop, length, refl, replicate, subst, sym, take}
 use Rattle.std.proofs.lemmas.List.{take_rest}
+use Rattle.std.specs.declared.ops.ControlFlow.{ControlFlow}
+use Rattle.std.specs.declared.ops.ControlFlow.TheVariants.{Continue, Break}
 use Rattle.mltl_base.specs.declared.report.Style.{Style}
 use Rattle.mltl_base.specs.declared.program.Program.{Program}
 use Rattle.mltl_base.specs.Atoms.{Row}
@@ -24,54 +26,54 @@ writes_none : (rows : List Row) (monitor : State) → Stands monitor rows → Is
 writes_none rows monitor stands drained = record { none = refl; told = record { program_kept = refl; stands = stands; drained = drained } }
 
 -- a line that is no row, by its stamp
-takes_none : (answer : Result (Option ℕ) watched.Watched) (said : Stamp) (last : Option ℕ) (mission : ℕ) (line text : List ℕ) (style : Style) (rows : List Row) (copies : ℕ → List Row) (number : ℕ) (monitor : State) → line ≡ text → said ≡ stamp_meaning line last mission
+takes_none : (answer : ControlFlow watched.Watched (Option ℕ)) (said : Stamp) (last : Option ℕ) (mission : ℕ) (line text : List ℕ) (style : Style) (rows : List Row) (copies : ℕ → List Row) (number : ℕ) (monitor : State) → line ≡ text → said ≡ stamp_meaning line last mission
     → TakesStamped answer last (line_at (program_of monitor) text said) (program_of monitor) style rows copies number monitor [] → TakesStamped answer last (stamped_text (program_of monitor) mission last text) (program_of monitor) style rows copies number monitor []
 takes_none answer said last mission line text style rows copies number monitor same is takes =
     subst (λ what. TakesStamped answer last what (program_of monitor) style rows copies number monitor []) (sym (stamped_as (program_of monitor) mission last line text said same is)) takes
 
 -- what the rest of a line from a place on brought
-rest_brings : (result : Result (Unit {0}) watched.Watched) (program : Program) (style : Style) (rows : List Row) (copies : ℕ → List Row) (number time place : ℕ) (line : List ℕ) (after : State) (events : List Event) → Brings result (fields_at time (line_meaning program (take (length line - place) (drop place line)))) program style rows copies number after events → Brings result (fields_at time (line_meaning program (drop place line))) program style rows copies number after events
+rest_brings : (result : ControlFlow watched.Watched (Unit {0})) (program : Program) (style : Style) (rows : List Row) (copies : ℕ → List Row) (number time place : ℕ) (line : List ℕ) (after : State) (events : List Event) → Brings result (fields_at time (line_meaning program (take (length line - place) (drop place line)))) program style rows copies number after events → Brings result (fields_at time (line_meaning program (drop place line))) program style rows copies number after events
 rest_brings result program style rows copies number time place line after events brings =
     subst (λ (fields : List ℕ). Brings result (fields_at time (line_meaning program fields)) program style rows copies number after events) (take_rest line place) brings
 
 pub returns-in-Blank-clause-log : goal.returns-in-Blank-clause-log
 returns-in-Blank-clause-log g c rows before stands is same =
-    OnLog-none _ _ (takes_none (Ok c.args.last) stamp.Blank c.args.last c.args.mission c.line-line.result.now (text_of c.args.cut.now) c.args.style rows (held before) c.args.cut.now.number c.args.monitor.now c.line-line.ensures c.in-Blank.ensures.told
+    OnLog-none _ _ (takes_none (Continue c.args.last) stamp.Blank c.args.last c.args.mission c.line-line.result.now (text_of c.args.cut.now) c.args.style rows (held before) c.args.cut.now.number c.args.monitor.now c.line-line.ensures c.in-Blank.ensures.told
     (refl, writes_none rows c.args.monitor.now stands c.requires.drained))
 
 pub returns-in-Bad-clause-log : goal.returns-in-Bad-clause-log
 returns-in-Bad-clause-log g c rows before stands is same =
-    OnLog-none _ _ (takes_none (Err (watched.TheVariants.BadTrace c.number-number.result why.Stamp)) stamp.Bad c.args.last c.args.mission c.line-line.result.now (text_of c.args.cut.now) c.args.style rows (held before) c.args.cut.now.number c.args.monitor.now c.line-line.ensures c.in-Bad.ensures.told
+    OnLog-none _ _ (takes_none (Break (watched.TheVariants.BadTrace c.number-number.result why.Stamp)) stamp.Bad c.args.last c.args.mission c.line-line.result.now (text_of c.args.cut.now) c.args.style rows (held before) c.args.cut.now.number c.args.monitor.now c.line-line.ensures c.in-Bad.ensures.told
     (c.number-number.ensures, refl, writes_none rows c.args.monitor.now stands c.requires.drained))
 
 pub returns-in-Order-clause-log : goal.returns-in-Order-clause-log
 returns-in-Order-clause-log g c rows before stands is same =
-    OnLog-none _ _ (takes_none (Err (watched.TheVariants.BadTrace c.number-number.result why.Order)) stamp.Order c.args.last c.args.mission c.line-line.result.now (text_of c.args.cut.now) c.args.style rows (held before) c.args.cut.now.number c.args.monitor.now c.line-line.ensures c.in-Order.ensures.told
+    OnLog-none _ _ (takes_none (Break (watched.TheVariants.BadTrace c.number-number.result why.Order)) stamp.Order c.args.last c.args.mission c.line-line.result.now (text_of c.args.cut.now) c.args.style rows (held before) c.args.cut.now.number c.args.monitor.now c.line-line.ensures c.in-Order.ensures.told
     (c.number-number.ensures, refl, writes_none rows c.args.monitor.now stands c.requires.drained))
 
 pub returns-in-Late-clause-log : goal.returns-in-Late-clause-log
 returns-in-Late-clause-log g c rows before stands is same =
-    OnLog-none _ _ (takes_none (Err watched.TheVariants.TooLong) stamp.Late c.args.last c.args.mission c.line-line.result.now (text_of c.args.cut.now) c.args.style rows (held before) c.args.cut.now.number c.args.monitor.now c.line-line.ensures c.in-Late.ensures.told
+    OnLog-none _ _ (takes_none (Break watched.TheVariants.TooLong) stamp.Late c.args.last c.args.mission c.line-line.result.now (text_of c.args.cut.now) c.args.style rows (held before) c.args.cut.now.number c.args.monitor.now c.line-line.ensures c.in-Late.ensures.told
     (writes_none rows c.args.monitor.now stands c.requires.drained))
 
-pub returns-in-Err-clause-log : goal.returns-in-Err-clause-log
-returns-in-Err-clause-log g c rows before stands is same =
+pub returns-in-Break-clause-log : goal.returns-in-Break-clause-log
+returns-in-Break-clause-log g c rows before stands is same =
     let program = program_of c.args.monitor.now in
     let copies : ℕ → List Row = λ then_. replicate c.gap-times.result (last_of c.args.monitor.now) in
-    OnLog-map _ _ _ (c.in-Err.ensures.log rows c.in-At.time stands)
-    (λ events told. let brings = rest_brings (Err c.in-Err.watched) program c.args.style rows copies c.number-number.result c.in-At.time c.in-At.place c.line-line.result.now c.take_fields.new.monitor events told in
-    subst (λ (text : List ℕ). Brings (Err c.in-Err.watched) (stamped_text program c.args.mission c.args.last text) program c.args.style rows (held before) c.args.cut.now.number c.take_fields.new.monitor events) c.line-line.ensures
-    (subst (λ (number : ℕ). Brings (Err c.in-Err.watched) (stamped_text program c.args.mission c.args.last c.line-line.result.now) program c.args.style rows (held before) number c.take_fields.new.monitor events) c.number-number.ensures
-    (Brings-stamped (Err c.in-Err.watched) program c.args.style rows before c.args.monitor.now c.take_fields.new.monitor c.args.last c.args.mission c.gap-times.result c.in-At.time c.in-At.place c.line-line.result.now c.number-number.result events c.in-At.ensures.told c.gap-times.ensures is stands same brings)))
+    OnLog-map _ _ _ (c.in-Break.ensures.log rows c.in-At.time stands)
+    (λ events told. let brings = rest_brings (Break c.in-Break.watched) program c.args.style rows copies c.number-number.result c.in-At.time c.in-At.place c.line-line.result.now c.take_fields.new.monitor events told in
+    subst (λ (text : List ℕ). Brings (Break c.in-Break.watched) (stamped_text program c.args.mission c.args.last text) program c.args.style rows (held before) c.args.cut.now.number c.take_fields.new.monitor events) c.line-line.ensures
+    (subst (λ (number : ℕ). Brings (Break c.in-Break.watched) (stamped_text program c.args.mission c.args.last c.line-line.result.now) program c.args.style rows (held before) number c.take_fields.new.monitor events) c.number-number.ensures
+    (Brings-stamped (Break c.in-Break.watched) program c.args.style rows before c.args.monitor.now c.take_fields.new.monitor c.args.last c.args.mission c.gap-times.result c.in-At.time c.in-At.place c.line-line.result.now c.number-number.result events c.in-At.ensures.told c.gap-times.ensures is stands same brings)))
 
-pub returns-in-Ok-clause-log : goal.returns-in-Ok-clause-log
-returns-in-Ok-clause-log g c rows before stands is same =
+pub returns-in-Continue-clause-log : goal.returns-in-Continue-clause-log
+returns-in-Continue-clause-log g c rows before stands is same =
     let program = program_of c.args.monitor.now in
     let copies : ℕ → List Row = λ then_. replicate c.gap-times.result (last_of c.args.monitor.now) in
-    OnLog-map _ _ _ (c.in-Ok.ensures.log rows c.in-At.time stands)
-    (λ events told. let brings = rest_brings (Ok tt) program c.args.style rows copies c.number-number.result c.in-At.time c.in-At.place c.line-line.result.now c.take_fields.new.monitor events told in
-    subst (λ (text : List ℕ). TakesStamped (Ok (Some c.in-At.time)) c.args.last (stamped_text program c.args.mission c.args.last text) program c.args.style rows (held before) c.args.cut.now.number c.take_fields.new.monitor events) c.line-line.ensures
-    (subst (λ (number : ℕ). TakesStamped (Ok (Some c.in-At.time)) c.args.last (stamped_text program c.args.mission c.args.last c.line-line.result.now) program c.args.style rows (held before) number c.take_fields.new.monitor events) c.number-number.ensures (
+    OnLog-map _ _ _ (c.in-Continue.ensures.log rows c.in-At.time stands)
+    (λ events told. let brings = rest_brings (Continue tt) program c.args.style rows copies c.number-number.result c.in-At.time c.in-At.place c.line-line.result.now c.take_fields.new.monitor events told in
+    subst (λ (text : List ℕ). TakesStamped (Continue (Some c.in-At.time)) c.args.last (stamped_text program c.args.mission c.args.last text) program c.args.style rows (held before) c.args.cut.now.number c.take_fields.new.monitor events) c.line-line.ensures
+    (subst (λ (number : ℕ). TakesStamped (Continue (Some c.in-At.time)) c.args.last (stamped_text program c.args.mission c.args.last c.line-line.result.now) program c.args.style rows (held before) number c.take_fields.new.monitor events) c.number-number.ensures (
       stamped_time program c.args.style rows copies c.args.last c.args.mission c.in-At.time c.in-At.place c.line-line.result.now c.number-number.result c.take_fields.new.monitor events c.in-At.ensures.told brings,
-      Brings-stamped (Ok tt) program c.args.style rows before c.args.monitor.now c.take_fields.new.monitor c.args.last c.args.mission c.gap-times.result c.in-At.time c.in-At.place c.line-line.result.now c.number-number.result events c.in-At.ensures.told c.gap-times.ensures is stands same brings,
+      Brings-stamped (Continue tt) program c.args.style rows before c.args.monitor.now c.take_fields.new.monitor c.args.last c.args.mission c.gap-times.result c.in-At.time c.in-At.place c.line-line.result.now c.number-number.result events c.in-At.ensures.told c.gap-times.ensures is stands same brings,
     )))

@@ -1,4 +1,5 @@
-use Rattle.std.proofs.Common.{◌++◌, ◌∙◌, ℕ, subst, Ok, Err, refl, arith}
+use Rattle.std.proofs.Common.{◌++◌, ◌∙◌, ℕ, subst, refl, arith}
+use Rattle.std.specs.declared.ops.ControlFlow.TheVariants.{Continue, Break}
 use Rattle.tool_io.proofs.HostLaws.{NoFault-then}
 use Rattle.tool_io.proofs.LogLaws.{OnLog-none, Appends-then}
 use Rattle.trace_watch.specs.Telling.{RowSteps, Turns}
@@ -17,12 +18,12 @@ pub loop-now-preserved : goal.loop-now-preserved
 loop-now-preserved g c =
     let was = c.loop-now.invariant in
     let has = was.log.holds in
-    let turn = c.in-Ok.ensures.log has.rows has.kept.stands in
-    let goes = turn_goes _ _ _ _ _ _ _ _ _ was.log.events has c.in-Ok.now turn.events was.within c.requires.ready.within (subst (λ program. Turns (Ok c.in-Ok.now) program c.args.mission c.loop-now.before has.rows c.loop-now.cut c.turn.new.cut c.turn.new.monitor (RowSteps (Ok c.in-Ok.now) program c.args.style c.args.mission c.loop-now.before has.rows c.turn.new.cut c.turn.new.monitor) turn.events) has.kept.program_kept turn.holds) in
+    let turn = c.in-Continue.ensures.log has.rows has.kept.stands in
+    let goes = turn_goes _ _ _ _ _ _ _ _ _ was.log.events has c.in-Continue.now turn.events was.within c.requires.ready.within (subst (λ program. Turns (Continue c.in-Continue.now) program c.args.mission c.loop-now.before has.rows c.loop-now.cut c.turn.new.cut c.turn.new.monitor (RowSteps (Continue c.in-Continue.now) program c.args.style c.args.mission c.loop-now.before has.rows c.turn.new.cut c.turn.new.monitor) turn.events) has.kept.program_kept turn.holds) in
     record {
       within = goes.within;
       program = c.turn.ensures.program ∙ was.program;
-      no_fault = NoFault-then _ _ _ was.no_fault c.in-Ok.ensures.cause;
+      no_fault = NoFault-then _ _ _ was.no_fault c.in-Continue.ensures.cause;
       log = record {
         events = was.log.events ++ turn.events;
         appended = Appends-then _ _ _ was.log.events turn.events was.log.appended turn.appended;
@@ -34,16 +35,16 @@ pub loop-now-smaller : goal.loop-now-smaller
 loop-now-smaller g c =
     let was = c.loop-now.invariant in
     let has = was.log.holds in
-    let turn = c.in-Ok.ensures.log has.rows has.kept.stands in
-    (turn_goes _ _ _ _ _ _ _ _ _ was.log.events has c.in-Ok.now turn.events was.within c.requires.ready.within (subst (λ program. Turns (Ok c.in-Ok.now) program c.args.mission c.loop-now.before has.rows c.loop-now.cut c.turn.new.cut c.turn.new.monitor (RowSteps (Ok c.in-Ok.now) program c.args.style c.args.mission c.loop-now.before has.rows c.turn.new.cut c.turn.new.monitor) turn.events) has.kept.program_kept turn.holds)).fewer
+    let turn = c.in-Continue.ensures.log has.rows has.kept.stands in
+    (turn_goes _ _ _ _ _ _ _ _ _ was.log.events has c.in-Continue.now turn.events was.within c.requires.ready.within (subst (λ program. Turns (Continue c.in-Continue.now) program c.args.mission c.loop-now.before has.rows c.loop-now.cut c.turn.new.cut c.turn.new.monitor (RowSteps (Continue c.in-Continue.now) program c.args.style c.args.mission c.loop-now.before has.rows c.turn.new.cut c.turn.new.monitor) turn.events) has.kept.program_kept turn.holds)).fewer
 
-pub returns-in-Err-clause-log : goal.returns-in-Err-clause-log
-returns-in-Err-clause-log g c =
+pub returns-in-Break-clause-log : goal.returns-in-Break-clause-log
+returns-in-Break-clause-log g c =
     let was = c.loop-now.invariant in
     let has = was.log.holds in
-    let turn = c.in-Err.ensures.log has.rows has.kept.stands in
+    let turn = c.in-Break.ensures.log has.rows has.kept.stands in
     record {
       events = was.log.events ++ turn.events;
       appended = Appends-then _ _ _ was.log.events turn.events was.log.appended turn.appended;
-      holds = turn_ends _ _ _ _ _ _ _ _ _ was.log.events has c.in-Err.watched turn.events (subst (λ program. Turns {T = ℕ} (Err c.in-Err.watched) program c.args.mission c.loop-now.before has.rows c.loop-now.cut c.turn.new.cut c.turn.new.monitor (RowSteps (Err c.in-Err.watched) program c.args.style c.args.mission c.loop-now.before has.rows c.turn.new.cut c.turn.new.monitor) turn.events) has.kept.program_kept turn.holds);
+      holds = turn_ends _ _ _ _ _ _ _ _ _ was.log.events has c.in-Break.watched turn.events (subst (λ program. Turns {T = ℕ} (Break c.in-Break.watched) program c.args.mission c.loop-now.before has.rows c.loop-now.cut c.turn.new.cut c.turn.new.monitor (RowSteps (Break c.in-Break.watched) program c.args.style c.args.mission c.loop-now.before has.rows c.turn.new.cut c.turn.new.monitor) turn.events) has.kept.program_kept turn.holds);
     }
