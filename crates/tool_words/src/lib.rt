@@ -15,3 +15,6 @@ pub use c2po_words::{C2poAsk, Compile, c2po_ask};
 pub use given::words_of;
 pub use r2u2_words::{R2u2Ask, Run, r2u2_ask};
 pub use words::Words;
+
+#[cfg(test)]
+mod tests;

@@ -1,0 +1,71 @@
+//! One table of command lines, and what each program makes of them.
+
+use crate::{Words, c2po_ask, r2u2_ask};
+use std::alloc::{AllocError, Global};
+use std::test::Fail;
+
+/// The words, which one blank parts; `~` stands for a word without letters.
+fn words_of(alloc: Global, text: &str) -> Result<Words, AllocError> {
+    let mut words = Words::new(alloc);
+    for word in text.split(' ') {
+        words.push(if word == "~" { "" } else { word })?;
+    }
+    Ok(words)
+}
+
+/// What both programs make of the words.
+fn shown(alloc: Global, text: &str) -> Result<String, Fail> {
+    let words = words_of(alloc, text)?;
+    let r2u2 = r2u2_ask(alloc, &words)?;
+    let c2po = c2po_ask(alloc, &words)?;
+    Ok(format!(in alloc; "{r2u2:?} # {c2po:?}")?)
+}
+
+const TABLE: &str = "--help # Help # Help
+-h # Help # Help
+a --help # Nothing # Nothing
+-h a # Nothing # Nothing
+-- -h # Run(Run { source: false, style: Each, timed: false, mission: 1099511627776, file: \"-h\", trace: \"-\" }) # Compile(Compile { header: None, out: Some(\"spec.bin\"), table: false, simplify: false, spec: \"-h\" })
+--source --runs - t # Run(Run { source: true, style: Runs, timed: false, mission: 1099511627776, file: \"-\", trace: \"t\" }) # Nothing
+a --mission-time 007 --timed # Run(Run { source: false, style: Each, timed: true, mission: 7, file: \"a\", trace: \"-\" }) # Nothing
+--timed a # Run(Run { source: false, style: Each, timed: true, mission: 16777216, file: \"a\", trace: \"-\" }) # Nothing
+--mission-time=1099511627776 a # Run(Run { source: false, style: Each, timed: false, mission: 1099511627776, file: \"a\", trace: \"-\" }) # Nothing
+--mission-time=1099511627777 a # Nothing # Nothing
+--mission-time=0 a # Nothing # Nothing
+--mission-time=+5 a # Nothing # Nothing
+--mission-time -5 a # Nothing # Nothing
+--mission-time=00000000000005 a # Nothing # Nothing
+--runs --runs a # Nothing # Nothing
+--demo 4294967295,10000000 # Demo { seed: 4294967295, rows: 10000000 } # Nothing
+--demo=0,0000000001 # Demo { seed: 0, rows: 1 } # Nothing
+--demo 4294967296,1 # Nothing # Nothing
+--demo 1,0 # Nothing # Nothing
+--demo 1 # Nothing # Nothing
+--demo 1,2,3 # Nothing # Nothing
+--demo 1,1 a # Nothing # Nothing
+--demo 1,1 --timed # Nothing # Nothing
+-oa b # Nothing # Compile(Compile { header: None, out: Some(\"a\"), table: false, simplify: false, spec: \"b\" })
+-o=a b # Nothing # Compile(Compile { header: None, out: Some(\"a\"), table: false, simplify: false, spec: \"b\" })
+--table b --header h --simplify # Nothing # Compile(Compile { header: Some(\"h\"), out: None, table: true, simplify: true, spec: \"b\" })
+--table -o a b # Nothing # Compile(Compile { header: None, out: Some(\"a\"), table: true, simplify: false, spec: \"b\" })
+--upgrade b # Nothing # Upgrade { out: \"spec.bin\", program: \"b\" }
+--upgrade b --output a # Nothing # Upgrade { out: \"a\", program: \"b\" }
+--show b # Nothing # Show { out: None, program: \"b\" }
+--show -o a b # Nothing # Show { out: Some(\"a\"), program: \"b\" }
+--show --upgrade b # Nothing # Nothing
+--upgrade --table b # Nothing # Nothing
+--show --header h b # Nothing # Nothing
+-o a # Nothing # Nothing
+~ # Run(Run { source: false, style: Each, timed: false, mission: 1099511627776, file: \"\", trace: \"-\" }) # Compile(Compile { header: None, out: Some(\"spec.bin\"), table: false, simplify: false, spec: \"\" })";
+
+#[test]
+fn words_ask(rt: HostRuntime) -> Result<(), Fail> {
+    for row in TABLE.lines() {
+        let Some((text, wanted)) = row.split_once(" # ") else {
+            continue;
+        };
+        let got = shown(rt.alloc(), text)?;
+        assert_eq!(rt; got.as_str(), wanted, "at {text}");
+    }
+    Ok(())
+}
