@@ -8,7 +8,7 @@ use Rattle.std.proofs.lemmas.Bool.{cases_lt}
 use Rattle.count_sets.specs.declared.gate.Gate.{Gate}
 use Rattle.count_sets.specs.declared.gate.Gate.TheVariants.{Truth, Body, Both, Either, Not}
 use Rattle.count_sets.specs.Counting.{Counted, truth, both, either, negation, truth_under}
-use Rattle.count_sets.specs.Gates.{formula_of, formulas, truth_of, truths, last_formula, last_truth, IsOver, IsNetwork}
+use Rattle.count_sets.specs.Gates.{formula_of, formulas, gate_truth, truths, last_formula, last_truth, IsOver, IsNetwork}
 use Rattle.count_sets.specs.Tables.{UnfoldsTo}
 
 pub formulas_push : (gates : List Gate) (g : Gate) → formulas (gates ++ g ∷ []) ≡ formulas gates ++ formula_of (formulas gates) g ∷ []
@@ -100,20 +100,20 @@ get_or-truths bodies [] a = refl
 get_or-truths bodies (f ∷ fs) zero = refl
 get_or-truths bodies (f ∷ fs) (suc a) = get_or-truths bodies fs a
 
-truth_of-formula : (bodies : List Bool) (fs : List Counted) (g : Gate) → truth_of bodies (map (truth_under bodies) fs) g ≡ truth_under bodies (formula_of fs g)
+gate_truth-formula : (bodies : List Bool) (fs : List Counted) (g : Gate) → gate_truth bodies (map (truth_under bodies) fs) g ≡ truth_under bodies (formula_of fs g)
 unfolding truth_under
-truth_of-formula bodies fs (Truth v) = refl
-truth_of-formula bodies fs (Body i) = refl
-truth_of-formula bodies fs (Both a b) = cc (get_or-truths bodies fs a, get_or-truths bodies fs b)
-truth_of-formula bodies fs (Either a b) = cc (get_or-truths bodies fs a, get_or-truths bodies fs b)
-truth_of-formula bodies fs (Not a) = cc (get_or-truths bodies fs a)
+gate_truth-formula bodies fs (Truth v) = refl
+gate_truth-formula bodies fs (Body i) = refl
+gate_truth-formula bodies fs (Both a b) = cc (get_or-truths bodies fs a, get_or-truths bodies fs b)
+gate_truth-formula bodies fs (Either a b) = cc (get_or-truths bodies fs a, get_or-truths bodies fs b)
+gate_truth-formula bodies fs (Not a) = cc (get_or-truths bodies fs a)
 
-truths_step : (bodies : List Bool) (fs : List Counted) (gates : List Gate) → fold (λ earlier gate. earlier ++ truth_of bodies earlier gate ∷ []) (map (truth_under bodies) fs) gates ≡ map (truth_under bodies) (fold (λ earlier gate. earlier ++ formula_of earlier gate ∷ []) fs gates)
+truths_step : (bodies : List Bool) (fs : List Counted) (gates : List Gate) → fold (λ earlier gate. earlier ++ gate_truth bodies earlier gate ∷ []) (map (truth_under bodies) fs) gates ≡ map (truth_under bodies) (fold (λ earlier gate. earlier ++ formula_of earlier gate ∷ []) fs gates)
 truths_step bodies fs [] = refl
 truths_step bodies fs (g ∷ gs) =
-    let one : map (truth_under bodies) fs ++ truth_of bodies (map (truth_under bodies) fs) g ∷ [] ≡ map (truth_under bodies) (fs ++ formula_of fs g ∷ [])
-    = ap (λ v. map (truth_under bodies) fs ++ v ∷ []) (truth_of-formula bodies fs g) ∙ sym (map_push (truth_under bodies) fs (formula_of fs g)) in
-    ap (λ vs. fold (λ earlier gate. earlier ++ truth_of bodies earlier gate ∷ []) vs gs) one
+    let one : map (truth_under bodies) fs ++ gate_truth bodies (map (truth_under bodies) fs) g ∷ [] ≡ map (truth_under bodies) (fs ++ formula_of fs g ∷ [])
+    = ap (λ v. map (truth_under bodies) fs ++ v ∷ []) (gate_truth-formula bodies fs g) ∙ sym (map_push (truth_under bodies) fs (formula_of fs g)) in
+    ap (λ vs. fold (λ earlier gate. earlier ++ gate_truth bodies earlier gate ∷ []) vs gs) one
     ∙ truths_step bodies (fs ++ formula_of fs g ∷ []) gs
 
 pub truths-formulas : (bodies : List Bool) (gates : List Gate) → truths bodies gates ≡ map (truth_under bodies) (formulas gates)

@@ -26,16 +26,16 @@ abbrev pub truth_at : List Bool → ℕ → Bool
 truth_at truths i = slice_index_or truths i false
 
 -- what comes out of a gate, given the truth of each body and of each gate before it
-abbrev pub truth_of : List Bool → List Bool → Gate → Bool
-truth_of bodies earlier (Truth v) = v
-truth_of bodies earlier (Body i) = truth_at bodies i
-truth_of bodies earlier (Both a b) = truth_at earlier a && truth_at earlier b
-truth_of bodies earlier (Either a b) = truth_at earlier a || truth_at earlier b
-truth_of bodies earlier (Not a) = not (truth_at earlier a)
+abbrev pub gate_truth : List Bool → List Bool → Gate → Bool
+gate_truth bodies earlier (Truth v) = v
+gate_truth bodies earlier (Body i) = truth_at bodies i
+gate_truth bodies earlier (Both a b) = truth_at earlier a && truth_at earlier b
+gate_truth bodies earlier (Either a b) = truth_at earlier a || truth_at earlier b
+gate_truth bodies earlier (Not a) = not (truth_at earlier a)
 
 -- what comes out of the gates, in order
 unfoldable pub truths : List Bool → List Gate → List Bool
-truths bodies gates = fold (λ earlier gate. earlier ++ truth_of bodies earlier gate ∷ []) [] gates
+truths bodies gates = fold (λ earlier gate. earlier ++ gate_truth bodies earlier gate ∷ []) [] gates
 
 -- the formula of the last gate
 abbrev pub last_formula : List Gate → Option Counted

@@ -5,11 +5,11 @@ use Rattle.std.proofs.lemmas.Bool.{leb-true}
 use Rattle.mltl_base.specs.declared.limits.TheConstants.{MAX_BOUND}
 use Rattle.mltl_base.specs.declared.interval.Interval.{Interval}
 use Rattle.mltl_base.specs.Formula.{Formula, truth, falsity, atom, negation, conjunction, disjunction, implication, equivalence, finally, globally, until, release, once, historically, since}
-use Rattle.mltl_simplify.specs.Simplify.{joined, of_truth, simple_finally, simple_globally, simple_historically, simple_not, simple_once, truth_of}
+use Rattle.mltl_simplify.specs.Simplify.{joined, of_truth, simple_finally, simple_globally, simple_historically, simple_not, simple_once, as_truth}
 
 -- a formula is the truth that it is found to be
-pub truth_is : (x : Formula) (v : Bool) → truth_of x ≡ Some v → x ≡ of_truth v
-unfolding truth_of
+pub truth_is : (x : Formula) (v : Bool) → as_truth x ≡ Some v → x ≡ of_truth v
+unfolding as_truth
 truth_is truth true h = refl
 truth_is truth false h = absurd (cc)
 truth_is falsity true h = absurd (cc)

@@ -7,7 +7,7 @@ use Rattle.mltl_base.specs.Meaning.{sat}
 use Rattle.mltl_base.specs.Settled.{IsOrdered, Settled, SettledAmong}
 use Rattle.mltl_base.specs.Verdicts.{verdicts}
 use Rattle.mltl_base.proofs.Settling.{verdict_known, verdict_settled}
-use Rattle.mltl_simplify.specs.Simplify.{simp, truth_of}
+use Rattle.mltl_simplify.specs.Simplify.{simp, as_truth}
 use Rattle.mltl_simplify.proofs.Cases.{finally_cases, globally_cases, historically_cases, once_cases}
 use Rattle.mltl_simplify.proofs.Forms.{IsPlain, and_has, equals_has, implies_has, not_has, or_has, atom_has, unless_false_has, unless_truth_has}
 use Rattle.mltl_simplify.proofs.Meaning.{simp_sat}
@@ -49,13 +49,13 @@ simp_wpd (equivalence p q) = let n : ℕ = max (wpd p) (wpd q) in
 simp_wpd (finally i p) = finally_cases (λ x y. wpd x ≤ wpd p → wpd y ≤ wpd p + i.hi) i (λ h. omega arith) (λ h. omega arith) (λ j z l h. omega (arith, h)) (λ x h. omega (arith, h)) (simp p) (simp_wpd p)
 simp_wpd (globally i p) = globally_cases (λ x y. wpd x ≤ wpd p → wpd y ≤ wpd p + i.hi) i (λ h. omega arith) (λ h. omega arith) (λ j z l h. omega (arith, h)) (λ x h. omega (arith, h)) (simp p) (simp_wpd p)
 simp_wpd (until i p q) = let n : ℕ = max (wpd p) (wpd q) + i.hi in
-    unless_truth_has {P = IsWithin n} (within n) (truth_of (simp q)) (until i (simp p) (simp q)) (omega (arith, max_below (wpd (simp p)) (wpd (simp q)) (wpd p) (wpd q) (simp_wpd p) (simp_wpd q)))
+    unless_truth_has {P = IsWithin n} (within n) (as_truth (simp q)) (until i (simp p) (simp q)) (omega (arith, max_below (wpd (simp p)) (wpd (simp q)) (wpd p) (wpd q) (simp_wpd p) (simp_wpd q)))
 simp_wpd (release i p q) = let n : ℕ = max (wpd p) (wpd q) + i.hi in
-    unless_truth_has {P = IsWithin n} (within n) (truth_of (simp q)) (release i (simp p) (simp q)) (omega (arith, max_below (wpd (simp p)) (wpd (simp q)) (wpd p) (wpd q) (simp_wpd p) (simp_wpd q)))
+    unless_truth_has {P = IsWithin n} (within n) (as_truth (simp q)) (release i (simp p) (simp q)) (omega (arith, max_below (wpd (simp p)) (wpd (simp q)) (wpd p) (wpd q) (simp_wpd p) (simp_wpd q)))
 simp_wpd (once i p) = once_cases (λ x y. wpd x ≤ wpd p → wpd y ≤ wpd p) i (λ h. omega arith) (λ j z l h. h) (λ x h. h) (simp p) (simp_wpd p)
 simp_wpd (historically i p) = historically_cases (λ x y. wpd x ≤ wpd p → wpd y ≤ wpd p) i (λ h. omega arith) (λ j z l h. h) (λ x h. h) (simp p) (simp_wpd p)
 simp_wpd (since i p q) = let n : ℕ = max (wpd p) (wpd q) in
-    unless_false_has {P = IsWithin n} (within n) (truth_of (simp q)) (since i (simp p) (simp q)) (max_below (wpd (simp p)) (wpd (simp q)) (wpd p) (wpd q) (simp_wpd p) (simp_wpd q))
+    unless_false_has {P = IsWithin n} (within n) (as_truth (simp q)) (since i (simp p) (simp q)) (max_below (wpd (simp p)) (wpd (simp q)) (wpd p) (wpd q) (simp_wpd p) (simp_wpd q))
 
 -- what is settled for the simplified formula is settled for the formula, among each class of further rows too
 pub simp_settled : (rows : List Row) (p : Formula) (t : ℕ) (v : Bool) → IsOrdered p → Settled rows (simp p) t v → Settled rows p t v

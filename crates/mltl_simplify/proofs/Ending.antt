@@ -20,7 +20,7 @@ use Rattle.plain_nodes.proofs.NoFaults.{neither}
 use Rattle.mltl_simplify.specs.declared.parts.Part.{Part}
 use Rattle.mltl_simplify.specs.Nodes.{AreSimplified, NamesNodes, out_over}
 use Rattle.mltl_simplify.specs.Outputs.{simple_asked, simple_output, simple_outputs}
-use Rattle.mltl_simplify.specs.Simplify.{simp, truth_of}
+use Rattle.mltl_simplify.specs.Simplify.{simp, as_truth}
 use Rattle.mltl_simplify.proofs.Cases.{finally_cases, globally_cases, historically_cases, once_cases}
 use Rattle.mltl_simplify.proofs.Forms.{IsPlain, and_has, atom_has, equals_has, implies_has, not_has, or_has, simp_future, simp_past, unless_false_has, unless_truth_has}
 use Rattle.mltl_simplify.proofs.Placing.{place_of_formula, formula_names}
@@ -58,15 +58,15 @@ simp_faultless (finally i p) h = finally_cases (λ x y. NoFault x → NoFault y)
 simp_faultless (globally i p) h = globally_cases (λ x y. NoFault x → NoFault y) i (λ k. refl) (λ k. refl) (λ j z l k. k) (λ x k. k) (simp p) (simp_faultless p h)
 simp_faultless (until i p q) h =
     let n = neither (formula_fault p) (formula_fault q) h in
-    unless_truth_has {P = NoFault} faultless (truth_of (simp q)) (until i (simp p) (simp q)) (faultless.conjunction_has (simp p) (simp q) (simp_faultless p n.0) (simp_faultless q n.1))
+    unless_truth_has {P = NoFault} faultless (as_truth (simp q)) (until i (simp p) (simp q)) (faultless.conjunction_has (simp p) (simp q) (simp_faultless p n.0) (simp_faultless q n.1))
 simp_faultless (release i p q) h =
     let n = neither (formula_fault p) (formula_fault q) h in
-    unless_truth_has {P = NoFault} faultless (truth_of (simp q)) (release i (simp p) (simp q)) (faultless.conjunction_has (simp p) (simp q) (simp_faultless p n.0) (simp_faultless q n.1))
+    unless_truth_has {P = NoFault} faultless (as_truth (simp q)) (release i (simp p) (simp q)) (faultless.conjunction_has (simp p) (simp q) (simp_faultless p n.0) (simp_faultless q n.1))
 simp_faultless (once i p) h = once_cases (λ x y. NoFault x → NoFault y) i (λ k. refl) (λ j z l k. k) (λ x k. k) (simp p) (simp_faultless p h)
 simp_faultless (historically i p) h = historically_cases (λ x y. NoFault x → NoFault y) i (λ k. refl) (λ j z l k. k) (λ x k. k) (simp p) (simp_faultless p h)
 simp_faultless (since i p q) h =
     let n = neither (formula_fault p) (formula_fault q) h in
-    unless_false_has {P = NoFault} faultless (truth_of (simp q)) (since i (simp p) (simp q)) (faultless.conjunction_has (simp p) (simp q) (simp_faultless p n.0) (simp_faultless q n.1))
+    unless_false_has {P = NoFault} faultless (as_truth (simp q)) (since i (simp p) (simp q)) (faultless.conjunction_has (simp p) (simp q) (simp_faultless p n.0) (simp_faultless q n.1))
 
 -- ---- each output
 

@@ -5,7 +5,7 @@ use Rattle.mltl_base.specs.Formula.{Formula, truth, falsity, atom, negation, con
 use Rattle.mltl_base.specs.Atoms.{Atom, holds}
 use Rattle.mltl_base.specs.Settled.{IsFuture, IsOrdered, IsPast}
 use Rattle.mltl_simplify.specs.Forms.{AreBounded, HasAtom}
-use Rattle.mltl_simplify.specs.Simplify.{both, either, equals, has_signal, implies, of_truth, simp, simple_and, simple_atom, simple_equals, simple_implies, simple_not, simple_or, truth_of, unless_false, unless_truth}
+use Rattle.mltl_simplify.specs.Simplify.{both, either, equals, has_signal, implies, of_truth, simp, simple_and, simple_atom, simple_equals, simple_implies, simple_not, simple_or, as_truth, unless_false, unless_truth}
 use Rattle.mltl_simplify.proofs.Cases.{finally_cases, globally_cases, historically_cases, not_cases, once_cases}
 
 -- what truths have, and formulas that are joined without time
@@ -34,7 +34,7 @@ pub not_has : {P : Formula → Type 0} → IsPlain P → (x : Formula) → P x �
 not_has {P} own = not_cases (λ x y. P x → P y) (λ h. own.false_has) (λ h. own.true_has) (λ z h. own.operand_has z h) (λ x h. own.negation_has x h)
 
 pub and_has : {P : Formula → Type 0} → IsPlain P → (x y : Formula) → P x → P y → P (simple_and x y)
-and_has {P} own x y h k = go (truth_of x) (truth_of y)
+and_has {P} own x y h k = go (as_truth x) (as_truth y)
   where
     go : (u w : Option Bool) → P (both u w x y)
     go (Some false) w = own.false_has
@@ -44,7 +44,7 @@ and_has {P} own x y h k = go (truth_of x) (truth_of y)
     go None None = own.conjunction_has x y h k
 
 pub or_has : {P : Formula → Type 0} → IsPlain P → (x y : Formula) → P x → P y → P (simple_or x y)
-or_has {P} own x y h k = go (truth_of x) (truth_of y)
+or_has {P} own x y h k = go (as_truth x) (as_truth y)
   where
     go : (u w : Option Bool) → P (either u w x y)
     go (Some true) w = own.true_has
@@ -54,7 +54,7 @@ or_has {P} own x y h k = go (truth_of x) (truth_of y)
     go None None = own.disjunction_has x y h k
 
 pub implies_has : {P : Formula → Type 0} → IsPlain P → (x y : Formula) → P x → P y → P (simple_implies x y)
-implies_has {P} own x y h k = go (truth_of x) (truth_of y)
+implies_has {P} own x y h k = go (as_truth x) (as_truth y)
   where
     go : (u w : Option Bool) → P (implies u w x y)
     go (Some false) w = own.true_has
@@ -64,7 +64,7 @@ implies_has {P} own x y h k = go (truth_of x) (truth_of y)
     go None None = own.implication_has x y h k
 
 pub equals_has : {P : Formula → Type 0} → IsPlain P → (x y : Formula) → P x → P y → P (simple_equals x y)
-equals_has {P} own x y h k = go (truth_of x) (truth_of y)
+equals_has {P} own x y h k = go (as_truth x) (as_truth y)
   where
     go : (u w : Option Bool) → P (equals u w x y)
     go (Some true) w = k
@@ -110,13 +110,13 @@ simp_ordered (finally i p) h =
     finally_cases (λ x y. IsOrdered x → IsOrdered y) i (λ k. tt) (λ k. tt) (λ j z l k. (omega (arith, h.0, k.0), k.1)) (λ x k. (h.0, k)) (simp p) (simp_ordered p h.1)
 simp_ordered (globally i p) h =
     globally_cases (λ x y. IsOrdered x → IsOrdered y) i (λ k. tt) (λ k. tt) (λ j z l k. (omega (arith, h.0, k.0), k.1)) (λ x k. (h.0, k)) (simp p) (simp_ordered p h.1)
-simp_ordered (until i p q) h = unless_truth_has {P = IsOrdered} ordered (truth_of (simp q)) (until i (simp p) (simp q)) (h.0, (simp_ordered p h.1.0, simp_ordered q h.1.1))
-simp_ordered (release i p q) h = unless_truth_has {P = IsOrdered} ordered (truth_of (simp q)) (release i (simp p) (simp q)) (h.0, (simp_ordered p h.1.0, simp_ordered q h.1.1))
+simp_ordered (until i p q) h = unless_truth_has {P = IsOrdered} ordered (as_truth (simp q)) (until i (simp p) (simp q)) (h.0, (simp_ordered p h.1.0, simp_ordered q h.1.1))
+simp_ordered (release i p q) h = unless_truth_has {P = IsOrdered} ordered (as_truth (simp q)) (release i (simp p) (simp q)) (h.0, (simp_ordered p h.1.0, simp_ordered q h.1.1))
 simp_ordered (once i p) h =
     once_cases (λ x y. IsOrdered x → IsOrdered y) i (λ k. tt) (λ j z l k. (omega (arith, h.0, k.0), k.1)) (λ x k. (h.0, k)) (simp p) (simp_ordered p h.1)
 simp_ordered (historically i p) h =
     historically_cases (λ x y. IsOrdered x → IsOrdered y) i (λ k. tt) (λ j z l k. (omega (arith, h.0, k.0), k.1)) (λ x k. (h.0, k)) (simp p) (simp_ordered p h.1)
-simp_ordered (since i p q) h = unless_false_has {P = IsOrdered} ordered (truth_of (simp q)) (since i (simp p) (simp q)) (h.0, (simp_ordered p h.1.0, simp_ordered q h.1.1))
+simp_ordered (since i p q) h = unless_false_has {P = IsOrdered} ordered (as_truth (simp q)) (since i (simp p) (simp q)) (h.0, (simp_ordered p h.1.0, simp_ordered q h.1.1))
 
 bounded : IsPlain AreBounded
 bounded = record {
@@ -144,13 +144,13 @@ simp_bounded (finally i p) h =
     finally_cases (λ x y. AreBounded x → AreBounded y) i (λ k. tt) (λ k. tt) (λ j z l k. ((omega (arith, h.0.0, k.0.0), l), k.1)) (λ x k. (h.0, k)) (simp p) (simp_bounded p h.1)
 simp_bounded (globally i p) h =
     globally_cases (λ x y. AreBounded x → AreBounded y) i (λ k. tt) (λ k. tt) (λ j z l k. ((omega (arith, h.0.0, k.0.0), l), k.1)) (λ x k. (h.0, k)) (simp p) (simp_bounded p h.1)
-simp_bounded (until i p q) h = unless_truth_has {P = AreBounded} bounded (truth_of (simp q)) (until i (simp p) (simp q)) (h.0, (simp_bounded p h.1.0, simp_bounded q h.1.1))
-simp_bounded (release i p q) h = unless_truth_has {P = AreBounded} bounded (truth_of (simp q)) (release i (simp p) (simp q)) (h.0, (simp_bounded p h.1.0, simp_bounded q h.1.1))
+simp_bounded (until i p q) h = unless_truth_has {P = AreBounded} bounded (as_truth (simp q)) (until i (simp p) (simp q)) (h.0, (simp_bounded p h.1.0, simp_bounded q h.1.1))
+simp_bounded (release i p q) h = unless_truth_has {P = AreBounded} bounded (as_truth (simp q)) (release i (simp p) (simp q)) (h.0, (simp_bounded p h.1.0, simp_bounded q h.1.1))
 simp_bounded (once i p) h =
     once_cases (λ x y. AreBounded x → AreBounded y) i (λ k. tt) (λ j z l k. ((omega (arith, h.0.0, k.0.0), l), k.1)) (λ x k. (h.0, k)) (simp p) (simp_bounded p h.1)
 simp_bounded (historically i p) h =
     historically_cases (λ x y. AreBounded x → AreBounded y) i (λ k. tt) (λ j z l k. ((omega (arith, h.0.0, k.0.0), l), k.1)) (λ x k. (h.0, k)) (simp p) (simp_bounded p h.1)
-simp_bounded (since i p q) h = unless_false_has {P = AreBounded} bounded (truth_of (simp q)) (since i (simp p) (simp q)) (h.0, (simp_bounded p h.1.0, simp_bounded q h.1.1))
+simp_bounded (since i p q) h = unless_false_has {P = AreBounded} bounded (as_truth (simp q)) (since i (simp p) (simp q)) (h.0, (simp_bounded p h.1.0, simp_bounded q h.1.1))
 
 -- ---- tenses
 
@@ -182,7 +182,7 @@ simp_past (until j p q) h = absurd h
 simp_past (release j p q) h = absurd h
 simp_past (once i p) h = once_cases (λ x y. IsPast x → IsPast y) i (λ k. tt) (λ j z l k. k) (λ x k. k) (simp p) (simp_past p h)
 simp_past (historically i p) h = historically_cases (λ x y. IsPast x → IsPast y) i (λ k. tt) (λ j z l k. k) (λ x k. k) (simp p) (simp_past p h)
-simp_past (since i p q) h = unless_false_has {P = IsPast} past (truth_of (simp q)) (since i (simp p) (simp q)) (simp_past p h.0, simp_past q h.1)
+simp_past (since i p q) h = unless_false_has {P = IsPast} past (as_truth (simp q)) (since i (simp p) (simp q)) (simp_past p h.0, simp_past q h.1)
 
 future : IsPlain IsFuture
 future = record {
@@ -208,8 +208,8 @@ simp_future (implication p q) h = implies_has {P = IsFuture} future (simp p) (si
 simp_future (equivalence p q) h = equals_has {P = IsFuture} future (simp p) (simp q) (simp_future p h.0) (simp_future q h.1)
 simp_future (finally i p) h = finally_cases (λ x y. IsFuture x → IsFuture y) i (λ k. tt) (λ k. tt) (λ j z l k. k) (λ x k. k) (simp p) (simp_future p h)
 simp_future (globally i p) h = globally_cases (λ x y. IsFuture x → IsFuture y) i (λ k. tt) (λ k. tt) (λ j z l k. k) (λ x k. k) (simp p) (simp_future p h)
-simp_future (until i p q) h = unless_truth_has {P = IsFuture} future (truth_of (simp q)) (until i (simp p) (simp q)) (simp_future p h.0, simp_future q h.1)
-simp_future (release i p q) h = unless_truth_has {P = IsFuture} future (truth_of (simp q)) (release i (simp p) (simp q)) (simp_future p h.0, simp_future q h.1)
+simp_future (until i p q) h = unless_truth_has {P = IsFuture} future (as_truth (simp q)) (until i (simp p) (simp q)) (simp_future p h.0, simp_future q h.1)
+simp_future (release i p q) h = unless_truth_has {P = IsFuture} future (as_truth (simp q)) (release i (simp p) (simp q)) (simp_future p h.0, simp_future q h.1)
 simp_future (once j p) h = absurd h
 simp_future (historically j p) h = absurd h
 simp_future (since j p q) h = absurd h
@@ -251,13 +251,13 @@ among_simp S (equivalence p q) h = equals_has {P = AreAmong S} (among S) (simp p
 among_simp S (finally i p) h = finally_cases (λ x y. AreAmong S x → AreAmong S y) i (λ k a e. absurd e) (λ k a e. absurd e) (λ j z l k. k) (λ x k. k) (simp p) (among_simp S p h)
 among_simp S (globally i p) h = globally_cases (λ x y. AreAmong S x → AreAmong S y) i (λ k a e. absurd e) (λ k a e. absurd e) (λ j z l k. k) (λ x k. k) (simp p) (among_simp S p h)
 among_simp S (until i p q) h =
-    unless_truth_has {P = AreAmong S} (among S) (truth_of (simp q)) (until i (simp p) (simp q)) (either_among S (simp p) (simp q) (among_simp S p (λ a k. h a (inl k))) (among_simp S q (λ a k. h a (inr k))))
+    unless_truth_has {P = AreAmong S} (among S) (as_truth (simp q)) (until i (simp p) (simp q)) (either_among S (simp p) (simp q) (among_simp S p (λ a k. h a (inl k))) (among_simp S q (λ a k. h a (inr k))))
 among_simp S (release i p q) h =
-    unless_truth_has {P = AreAmong S} (among S) (truth_of (simp q)) (release i (simp p) (simp q)) (either_among S (simp p) (simp q) (among_simp S p (λ a k. h a (inl k))) (among_simp S q (λ a k. h a (inr k))))
+    unless_truth_has {P = AreAmong S} (among S) (as_truth (simp q)) (release i (simp p) (simp q)) (either_among S (simp p) (simp q) (among_simp S p (λ a k. h a (inl k))) (among_simp S q (λ a k. h a (inr k))))
 among_simp S (once i p) h = once_cases (λ x y. AreAmong S x → AreAmong S y) i (λ k a e. absurd e) (λ j z l k. k) (λ x k. k) (simp p) (among_simp S p h)
 among_simp S (historically i p) h = historically_cases (λ x y. AreAmong S x → AreAmong S y) i (λ k a e. absurd e) (λ j z l k. k) (λ x k. k) (simp p) (among_simp S p h)
 among_simp S (since i p q) h =
-    unless_false_has {P = AreAmong S} (among S) (truth_of (simp q)) (since i (simp p) (simp q)) (either_among S (simp p) (simp q) (among_simp S p (λ a k. h a (inl k))) (among_simp S q (λ a k. h a (inr k))))
+    unless_false_has {P = AreAmong S} (among S) (as_truth (simp q)) (since i (simp p) (simp q)) (either_among S (simp p) (simp q) (among_simp S p (λ a k. h a (inl k))) (among_simp S q (λ a k. h a (inr k))))
 
 pub simp_atoms : (p : Formula) (a : Atom) → HasAtom (simp p) a → HasAtom p a
 unfolding AreAmong

@@ -15,7 +15,7 @@ use Rattle.plain_nodes.specs.declared.nodes.Plain.{Plain}
 use Rattle.plain_nodes.specs.declared.nodes.Plain.TheVariants as node
 use Rattle.plain_nodes.specs.Nodes.{Tree, formula, formula_at, tree_of, windowed, ranged, constant_formula, IsBounded}
 use Rattle.mltl_simplify.specs.Nodes.{KeepsNone, gives_truth, keeps_truth, simple_between, simple_window}
-use Rattle.mltl_simplify.specs.Simplify.{if_joined, joined, of_truth, simple_and, simple_equals, simple_finally, simple_globally, simple_historically, simple_implies, simple_not, simple_once, simple_or, truth_of}
+use Rattle.mltl_simplify.specs.Simplify.{if_joined, joined, of_truth, simple_and, simple_equals, simple_finally, simple_globally, simple_historically, simple_implies, simple_not, simple_once, simple_or, as_truth}
 use Rattle.mltl_simplify.proofs.Cases.{finally_cases, globally_cases, historically_cases, once_cases, truth_is}
 
 -- ---- the operator at the head of a formula, and of a node
@@ -45,7 +45,7 @@ node_is_not _ = false
 
 -- what a node tells of its formula
 record Tells (n : Plain) (p : Formula) : Type 0 where
-  truth : truth_of p ≡ node_truth n
+  truth : as_truth p ≡ node_truth n
   window : head_of p ≡ node_head n
   negation : is_not p ≡ node_is_not n
 
@@ -53,7 +53,7 @@ by_same : (n : Plain) (p q : Formula) → ◌≡◌ {A = Tree} (formula p) (form
 by_same n p q e h = let same : p ≡ q = cc in subst (λ r. Tells n r) same h
 
 tells : (ts : List Tree) (n : Plain) (p : Formula) → tree_of ts n ≡ formula p → Tells n p
-unfolding truth_of head_of node_head is_not node_truth node_is_not
+unfolding as_truth head_of node_head is_not node_truth node_is_not
 tells ts (node.Truth true) p e = by_same (node.Truth true) truth p e (record { truth = refl; window = refl; negation = refl })
 tells ts (node.Truth false) p e = by_same (node.Truth false) falsity p e (record { truth = refl; window = refl; negation = refl })
 tells ts (node.Flag s) p e = by_same (node.Flag s) _ p e (record { truth = refl; window = refl; negation = refl })
@@ -77,7 +77,7 @@ tells ts (node.Between between.S i a b) p e = by_same (node.Between between.S i 
 
 -- ---- truths
 
-pub truth_told : (ts : List Tree) (v : Bool) (p : Formula) → tree_of ts (node.Truth v) ≡ formula p → Some v ≡ truth_of p
+pub truth_told : (ts : List Tree) (v : Bool) (p : Formula) → tree_of ts (node.Truth v) ≡ formula p → Some v ≡ as_truth p
 unfolding node_truth
 truth_told ts v p e = sym (tells ts (node.Truth v) p e).truth
 
@@ -95,7 +95,7 @@ no_truth (node.Logic op a b) h = refl
 no_truth (node.Window op i a) h = refl
 no_truth (node.Between op i a b) h = refl
 
-pub none_told : (ts : List Tree) (n : Plain) (p : Formula) → tree_of ts n ≡ formula p → ((v : Bool) → n ≡ node.Truth v → ⊥) → None ≡ truth_of p
+pub none_told : (ts : List Tree) (n : Plain) (p : Formula) → tree_of ts n ≡ formula p → ((v : Bool) → n ≡ node.Truth v → ⊥) → None ≡ as_truth p
 none_told ts n p e h = sym ((tells ts n p e).truth ∙ no_truth n h)
 
 -- ---- negation
@@ -109,8 +109,8 @@ pub not_not : (ts : List Tree) (z : ℕ) (p : Formula) → tree_of ts (node.Not 
 unfolding simple_not
 not_not ts z p e = let same : negation (formula_at ts z) ≡ p = cc in ap simple_not same
 
-other_not : (p : Formula) → truth_of p ≡ None → is_not p ≡ false → negation p ≡ simple_not p
-unfolding simple_not truth_of is_not
+other_not : (p : Formula) → as_truth p ≡ None → is_not p ≡ false → negation p ≡ simple_not p
+unfolding simple_not as_truth is_not
 other_not truth h k = absurd (cc)
 other_not falsity h k = absurd (cc)
 other_not (negation p) h k = absurd (cc)
@@ -147,60 +147,60 @@ not_other ts n p e h k = other_not p ((tells ts n p e).truth ∙ no_truth n h) (
 -- ---- operators that look at one time
 
 -- a truth that is found, by its value
-pub known : (v w : Bool) (p : Formula) → Some v ≡ truth_of p → v ≡ w → Some w ≡ truth_of p
-known v w p h e = subst (λ b. Some b ≡ truth_of p) e h
+pub known : (v w : Bool) (p : Formula) → Some v ≡ as_truth p → v ≡ w → Some w ≡ as_truth p
+known v w p h e = subst (λ b. Some b ≡ as_truth p) e h
 
 module _ (p q : Formula) where
-  pub true_and : Some true ≡ truth_of p → q ≡ simple_and p q
+  pub true_and : Some true ≡ as_truth p → q ≡ simple_and p q
   true_and h = rw (← h) refl
 
-  pub false_and : Some false ≡ truth_of p → p ≡ simple_and p q
+  pub false_and : Some false ≡ as_truth p → p ≡ simple_and p q
   false_and h = rw (← h) (truth_is p false (sym h))
 
-  pub true_or : Some true ≡ truth_of p → p ≡ simple_or p q
+  pub true_or : Some true ≡ as_truth p → p ≡ simple_or p q
   true_or h = rw (← h) (truth_is p true (sym h))
 
-  pub false_or : Some false ≡ truth_of p → q ≡ simple_or p q
+  pub false_or : Some false ≡ as_truth p → q ≡ simple_or p q
   false_or h = rw (← h) refl
 
-  pub true_implies : Some true ≡ truth_of p → q ≡ simple_implies p q
+  pub true_implies : Some true ≡ as_truth p → q ≡ simple_implies p q
   true_implies h = rw (← h) refl
 
-  pub false_implies : Some false ≡ truth_of p → truth ≡ simple_implies p q
+  pub false_implies : Some false ≡ as_truth p → truth ≡ simple_implies p q
   false_implies h = rw (← h) refl
 
-  pub true_equals : Some true ≡ truth_of p → q ≡ simple_equals p q
+  pub true_equals : Some true ≡ as_truth p → q ≡ simple_equals p q
   true_equals h = rw (← h) refl
 
-  pub false_equals : Some false ≡ truth_of p → simple_not q ≡ simple_equals p q
+  pub false_equals : Some false ≡ as_truth p → simple_not q ≡ simple_equals p q
   false_equals h = rw (← h) refl
 
-  module _ (h : None ≡ truth_of p) where
-    pub and_true : Some true ≡ truth_of q → p ≡ simple_and p q
+  module _ (h : None ≡ as_truth p) where
+    pub and_true : Some true ≡ as_truth q → p ≡ simple_and p q
     and_true k = rw (← h, ← k) refl
 
-    pub and_false : Some false ≡ truth_of q → q ≡ simple_and p q
+    pub and_false : Some false ≡ as_truth q → q ≡ simple_and p q
     and_false k = rw (← h, ← k) (truth_is q false (sym k))
 
-    pub or_true : Some true ≡ truth_of q → q ≡ simple_or p q
+    pub or_true : Some true ≡ as_truth q → q ≡ simple_or p q
     or_true k = rw (← h, ← k) (truth_is q true (sym k))
 
-    pub or_false : Some false ≡ truth_of q → p ≡ simple_or p q
+    pub or_false : Some false ≡ as_truth q → p ≡ simple_or p q
     or_false k = rw (← h, ← k) refl
 
-    pub implies_true : Some true ≡ truth_of q → q ≡ simple_implies p q
+    pub implies_true : Some true ≡ as_truth q → q ≡ simple_implies p q
     implies_true k = rw (← h, ← k) (truth_is q true (sym k))
 
-    pub implies_false : Some false ≡ truth_of q → simple_not p ≡ simple_implies p q
+    pub implies_false : Some false ≡ as_truth q → simple_not p ≡ simple_implies p q
     implies_false k = rw (← h, ← k) refl
 
-    pub equals_true : Some true ≡ truth_of q → p ≡ simple_equals p q
+    pub equals_true : Some true ≡ as_truth q → p ≡ simple_equals p q
     equals_true k = rw (← h, ← k) refl
 
-    pub equals_false : Some false ≡ truth_of q → simple_not p ≡ simple_equals p q
+    pub equals_false : Some false ≡ as_truth q → simple_not p ≡ simple_equals p q
     equals_false k = rw (← h, ← k) refl
 
-    module _ (k : None ≡ truth_of q) where
+    module _ (k : None ≡ as_truth q) where
       pub and_stays : conjunction p q ≡ simple_and p q
       and_stays = rw (← h, ← k) refl
 
@@ -226,7 +226,7 @@ keeps window.O i false h = refl
 keeps window.H i true h = refl
 keeps window.H i false h = absurd (cc)
 
-pub window_keeps : (op : WindowOp) (i : Interval) (v : Bool) (p : Formula) → Some v ≡ truth_of p → keeps_truth op v ≡ true → p ≡ simple_window op i p
+pub window_keeps : (op : WindowOp) (i : Interval) (v : Bool) (p : Formula) → Some v ≡ as_truth p → keeps_truth op v ≡ true → p ≡ simple_window op i p
 window_keeps op i v p h k = let same : p ≡ of_truth v = truth_is p v (sym h) in subst (λ q. q ≡ simple_window op i q) (sym same) (keeps op i v k)
 
 head_windowed : (op : WindowOp) (i : Interval) (p : Formula) → head_of (windowed op i p) ≡ Some op
@@ -236,19 +236,19 @@ head_windowed window.G i p = refl
 head_windowed window.O i p = refl
 head_windowed window.H i p = refl
 
-apart : (op : WindowOp) (i : Interval) (p : Formula) → KeepsNone op (truth_of p) → ((j : Interval) (q : Formula) → p ≡ windowed op j q → ⊥) → windowed op i p ≡ simple_window op i p
-unfolding truth_of
-apart window.F i p = finally_cases (λ x y. KeepsNone window.F (truth_of x) → ((j : Interval) (q : Formula) → x ≡ finally j q → ⊥) → finally i x ≡ y) i
+apart : (op : WindowOp) (i : Interval) (p : Formula) → KeepsNone op (as_truth p) → ((j : Interval) (q : Formula) → p ≡ windowed op j q → ⊥) → windowed op i p ≡ simple_window op i p
+unfolding as_truth
+apart window.F i p = finally_cases (λ x y. KeepsNone window.F (as_truth x) → ((j : Interval) (q : Formula) → x ≡ finally j q → ⊥) → finally i x ≡ y) i
     (λ k n. absurd (cc)) (λ k n. absurd (cc)) (λ j z l k n. absurd (n j z refl)) (λ x k n. refl) p
-apart window.G i p = globally_cases (λ x y. KeepsNone window.G (truth_of x) → ((j : Interval) (q : Formula) → x ≡ globally j q → ⊥) → globally i x ≡ y) i
+apart window.G i p = globally_cases (λ x y. KeepsNone window.G (as_truth x) → ((j : Interval) (q : Formula) → x ≡ globally j q → ⊥) → globally i x ≡ y) i
     (λ k n. absurd (cc)) (λ k n. absurd (cc)) (λ j z l k n. absurd (n j z refl)) (λ x k n. refl) p
-apart window.O i p = once_cases (λ x y. KeepsNone window.O (truth_of x) → ((j : Interval) (q : Formula) → x ≡ once j q → ⊥) → once i x ≡ y) i
+apart window.O i p = once_cases (λ x y. KeepsNone window.O (as_truth x) → ((j : Interval) (q : Formula) → x ≡ once j q → ⊥) → once i x ≡ y) i
     (λ k n. absurd (cc)) (λ j z l k n. absurd (n j z refl)) (λ x k n. refl) p
-apart window.H i p = historically_cases (λ x y. KeepsNone window.H (truth_of x) → ((j : Interval) (q : Formula) → x ≡ historically j q → ⊥) → historically i x ≡ y) i
+apart window.H i p = historically_cases (λ x y. KeepsNone window.H (as_truth x) → ((j : Interval) (q : Formula) → x ≡ historically j q → ⊥) → historically i x ≡ y) i
     (λ k n. absurd (cc)) (λ j z l k n. absurd (n j z refl)) (λ x k n. refl) p
 
 -- under an operator of another kind a temporal operator stays
-pub window_stays : (ts : List Tree) (op : WindowOp) (i : Interval) (n : Plain) (p : Formula) → tree_of ts n ≡ formula p → KeepsNone op (truth_of p) → (node_head n ≡ Some op → ⊥) →
+pub window_stays : (ts : List Tree) (op : WindowOp) (i : Interval) (n : Plain) (p : Formula) → tree_of ts n ≡ formula p → KeepsNone op (as_truth p) → (node_head n ≡ Some op → ⊥) →
     windowed op i p ≡ simple_window op i p
 window_stays ts op i n p e k h =
     apart op i p k (λ j q same. h (sym (tells ts n p e).window ∙ (ap head_of same ∙ head_windowed op j q)))
@@ -267,11 +267,11 @@ no_window op (node.Compare o a b) h e = cc
 no_window op (node.Logic o a b) h e = cc
 no_window op (node.Between o i a b) h e = cc
 
-pub window_over_none : (ts : List Tree) (op : WindowOp) (i : Interval) (n : Plain) (p : Formula) → tree_of ts n ≡ formula p → KeepsNone op (truth_of p) →
+pub window_over_none : (ts : List Tree) (op : WindowOp) (i : Interval) (n : Plain) (p : Formula) → tree_of ts n ≡ formula p → KeepsNone op (as_truth p) →
     ((inner : WindowOp) (j : Interval) (z : ℕ) → n ≡ node.Window inner j z → ⊥) → windowed op i p ≡ simple_window op i p
 window_over_none ts op i n p e k h = window_stays ts op i n p e k (no_window op n h)
 
-pub window_over_other : (ts : List Tree) (op inner : WindowOp) (i j : Interval) (z : ℕ) (p : Formula) → tree_of ts (node.Window inner j z) ≡ formula p → KeepsNone op (truth_of p) →
+pub window_over_other : (ts : List Tree) (op inner : WindowOp) (i j : Interval) (z : ℕ) (p : Formula) → tree_of ts (node.Window inner j z) ≡ formula p → KeepsNone op (as_truth p) →
     (inner ≡ op → ⊥) → windowed op i p ≡ simple_window op i p
 unfolding node_head
 window_over_other ts op inner i j z p e k h = window_stays ts op i (node.Window inner j z) p e k (λ same. h (let one : inner ≡ op = cc in one))
@@ -319,7 +319,7 @@ window_far ts op i j z p e h =
 -- ---- temporal operators between formulas
 
 between_gives_truth : (op : BetweenOp) (i : Interval) (v : Bool) (p : Formula) → gives_truth op v ≡ true → of_truth v ≡ simple_between op i p (of_truth v)
-unfolding truth_of
+unfolding as_truth
 between_gives_truth between.U i true p h = refl
 between_gives_truth between.U i false p h = refl
 between_gives_truth between.R i true p h = refl
@@ -327,15 +327,15 @@ between_gives_truth between.R i false p h = refl
 between_gives_truth between.S i true p h = absurd (cc)
 between_gives_truth between.S i false p h = refl
 
-pub between_gives : (op : BetweenOp) (i : Interval) (v : Bool) (p q : Formula) → Some v ≡ truth_of q → gives_truth op v ≡ true → q ≡ simple_between op i p q
+pub between_gives : (op : BetweenOp) (i : Interval) (v : Bool) (p q : Formula) → Some v ≡ as_truth q → gives_truth op v ≡ true → q ≡ simple_between op i p q
 between_gives op i v p q h k = let same : q ≡ of_truth v = truth_is q v (sym h) in subst (λ r. r ≡ simple_between op i p r) (sym same) (between_gives_truth op i v p k)
 
-pub between_none : (op : BetweenOp) (i : Interval) (p q : Formula) → None ≡ truth_of q → ranged op i p q ≡ simple_between op i p q
+pub between_none : (op : BetweenOp) (i : Interval) (p q : Formula) → None ≡ as_truth q → ranged op i p q ≡ simple_between op i p q
 between_none between.U i p q h = rw (← h) refl
 between_none between.R i p q h = rw (← h) refl
 between_none between.S i p q h = rw (← h) refl
 
-pub between_stays : (op : BetweenOp) (i : Interval) (v : Bool) (p q : Formula) → Some v ≡ truth_of q → gives_truth op v ≡ false → ranged op i p q ≡ simple_between op i p q
+pub between_stays : (op : BetweenOp) (i : Interval) (v : Bool) (p q : Formula) → Some v ≡ as_truth q → gives_truth op v ≡ false → ranged op i p q ≡ simple_between op i p q
 between_stays between.U i v p q h k = absurd (cc)
 between_stays between.R i v p q h k = absurd (cc)
 between_stays between.S i true p q h k = rw (← h) refl

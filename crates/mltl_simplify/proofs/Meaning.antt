@@ -13,7 +13,7 @@ use Rattle.mltl_base.specs.Settled.{IsOrdered}
 use Rattle.mltl_base.specs.Table.{Holds}
 use Rattle.mltl_base.proofs.CoreMeaning.{not_not}
 use Rattle.mltl_base.proofs.Deciding.{sat_decides}
-use Rattle.mltl_simplify.specs.Simplify.{both, either, equals, has_signal, implies, joined, of_truth, reads_signal, simp, simple_and, simple_atom, simple_equals, simple_finally, simple_globally, simple_historically, simple_implies, simple_not, simple_once, simple_or, truth_of, unless_false, unless_truth}
+use Rattle.mltl_simplify.specs.Simplify.{both, either, equals, has_signal, implies, joined, of_truth, reads_signal, simp, simple_and, simple_atom, simple_equals, simple_finally, simple_globally, simple_historically, simple_implies, simple_not, simple_once, simple_or, as_truth, unless_false, unless_truth}
 use Rattle.mltl_simplify.proofs.Cases.{finally_cases, globally_cases, historically_cases, not_cases, once_cases, truth_is}
 use Rattle.mltl_simplify.proofs.Forms.{simp_ordered}
 
@@ -32,7 +32,7 @@ unfolding sat
 sat_of_truth rows true t = refl
 sat_of_truth rows false t = refl
 
-sat_truth : (rows : List Row) (x : Formula) (v : Bool) (t : ℕ) → truth_of x ≡ Some v → sat rows x t ≡ v
+sat_truth : (rows : List Row) (x : Formula) (v : Bool) (t : ℕ) → as_truth x ≡ Some v → sat rows x t ≡ v
 sat_truth rows x v t h = ap (λ p. sat rows p t) (truth_is x v h) ∙ sat_of_truth rows v t
 
 -- ---- atoms
@@ -90,17 +90,17 @@ equals_false false = refl
 
 -- two operands, of which one may be a truth
 module _ (rows : List Row) (x y : Formula) (t : ℕ) where
-  left : (f : Bool → Bool → Bool) (u : Bool) → truth_of x ≡ Some u → f u (sat rows y t) ≡ f (sat rows x t) (sat rows y t)
+  left : (f : Bool → Bool → Bool) (u : Bool) → as_truth x ≡ Some u → f u (sat rows y t) ≡ f (sat rows x t) (sat rows y t)
   left f u h = ap (λ a. f a (sat rows y t)) (sym (sat_truth rows x u t h))
 
-  right : (f : Bool → Bool → Bool) (w : Bool) → truth_of y ≡ Some w → f (sat rows x t) w ≡ f (sat rows x t) (sat rows y t)
+  right : (f : Bool → Bool → Bool) (w : Bool) → as_truth y ≡ Some w → f (sat rows x t) w ≡ f (sat rows x t) (sat rows y t)
   right f w h = ap (λ b. f (sat rows x t) b) (sym (sat_truth rows y w t h))
 
   and_means : sat rows (simple_and x y) t ≡ (sat rows x t && sat rows y t)
   unfolding sat
-  and_means = go (truth_of x) (truth_of y) refl refl
+  and_means = go (as_truth x) (as_truth y) refl refl
     where
-      go : (u w : Option Bool) → truth_of x ≡ u → truth_of y ≡ w → sat rows (both u w x y) t ≡ (sat rows x t && sat rows y t)
+      go : (u w : Option Bool) → as_truth x ≡ u → as_truth y ≡ w → sat rows (both u w x y) t ≡ (sat rows x t && sat rows y t)
       go (Some false) w h k = left (λ a b. a && b) false h
       go (Some true) w h k = left (λ a b. a && b) true h
       go None (Some false) h k = sym (and-false (sat rows x t)) ∙ right (λ a b. a && b) false k
@@ -109,9 +109,9 @@ module _ (rows : List Row) (x y : Formula) (t : ℕ) where
 
   or_means : sat rows (simple_or x y) t ≡ (sat rows x t || sat rows y t)
   unfolding sat
-  or_means = go (truth_of x) (truth_of y) refl refl
+  or_means = go (as_truth x) (as_truth y) refl refl
     where
-      go : (u w : Option Bool) → truth_of x ≡ u → truth_of y ≡ w → sat rows (either u w x y) t ≡ (sat rows x t || sat rows y t)
+      go : (u w : Option Bool) → as_truth x ≡ u → as_truth y ≡ w → sat rows (either u w x y) t ≡ (sat rows x t || sat rows y t)
       go (Some true) w h k = left (λ a b. a || b) true h
       go (Some false) w h k = left (λ a b. a || b) false h
       go None (Some true) h k = sym (or-true (sat rows x t)) ∙ right (λ a b. a || b) true k
@@ -120,9 +120,9 @@ module _ (rows : List Row) (x y : Formula) (t : ℕ) where
 
   implies_means : sat rows (simple_implies x y) t ≡ (not (sat rows x t) || sat rows y t)
   unfolding sat
-  implies_means = go (truth_of x) (truth_of y) refl refl
+  implies_means = go (as_truth x) (as_truth y) refl refl
     where
-      go : (u w : Option Bool) → truth_of x ≡ u → truth_of y ≡ w → sat rows (implies u w x y) t ≡ (not (sat rows x t) || sat rows y t)
+      go : (u w : Option Bool) → as_truth x ≡ u → as_truth y ≡ w → sat rows (implies u w x y) t ≡ (not (sat rows x t) || sat rows y t)
       go (Some false) w h k = left (λ a b. not a || b) false h
       go (Some true) w h k = left (λ a b. not a || b) true h
       go None (Some true) h k = sym (or-true (not (sat rows x t))) ∙ right (λ a b. not a || b) true k
@@ -131,12 +131,12 @@ module _ (rows : List Row) (x y : Formula) (t : ℕ) where
 
   equals_means : sat rows (simple_equals x y) t ≡ ((not (sat rows x t) || sat rows y t) && (not (sat rows y t) || sat rows x t))
   unfolding sat
-  equals_means = go (truth_of x) (truth_of y) refl refl
+  equals_means = go (as_truth x) (as_truth y) refl refl
     where
       same : Bool → Bool → Bool
       same a b = (not a || b) && (not b || a)
 
-      go : (u w : Option Bool) → truth_of x ≡ u → truth_of y ≡ w → sat rows (equals u w x y) t ≡ ((not (sat rows x t) || sat rows y t) && (not (sat rows y t) || sat rows x t))
+      go : (u w : Option Bool) → as_truth x ≡ u → as_truth y ≡ w → sat rows (equals u w x y) t ≡ ((not (sat rows x t) || sat rows y t) && (not (sat rows y t) || sat rows x t))
       go (Some true) w h k = true_equals (sat rows y t) ∙ left same true h
       go (Some false) w h k = not_means rows y t ∙ false_equals (sat rows y t) ∙ left same false h
       go None (Some true) h k = equals_true (sat rows x t) ∙ right same true k
@@ -214,35 +214,35 @@ module _ (rows : List Row) (i : Interval) (t : ℕ) (o : i.lo ≤ i.hi) where
       n (omega arith) (omega (arith, s.inner_low)) (omega (arith, s.inner_high))))
       (λ x u. refl)
 
-  until_means : (x y : Formula) → sat rows (unless_truth (truth_of y) (until i x y)) t ≡ sat rows (until i x y) t
+  until_means : (x y : Formula) → sat rows (unless_truth (as_truth y) (until i x y)) t ≡ sat rows (until i x y) t
   unfolding Holds
-  until_means x y = go (truth_of y) refl
+  until_means x y = go (as_truth y) refl
     where
       with : (v : Bool) → sat rows (of_truth v) t ≡ sat rows (until i x (of_truth v)) t
       with true = by_words rows truth (until i x truth) t (λ h. (i.lo, omega arith, o, tt, λ j low below. absurd (omega (arith, low, below)))) (λ w. tt)
       with false = by_words rows falsity (until i x falsity) t (λ h. absurd h) (λ w. w.3)
 
-      go : (u : Option Bool) → truth_of y ≡ u → sat rows (unless_truth u (until i x y)) t ≡ sat rows (until i x y) t
+      go : (u : Option Bool) → as_truth y ≡ u → sat rows (unless_truth u (until i x y)) t ≡ sat rows (until i x y) t
       go None h = refl
       go (Some v) h = with v ∙ ap (λ q. sat rows (until i x q) t) (sym (truth_is y v h))
 
-  release_means : (x y : Formula) → sat rows (unless_truth (truth_of y) (release i x y)) t ≡ sat rows (release i x y) t
+  release_means : (x y : Formula) → sat rows (unless_truth (as_truth y) (release i x y)) t ≡ sat rows (release i x y) t
   unfolding Holds
-  release_means x y = go (truth_of y) refl
+  release_means x y = go (as_truth y) refl
     where
       with : (v : Bool) → sat rows (of_truth v) t ≡ sat rows (release i x (of_truth v)) t
       with true = by_words rows truth (release i x truth) t (λ h w. w.3 tt) (λ w. tt)
       with false = by_words rows falsity (release i x falsity) t (λ h. absurd h) (λ w. w (i.lo, omega arith, o, (λ e. e), λ j low below. absurd (omega (arith, low, below))))
 
-      go : (u : Option Bool) → truth_of y ≡ u → sat rows (unless_truth u (release i x y)) t ≡ sat rows (release i x y) t
+      go : (u : Option Bool) → as_truth y ≡ u → sat rows (unless_truth u (release i x y)) t ≡ sat rows (release i x y) t
       go None h = refl
       go (Some v) h = with v ∙ ap (λ q. sat rows (release i x q) t) (sym (truth_is y v h))
 
-  since_means : (x y : Formula) → sat rows (unless_false (truth_of y) (since i x y)) t ≡ sat rows (since i x y) t
+  since_means : (x y : Formula) → sat rows (unless_false (as_truth y) (since i x y)) t ≡ sat rows (since i x y) t
   unfolding Holds
-  since_means x y = go (truth_of y) refl
+  since_means x y = go (as_truth y) refl
     where
-      go : (u : Option Bool) → truth_of y ≡ u → sat rows (unless_false u (since i x y)) t ≡ sat rows (since i x y) t
+      go : (u : Option Bool) → as_truth y ≡ u → sat rows (unless_false u (since i x y)) t ≡ sat rows (since i x y) t
       go None h = refl
       go (Some true) h = refl
       go (Some false) h = by_words rows falsity (since i x falsity) t (λ h. absurd h) (λ w. w.4) ∙ ap (λ q. sat rows (since i x q) t) (sym (truth_is y false h))

@@ -14,7 +14,7 @@ use Rattle.mltl_base.specs.Reports.{Output, formula, contract}
 use Rattle.mltl_base.specs.Subformulas.{Asked}
 use Rattle.plain_nodes.specs.Outputs.{asked_over, output_over}
 use Rattle.mltl_simplify.specs.Outputs.{simple_asked, simple_output, simple_outputs}
-use Rattle.mltl_simplify.specs.Simplify.{both, either, equals, has_signal, if_joined, implies, joined, of_truth, reads_signal, simp, simple_and, simple_atom, simple_equals, simple_finally, simple_globally, simple_historically, simple_implies, simple_not, simple_once, simple_or, truth_of, unless_false, unless_truth}
+use Rattle.mltl_simplify.specs.Simplify.{both, either, equals, has_signal, if_joined, implies, joined, of_truth, reads_signal, simp, simple_and, simple_atom, simple_equals, simple_finally, simple_globally, simple_historically, simple_implies, simple_not, simple_once, simple_or, as_truth, unless_false, unless_truth}
 use Rattle.mltl_simplify.proofs.Cases.{finally_cases, globally_cases, historically_cases, once_cases}
 use Rattle.mltl_simplify.proofs.Ending.{kept_by}
 use Rattle.mltl_simplify.proofs.Forms.{IsPlain, and_has, atom_has, equals_has, implies_has, not_has, or_has, unless_false_has, unless_truth_has}
@@ -49,11 +49,11 @@ module _ (kinds : List Bool) where
   simp_kinds (equivalence p q) h = equals_has {P = Reads} reading (simp p) (simp q) (simp_kinds p h.0) (simp_kinds q h.1)
   simp_kinds (finally i p) h = finally_cases (λ x y. Reads x → Reads y) i (λ k. tt) (λ k. tt) (λ j z l k. k) (λ x k. k) (simp p) (simp_kinds p h)
   simp_kinds (globally i p) h = globally_cases (λ x y. Reads x → Reads y) i (λ k. tt) (λ k. tt) (λ j z l k. k) (λ x k. k) (simp p) (simp_kinds p h)
-  simp_kinds (until i p q) h = unless_truth_has {P = Reads} reading (truth_of (simp q)) (until i (simp p) (simp q)) (simp_kinds p h.0, simp_kinds q h.1)
-  simp_kinds (release i p q) h = unless_truth_has {P = Reads} reading (truth_of (simp q)) (release i (simp p) (simp q)) (simp_kinds p h.0, simp_kinds q h.1)
+  simp_kinds (until i p q) h = unless_truth_has {P = Reads} reading (as_truth (simp q)) (until i (simp p) (simp q)) (simp_kinds p h.0, simp_kinds q h.1)
+  simp_kinds (release i p q) h = unless_truth_has {P = Reads} reading (as_truth (simp q)) (release i (simp p) (simp q)) (simp_kinds p h.0, simp_kinds q h.1)
   simp_kinds (once i p) h = once_cases (λ x y. Reads x → Reads y) i (λ k. tt) (λ j z l k. k) (λ x k. k) (simp p) (simp_kinds p h)
   simp_kinds (historically i p) h = historically_cases (λ x y. Reads x → Reads y) i (λ k. tt) (λ j z l k. k) (λ x k. k) (simp p) (simp_kinds p h)
-  simp_kinds (since i p q) h = unless_false_has {P = Reads} reading (truth_of (simp q)) (since i (simp p) (simp q)) (simp_kinds p h.0, simp_kinds q h.1)
+  simp_kinds (since i p q) h = unless_false_has {P = Reads} reading (as_truth (simp q)) (since i (simp p) (simp q)) (simp_kinds p h.0, simp_kinds q h.1)
 
   pub simple_kinds : (outs : List Asked) → All (ReadsSignals kinds) outs → All (ReadsSignals kinds) (simple_outputs outs)
   simple_kinds outs h = All-map (ReadsSignals kinds) simple_asked outs (All-weaker (ReadsSignals kinds) (λ a. ReadsSignals kinds (simple_asked a)) (λ a k. kept_by Reads simp_kinds a.output k) outs h)
@@ -123,8 +123,8 @@ module _ (columns : List ℕ) where
       by_test false true h k = absurd (cc)
       by_test false false h k = truth_over (holds a []) ∙ ap of_truth (sym (k refl))
 
-  truth_of_over : (x : Formula) → truth_of (over x) ≡ truth_of x
-  unfolding truth_of formula_over
+  truth_of_over : (x : Formula) → as_truth (over x) ≡ as_truth x
+  unfolding as_truth formula_over
   truth_of_over truth = refl
   truth_of_over falsity = refl
   truth_of_over (atom a) = refl
@@ -161,7 +161,7 @@ module _ (columns : List ℕ) where
 
   and_over : (x y : Formula) → over (simple_and x y) ≡ simple_and (over x) (over y)
   unfolding formula_over
-  and_over x y = go (truth_of x) (truth_of y) ∙ sym (ap₂ (λ u w. both u w (over x) (over y)) (truth_of_over x) (truth_of_over y))
+  and_over x y = go (as_truth x) (as_truth y) ∙ sym (ap₂ (λ u w. both u w (over x) (over y)) (truth_of_over x) (truth_of_over y))
     where
       go : (u w : Option Bool) → over (both u w x y) ≡ both u w (over x) (over y)
       go (Some false) w = refl
@@ -172,7 +172,7 @@ module _ (columns : List ℕ) where
 
   or_over : (x y : Formula) → over (simple_or x y) ≡ simple_or (over x) (over y)
   unfolding formula_over
-  or_over x y = go (truth_of x) (truth_of y) ∙ sym (ap₂ (λ u w. either u w (over x) (over y)) (truth_of_over x) (truth_of_over y))
+  or_over x y = go (as_truth x) (as_truth y) ∙ sym (ap₂ (λ u w. either u w (over x) (over y)) (truth_of_over x) (truth_of_over y))
     where
       go : (u w : Option Bool) → over (either u w x y) ≡ either u w (over x) (over y)
       go (Some true) w = refl
@@ -183,7 +183,7 @@ module _ (columns : List ℕ) where
 
   implies_over : (x y : Formula) → over (simple_implies x y) ≡ simple_implies (over x) (over y)
   unfolding formula_over
-  implies_over x y = go (truth_of x) (truth_of y) ∙ sym (ap₂ (λ u w. implies u w (over x) (over y)) (truth_of_over x) (truth_of_over y))
+  implies_over x y = go (as_truth x) (as_truth y) ∙ sym (ap₂ (λ u w. implies u w (over x) (over y)) (truth_of_over x) (truth_of_over y))
     where
       go : (u w : Option Bool) → over (implies u w x y) ≡ implies u w (over x) (over y)
       go (Some false) w = refl
@@ -194,7 +194,7 @@ module _ (columns : List ℕ) where
 
   equals_over : (x y : Formula) → over (simple_equals x y) ≡ simple_equals (over x) (over y)
   unfolding formula_over
-  equals_over x y = go (truth_of x) (truth_of y) ∙ sym (ap₂ (λ u w. equals u w (over x) (over y)) (truth_of_over x) (truth_of_over y))
+  equals_over x y = go (as_truth x) (as_truth y) ∙ sym (ap₂ (λ u w. equals u w (over x) (over y)) (truth_of_over x) (truth_of_over y))
     where
       go : (u w : Option Bool) → over (equals u w x y) ≡ equals u w (over x) (over y)
       go (Some true) w = refl
@@ -306,19 +306,19 @@ module _ (columns : List ℕ) where
   simp_over (finally i p) = finally_over i (simp p) ∙ ap (simple_finally i) (simp_over p)
   simp_over (globally i p) = globally_over i (simp p) ∙ ap (simple_globally i) (simp_over p)
   simp_over (until i p q) =
-      unless_truth_over (truth_of (simp q)) (until i (simp p) (simp q))
+      unless_truth_over (as_truth (simp q)) (until i (simp p) (simp q))
       ∙ ap (λ u. unless_truth u (until i (over (simp p)) (over (simp q)))) (sym (truth_of_over (simp q)))
-      ∙ ap₂ (λ x y. unless_truth (truth_of y) (until i x y)) (simp_over p) (simp_over q)
+      ∙ ap₂ (λ x y. unless_truth (as_truth y) (until i x y)) (simp_over p) (simp_over q)
   simp_over (release i p q) =
-      unless_truth_over (truth_of (simp q)) (release i (simp p) (simp q))
+      unless_truth_over (as_truth (simp q)) (release i (simp p) (simp q))
       ∙ ap (λ u. unless_truth u (release i (over (simp p)) (over (simp q)))) (sym (truth_of_over (simp q)))
-      ∙ ap₂ (λ x y. unless_truth (truth_of y) (release i x y)) (simp_over p) (simp_over q)
+      ∙ ap₂ (λ x y. unless_truth (as_truth y) (release i x y)) (simp_over p) (simp_over q)
   simp_over (once i p) = once_over i (simp p) ∙ ap (simple_once i) (simp_over p)
   simp_over (historically i p) = historically_over i (simp p) ∙ ap (simple_historically i) (simp_over p)
   simp_over (since i p q) =
-      unless_false_over (truth_of (simp q)) (since i (simp p) (simp q))
+      unless_false_over (as_truth (simp q)) (since i (simp p) (simp q))
       ∙ ap (λ u. unless_false u (since i (over (simp p)) (over (simp q)))) (sym (truth_of_over (simp q)))
-      ∙ ap₂ (λ x y. unless_false (truth_of y) (since i x y)) (simp_over p) (simp_over q)
+      ∙ ap₂ (λ x y. unless_false (as_truth y) (since i x y)) (simp_over p) (simp_over q)
 
   output_simple : (o : Output) → output_over columns (simple_output o) ≡ simple_output (output_over columns o)
   output_simple (formula p) = ap formula (simp_over p)

@@ -15,7 +15,7 @@ use Rattle.plain_nodes.specs.Faults.{formula_fault, term_fault}
 use Rattle.plain_nodes.specs.Nodes.{Tree, number, formula, Has, Grows, AreSound}
 use Rattle.mltl_simplify.specs.declared.parts.Part.{Part}
 use Rattle.mltl_simplify.specs.Numbers.{number_of}
-use Rattle.mltl_simplify.specs.Simplify.{simp, simple_and, simple_or, simple_implies, simple_equals, simple_finally, simple_globally, simple_once, simple_historically, truth_of, unless_truth, unless_false}
+use Rattle.mltl_simplify.specs.Simplify.{simp, simple_and, simple_or, simple_implies, simple_equals, simple_finally, simple_globally, simple_once, simple_historically, as_truth, unless_truth, unless_false}
 
 -- operators over simplified operands, each by its rule
 abbrev pub simple_logic : logic.LogicOp → plain.Formula → plain.Formula → plain.Formula
@@ -33,9 +33,9 @@ simple_window window.TheVariants.H i p = simple_historically i p
 
 -- the simplified formula of an operator over a window, of two simplified formulas
 abbrev pub simple_between : between.BetweenOp → Interval → plain.Formula → plain.Formula → plain.Formula
-simple_between between.TheVariants.U i p q = unless_truth (truth_of q) (until i p q)
-simple_between between.TheVariants.R i p q = unless_truth (truth_of q) (release i p q)
-simple_between between.TheVariants.S i p q = unless_false (truth_of q) (since i p q)
+simple_between between.TheVariants.U i p q = unless_truth (as_truth q) (until i p q)
+simple_between between.TheVariants.R i p q = unless_truth (as_truth q) (release i p q)
+simple_between between.TheVariants.S i p q = unless_false (as_truth q) (since i p q)
 
 -- the operator leaves the truth as it is
 abbrev pub keeps_truth : window.WindowOp → Bool → Bool

@@ -13,10 +13,10 @@ of_truth true = truth
 of_truth false = falsity
 
 -- the truth that a formula is, if it is one
-unfoldable pub truth_of : Formula → Option Bool
-truth_of truth = Some true
-truth_of falsity = Some false
-truth_of _ = None
+unfoldable pub as_truth : Formula → Option Bool
+as_truth truth = Some true
+as_truth falsity = Some false
+as_truth _ = None
 
 -- a signal stands in the expression
 unfoldable pub reads_signal : Term → Bool
@@ -60,7 +60,7 @@ both None None x y = conjunction x y
 
 -- x and y by that rule
 abbrev pub simple_and : Formula → Formula → Formula
-simple_and x y = both (truth_of x) (truth_of y) x y
+simple_and x y = both (as_truth x) (as_truth y) x y
 
 -- x or y, by the truths that they are: true where one is true, the other where one is false
 abbrev pub either : Option Bool → Option Bool → Formula → Formula → Formula
@@ -72,7 +72,7 @@ either None None x y = disjunction x y
 
 -- x or y by that rule
 abbrev pub simple_or : Formula → Formula → Formula
-simple_or x y = either (truth_of x) (truth_of y) x y
+simple_or x y = either (as_truth x) (as_truth y) x y
 
 -- x implies y, by the truths that they are: true where x is false or y is true, y where x is true, not x where y is
 -- false
@@ -85,7 +85,7 @@ implies None None x y = implication x y
 
 -- x implies y by that rule
 abbrev pub simple_implies : Formula → Formula → Formula
-simple_implies x y = implies (truth_of x) (truth_of y) x y
+simple_implies x y = implies (as_truth x) (as_truth y) x y
 
 -- x equals y, by the truths that they are: the other where one is true, not the other where one is false
 abbrev pub equals : Option Bool → Option Bool → Formula → Formula → Formula
@@ -97,7 +97,7 @@ equals None None x y = equivalence x y
 
 -- x equals y by that rule
 abbrev pub simple_equals : Formula → Formula → Formula
-simple_equals x y = equals (truth_of x) (truth_of y) x y
+simple_equals x y = equals (as_truth x) (as_truth y) x y
 
 -- the interval of an operator over the same operator: its ends are the sums of both intervals' ends
 abbrev pub joined : Interval → Interval → Interval
@@ -156,8 +156,8 @@ simp (implication p q) = simple_implies (simp p) (simp q)
 simp (equivalence p q) = simple_equals (simp p) (simp q)
 simp (finally i p) = simple_finally i (simp p)
 simp (globally i p) = simple_globally i (simp p)
-simp (until i p q) = unless_truth (truth_of (simp q)) (until i (simp p) (simp q))
-simp (release i p q) = unless_truth (truth_of (simp q)) (release i (simp p) (simp q))
+simp (until i p q) = unless_truth (as_truth (simp q)) (until i (simp p) (simp q))
+simp (release i p q) = unless_truth (as_truth (simp q)) (release i (simp p) (simp q))
 simp (once i p) = simple_once i (simp p)
 simp (historically i p) = simple_historically i (simp p)
-simp (since i p q) = unless_false (truth_of (simp q)) (since i (simp p) (simp q))
+simp (since i p q) = unless_false (as_truth (simp q)) (since i (simp p) (simp q))

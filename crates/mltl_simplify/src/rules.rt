@@ -5,7 +5,7 @@ ghost use Rattle.mltl_base.specs.Formula.{Formula};
 ghost use Rattle.mltl_base.specs.declared.limits.TheConstants.{MAX_BOUND};
 ghost use Rattle.plain_nodes.specs.Nodes.{Has, IsBounded, formula};
 ghost use Rattle.mltl_simplify.specs.Nodes.{AreFormed, IsFormulaAt, KeepsNone, Puts, gives_truth, keeps_truth, simple_between, simple_logic, simple_window};
-ghost use Rattle.mltl_simplify.specs.Simplify.{joined as summed, simple_and, simple_equals, simple_implies, simple_not, simple_or, truth_of};
+ghost use Rattle.mltl_simplify.specs.Simplify.{joined as summed, simple_and, simple_equals, simple_implies, simple_not, simple_or, as_truth};
 
 use mltl_base::limits::MAX_BOUND;
 use mltl_base::{BetweenOp, Interval, LogicOp, WindowOp};
@@ -15,7 +15,7 @@ use std::alloc::AllocError;
 /// The truth that formula `n` is, if it is one.
 fn truth_at(nodes: &Nodes, n: u32) -> Option<bool>
     requires { IsFormulaAt nodes.now n }
-    ensures { (p : Formula) → Has nodes.now n (formula p) → result ≡ truth_of p }
+    ensures { (p : Formula) → Has nodes.now n (formula p) → result ≡ as_truth p }
 {
     match nodes.as_slice()[n as usize] {
         Plain::Truth(value) => Some(value),
@@ -167,7 +167,7 @@ fn stacked(nodes: &mut Nodes, op: WindowOp, i: Interval, a: u32) -> Result<u32, 
     requires formed { AreFormed nodes.old }
     requires bounded { IsBounded i }
     requires there { IsFormulaAt nodes.old a }
-    ensures { (p : Formula) → Has nodes.old a (formula p) → KeepsNone op (truth_of p)
+    ensures { (p : Formula) → Has nodes.old a (formula p) → KeepsNone op (as_truth p)
         → IfOk result (λ n. Puts nodes.old nodes.new n (simple_window op i p)) }
 {
     let node = nodes.as_slice()[a as usize];

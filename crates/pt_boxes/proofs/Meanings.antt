@@ -13,7 +13,7 @@ use Rattle.pt_boxes.specs.declared.rows.Node.{Node}
 use Rattle.pt_boxes.specs.Nodes.{boxes_in, node_at, op_at}
 use Rattle.obs_verify.specs.Running.{ArePastInOrder, IsAfterPastOperands}
 use Rattle.pt_boxes.specs.Standing.{meaning_of}
-use Rattle.pt_boxes.specs.Tables.{HasTable, IsTable, IsTold, Table, truth_of}
+use Rattle.pt_boxes.specs.Tables.{HasTable, IsTable, IsTold, Table, op_truth}
 use Rattle.pt_boxes.proofs.Sinces.{since_after_same}
 use Rattle.pt_boxes.proofs.Unfolded.{unfolds_at}
 
@@ -27,7 +27,7 @@ loaded_last program rows row k = ap (λ (r : Row). holds (get_or (atoms program.
 
 -- the meaning of an operator
 sat_of : (rows : List Row) (loaded : List Atom) (all : List Core) (op : PtOp) (t : ℕ)
-    → sat rows (plain (past_formula_of loaded all op)) t ≡ truth_of op (λ k t. holds (get_or loaded k (is_true 0)) (get_or rows t [])) (λ i t. sat rows (plain (core_at all i)) t) t
+    → sat rows (plain (past_formula_of loaded all op)) t ≡ op_truth op (λ k t. holds (get_or loaded k (is_true 0)) (get_or rows t [])) (λ i t. sat rows (plain (core_at all i)) t) t
 unfolding plain sat
 sat_of rows loaded all True t = refl
 sat_of rows loaded all (Load k) t = refl
@@ -37,7 +37,7 @@ sat_of rows loaded all (Since l r window) t = refl
 
 -- the meanings are a table
 meaning_at : (program : Program) (rows : List Row) → ArePastInOrder program.pt → (i t : ℕ) → i < length program.pt
-    → meaning_of program rows i t ≡ truth_of (op_at program.pt i) (loaded_of program rows) (meaning_of program rows) t
+    → meaning_of program rows i t ≡ op_truth (op_at program.pt i) (loaded_of program rows) (meaning_of program rows) t
 meaning_at program rows order i t h =
     let loaded : List Atom = atoms program.bz in
     ap (λ (p : Core). sat rows (plain p) t) (unfolds_at loaded program.pt order i h)
@@ -48,7 +48,7 @@ meaning_table program rows n order = λ i t h t_in. meaning_at program rows orde
 
 -- the truth of an operator where what it reads is the same up to that time
 truth_same : (i : ℕ) (op : PtOp) (loaded loaded' table table' : Table) (t : ℕ) → IsAfterPastOperands i op → ((k : ℕ) → loaded' k t ≡ loaded k t) → ((g : ℕ) → g < i → (s : ℕ) → s ≤ t → table' g s ≡ table g s)
-    → truth_of op loaded' table' t ≡ truth_of op loaded table t
+    → op_truth op loaded' table' t ≡ op_truth op loaded table t
 truth_same i True loaded loaded' table table' t after same_loads same = refl
 truth_same i (Load k) loaded loaded' table table' t after same_loads same = same_loads k
 truth_same i (Not g) loaded loaded' table table' t after same_loads same = ap (λ (b : Bool). not b) (same g after t (omega arith))

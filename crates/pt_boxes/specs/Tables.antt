@@ -18,16 +18,16 @@ abbrev pub Table : Type 0
 Table = ℕ → ℕ → Bool
 
 -- the truth of an instruction at a time, over those that are loaded and those of instructions
-abbrev pub truth_of : PtOp → Table → Table → ℕ → Bool
-truth_of True loaded table t = true
-truth_of (Load k) loaded table t = loaded k t
-truth_of (Not g) loaded table t = not (table g t)
-truth_of (And l r) loaded table t = table l t && table r t
-truth_of (Since l r i) loaded table t = since_at i (table l) (table r) t
+abbrev pub op_truth : PtOp → Table → Table → ℕ → Bool
+op_truth True loaded table t = true
+op_truth (Load k) loaded table t = loaded k t
+op_truth (Not g) loaded table t = not (table g t)
+op_truth (And l r) loaded table t = table l t && table r t
+op_truth (Since l r i) loaded table t = since_at i (table l) (table r) t
 
 -- the table has the truths of these instructions at the first n times
 abbrev pub IsTable : List PtOp → Table → ℕ → Table → Type 0
-IsTable ops loaded n table = (i t : ℕ) → i < length ops → t < n → table i t ≡ truth_of (op_at ops i) loaded table t
+IsTable ops loaded n table = (i t : ℕ) → i < length ops → t < n → table i t ≡ op_truth (op_at ops i) loaded table t
 
 -- the boxes of a Since tell what the table says of it after n rows
 abbrev pub IsTold : PtOp → Table → ℕ → List Span → Type 0
@@ -52,7 +52,7 @@ AgreeOnLoads ops numbers loaded t = (i k : ℕ) (v : Bool) → i < length ops �
 pub record IsTurn (op : PtOp) (numbers : List ℤ) (loaded table : Table) (now : ℕ) (before : List Node) (boxes : List Span) : Type 0 where
   pub operands : (g : ℕ) → g < length before → (node_at before g).truth ≡ table g now
   pub told : IsTold op table now boxes
-  pub here : table (length before) now ≡ truth_of op loaded table now
+  pub here : table (length before) now ≡ op_truth op loaded table now
   pub loads : (k : ℕ) (v : Bool) → op ≡ Load k → IsTruthIn numbers k v → v ≡ loaded k now
 
 -- an instruction has taken the row at time `now`: its truth is that of the table, which its boxes tell from then on
