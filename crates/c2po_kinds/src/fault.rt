@@ -6,7 +6,7 @@ ghost use Rattle.c2po_kinds.specs.declared.fault.TypeFault.TheVariants.{Memory};
 use std::alloc::{AllocError, AllocFailed};
 
 /// The first fault of a specification, with its line, counted from 1.
-#[derive(Clone, Copy, PartialEq, Eq, Debug)]
+#[derive(Clone, Copy)]
 pub enum TypeFault {
     /// A name that nothing visible has.
     Unknown(u32),

@@ -3,7 +3,7 @@
 use thiserror::Error;
 
 /// The first fault of a text, with its line, counted from 1.
-#[derive(Clone, Copy, PartialEq, Eq, Debug, Error)]
+#[derive(Clone, Copy, Debug, Error)]
 pub enum LexFault {
     /// A byte outside a comment that begins no token.
     #[error("line {0}: a byte that begins no token")]

@@ -9,7 +9,7 @@ use crate::token::Sign;
 
 /// What a text begins with: a blank, or how many bytes a comment, a word or a number takes, or a sign, or a byte that
 /// begins none of these.
-#[derive(Clone, Copy, PartialEq, Eq, Debug)]
+#[derive(Clone, Copy)]
 pub enum Front {
     Blank,
     Comment(usize),

@@ -28,7 +28,7 @@ pub enum What {
 }
 
 /// A reserved word. It is never the name of a signal, a definition, a variable or an output.
-#[derive(Clone, Copy, PartialEq, Eq, Hash, Debug)]
+#[derive(Clone, Copy)]
 pub enum Keyword {
     /// `STRUCT`
     Struct,
@@ -77,7 +77,7 @@ pub enum Keyword {
 }
 
 /// A sign: an operator, a bracket or a separator.
-#[derive(Clone, Copy, PartialEq, Eq, Hash, Debug)]
+#[derive(Clone, Copy)]
 pub enum Sign {
     /// `<->`
     Iff,

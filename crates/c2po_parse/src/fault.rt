@@ -7,7 +7,7 @@ use std::alloc::AllocFailed;
 use thiserror::Error;
 
 /// The fault of the first faulty item, with its line, counted from 1.
-#[derive(Clone, Copy, PartialEq, Eq, Debug, Error)]
+#[derive(Clone, Copy, Debug, Error)]
 pub enum ParseFault {
     /// An item of more than 1,024 tokens.
     #[error("line {0}: an item of more than 1024 tokens")]

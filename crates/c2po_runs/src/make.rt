@@ -7,14 +7,14 @@ ghost use Rattle.c2po_runs.specs.Asking.{compile_asked, from_text as is_text, ma
 use tool_words::Compile;
 
 /// What is written of a specification: its image or its instruction table, as it stands or in simplified form.
-#[derive(Clone, Copy, PartialEq, Eq, Debug)]
+#[derive(Clone, Copy)]
 pub(crate) struct Form {
     pub(crate) table: bool,
     pub(crate) simplify: bool,
 }
 
 /// What is made of a file.
-#[derive(Clone, Copy, PartialEq, Eq, Debug)]
+#[derive(Clone, Copy)]
 pub(crate) enum Product {
     /// A specification is compiled.
     Compiled(Form),

@@ -4,7 +4,7 @@ use crate::engines::Stretch;
 
 /// The outputs before `out` were all told, and `stretch`, where there is one, is what is known of this output from its
 /// next time on.
-#[derive(Clone, Copy, Debug)]
+#[derive(Clone, Copy)]
 pub struct Cursor {
     pub out: usize,
     pub stretch: Option<Stretch>,

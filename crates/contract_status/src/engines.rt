@@ -23,7 +23,7 @@ pub struct Engines<'a> {
 }
 
 /// A word that an output has at all times from some time up to `last`.
-#[derive(Clone, Copy, Debug)]
+#[derive(Clone, Copy)]
 pub struct Stretch {
     pub last: u64,
     pub word: Word,

@@ -6,7 +6,7 @@ ghost use Rattle.core_graph.specs.Items.{is_formula, operands_of};
 use mltl_base::{ArithOp, Interval};
 
 /// A whole number, an atom or a core formula. Its operands are the numbers of earlier items.
-#[derive(Clone, Copy, PartialEq, Eq, Hash, Debug)]
+#[derive(Clone, Copy, PartialEq, Eq, Hash)]
 pub enum Item {
     Column(u32),
     Const(i64),
@@ -26,7 +26,7 @@ pub enum Item {
 }
 
 /// The operands of an item, from left to right.
-#[derive(Clone, Copy, PartialEq, Eq, Debug)]
+#[derive(Clone, Copy)]
 pub enum Operands {
     Zero,
     One(usize),

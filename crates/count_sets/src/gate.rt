@@ -1,7 +1,7 @@
 //! The gates of a network.
 
 /// A gate over numbered bodies. Bodies and gates count from 0; operands are numbers of earlier gates.
-#[derive(Clone, Copy, PartialEq, Eq, Hash, Debug)]
+#[derive(Clone, Copy)]
 pub enum Gate {
     Truth(bool),
     /// The truth of a body.

@@ -10,7 +10,7 @@ use std::alloc::{AllocFailed, Global};
 use thiserror::Error;
 
 /// Why instructions have no delays.
-#[derive(Clone, Copy, PartialEq, Eq, Debug, Error)]
+#[derive(Clone, Copy, Debug, Error)]
 pub enum DelayFault {
     /// The first instruction whose worst-case delay is above the limit.
     #[error("the delay of instruction {0} is too large")]

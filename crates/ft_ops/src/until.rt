@@ -12,7 +12,7 @@ use scq_ring::{Ring, Seen, Slot};
 use std::sync::ledger::Ledger;
 
 /// The operands of an until, and its window.
-#[derive(Clone, Copy, Debug)]
+#[derive(Clone, Copy)]
 pub struct Until<'a> {
     pub left: Operand<'a>,
     pub right: Operand<'a>,

@@ -15,7 +15,7 @@ use scq_ring::{Ring, Slot};
 use std::sync::ledger::Ledger;
 
 /// The queue of an instruction: its ring, where it reads next if it is an until, and its part of the slab.
-#[derive(Debug, Drop)]
+#[derive(Drop)]
 pub struct Node {
     pub ring: Ring,
     pub reads_at: u64,

@@ -3,7 +3,7 @@
 use crate::Interval;
 
 /// An operator between whole numbers.
-#[derive(Clone, Copy, PartialEq, Eq, Hash, Debug)]
+#[derive(Clone, Copy, PartialEq, Eq, Hash)]
 pub enum ArithOp {
     Add,
     Sub,
@@ -13,7 +13,7 @@ pub enum ArithOp {
 }
 
 /// A comparison of whole numbers.
-#[derive(Clone, Copy, PartialEq, Eq, Hash, Debug)]
+#[derive(Clone, Copy)]
 pub enum CompareOp {
     Eq,
     Ne,
@@ -24,7 +24,7 @@ pub enum CompareOp {
 }
 
 /// An operator between formulas that looks at one time.
-#[derive(Clone, Copy, PartialEq, Eq, Hash, Debug)]
+#[derive(Clone, Copy)]
 pub enum LogicOp {
     And,
     Or,
@@ -33,7 +33,7 @@ pub enum LogicOp {
 }
 
 /// A temporal operator of one formula: finally, globally, once, historically.
-#[derive(Clone, Copy, PartialEq, Eq, Hash, Debug)]
+#[derive(Clone, Copy)]
 pub enum WindowOp {
     F,
     G,
@@ -42,7 +42,7 @@ pub enum WindowOp {
 }
 
 /// A temporal operator between formulas: until, release, since.
-#[derive(Clone, Copy, PartialEq, Eq, Hash, Debug)]
+#[derive(Clone, Copy)]
 pub enum BetweenOp {
     U,
     R,
@@ -50,7 +50,7 @@ pub enum BetweenOp {
 }
 
 /// What a counting quantifier asks of the number of true bodies.
-#[derive(Clone, Copy, PartialEq, Eq, Hash, Debug)]
+#[derive(Clone, Copy)]
 pub enum CountOp {
     Exactly,
     AtLeast,
@@ -58,7 +58,7 @@ pub enum CountOp {
 }
 
 /// An instruction of the Booleanizer. Operands are numbers of earlier instructions, columns count from 0.
-#[derive(Clone, Copy, PartialEq, Eq, Hash, Debug)]
+#[derive(Clone, Copy)]
 pub enum BzOp {
     /// The whole number in a column.
     Column(u32),
@@ -80,7 +80,7 @@ pub enum BzOp {
 
 /// An instruction of the future-time engine. `Load` names a truth of the Booleanizer, other operands are numbers of
 /// earlier instructions of the engine.
-#[derive(Clone, Copy, PartialEq, Eq, Hash, Debug)]
+#[derive(Clone, Copy)]
 pub enum FtOp {
     True,
     Load(u32),
@@ -91,7 +91,7 @@ pub enum FtOp {
 
 /// An instruction of the past-time engine. `Load` names a truth of the Booleanizer, other operands are numbers of
 /// earlier instructions of the engine.
-#[derive(Clone, Copy, PartialEq, Eq, Hash, Debug)]
+#[derive(Clone, Copy)]
 pub enum PtOp {
     True,
     Load(u32),

@@ -4,7 +4,7 @@ ghost use Rattle.std.specs.Prelude.{◌≡◌, ◌≤◌, length};
 ghost use Rattle.mltl_base.specs.Lines.{word_text};
 
 /// The verdict of a formula, or the status of an assume-guarantee contract.
-#[derive(Clone, Copy, PartialEq, Eq, Hash, Debug)]
+#[derive(Clone, Copy, PartialEq, Eq, Debug)]
 pub enum Word {
     True,
     False,
@@ -33,14 +33,14 @@ impl Word {
 }
 
 /// How times are told: one report for each time, or one for each longest stretch of newly known times with one word.
-#[derive(Clone, Copy, PartialEq, Eq, Hash, Debug)]
+#[derive(Clone, Copy, PartialEq, Eq, Debug)]
 pub enum Style {
     Each,
     Runs,
 }
 
 /// The word of output `out` at `time`, counted in rows from 0; with `Runs` also at the times since the report before.
-#[derive(Clone, Copy, PartialEq, Eq, Hash, Debug)]
+#[derive(Clone, Copy, PartialEq, Eq, Debug)]
 pub struct Report {
     pub out: u32,
     pub word: Word,

@@ -17,7 +17,7 @@ use mltl_base::{BetweenOp, Interval, List, LogicOp, WindowOp};
 use std::alloc::Global;
 
 /// Why there is no answer.
-#[derive(Clone, Copy, PartialEq, Eq, Debug)]
+#[derive(Clone, Copy)]
 pub enum Fault {
     /// Memory is wanting.
     Memory,

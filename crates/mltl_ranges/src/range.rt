@@ -50,7 +50,7 @@ impl Range {
 }
 
 /// Why an expression has no range.
-#[derive(Clone, Copy, PartialEq, Eq, Debug)]
+#[derive(Clone, Copy)]
 pub enum NoRange {
     /// The divisor isn't one number other than 0.
     Divisor,

@@ -6,7 +6,7 @@ ghost use Rattle.obs_binary.specs.declared.fault.ReadFault.TheVariants.{Memory};
 use std::alloc::{AllocError, AllocFailed};
 
 /// The first fault of bytes that are no observer program. Places count from 0 at the start of the bytes.
-#[derive(Clone, Copy, Debug, PartialEq, Eq)]
+#[derive(Clone, Copy)]
 pub enum ReadFault {
     /// The bytes are fewer than a header, or fewer than the header says.
     Short,

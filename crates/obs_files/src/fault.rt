@@ -8,7 +8,7 @@ use obs_binary::ReadFault;
 use obs_verify::VerifyFault;
 
 /// What is wrong with a program: with its bytes, up to `SignalBytes`, or with its instructions. Numbers count from 0.
-#[derive(Clone, Copy, PartialEq, Eq, Debug)]
+#[derive(Clone, Copy)]
 pub enum ProgramFault {
     /// The bytes are fewer than a header, or fewer than the header says.
     Short,
@@ -49,7 +49,7 @@ pub enum ProgramFault {
 }
 
 /// Why bytes give no checked program.
-#[derive(Clone, Copy, PartialEq, Eq, Debug)]
+#[derive(Clone, Copy)]
 pub enum FileFault {
     /// This is wrong with the program.
     Program(ProgramFault),

@@ -6,7 +6,7 @@ use mltl_base::Part;
 use std::alloc::{AllocError, AllocFailed};
 
 /// The first fault of a program, by the rules of well-formed programs in their order. Numbers count from 0.
-#[derive(Clone, Copy, PartialEq, Eq, Debug)]
+#[derive(Clone, Copy)]
 pub enum VerifyFault {
     /// The width is above its limit.
     Width,
@@ -52,7 +52,7 @@ impl<T: Drop> From<AllocFailed<T>> for VerifyFault {
 }
 
 /// Why a program of version 1 has none of version 2.
-#[derive(Clone, Copy, PartialEq, Eq, Debug)]
+#[derive(Clone, Copy)]
 pub enum UpgradeFault {
     /// The first instruction that reads a column which an earlier one reads in the other way.
     Both(u32),

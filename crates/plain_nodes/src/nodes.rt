@@ -4,7 +4,7 @@ use mltl_base::{ArithOp, BetweenOp, CompareOp, Engine, Interval, List, LogicOp, 
 
 /// A node of a plain formula or of a whole number. Operands are the places of earlier nodes, signals are numbered in
 /// order of declaration.
-#[derive(Clone, Copy, PartialEq, Eq, Hash, Debug)]
+#[derive(Clone, Copy)]
 pub enum Plain {
     Truth(bool),
     /// The truth of a signal of kind bool.

@@ -8,7 +8,7 @@ use crate::steps::Steps;
 use std::sync::ledger::Ledger;
 
 /// One slot of a ring: the end of a run of times that have one verdict, and the verdict.
-#[derive(Clone, Copy, Debug)]
+#[derive(Clone, Copy)]
 pub struct Slot {
     upto: u64,
     value: bool,
@@ -30,7 +30,7 @@ impl Slot {
 /// The verdicts of one operator by time, over slots that the caller lends to each call.
 ///
 /// It has verdicts for the times from its low time to its frontier - 1.
-#[derive(Debug, Drop)]
+#[derive(Drop)]
 pub struct Ring {
     frontier: u64,
     low: u64,

@@ -10,7 +10,7 @@ ghost use Rattle.sparse_feed.specs.Stamps.{IfAt, has_stamp, in_64_bits, may_foll
 use std::str;
 
 /// What a line says of its time.
-#[derive(Clone, Copy, PartialEq, Eq, Debug)]
+#[derive(Clone, Copy)]
 pub enum Stamp {
     /// The time, and the place of the first byte behind the comma, or the line's length where it has no comma.
     At(u64, usize),

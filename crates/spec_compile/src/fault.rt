@@ -12,7 +12,7 @@ use std::alloc::AllocError;
 use trace_feed::HeaderFault;
 
 /// Why a specification is refused.
-#[derive(Clone, Copy, PartialEq, Eq, Debug)]
+#[derive(Clone, Copy)]
 pub enum Refusal {
     /// A byte that begins no token.
     Letter,

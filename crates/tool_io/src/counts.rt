@@ -6,7 +6,7 @@ ghost use Rattle.tool_io.specs.Counts.{count_at, raised, no_counts};
 use crate::host::Place;
 
 /// How often something happened at each place. A counter that is at 2^64 - 1 stays there.
-#[derive(Clone, Copy, PartialEq, Eq, Debug)]
+#[derive(Clone, Copy)]
 pub struct Counts {
     pub spec: u64,
     pub header: u64,

@@ -6,7 +6,7 @@ ghost use Rattle.tool_io.specs.Log.{Event};
 ghost use Rattle.tool_io.specs.Host.{IsSource, IsSink, AttachCause, AttachLog, ReadRange, ReadCause, ReadLog, ReadLeft, WriteRange, WriteCause, WriteLog, LeftElsewhere, LeftAlone};
 
 /// Where bytes come from or go to. `Out` and `Err` are written, the others are read.
-#[derive(Clone, Copy, PartialEq, Eq, Debug)]
+#[derive(Clone, Copy)]
 pub enum Place {
     /// A specification.
     Spec,
@@ -32,7 +32,7 @@ pub enum Attached {
 }
 
 /// How a read ended.
-#[derive(Clone, Copy, PartialEq, Eq, Debug)]
+#[derive(Clone, Copy)]
 pub enum Got {
     /// So many bytes stand at the front of the slice, at least one.
     Bytes(usize),
@@ -43,7 +43,7 @@ pub enum Got {
 }
 
 /// How a write ended.
-#[derive(Clone, Copy, PartialEq, Eq, Debug)]
+#[derive(Clone, Copy)]
 pub enum Put {
     /// So many bytes from the front of the piece went out.
     Wrote(usize),

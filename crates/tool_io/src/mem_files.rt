@@ -11,7 +11,7 @@ use std::alloc::{AllocError, Global};
 use std::marker::Model;
 
 /// A file in memory.
-#[derive(Debug, Drop)]
+#[derive(Drop)]
 pub struct MemFile {
     name: String,
     bytes: Vec<u8>,
@@ -62,14 +62,14 @@ impl MemFile {
 }
 
 /// Where a place reads: which file, and how many of its bytes are left.
-#[derive(Clone, Copy, Debug)]
+#[derive(Clone, Copy)]
 pub struct Cursor {
     pub file: usize,
     pub left: usize,
 }
 
 /// Where each place that is read stands, if it is attached.
-#[derive(Clone, Copy, Debug)]
+#[derive(Clone, Copy)]
 pub struct Cursors {
     pub spec: Option<Cursor>,
     pub header: Option<Cursor>,
@@ -118,7 +118,7 @@ impl Cursors {
 }
 
 /// Files by name, and where each place reads in them.
-#[derive(Debug, Drop)]
+#[derive(Drop)]
 pub struct MemFiles {
     files: Vec<MemFile>,
     cursors: Cursors,

@@ -14,7 +14,7 @@ use std::alloc::{AllocError, Global};
 use std::marker::Model;
 
 /// A call that is to fail: the one with this number at this place, counted from 0.
-#[derive(Clone, Copy, Debug)]
+#[derive(Clone, Copy)]
 pub struct Listed {
     pub place: Place,
     pub call: u64,
@@ -26,7 +26,7 @@ pub struct Listed {
 /// A call fails exactly where it is listed, attaches a place that is read to a name without a file, reads a place
 /// that isn't attached, or needs more events or bytes than the room that is left. Each such call is counted at its
 /// place. A failed attach tells `Missed` where the room holds it. No call of the trait takes memory.
-#[derive(Debug, Drop)]
+#[derive(Drop)]
 pub struct MemHost {
     store: MemFiles,
     tape: Tape,

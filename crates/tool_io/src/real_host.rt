@@ -13,7 +13,7 @@ use std::marker::Model;
 use std::{fs, io};
 
 /// What a place stands at.
-#[derive(Debug, Drop)]
+#[derive(Drop)]
 enum Stream {
     /// The place's standard stream.
     Standard,
@@ -25,7 +25,7 @@ enum Stream {
 ///
 /// It counts a fault at each error of the system, at a write that takes nothing, and at a read of a place that isn't
 /// attached. It tells neither a log nor what is left.
-#[derive(Debug, Drop)]
+#[derive(Drop)]
 pub struct RealHost {
     rt: HostRuntime,
     faults: Counts,

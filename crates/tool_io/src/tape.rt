@@ -10,7 +10,7 @@ use std::alloc::{AllocError, Global};
 use std::marker::Model;
 
 /// What a call did, as the kinds of events of a log.
-#[derive(Clone, Copy, PartialEq, Eq, Debug)]
+#[derive(Clone, Copy)]
 pub enum Deed {
     /// A name was attached.
     Attach,
@@ -23,7 +23,7 @@ pub enum Deed {
 }
 
 /// One event but for its bytes, which stand in the tape's buffer behind those of the events before.
-#[derive(Clone, Copy, Debug)]
+#[derive(Clone, Copy)]
 pub struct Mark {
     pub deed: Deed,
     pub place: Place,
@@ -31,7 +31,7 @@ pub struct Mark {
 }
 
 /// A log with room for so many events and so many bytes in them, all of it reserved when it is made.
-#[derive(Debug, Drop)]
+#[derive(Drop)]
 pub struct Tape {
     marks: Vec<Mark>,
     bytes: Vec<u8>,

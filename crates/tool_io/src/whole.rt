@@ -9,7 +9,7 @@ use crate::host::{Got, Host, Place, Put};
 use std::alloc::{AllocError, Global};
 
 /// Why a place wasn't read whole.
-#[derive(Clone, Copy, PartialEq, Eq, Debug)]
+#[derive(Clone, Copy)]
 pub enum WholeFault {
     /// More bytes came than the limit allows.
     TooLong,

@@ -14,7 +14,7 @@ use tool_io::Place;
 use trace_watch::TraceWhy;
 
 /// A program of the product.
-#[derive(Clone, Copy, PartialEq, Eq, Debug)]
+#[derive(Clone, Copy)]
 pub enum Tool {
     C2po,
     R2u2,

@@ -12,7 +12,7 @@ use crate::blanks::trimmed;
 use std::str;
 
 /// Why a field has no value.
-#[derive(Clone, Copy, PartialEq, Eq, Debug)]
+#[derive(Clone, Copy)]
 pub enum FieldFault {
     /// It isn't a whole number.
     NotWhole,
@@ -21,7 +21,7 @@ pub enum FieldFault {
 }
 
 /// How a program reads a column.
-#[derive(Clone, Copy, PartialEq, Eq, Debug)]
+#[derive(Clone, Copy)]
 pub enum Reading {
     Unread,
     Whole,

@@ -14,7 +14,7 @@ const BLOCK: usize = 64;
 const MANY: usize = 16;
 
 /// Where a line is read on: the next column, and where its field begins.
-#[derive(Clone, Copy, Debug)]
+#[derive(Clone, Copy)]
 pub struct Spot {
     pub column: u32,
     pub at: usize,

@@ -6,7 +6,7 @@ ghost use Rattle.unfold.specs.declared.fault.UnfoldFault.TheVariants.{Heavy, Mem
 use std::alloc::{AllocError, AllocFailed};
 
 /// Why an expression isn't unfolded.
-#[derive(Clone, Copy, PartialEq, Eq, Debug)]
+#[derive(Clone, Copy)]
 pub enum UnfoldFault {
     /// Its weight is above the room that is left.
     Heavy,

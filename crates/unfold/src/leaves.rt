@@ -20,7 +20,7 @@ use plain_nodes::{Nodes, Plain};
 use std::alloc::AllocError;
 
 /// What a node unfolds to.
-#[derive(Clone, Copy, PartialEq, Eq)]
+#[derive(Clone, Copy)]
 pub(crate) enum Sort {
     Number,
     Formula,

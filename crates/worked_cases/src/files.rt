@@ -5,14 +5,14 @@ use anyhow::{Context, Result, bail};
 use std::alloc::Global;
 
 /// A file of a script.
-#[derive(Debug, Drop)]
+#[derive(Drop)]
 pub struct NamedBytes {
     pub name: String,
     pub bytes: Vec<u8>,
 }
 
 /// Files by name. The one that was begun last is the one that a script goes on with.
-#[derive(Debug, Drop)]
+#[derive(Drop)]
 pub struct Files {
     alloc: Global,
     entries: Vec<NamedBytes>,

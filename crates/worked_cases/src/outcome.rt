@@ -5,7 +5,7 @@ ghost use Rattle.std.specs.Prelude.{◌≢◌, ◌↔◌, IsTrue};
 use std::alloc::Global;
 
 /// What a run gives: its exit status, and the bytes on its output and on its error output.
-#[derive(Debug, Drop)]
+#[derive(Drop)]
 pub struct Outcome {
     pub status: u8,
     pub output: Vec<u8>,
@@ -24,7 +24,7 @@ impl Outcome {
 }
 
 /// Which parts of two outcomes differ.
-#[derive(Clone, Copy, PartialEq, Eq, Debug)]
+#[derive(Clone, Copy, PartialEq, Eq)]
 pub struct Parts {
     pub status: bool,
     pub output: bool,

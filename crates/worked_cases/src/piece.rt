@@ -4,7 +4,7 @@ use anyhow::Result;
 use std::alloc::{AllocError, Global};
 
 /// Bytes of a file, or of what a run writes.
-#[derive(Clone, Copy, Debug)]
+#[derive(Clone, Copy)]
 pub enum Piece<'a> {
     /// A text and a newline.
     Line(&'a str),

@@ -18,7 +18,7 @@ const EVENTS: usize = 2_000_000;
 const BYTES: usize = 17_000_000;
 
 /// A run that a script asks for, and what it is to give.
-#[derive(Debug, Drop)]
+#[derive(Drop)]
 pub struct Asked {
     pub line: usize,
     pub words: String,

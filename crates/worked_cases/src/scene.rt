@@ -6,7 +6,7 @@ use anyhow::{Context, Result, bail};
 use std::alloc::{AllocError, Global};
 
 /// Files, and how many bytes a read gives at most in each of the runs.
-#[derive(Debug, Drop)]
+#[derive(Drop)]
 pub struct Scene {
     pub files: Files,
     pub blocks: Vec<usize>,
@@ -40,7 +40,7 @@ impl Scene {
 }
 
 /// The scene of all cases, and that of the case which is being read.
-#[derive(Debug, Drop)]
+#[derive(Drop)]
 pub struct Scenes {
     pub alloc: Global,
     pub common: Scene,

@@ -12,7 +12,7 @@ use std::alloc::Global;
 use tool_io::Place;
 
 /// What is known behind some lines of a script.
-#[derive(Debug, Drop)]
+#[derive(Drop)]
 struct Stage {
     alloc: Global,
     scenes: Scenes,

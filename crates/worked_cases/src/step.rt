@@ -5,7 +5,7 @@ use anyhow::{Context, Result, bail};
 use tool_io::Place;
 
 /// What one line of a script asks for.
-#[derive(Clone, Copy, Debug)]
+#[derive(Clone, Copy)]
 pub enum Step<'a> {
     /// A remark.
     Remark,
