@@ -1,3 +1,4 @@
+pub mod StatusLaws
 pub mod PhaseLaws
 pub mod AttachLaws
 pub mod CauseLaws

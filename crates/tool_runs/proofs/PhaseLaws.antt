@@ -1,5 +1,5 @@
 -- The phases of a run, one after another.
-use Rattle.std.proofs.Common.{◌≡◌, ℕ, ◌⊎◌, Bool, true, false, Option, Result, List, [], ◌∷◌, Vec, refl, sym, subst, inl, inr, Err}
+use Rattle.std.proofs.Common.{◌≡◌, ℕ, ◌⊎◌, Bool, true, false, Option, Result, List, [], ◌∷◌, Vec, refl, sym, subst, inl, inr, Ok, Err}
 use Rattle.std.specs.declared.alloc.Global.{Global}
 use Rattle.tool_io.specs.declared.host.Place as place
 use Rattle.tool_io.specs.Log.{Event, Attached, Missed, Appends, OnLog}
@@ -13,6 +13,7 @@ use Rattle.tool_runs.specs.declared.status.Status as status
 use Rattle.tool_runs.specs.Files.{file_place}
 use Rattle.tool_runs.specs.Reading.{FileLog, unread}
 use Rattle.tool_io.proofs.LogLaws.{Appends-then}
+use Rattle.tool_runs.proofs.StatusLaws.{told_as}
 
 -- an attach, and then what follows
 pub OnLog-attached : (before between now : Option (List Event)) (p : place.Place) (name : List ℕ) (P : List Event → Type 0) → Appends before between (Attached p name ∷ []) → OnLog between now P → OnLog before now (λ events. (log : List Event) × (events ≡ Attached p name ∷ log) × P log)
@@ -23,10 +24,15 @@ OnLog-attached before between now p name P attached rest = record {
 }
 
 -- a file that wasn't read whole
-pub not_whole : (why : WholeFault) (p : place.Place) (limit : ℕ) (name : List ℕ) (events : List Event) → (log : List Event) × (events ≡ Attached p name ∷ log) × WholeLog (Err why) p limit log → FileLog (Err (unread p why)) p limit name events
+not_whole : (why : WholeFault) (p : place.Place) (limit : ℕ) (name : List ℕ) (events : List Event) → (log : List Event) × (events ≡ Attached p name ∷ log) × WholeLog (Err why) p limit log → FileLog (Err (unread p why)) p limit name events
 not_whole fault.TooLong p limit name events has = (refl, has.0, has.2.0, has.1, has.2.1, has.2.2)
 not_whole fault.ReadFault p limit name events has = (refl, has.0, has.2.0, has.1, has.2.1, has.2.2)
 not_whole fault.Memory p limit name events has = (has.0, has.2.0, has.1, has.2.1, has.2.2)
+
+-- one that was, or wasn't
+pub whole_log : (found : Result (Vec ℕ Global) WholeFault) (p : place.Place) (limit : ℕ) (name : List ℕ) (events : List Event) → (log : List Event) × (events ≡ Attached p name ∷ log) × WholeLog found p limit log → FileLog (told_as (unread p) found) p limit name events
+whole_log (Ok bytes) p limit name events has = has
+whole_log (Err why) p limit name events has = not_whole why p limit name events has
 
 -- a fault at the place of the file, and not at that of the messages
 open_cause : (source : Bool) (before now : place.Place → ℕ) → RoseAt before now (file_place source) → RunCause (status.TheVariants.OpenFault (file_place source)) before now

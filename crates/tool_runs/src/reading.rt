@@ -39,10 +39,7 @@ pub fn read_file<H: Host>(
     if let Attached::Failed = host.attach(place, name) {
         return Err(Status::OpenFault(place));
     }
-    match read_whole(alloc, host, place, limit) {
-        Ok(bytes) => Ok(bytes),
-        Err(fault) => Err(status_unread(place, fault)),
-    }
+    read_whole(alloc, host, place, limit).map_err(|fault| status_unread(place, fault))
 }
 
 fn status_unread(place: Place, fault: WholeFault) -> Status

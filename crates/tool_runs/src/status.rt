@@ -2,9 +2,11 @@
 
 ghost use Rattle.std.specs.Prelude.{◌≡◌};
 ghost use Rattle.tool_runs.specs.Codes.{code_of};
+ghost use Rattle.tool_runs.specs.Files.{file_status};
 
-use obs_files::ProgramFault;
+use obs_files::{FileFault, ProgramFault};
 use spec_compile::{HeaderWhy, Refusal};
+use std::alloc::AllocError;
 use tool_io::Place;
 use trace_watch::TraceWhy;
 
@@ -54,5 +56,26 @@ impl Status {
             Status::WriteFault(_) => 7,
             Status::Memory => 8,
         }
+    }
+}
+
+impl From<FileFault> for Status {
+    ghost from_gives = { λ fault status. status ≡ file_status fault };
+
+    fn from(fault: FileFault) -> Status {
+        match fault {
+            FileFault::Program(fault) => Status::BadProgram(fault),
+            FileFault::Memory => Status::Memory,
+        }
+    }
+}
+
+impl From<AllocError> for Status {
+    ghost use Rattle.tool_runs.specs.declared.status.Status.TheVariants.{Memory};
+
+    ghost from_gives = { λ _ status. status ≡ Memory };
+
+    fn from(_refused: AllocError) -> Status {
+        Status::Memory
     }
 }
