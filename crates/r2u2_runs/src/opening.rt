@@ -4,12 +4,12 @@ ghost use Rattle.std.specs.Prelude.{◌≡◌, ◌≢◌, ◌≤◌, Bool, Err, 
 ghost use Rattle.std.specs.Option.{ForSome, option_copied};
 ghost use Rattle.obs_files.specs.Faults.{opened as opened_by};
 ghost use Rattle.tool_runs.specs.Causes.{TellsNoCall};
-ghost use Rattle.tool_runs.specs.Files.{file_limit, file_status};
+ghost use Rattle.tool_runs.specs.Files.{file_limit};
 ghost use Rattle.r2u2_runs.specs.ProgramBy.{bound_under, compile_status, file_refusal, header_status, program_by};
 ghost use Rattle.r2u2_runs.specs.Phases.{Opens};
 
 use c2po_types::TypedSpec;
-use obs_files::{FileFault, open};
+use obs_files::open;
 use obs_verify::{Checked, rebind};
 use spec_compile::{CompileFault, HeaderWhy, back, columns_of, front};
 use std::alloc::Global;
@@ -50,10 +50,8 @@ fn open_spec(alloc: Global, text: &[u8]) -> Result<Opened, Status>
         file_refusal Bool.true text.now ≡ Some status) }
     ensures no_call { IfErr result TellsNoCall }
 {
-    match front(alloc, text) {
-        Ok(spec) => Ok(Opened::Spec(spec)),
-        Err(fault) => Err(status_of_compile(fault)),
-    }
+    let spec = front(alloc, text).map_err(status_of_compile)?;
+    Ok(Opened::Spec(spec))
 }
 
 fn open_program(alloc: Global, bytes: &[u8]) -> Result<Opened, Status>
@@ -63,10 +61,8 @@ fn open_program(alloc: Global, bytes: &[u8]) -> Result<Opened, Status>
         file_refusal Bool.false bytes.now ≡ Some status) }
     ensures no_call { IfErr result TellsNoCall }
 {
-    match open(alloc, bytes) {
-        Ok(checked) => Ok(Opened::Program(checked)),
-        Err(fault) => Err(status_of_file(fault)),
-    }
+    let checked = open(alloc, bytes)?;
+    Ok(Opened::Program(checked))
 }
 
 /// The program that runs over a trace with this header, or with none.
@@ -101,14 +97,8 @@ fn compiled(alloc: Global, spec: &TypedSpec, header: Option<&[u8]>) -> Result<Ch
         program_by source bytes (option_copied header.entry) ≡ Err status) }
     ensures no_call { IfErr result TellsNoCall }
 {
-    let columns = match columns_of(alloc, spec, header) {
-        Ok(columns) => columns,
-        Err(fault) => return Err(status_of_compile(fault)),
-    };
-    match back(alloc, spec, &columns) {
-        Ok(checked) => Ok(checked),
-        Err(fault) => Err(status_of_compile(fault)),
-    }
+    let columns = columns_of(alloc, spec, header).map_err(status_of_compile)?;
+    back(alloc, spec, &columns).map_err(status_of_compile)
 }
 
 /// A program whose stored signals stand in the columns of a header. One of version 1 stores none.
@@ -135,10 +125,8 @@ fn bound_by(alloc: Global, checked: Checked, line: &[u8]) -> Result<Checked, Sta
         bound_under (Some line.now) checked ≡ Err status) }
     ensures no_call { IfErr result TellsNoCall }
 {
-    match header_of(alloc, line, &checked) {
-        Ok(columns) => Ok(rebind(checked, &columns)),
-        Err(fault) => Err(status_of_header(fault)),
-    }
+    let columns = header_of(alloc, line, &checked).map_err(status_of_header)?;
+    Ok(rebind(checked, &columns))
 }
 
 fn status_of_compile(fault: CompileFault) -> Status
@@ -155,16 +143,6 @@ fn status_of_compile(fault: CompileFault) -> Status
             Status::BadTrace(1, TraceWhy::Twice(name))
         }
         CompileFault::Memory => Status::Memory,
-    }
-}
-
-fn status_of_file(fault: FileFault) -> Status
-    ensures status { result ≡ file_status fault }
-    ensures no_call { TellsNoCall result }
-{
-    match fault {
-        FileFault::Program(fault) => Status::BadProgram(fault),
-        FileFault::Memory => Status::Memory,
     }
 }
 

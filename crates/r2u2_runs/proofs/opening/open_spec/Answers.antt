@@ -1,8 +1,16 @@
+use Rattle.std.proofs.Common.{rules}
+use Rattle.std.proofs.lemmas.Result.{err_from_is_err_and}
+use Rattle.tool_runs.proofs.StatusLaws.{told_fault, told_value}
+use Rattle.r2u2_runs.specs.ProgramBy.{compile_status}
 use Rattle.r2u2_runs.proofs.OpenLaws.{spec_refused, spec_unrefused}
 use Rattle.r2u2_runs.proofs.opening.open_spec.Goals as goal
 
-pub returns-in-Ok-clause-unrefused : goal.returns-in-Ok-clause-unrefused
-returns-in-Ok-clause-unrefused c = spec_unrefused c.args.text.now c.in-Ok.ensures.faultless
+pub returns-in_err-spec-clause-refused : goal.returns-in_err-spec-clause-refused
+returns-in_err-spec-clause-refused c =
+    let p = err_from_is_err_and c.from_residual.result c.from_residual.ensures.1 in
+    let why = told_fault compile_status c.front.result c.in_err-spec.field-0.0 _ (search rules) c.front.ensures.refused in
+    rw (p.1, p.2, why.2) (spec_refused c.args.text.now why.0 why.1)
 
-pub returns-in-Err-clause-refused : goal.returns-in-Err-clause-refused
-returns-in-Err-clause-refused c = rw c.status_of_compile.ensures.status (spec_refused c.args.text.now c.in-Err.fault c.in-Err.ensures.refused)
+pub returns-clause-unrefused : goal.returns-clause-unrefused
+returns-clause-unrefused c =
+    spec_unrefused c.args.text.now (told_value compile_status c.front.result c.in_ok-spec.spec _ (search rules) c.front.ensures.faultless)
