@@ -51,10 +51,8 @@ fn of_text<H: Host>(
     ensures log { OnLog (H.log host.old) (H.log host.new)
         (TextLog result form (option_map (λ name. name.now) header.entry) text.now) }
 {
-    match front(alloc, text) {
-        Ok(spec) => of_spec(alloc, &spec, header, form, host),
-        Err(fault) => Err(status_of_compile(fault)),
-    }
+    let spec = front(alloc, text).map_err(status_of_compile)?;
+    of_spec(alloc, &spec, header, form, host)
 }
 
 /// The bytes that are written of the bytes of a file.
@@ -86,8 +84,6 @@ pub(crate) fn gather<H: Host>(
     ensures cause { PhaseCause result (H.faults host.old) (H.faults host.new) }
     ensures log { OnLog (H.log host.old) (H.log host.new) (GatherLog result (make_of asked.now)) }
 {
-    match read_file(alloc, asked.product.from_text(), asked.file, host) {
-        Ok(bytes) => of_file(alloc, asked, &bytes, host),
-        Err(status) => Err(status),
-    }
+    let bytes = read_file(alloc, asked.product.from_text(), asked.file, host)?;
+    of_file(alloc, asked, &bytes, host)
 }

@@ -44,10 +44,7 @@ fn under_first_line<H: Host>(
     ensures log { (text : Seq ℕ) → first_refusal text ≡ None → spec_shape spec.now ≡ items_in text
         → OnLog (H.log host.old) (H.log host.new) (LineLog result form text) }
 {
-    let mut cut = match LineCut::make(alloc) {
-        Ok(cut) => cut,
-        Err(_) => return Err(Status::Memory),
-    };
+    let mut cut = LineCut::make(alloc)?;
     match cut.next_line(host, Place::Header) {
         Line::Row => compiled_bytes(alloc, spec, Some(cut.line()), form),
         Line::End => Err(Status::BadHeader(HeaderWhy::NoHeader)),

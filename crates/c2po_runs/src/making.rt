@@ -34,10 +34,7 @@ pub(crate) fn written(alloc: Global, table: bool, checked: &Checked) -> Result<V
     } else {
         image(alloc, checked)
     };
-    match made {
-        Ok(bytes) => Ok(bytes),
-        Err(_) => Err(Status::Memory),
-    }
+    Ok(made?)
 }
 
 /// The program of a specification over columns, maybe in simplified form.
@@ -81,14 +78,9 @@ pub(crate) fn compiled_bytes(
         text_bytes form text (option_copied header.entry) ≡ Err status) }
     ensures refuses { IfErr result Refuses }
 {
-    let columns = match columns_of(alloc, spec, header) {
-        Ok(columns) => columns,
-        Err(fault) => return Err(status_of_compile(fault)),
-    };
-    match program_of(alloc, spec, &columns, form.simplify) {
-        Ok(checked) => written(alloc, form.table, &checked),
-        Err(fault) => Err(status_of_compile(fault)),
-    }
+    let columns = columns_of(alloc, spec, header).map_err(status_of_compile)?;
+    let checked = program_of(alloc, spec, &columns, form.simplify).map_err(status_of_compile)?;
+    written(alloc, form.table, &checked)
 }
 
 pub(crate) fn status_of_compile(fault: CompileFault) -> Status

@@ -4,13 +4,12 @@ ghost use Rattle.std.specs.Prelude.{◌≡◌, ◌≢◌, Err, IfErr, IfOk, Ok};
 ghost use Rattle.obs_files.specs.Faults.{opened};
 ghost use Rattle.obs_files.specs.Names.{NamesFit};
 ghost use Rattle.obs_verify.specs.Upgrade.{clash_of};
-ghost use Rattle.tool_runs.specs.Files.{file_status};
 ghost use Rattle.c2po_runs.specs.Made.{Making, bytes_of, opened_as, raised_as, show_status, text_within};
 ghost use Rattle.c2po_runs.specs.Phases.{Refuses};
 
 use crate::making::written;
 use mltl_base::Part;
-use obs_files::{FileFault, ProgramFault, open, upgraded_names_fit};
+use obs_files::{ProgramFault, open, upgraded_names_fit};
 use obs_show::{ShowFault, show};
 use obs_verify::{Checked, UpgradeFault, upgrade};
 use spec_compile::Refusal;
@@ -50,10 +49,8 @@ fn program_in(alloc: Global, bytes: &[u8]) -> Result<Checked, Status>
         (gives : Making) → opened_as gives (opened bytes.now) ≡ Err status) }
     ensures refuses { IfErr result Refuses }
 {
-    match open(alloc, bytes) {
-        Ok(checked) => raised(alloc, checked),
-        Err(fault) => Err(status_of_file(fault)),
-    }
+    let checked = open(alloc, bytes)?;
+    raised(alloc, checked)
 }
 
 /// The bytes of the program of a file, in version 2.
@@ -63,10 +60,8 @@ pub(crate) fn upgraded_bytes(alloc: Global, bytes: &[u8]) -> Result<Vec<u8>, Sta
         → opened_as bytes_of (opened bytes.now) ≡ Err status) }
     ensures refuses { IfErr result Refuses }
 {
-    match program_in(alloc, bytes) {
-        Ok(checked) => written(alloc, false, &checked),
-        Err(status) => Err(status),
-    }
+    let checked = program_in(alloc, bytes)?;
+    written(alloc, false, &checked)
 }
 
 /// The text of the program of a file, in version 2.
@@ -76,10 +71,8 @@ pub(crate) fn shown_text(alloc: Global, bytes: &[u8]) -> Result<Vec<u8>, Status>
         → opened_as text_within (opened bytes.now) ≡ Err status) }
     ensures refuses { IfErr result Refuses }
 {
-    match program_in(alloc, bytes) {
-        Ok(checked) => text_of(alloc, &checked),
-        Err(status) => Err(status),
-    }
+    let checked = program_in(alloc, bytes)?;
+    text_of(alloc, &checked)
 }
 
 /// The text of a program.
@@ -90,20 +83,7 @@ fn text_of(alloc: Global, checked: &Checked) -> Result<Vec<u8>, Status>
         → text_within checked.now ≡ Err status) }
     ensures refuses { IfErr result Refuses }
 {
-    match show(alloc, checked) {
-        Ok(text) => Ok(text),
-        Err(fault) => Err(status_of_show(fault)),
-    }
-}
-
-fn status_of_file(fault: FileFault) -> Status
-    ensures status { result ≡ file_status fault }
-    ensures refuses { Refuses result }
-{
-    match fault {
-        FileFault::Program(fault) => Status::BadProgram(fault),
-        FileFault::Memory => Status::Memory,
-    }
+    show(alloc, checked).map_err(status_of_show)
 }
 
 fn status_of_show(fault: ShowFault) -> Status

@@ -1,16 +1,30 @@
+use Rattle.std.proofs.Common.{rules}
+use Rattle.std.proofs.lemmas.Result.{err_from_is_err_and}
 use Rattle.std.specs.Option.{option_copied}
 use Rattle.c2po_tree.specs.ItemShape.{spec_shape}
+use Rattle.tool_runs.proofs.StatusLaws.{told_fault, told_value}
+use Rattle.c2po_runs.specs.Made.{compile_status}
 use Rattle.c2po_runs.proofs.MakingLaws.{header_refuses, limit_refuses, text_written}
 use Rattle.c2po_runs.proofs.making.compiled_bytes.Goals as goal
 
-pub returns-in-Err-clause-refused : goal.returns-in-Err-clause-refused
-returns-in-Err-clause-refused c = rw c.status_of_compile.ensures.status (λ some text none same.
-    header_refuses c.args.form text (option_copied c.args.header) (spec_shape c.args.spec.now) c.in-Err.fault none same c.in-Err.ensures.fault some)
+pub returns-in_err-columns-clause-refused : goal.returns-in_err-columns-clause-refused
+returns-in_err-columns-clause-refused c =
+    let p = err_from_is_err_and c.from_residual.result c.from_residual.ensures.1 in
+    let why = told_fault compile_status c.columns_of.result c.in_err-columns.field-0.0 _ (search rules) c.columns_of.ensures.fault in
+    rw (p.1, p.2, why.2) (λ some text none same.
+    header_refuses c.args.form text (option_copied c.args.header) (spec_shape c.args.spec.now) why.0 none same why.1 some)
 
-pub returns-in-Ok-program_of-clause-made : goal.returns-in-Ok-program_of-clause-made
-returns-in-Ok-program_of-clause-made c =
-    text_written c.args.form (option_copied c.args.header) (spec_shape c.args.spec.now) c.in-Ok.columns c.in-Ok-program_of.checked c.written.result c.in-Ok.ensures.columns c.in-Ok-program_of.ensures.image c.in-Ok-program_of.ensures.within c.written.ensures.bytes
+pub returns-in_err-checked-clause-refused : goal.returns-in_err-checked-clause-refused
+returns-in_err-checked-clause-refused c =
+    let p = err_from_is_err_and c.from_residual-in_err-checked.result c.from_residual-in_err-checked.ensures.1 in
+    let found = told_value compile_status c.columns_of.result c.in_ok-columns.columns _ (search rules) c.columns_of.ensures.columns in
+    let why = told_fault compile_status c.program_of.result c.in_err-checked.field-0.0 _ (search rules) c.program_of.ensures.refused in
+    rw (p.1, p.2, why.2) (λ some text none same.
+    limit_refuses c.args.form text (option_copied c.args.header) (spec_shape c.args.spec.now) c.in_ok-columns.columns why.0 none same found why.1 some)
 
-pub returns-clause-refused : goal.returns-clause-refused
-returns-clause-refused c = rw c.status_of_compile-in-Err-program_of.ensures.status (λ some text none same.
-    limit_refuses c.args.form text (option_copied c.args.header) (spec_shape c.args.spec.now) c.in-Ok.columns c.in-Err-program_of.fault none same c.in-Ok.ensures.columns c.in-Err-program_of.ensures.refused some)
+pub returns-clause-made : goal.returns-clause-made
+returns-clause-made c =
+    let found = told_value compile_status c.columns_of.result c.in_ok-columns.columns _ (search rules) c.columns_of.ensures.columns in
+    let made = told_value compile_status c.program_of.result c.in_ok-checked.checked _ (search rules) c.program_of.ensures.image in
+    let within = told_value compile_status c.program_of.result c.in_ok-checked.checked _ (search rules) c.program_of.ensures.within in
+    text_written c.args.form (option_copied c.args.header) (spec_shape c.args.spec.now) c.in_ok-columns.columns c.in_ok-checked.checked c.written.result found made within c.written.ensures.bytes
