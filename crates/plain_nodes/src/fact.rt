@@ -61,10 +61,7 @@ pub(crate) fn tenses_at(facts: &[Fact], n: u32) -> Tenses
 fn negated_range(a: Result<Range, NoRange>) -> Result<Range, NoRange>
     ensures { told result ≡ over negated (told a) }
 {
-    match a {
-        Ok(a) => mltl_ranges::negation(a),
-        Err(why) => Err(why),
-    }
+    mltl_ranges::negation(a?)
 }
 
 /// The range of two whole numbers under an operator, where they have one: the left one first.
@@ -75,14 +72,8 @@ fn computed_range(
 ) -> Result<Range, NoRange>
     ensures { told result ≡ range_by op (told a) (told b) }
 {
-    let a = match a {
-        Ok(a) => a,
-        Err(why) => return Err(why),
-    };
-    let b = match b {
-        Ok(b) => b,
-        Err(why) => return Err(why),
-    };
+    let a = a?;
+    let b = b?;
     match op {
         ArithOp::Add => mltl_ranges::sum(a, b),
         ArithOp::Sub => mltl_ranges::difference(a, b),
