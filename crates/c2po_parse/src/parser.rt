@@ -74,10 +74,8 @@ fn item_at(
         return Err(ParseFault::TooManyTokens(line));
     }
     let (ended, rest) = behind_end(&tokens[end..]);
-    match item_on(alloc, line, section, ended, piece) {
-        Ok(item) => Ok((item, rest)),
-        Err(fault) => Err(fault),
-    }
+    let item = item_on(alloc, line, section, ended, piece)?;
+    Ok((item, rest))
 }
 
 /// Items with one more behind them.
@@ -107,13 +105,9 @@ fn read_front(
     if let Some(next) = section_begun(&tokens[0].what) {
         return Ok((items, Some(next), &tokens[1..]));
     }
-    match item_at(alloc, section, tokens) {
-        Ok((item, rest)) => {
-            let items = with_item(items, item)?;
-            Ok((items, section, rest))
-        }
-        Err(fault) => Err(fault),
-    }
+    let (item, rest) = item_at(alloc, section, tokens)?;
+    let items = with_item(items, item)?;
+    Ok((items, section, rest))
 }
 
 /// The trees of the items of a specification, or the fault of its first faulty item.

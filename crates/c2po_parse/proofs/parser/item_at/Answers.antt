@@ -1,5 +1,6 @@
 use Rattle.std.proofs.Common.{◌≡◌, ℕ, [], ◌-◌, List, take, drop, length, length-drop, Ok, Err, arith, sym, ap, subst, ◌∙◌, get_or}
 use Rattle.std.proofs.lemmas.List.{take_all}
+use Rattle.std.proofs.lemmas.Result.{err_from_is_err_and}
 use Rattle.c2po_lexer.specs.declared.token.Token.{Token}
 use Rattle.c2po_tree.specs.ItemShape.{item_shape}
 use Rattle.c2po_parse.specs.Sections.{pieces, ended_of, tail_of}
@@ -15,25 +16,26 @@ pub returns-then-piece-gt-MAX_ITEM_TOKENS-clause-fault : goal.returns-then-piece
 returns-then-piece-gt-MAX_ITEM_TOKENS-clause-fault c =
     λ other. many_pieces c.args.section c.args.tokens.now c.index-tokens-0.result c.piece_end-end.result c.requires c.piece_end-end.ensures.before (omega arith)
 
-pub returns-in-Ok-clause-item : goal.returns-in-Ok-clause-item
-returns-in-Ok-clause-item c =
+pub returns-clause-item : goal.returns-clause-item
+returns-clause-item c =
     let ts = c.args.tokens.now in
     let n = c.piece_end-end.result in
     let line : ℕ = (get_or ts 0 c.index-tokens-0.result).line in
     let ended : c.behind_end-ended.result.0 ≡ ended_of (drop n ts) = c.behind_end-ended.ensures.ended ∙ ap ended_of (rest-is n ts) in
     let tail : c.behind_end-ended.result.1.now ≡ tail_of (drop n ts) = c.behind_end-ended.ensures.tail ∙ ap tail_of (rest-is n ts) in
-    let item : with_line line (piece_body c.args.section (ended_of (drop n ts)) (take n ts)) ≡ Ok (item_shape c.in-Ok.item) =
-    subst (λ b. with_line line (piece_body c.args.section b (take n ts)) ≡ Ok (item_shape c.in-Ok.item)) ended c.in-Ok.ensures.item in
-    read_pieces c.args.section ts c.index-tokens-0.result n (item_shape c.in-Ok.item) c.requires c.piece_end-end.ensures.before (omega arith) item
-    ∙ ap (λ us. with_first (item_shape c.in-Ok.item) (piece_trees (pieces c.args.section 0 [] us))) (sym tail)
+    let item : with_line line (piece_body c.args.section (ended_of (drop n ts)) (take n ts)) ≡ Ok (item_shape c.in_ok-item.item) =
+    subst (λ b. with_line line (piece_body c.args.section b (take n ts)) ≡ Ok (item_shape c.in_ok-item.item)) ended c.in_ok-item.ensures.item in
+    read_pieces c.args.section ts c.index-tokens-0.result n (item_shape c.in_ok-item.item) c.requires c.piece_end-end.ensures.before (omega arith) item
+    ∙ ap (λ us. with_first (item_shape c.in_ok-item.item) (piece_trees (pieces c.args.section 0 [] us))) (sym tail)
 
-pub returns-in-Err-clause-fault : goal.returns-in-Err-clause-fault
-returns-in-Err-clause-fault c =
-    λ other.
+pub returns-in_err-item-clause-fault : goal.returns-in_err-item-clause-fault
+returns-in_err-item-clause-fault c =
+    let p = err_from_is_err_and c.from_residual.result c.from_residual.ensures.1 in
+    rw (p.1, p.2) (λ other.
     let ts = c.args.tokens.now in
     let n = c.piece_end-end.result in
     let line : ℕ = (get_or ts 0 c.index-tokens-0.result).line in
     let ended : c.behind_end-ended.result.0 ≡ ended_of (drop n ts) = c.behind_end-ended.ensures.ended ∙ ap ended_of (rest-is n ts) in
-    let fault : with_line line (piece_body c.args.section (ended_of (drop n ts)) (take n ts)) ≡ Err c.in-Err.fault =
-    subst (λ b. with_line line (piece_body c.args.section b (take n ts)) ≡ Err c.in-Err.fault) ended (c.in-Err.ensures.fault other) in
-    faulty_pieces c.args.section ts c.index-tokens-0.result n c.in-Err.fault c.requires c.piece_end-end.ensures.before (omega arith) fault
+    let fault : with_line line (piece_body c.args.section (ended_of (drop n ts)) (take n ts)) ≡ Err c.in_err-item.field-0.0 =
+    subst (λ b. with_line line (piece_body c.args.section b (take n ts)) ≡ Err c.in_err-item.field-0.0) ended (c.in_err-item.ensures.fault other) in
+    faulty_pieces c.args.section ts c.index-tokens-0.result n c.in_err-item.field-0.0 c.requires c.piece_end-end.ensures.before (omega arith) fault)
