@@ -253,13 +253,12 @@ fn put_formula(
 {
     let mut progress = progress;
     let room = MAX_WEIGHT - progress.total;
-    match progress.values.unfold(alloc, expr, room) {
-        Ok(found) => {
-            let mixed = is_mixed(engine, found.tenses);
-            put_out(progress, line, found.weight, found.fault, mixed)
-        }
-        Err(why) => Err(too_wide(line, why)),
-    }
+    let found = progress
+        .values
+        .unfold(alloc, expr, room)
+        .map_err(|why| too_wide(line, why))?;
+    let mixed = is_mixed(engine, found.tenses);
+    put_out(progress, line, found.weight, found.fault, mixed)
 }
 
 /// What is known behind an output with a formula.
@@ -299,14 +298,13 @@ fn put_right(
 {
     let mut progress = progress;
     let room = MAX_WEIGHT - progress.total - left.weight;
-    match progress.values.unfold(alloc, right, room) {
-        Ok(found) => {
-            let why = first_fault(left.fault, found.fault);
-            let mixed = is_mixed(engine, left.tenses) || is_mixed(engine, found.tenses);
-            put_out(progress, line, left.weight + found.weight, why, mixed)
-        }
-        Err(why) => Err(too_wide(line, why)),
-    }
+    let found = progress
+        .values
+        .unfold(alloc, right, room)
+        .map_err(|why| too_wide(line, why))?;
+    let why = first_fault(left.fault, found.fault);
+    let mixed = is_mixed(engine, left.tenses) || is_mixed(engine, found.tenses);
+    put_out(progress, line, left.weight + found.weight, why, mixed)
 }
 
 /// What is known behind a contract whose names and kinds are right.
@@ -326,10 +324,11 @@ fn put_contract(
 {
     let mut progress = progress;
     let room = MAX_WEIGHT - progress.total;
-    match progress.values.unfold(alloc, left, room) {
-        Ok(left) => put_right(alloc, progress, line, engine, left, right),
-        Err(why) => Err(too_wide(line, why)),
-    }
+    let left = progress
+        .values
+        .unfold(alloc, left, room)
+        .map_err(|why| too_wide(line, why))?;
+    put_right(alloc, progress, line, engine, left, right)
 }
 
 /// What is known behind an output with a contract.
