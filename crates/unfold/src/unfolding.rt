@@ -242,8 +242,5 @@ fn signal_of(number: u32, truth: bool) -> Plain
 pub(crate) fn next_place(len: usize) -> Result<u32, AllocError>
     ensures { IfOk result (λ place. place ≡ len) }
 {
-    match u32::try_from(len) {
-        Ok(place) => Ok(place),
-        Err(_) => Err(AllocError),
-    }
+    u32::try_from(len).map_err(|_| AllocError)
 }
