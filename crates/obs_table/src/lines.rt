@@ -84,10 +84,7 @@ impl Lines {
             b"worst",
             b"size",
         ];
-        match self.writer.write_fields(&names) {
-            Ok(()) => Ok(()),
-            Err(_) => Err(AllocError),
-        }
+        self.writer.write_fields(&names).map_err(|_| AllocError)
     }
 
     /// Writes the line of an instruction.
@@ -103,19 +100,15 @@ impl Lines {
             (engine.now ∷ decimal number ∷ shown_fields shown ++ figure_fields figures))) }
     {
         fill(&mut self.row, engine, number, shown, figures)?;
-        match self.writer.write_byte_record(&self.row) {
-            Ok(()) => Ok(()),
-            Err(_) => Err(AllocError),
-        }
+        self.writer
+            .write_byte_record(&self.row)
+            .map_err(|_| AllocError)
     }
 
     /// The text of the lines.
     pub(crate) fn into_text(self) -> Result<Vec<u8>, AllocError>
         ensures { (text : List ℕ) → HasText self text → IfOk result (λ bytes. bytes.items ≡ text) }
     {
-        match self.writer.into_inner() {
-            Ok(text) => Ok(text),
-            Err(_) => Err(AllocError),
-        }
+        self.writer.into_inner().map_err(|_| AllocError)
     }
 }
