@@ -9,7 +9,7 @@ use mltl_base::limits::MAX_LINE_BYTES;
 use mltl_monitor::Monitor;
 use obs_files::{FileFault, ProgramFault, open};
 use obs_verify::{Checked, rebind};
-use std::alloc::Global;
+use std::alloc::{AllocError, AllocFailed, Global};
 use trace_feed::{HeaderFault, header_of};
 
 /// Why no monitor is opened.
@@ -31,15 +31,56 @@ pub enum Refusal {
     Memory,
 }
 
+impl From<FileFault> for Refusal {
+    ghost from_gives = { λ fault why. why ≡ of_file fault };
+
+    fn from(fault: FileFault) -> Refusal {
+        match fault {
+            FileFault::Program(fault) => Refusal::Program(fault),
+            FileFault::Memory => Refusal::Memory,
+        }
+    }
+}
+
+impl From<HeaderFault> for Refusal {
+    ghost from_gives = { λ fault why. why ≡ of_header fault };
+
+    fn from(fault: HeaderFault) -> Refusal {
+        match fault {
+            HeaderFault::NoHeader => Refusal::NoHeader,
+            HeaderFault::Missing(name) => Refusal::Missing(name),
+            HeaderFault::Twice(name) => Refusal::Twice(name),
+            HeaderFault::Memory => Refusal::Memory,
+        }
+    }
+}
+
+impl From<AllocError> for Refusal {
+    ghost use Rattle.r2u2_c.specs.declared.opening.Refusal.TheVariants.{Memory};
+
+    ghost from_gives = { λ _ why. why ≡ Memory };
+
+    fn from(_refused: AllocError) -> Refusal {
+        Refusal::Memory
+    }
+}
+
+impl<T: Drop> From<AllocFailed<T>> for Refusal {
+    ghost use Rattle.r2u2_c.specs.declared.opening.Refusal.TheVariants.{Memory};
+
+    ghost from_gives = { λ _ why. why ≡ Memory };
+
+    fn from(_refused: AllocFailed<T>) -> Refusal {
+        Refusal::Memory
+    }
+}
+
 /// The monitor of the program that these bytes spell.
 pub(crate) fn open_monitor(alloc: Global, bytes: &[u8]) -> Result<Box<Monitor>, Refusal>
     ensures opened { IfOk result (λ b. Starts (program_by bytes.now) b.value) }
     ensures refused { IfErr result (λ why. why ≢ Refusal.Memory → program_by bytes.now ≡ Err why) }
 {
-    match open(alloc, bytes) {
-        Ok(checked) => load(alloc, checked),
-        Err(fault) => Err(refusal_of_file(fault)),
-    }
+    load(alloc, open(alloc, bytes)?)
 }
 
 /// The same with the program's signals in the columns that a header names.
@@ -52,14 +93,9 @@ pub(crate) fn open_under(
     ensures refused { IfErr result (λ why. why ≢ Refusal.Memory
         → program_under header.now bytes.now ≡ Err why) }
 {
-    let checked = match open(alloc, bytes) {
-        Ok(checked) => checked,
-        Err(fault) => return Err(refusal_of_file(fault)),
-    };
-    match bind(alloc, checked, header) {
-        Ok(bound) => load(alloc, bound),
-        Err(why) => Err(why),
-    }
+    let checked = open(alloc, bytes)?;
+    let bound = bind(alloc, checked, header)?;
+    load(alloc, bound)
 }
 
 /// A program with its signals in the columns that a header names.
@@ -74,10 +110,8 @@ fn bind(alloc: Global, checked: Checked, header: &[u8]) -> Result<Checked, Refus
     if header.len() >= MAX_LINE_BYTES {
         return Err(Refusal::LongHeader);
     }
-    match header_of(alloc, header, &checked) {
-        Ok(columns) => Ok(rebind(checked, &columns)),
-        Err(fault) => Err(refusal_of_header(fault)),
-    }
+    let columns = header_of(alloc, header, &checked)?;
+    Ok(rebind(checked, &columns))
 }
 
 /// A monitor in memory of its own.
@@ -85,32 +119,6 @@ fn load(alloc: Global, checked: Checked) -> Result<Box<Monitor>, Refusal>
     ensures starts { IfOk result (λ b. Starts (Ok checked) b.value) }
     ensures memory { IfErr result (λ why. why ≡ Refusal.Memory) }
 {
-    let monitor = match Monitor::load(alloc, checked) {
-        Ok(monitor) => monitor,
-        Err(_) => return Err(Refusal::Memory),
-    };
-    match Box::new(alloc, monitor) {
-        Ok(monitor) => Ok(monitor),
-        Err(_) => Err(Refusal::Memory),
-    }
-}
-
-fn refusal_of_file(fault: FileFault) -> Refusal
-    ensures { result ≡ of_file fault }
-{
-    match fault {
-        FileFault::Program(fault) => Refusal::Program(fault),
-        FileFault::Memory => Refusal::Memory,
-    }
-}
-
-fn refusal_of_header(fault: HeaderFault) -> Refusal
-    ensures { result ≡ of_header fault }
-{
-    match fault {
-        HeaderFault::NoHeader => Refusal::NoHeader,
-        HeaderFault::Missing(name) => Refusal::Missing(name),
-        HeaderFault::Twice(name) => Refusal::Twice(name),
-        HeaderFault::Memory => Refusal::Memory,
-    }
+    let monitor = Monitor::load(alloc, checked)?;
+    Ok(Box::new(alloc, monitor)?)
 }
