@@ -156,10 +156,8 @@ fn take_line<H: Host, L: Ledger>(
         Stamp::Late => Break(Watched::TooLong),
         Stamp::At(time, place) => {
             let times = gap(last, time);
-            match take_fields(monitor, &line[place..], number, host, times, style, steps) {
-                Continue(()) => Continue(Some(time)),
-                Break(watched) => Break(watched),
-            }
+            take_fields(monitor, &line[place..], number, host, times, style, steps)?;
+            Continue(Some(time))
         }
     }
 }

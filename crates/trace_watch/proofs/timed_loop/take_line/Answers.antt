@@ -56,21 +56,21 @@ returns-in-Late-clause-log g c rows before stands is same =
     OnLog-none _ _ (takes_none (Break watched.TheVariants.TooLong) stamp.Late c.args.last c.args.mission c.line-line.result.now (text_of c.args.cut.now) c.args.style rows (held before) c.args.cut.now.number c.args.monitor.now c.line-line.ensures c.in-Late.ensures.told
     (writes_none rows c.args.monitor.now stands c.requires.drained))
 
-pub returns-in-Break-clause-log : goal.returns-in-Break-clause-log
-returns-in-Break-clause-log g c rows before stands is same =
+pub returns-in_err-take_fields-in-At-clause-log : goal.returns-in_err-take_fields-in-At-clause-log
+returns-in_err-take_fields-in-At-clause-log g c rows before stands is same =
     let program = program_of c.args.monitor.now in
     let copies : ℕ → List Row = λ then_. replicate c.gap-times.result (last_of c.args.monitor.now) in
-    OnLog-map _ _ _ (c.in-Break.ensures.log rows c.in-At.time stands)
-    (λ events told. let brings = rest_brings (Break c.in-Break.watched) program c.args.style rows copies c.number-number.result c.in-At.time c.in-At.place c.line-line.result.now c.take_fields.new.monitor events told in
-    subst (λ (text : List ℕ). Brings (Break c.in-Break.watched) (stamped_text program c.args.mission c.args.last text) program c.args.style rows (held before) c.args.cut.now.number c.take_fields.new.monitor events) c.line-line.ensures
-    (subst (λ (number : ℕ). Brings (Break c.in-Break.watched) (stamped_text program c.args.mission c.args.last c.line-line.result.now) program c.args.style rows (held before) number c.take_fields.new.monitor events) c.number-number.ensures
-    (Brings-stamped (Break c.in-Break.watched) program c.args.style rows before c.args.monitor.now c.take_fields.new.monitor c.args.last c.args.mission c.gap-times.result c.in-At.time c.in-At.place c.line-line.result.now c.number-number.result events c.in-At.ensures.told c.gap-times.ensures is stands same brings)))
+    rw c.from_residual.ensures (OnLog-map _ _ _ (c.in_err-take_fields-in-At.ensures.log rows c.in-At.time stands)
+    (λ events told. let brings = rest_brings (Break c.in_err-take_fields-in-At.field-0.0) program c.args.style rows copies c.number-number.result c.in-At.time c.in-At.place c.line-line.result.now c.take_fields.new.monitor events told in
+    subst (λ (text : List ℕ). Brings (Break c.in_err-take_fields-in-At.field-0.0) (stamped_text program c.args.mission c.args.last text) program c.args.style rows (held before) c.args.cut.now.number c.take_fields.new.monitor events) c.line-line.ensures
+    (subst (λ (number : ℕ). Brings (Break c.in_err-take_fields-in-At.field-0.0) (stamped_text program c.args.mission c.args.last c.line-line.result.now) program c.args.style rows (held before) number c.take_fields.new.monitor events) c.number-number.ensures
+    (Brings-stamped (Break c.in_err-take_fields-in-At.field-0.0) program c.args.style rows before c.args.monitor.now c.take_fields.new.monitor c.args.last c.args.mission c.gap-times.result c.in-At.time c.in-At.place c.line-line.result.now c.number-number.result events c.in-At.ensures.told c.gap-times.ensures is stands same brings))))
 
-pub returns-in-Continue-clause-log : goal.returns-in-Continue-clause-log
-returns-in-Continue-clause-log g c rows before stands is same =
+pub returns-in_ok-take_fields-in-At-clause-log : goal.returns-in_ok-take_fields-in-At-clause-log
+returns-in_ok-take_fields-in-At-clause-log g c rows before stands is same =
     let program = program_of c.args.monitor.now in
     let copies : ℕ → List Row = λ then_. replicate c.gap-times.result (last_of c.args.monitor.now) in
-    OnLog-map _ _ _ (c.in-Continue.ensures.log rows c.in-At.time stands)
+    OnLog-map _ _ _ (c.in_ok-take_fields-in-At.ensures.log rows c.in-At.time stands)
     (λ events told. let brings = rest_brings (Continue tt) program c.args.style rows copies c.number-number.result c.in-At.time c.in-At.place c.line-line.result.now c.take_fields.new.monitor events told in
     subst (λ (text : List ℕ). TakesStamped (Continue (Some c.in-At.time)) c.args.last (stamped_text program c.args.mission c.args.last text) program c.args.style rows (held before) c.args.cut.now.number c.take_fields.new.monitor events) c.line-line.ensures
     (subst (λ (number : ℕ). TakesStamped (Continue (Some c.in-At.time)) c.args.last (stamped_text program c.args.mission c.args.last c.line-line.result.now) program c.args.style rows (held before) number c.take_fields.new.monitor events) c.number-number.ensures (
