@@ -31,7 +31,7 @@ not_whole fault.Memory p limit name events has = (has.0, has.2.0, has.1, has.2.1
 
 -- one that was, or wasn't
 pub whole_log : (found : Result (Vec ℕ Global) WholeFault) (p : place.Place) (limit : ℕ) (name : List ℕ) (events : List Event) → (log : List Event) × (events ≡ Attached p name ∷ log) × WholeLog found p limit log → FileLog (told_as (unread p) found) p limit name events
-whole_log (Ok bytes) p limit name events has = has
+whole_log (Ok bytes) p limit name events has = (has.0, has.1, has.2.0, has.2.1)
 whole_log (Err why) p limit name events has = not_whole why p limit name events has
 
 -- a fault at the place of the file, and not at that of the messages
