@@ -32,7 +32,7 @@ pub enum Attached {
 }
 
 /// How a read ended.
-#[derive(Clone, Copy)]
+#[derive(Clone, Copy, PartialEq, Eq)]
 pub enum Got {
     /// So many bytes stand at the front of the slice, at least one.
     Bytes(usize),
@@ -43,7 +43,7 @@ pub enum Got {
 }
 
 /// How a write ended.
-#[derive(Clone, Copy)]
+#[derive(Clone, Copy, PartialEq, Eq)]
 pub enum Put {
     /// So many bytes from the front of the piece went out.
     Wrote(usize),

@@ -13,7 +13,7 @@ use clap::{Arg, ArgMatches, Command};
 use std::alloc::{AllocError, Global};
 
 /// A specification that is to be compiled.
-#[derive(Clone, Copy)]
+#[derive(Clone, Copy, Debug)]
 pub struct Compile<'a> {
     /// The file whose first line gives the columns.
     pub header: Option<&'a str>,
@@ -26,7 +26,7 @@ pub struct Compile<'a> {
 }
 
 /// What the words of `c2po` ask for.
-#[derive(Clone, Copy)]
+#[derive(Clone, Copy, Debug)]
 pub enum C2poAsk<'a> {
     Help,
     Compile(Compile<'a>),

@@ -16,7 +16,7 @@ use mltl_base::limits::{MAX_MISSION, TIMED_MISSION};
 use std::alloc::{AllocError, Global};
 
 /// A run of the monitor over a trace.
-#[derive(Clone, Copy)]
+#[derive(Clone, Copy, Debug)]
 pub struct Run<'a> {
     /// Whether the file is a specification, and not a program.
     pub source: bool,
@@ -31,7 +31,7 @@ pub struct Run<'a> {
 }
 
 /// What the words of `r2u2` ask for.
-#[derive(Clone, Copy)]
+#[derive(Clone, Copy, Debug)]
 pub enum R2u2Ask<'a> {
     Help,
     Run(Run<'a>),
