@@ -26,6 +26,7 @@ use Rattle.r2u2_runs.specs.declared.opening.Opened.TheVariants as made
 use Rattle.tool_runs.specs.declared.status.Status.{Status}
 use Rattle.tool_runs.specs.declared.status.Status.TheVariants.{Memory}
 use Rattle.tool_runs.specs.Files.{file_status}
+use Rattle.tool_runs.proofs.StatusLaws.{told_as}
 use Rattle.r2u2_runs.specs.ProgramBy.{compile_status, header_status, with_status, refusal_of, file_refusal, bound_over, bound_under, opened_under, program_by}
 use Rattle.r2u2_runs.specs.Phases.{Opens}
 use Rattle.std.specs.Prelude.{option_map}
@@ -66,6 +67,18 @@ unfolding program_by
 spec_program source text header items columns program is none same found made within =
     subst (λ s. program_by s text header ≡ Ok program) (sym is)
     (ap (with_status compile_status) (back_answers text header items columns (Ok program) none same found made within))
+
+pub spec_programs : (found : Result Program CompileFault) (now : Result Program Status) (header : Option (List ℕ)) (items : List ItemShape) (columns : Columns) → now ≡ told_as compile_status found → columns_by (signals_of items) header ≡ Ok columns
+    → IfOk found (λ program. program ≡ image columns (signals_of items) (outputs_of items)) → IfOk found (λ _. limit_refusal (over_columns columns (outputs_of items)) ≡ None)
+    → IfOk now (λ program. (source : Bool) (text : List ℕ) → (source ≡ true) × (first_refusal text ≡ None) × (items ≡ items_in text) → program_by source text header ≡ Ok program)
+spec_programs found now header items columns same named made within = subst (λ r. IfOk r Runs) (sym same) (by_case found made within)
+  where
+    Runs : Program → Type 0
+    Runs program = (source : Bool) (text : List ℕ) → (source ≡ true) × (first_refusal text ≡ None) × (items ≡ items_in text) → program_by source text header ≡ Ok program
+
+    by_case : (found : Result Program CompileFault) → IfOk found (λ program. program ≡ image columns (signals_of items) (outputs_of items)) → IfOk found (λ _. limit_refusal (over_columns columns (outputs_of items)) ≡ None) → IfOk (told_as compile_status found) Runs
+    by_case (Ok program) made within = λ source text opens. spec_program source text header items columns program opens.0 opens.1 opens.2 named made within
+    by_case (Err fault) made within = tt
 
 pub limit_refuses : (source : Bool) (text : List ℕ) (header : Option (List ℕ)) (items : List ItemShape) (columns : Columns) (fault : CompileFault) → source ≡ true → first_refusal text ≡ None → items ≡ items_in text
     → columns_by (signals_of items) header ≡ Ok columns → IsFirstRefusal (limit_refusal (over_columns columns (outputs_of items))) fault → compile_status fault ≢ Memory → program_by source text header ≡ Err (compile_status fault)
