@@ -77,7 +77,7 @@ pub enum Keyword {
 }
 
 /// A sign: an operator, a bracket or a separator.
-#[derive(Clone, Copy)]
+#[derive(Clone, Copy, PartialEq, Eq)]
 pub enum Sign {
     /// `<->`
     Iff,

@@ -13,7 +13,7 @@ pub enum ArithOp {
 }
 
 /// A comparison of whole numbers.
-#[derive(Clone, Copy)]
+#[derive(Clone, Copy, PartialEq, Eq)]
 pub enum CompareOp {
     Eq,
     Ne,
@@ -33,7 +33,7 @@ pub enum LogicOp {
 }
 
 /// A temporal operator of one formula: finally, globally, once, historically.
-#[derive(Clone, Copy)]
+#[derive(Clone, Copy, PartialEq, Eq)]
 pub enum WindowOp {
     F,
     G,

@@ -6,7 +6,7 @@ use std::alloc::{AllocError, AllocFailed};
 use thiserror::Error;
 
 /// The first limit that a specification exceeds: instructions, then delays, then slots.
-#[derive(Clone, Copy, Debug, Error)]
+#[derive(Clone, Copy, PartialEq, Eq, Debug, Error)]
 pub enum BuildFault {
     /// A part would have more instructions than the limit.
     #[error("too many nodes")]

@@ -6,7 +6,7 @@ ghost use Rattle.tool_io.specs.Log.{Event};
 ghost use Rattle.tool_io.specs.Host.{IsSource, IsSink, AttachCause, AttachLog, ReadRange, ReadCause, ReadLog, ReadLeft, WriteRange, WriteCause, WriteLog, LeftElsewhere, LeftAlone};
 
 /// Where bytes come from or go to. `Out` and `Err` are written, the others are read.
-#[derive(Clone, Copy)]
+#[derive(Clone, Copy, PartialEq, Eq)]
 pub enum Place {
     /// A specification.
     Spec,

@@ -21,7 +21,7 @@ pub enum FieldFault {
 }
 
 /// How a program reads a column.
-#[derive(Clone, Copy)]
+#[derive(Clone, Copy, PartialEq, Eq)]
 pub enum Reading {
     Unread,
     Whole,

@@ -20,7 +20,7 @@ use plain_nodes::{Nodes, Plain};
 use std::alloc::AllocError;
 
 /// What a node unfolds to.
-#[derive(Clone, Copy)]
+#[derive(Clone, Copy, PartialEq, Eq)]
 pub(crate) enum Sort {
     Number,
     Formula,
