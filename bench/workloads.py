@@ -78,9 +78,10 @@ FTSPEC f: F[0,100000] p; g: G[10,50000] q; u: q U[0,100000] p; n: G[0,1000] (p -
 PTSPEC s: q S[0,100000] p; o: O[5,100000] p;
 ''', COUNT, rare_changes),
     Workload('outputs', '300 outputs', many_outputs(), 20000, many_signals),
-    Workload('wide', 'rows of 1,000 columns', '''INPUT %s: int;
+    Workload('wide', 'rows of 1,000 columns', '''INPUT
+%s
 FTSPEC f: c3 < c900; g: F[0,5] (c500 == 3);
-''' % ', '.join('c%d' % k for k in range(1000)), 20000, wide),
+''' % '\n'.join('  %s: int;' % ', '.join('c%d' % (k + n) for n in range(250)) for k in range(0, 1000, 250)), 20000, wide),
     Workload('past', 'past time', '''INPUT p, q: bool;
 PTSPEC a: O[10,20] p; b: H[3,1000] q; c: p S[2,50] q; d: O[0,5] H[0,7] p; e: (p S[0,9] q) S[1,4] p;
 ''', COUNT, truths(0.5, 0.5)),
