@@ -3,7 +3,7 @@ use Rattle.std.proofs.Common.{◌≡◌, ℕ, ◌+◌, ◌-◌, ◌<◌, ◌≤�
 use Rattle.std.proofs.lemmas.Bool.Decides.{nat_tests}
 use Rattle.std.proofs.lemmas.Bool.{cases_lt}
 use Rattle.scq_ring.specs.declared.runs.Slot.{Slot}
-use Rattle.scq_ring.specs.Runs.{Belongs, Spans, frontier_of, low_of, no_slot, ring_index_of, runs_of, upto_at, value_in}
+use Rattle.scq_ring.specs.Runs.{Belongs, Spans, low_of, no_slot, ring_index_of, runs_of, upto_at, value_in, verdict_at}
 use Rattle.scq_ring.proofs.Windows.{get_or-window, length-window}
 use Rattle.scq_ring.specs.declared.runs.Ring.{Ring}
 
@@ -16,19 +16,6 @@ Spans-room low (r ∷ rs) end s = omega (arith, Spans-room (r.upto + 1) rs end s
 pub Spans-push : (low : ℕ) (runs : List Slot) (end : ℕ) (r : Slot) → Spans low runs end → end ≤ r.upto → Spans low (runs ++ r ∷ []) (r.upto + 1)
 Spans-push low [] end r s h = (omega arith, refl)
 Spans-push low (q ∷ qs) end r s h = (s.0, Spans-push (q.upto + 1) qs end r s.1 h)
-
--- where the last run begins
-pub record Parted (low : ℕ) (runs : List Slot) (r : Slot) (end : ℕ) : Type 0 where
-  pub start : ℕ
-  pub before : Spans low runs start
-  pub nonempty : start ≤ r.upto
-  pub ends : r.upto + 1 ≡ end
-
-pub parted : (low : ℕ) (runs : List Slot) (r : Slot) (end : ℕ) → Spans low (runs ++ r ∷ []) end → Parted low runs r end
-parted low [] r end s = record { start = low; before = refl; nonempty = s.0; ends = s.1 }
-parted low (q ∷ qs) r end s =
-    let p = parted (q.upto + 1) qs r end s.1 in
-    record { start = p.start; before = (s.0, p.before); nonempty = p.nonempty; ends = p.ends }
 
 -- before the end of the first runs their verdicts count, and from there on those of the others
 pub value_in_before : (low : ℕ) (runs more : List Slot) (end t : ℕ) → Spans low runs end → low ≤ t → t < end → value_in (runs ++ more) t ≡ value_in runs t
@@ -62,30 +49,6 @@ pushed low old end r s ahead new e = record {
   kept = λ t from to. ap (λ (rs : List Slot). value_in rs t) e ∙ value_in_before low old (r ∷ []) end t s from to;
   written = λ t from to. ap (λ (rs : List Slot). value_in rs t) e ∙ value_in_after low old (r ∷ []) end t s from ∙ value_in_one r t to;
 }
-
--- what a longer last run leaves
-pub record Extended (low : ℕ) (old new : List Slot) (end upto : ℕ) : Type 0 where
-  pub spans : Spans low new (upto + 1)
-  pub kept : (t : ℕ) → low ≤ t → t < end → value_in new t ≡ value_in old t
-  pub written : (t : ℕ) → end ≤ t → t ≤ upto → value_in new t ≡ value_in old (end - 1)
-
-pub extended : (low : ℕ) (front : List Slot) (last : Slot) (end upto : ℕ) → Spans low (front ++ last ∷ []) end → end ≤ upto → (new : List Slot) → new ≡ front ++ record { upto = upto; value = last.value } ∷ [] → Extended low (front ++ last ∷ []) new end upto
-extended low front last end upto s ahead new e =
-    let p : Parted low front last end = parted low front last end s in
-    let r : Slot = record { upto = upto; value = last.value } in
-    let room : low + length front ≤ p.start = Spans-room low front p.start p.before in
-    let start_in : p.start ≤ upto = omega arith in
-    let q : Pushed low front new p.start r = pushed low front p.start r p.before start_in new e in
-    let old_after : (t : ℕ) → p.start ≤ t → t < end → value_in (front ++ last ∷ []) t ≡ last.value =
-    λ t from to. value_in_after low front (last ∷ []) p.start t p.before from ∙ value_in_one last t (omega arith) in
-    record {
-      spans = q.spans;
-      kept = λ t from to. elim (cases_lt t p.start) [
-        | inl before ↦ q.kept t from before ∙ sym (value_in_before low front (last ∷ []) p.start t p.before from before)
-        | inr after ↦ q.written t after (omega arith) ∙ sym (old_after t after to)
-      ];
-      written = λ t from to. q.written t (omega arith) to ∙ sym (old_after (end - 1) (omega arith) (omega arith));
-    }
 
 -- what is left without the first run
 pub record Shortened (low : ℕ) (first : Slot) (rest : List Slot) (end : ℕ) : Type 0 where
@@ -146,18 +109,15 @@ pub some_run : (low : ℕ) (runs : List Slot) (end : ℕ) → Spans low runs end
 some_run low [] end s h = absurd (omega arith)
 some_run low (r ∷ rs) end s h = omega arith
 
--- the last run has the last verdict
-pub value_in_last : (low : ℕ) (front : List Slot) (last : Slot) (end : ℕ) → Spans low (front ++ last ∷ []) end → value_in (front ++ last ∷ []) (end - 1) ≡ last.value
-value_in_last low front last end s =
-    let p : Parted low front last end = parted low front last end s in
-    let nonempty : p.start ≤ last.upto = p.nonempty in
-    let ends : last.upto + 1 ≡ end = p.ends in
-    value_in_after low front (last ∷ []) p.start (end - 1) p.before (omega arith) ∙ value_in_one last (end - 1) (omega arith)
+-- from where the newest run begins, its verdict stands
+pub verdict_newest : (ring : Ring) (slots : List Slot) (t : ℕ) → ring.since ≤ t → verdict_at ring slots t ≡ ring.value
+unfolding verdict_at
+verdict_newest ring slots t from = grind (arith, nat_tests)
 
--- no time from the frontier on was let go
-pub low_below_frontier : (ring : Ring) (slots : List Slot) → Belongs ring slots → low_of ring ≤ frontier_of ring
-unfolding low_of frontier_of
-low_below_frontier ring slots b = omega (arith, Spans-room ring.low (runs_of ring slots) ring.frontier b.spans)
+-- and before it those of the runs in the slots
+pub verdict_before : (ring : Ring) (slots : List Slot) (t : ℕ) → t < ring.since → verdict_at ring slots t ≡ value_in (runs_of ring slots) t
+unfolding verdict_at
+verdict_before ring slots t to = grind (arith, nat_tests)
 
 -- run k stands at its index
 pub run_at_index : (ring : Ring) (slots : List Slot) (k ring_index : ℕ) → Belongs ring slots → k < ring.used → ring_index ≡ ring_index_of ring.oldest k (length slots)
@@ -169,14 +129,14 @@ run_at_index ring slots k ring_index b k_in place_is =
 pub length-runs : (ring : Ring) (slots : List Slot) → Belongs ring slots → length (runs_of ring slots) ≡ ring.used
 length-runs ring slots b = length-window ring.oldest ring.used slots b.oldest_in b.used_in
 
--- the newest run ends with the frontier, where one is kept
-pub record HasNewest (ring : Ring) (slots : List Slot) : Type 0 where
+-- the last run in the slots ends where the newest one begins
+pub record HasLast (ring : Ring) (slots : List Slot) : Type 0 where
   pub some_run : 0 < ring.used
-  pub ends : upto_at (runs_of ring slots) (ring.used - 1) + 1 ≡ frontier_of ring
+  pub ends : upto_at (runs_of ring slots) (ring.used - 1) + 1 ≡ ring.since
 
-pub has_newest : (ring : Ring) (slots : List Slot) → Belongs ring slots → low_of ring < frontier_of ring → HasNewest ring slots
-unfolding low_of frontier_of
-has_newest ring slots b covered =
+pub has_last : (ring : Ring) (slots : List Slot) → Belongs ring slots → low_of ring < ring.since → HasLast ring slots
+unfolding low_of
+has_last ring slots b covered =
     let size = length-runs ring slots b in
-    let some = some_run ring.low (runs_of ring slots) ring.frontier b.spans covered in
-    record { some_run = omega arith; ends = Spans-last ring.low (runs_of ring slots) ring.frontier b.spans (ring.used - 1) (omega arith) }
+    let some = some_run ring.low (runs_of ring slots) ring.since b.spans covered in
+    record { some_run = omega arith; ends = Spans-last ring.low (runs_of ring slots) ring.since b.spans (ring.used - 1) (omega arith) }

@@ -1,5 +1,5 @@
 -- What a ring and its slots stand for: a frontier, a low time, and a verdict for each time from the low time to the frontier - 1.
-use Rattle.std.specs.Prelude.{◌≡◌, ℕ, ◌+◌, ◌-◌, ◌<◌, ◌≤◌, Bool, false, List, [], ◌∷◌, ◌++◌, length, slice_index_or, take, drop, if◌then◌else◌, nat_le, nat_lt}
+use Rattle.std.specs.Prelude.{◌≡◌, ℕ, ◌+◌, ◌-◌, ◌<◌, ◌≤◌, ◌⊎◌, Bool, false, List, [], ◌∷◌, ◌++◌, length, slice_index_or, take, drop, if◌then◌else◌, nat_le, nat_lt}
 use Rattle.scq_ring.specs.declared.runs.Ring.{Ring}
 use Rattle.scq_ring.specs.declared.runs.Slot.{Slot}
 use Rattle.scq_ring.specs.declared.runs.Seen.{Seen}
@@ -27,7 +27,7 @@ abbrev pub Spans : ℕ → List Slot → ℕ → Type 0
 Spans low [] end = low ≡ end
 Spans low (run ∷ runs) end = (low ≤ run.upto) × Spans (run.upto + 1) runs end
 
--- the runs that are kept, oldest first
+-- the runs before the newest one that are kept, oldest first
 abbrev pub runs_of : Ring → List Slot → List Slot
 runs_of ring slots = window ring.oldest ring.used slots
 
@@ -43,30 +43,44 @@ frontier_of ring = ring.frontier
 unfoldable pub low_of : Ring → ℕ
 low_of ring = ring.low
 
--- the verdict at a time from the low time to the frontier - 1
+-- the verdict at a time from the low time to the frontier - 1: that of the newest run from where this begins
 unfoldable pub verdict_at : Ring → List Slot → ℕ → Bool
-verdict_at ring slots t = value_in (runs_of ring slots) t
+verdict_at ring slots t = if nat_le ring.since t then ring.value else value_in (runs_of ring slots) t
 
--- the slots are those of the ring
+-- the slots are those of the ring: they hold the runs before the newest one, which has some time behind the first write
 pub record Belongs (ring : Ring) (slots : List Slot) : Type 0 where
   pub oldest_in : ring.oldest < length slots
   pub used_in : ring.used ≤ length slots
-  pub spans : Spans ring.low (runs_of ring slots) ring.frontier
+  pub spans : Spans ring.low (runs_of ring slots) ring.since
+  pub begun : ring.since ≤ ring.frontier
+  pub some_time : 0 < ring.frontier → ring.since < ring.frontier
 
--- the ring has got the value at each time from its frontier up to this one, and has let nothing go
-pub record IsWritten (old : Ring) (old_slots : List Slot) (upto : ℕ) (value : Bool) (new : Ring) (new_slots : List Slot) : Type 0 where
+-- the newest run stays as it is
+pub record KeepsNewest (old new : Ring) : Type 0 where
+  pub frontier : new.frontier ≡ old.frontier
+  pub since : new.since ≡ old.since
+  pub value : new.value ≡ old.value
+
+-- the slots hold all runs up to the frontier, the newest one too; where they were full, the oldest run was let go
+pub record IsClosed (old : Ring) (old_slots : List Slot) (new : Ring) (new_slots : List Slot) : Type 0 where
+  pub oldest_in : new.oldest < length new_slots
+  pub used_in : new.used ≤ length new_slots
+  pub spans : Spans new.low (runs_of new new_slots) new.frontier
+  pub frontier : new.frontier ≡ old.frontier
+  pub rises : old.low ≤ new.low
+  pub bounded : (new.low ≡ old.low) ⊎ (new.low + length old_slots ≤ old.frontier)
+  pub kept : (t : ℕ) → new.low ≤ t → t < old.frontier → value_in (runs_of new new_slots) t ≡ verdict_at old old_slots t
+
+-- the ring has got the value at each time from its frontier up to this one; where the slots were full, the oldest run was let go
+pub record IsTurned (old : Ring) (old_slots : List Slot) (upto : ℕ) (value : Bool) (new : Ring) (new_slots : List Slot) : Type 0 where
   pub belongs : Belongs new new_slots
-  pub frontier : frontier_of new ≡ upto + 1
-  pub low : low_of new ≡ low_of old
-  pub kept : (t : ℕ) → low_of old ≤ t → t < frontier_of old → verdict_at new new_slots t ≡ verdict_at old old_slots t
-  pub written : (t : ℕ) → frontier_of old ≤ t → t ≤ upto → verdict_at new new_slots t ≡ value
+  pub frontier : new.frontier ≡ upto + 1
+  pub rises : old.low ≤ new.low
+  pub bounded : (new.low ≡ old.low) ⊎ (new.low + length old_slots ≤ upto)
+  pub kept : (t : ℕ) → new.low ≤ t → t < old.frontier → verdict_at new new_slots t ≡ verdict_at old old_slots t
+  pub written : (t : ℕ) → old.frontier ≤ t → t ≤ upto → verdict_at new new_slots t ≡ value
 
--- this is the index of the newest run
-pub record IsNewest (ring : Ring) (slots : List Slot) (newest : ℕ) : Type 0 where
-  pub some_run : 0 < ring.used
-  pub ring_index : newest ≡ ring_index_of ring.oldest (ring.used - 1) (length slots)
-
--- the run that holds a time is one of those from `first` to `last`: those before end earlier, and the last one doesn't
+-- the run in the slots that holds a time is one of those from `first` to `last`: those before end earlier, and the last one doesn't
 pub record IsAround (ring : Ring) (slots : List Slot) (from first last : ℕ) : Type 0 where
   pub ordered : first ≤ last
   pub within : last < ring.used
@@ -85,4 +99,4 @@ IsClear slot = (slot.upto ≡ 0) × (slot.value ≡ false)
 
 -- a ring without verdicts, which stands past the end of a list of rings
 unfoldable pub no_ring : Ring
-no_ring = record { frontier = 0; low = 0; oldest = 0; used = 0 }
+no_ring = record { frontier = 0; low = 0; since = 0; oldest = 0; used = 0; value = false }

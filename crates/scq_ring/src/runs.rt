@@ -1,7 +1,7 @@
 //! A ring of merged runs, and its slots.
 
-ghost use Rattle.std.specs.Prelude.{◌≡◌, ℕ, ◌+◌, ◌-◌, ◌^◌, ◌<◌, ◌≤◌, ◌↔◌, max, length, IfSome, IsSome, List, nat_lt, if◌then◌else◌};
-ghost use Rattle.scq_ring.specs.Runs.{Belongs, IsAround, IsClear, IsNewest, IsWritten, Shows, frontier_of, low_of, ring_index_of, verdict_at};
+ghost use Rattle.std.specs.Prelude.{◌≡◌, ℕ, ◌+◌, ◌-◌, ◌^◌, ◌<◌, ◌≤◌, max, length, List, nat_lt, if◌then◌else◌};
+ghost use Rattle.scq_ring.specs.Runs.{Belongs, IsAround, IsClear, IsClosed, IsTurned, KeepsNewest, Shows, frontier_of, low_of, ring_index_of, verdict_at};
 ghost use Rattle.scq_ring.specs.declared.runs.Slot.{Slot};
 
 use crate::steps::Steps;
@@ -29,13 +29,18 @@ impl Slot {
 
 /// The verdicts of one operator by time, over slots that the caller lends to each call.
 ///
-/// It has verdicts for the times from its low time to its frontier - 1.
+/// It has verdicts for the times from its low time to its frontier - 1. The newest run stands in the ring itself, so that a
+/// write of the last verdict and a read of the newest run touch no slot. The slots hold the runs before it.
 #[derive(Drop)]
 pub struct Ring {
     frontier: u64,
     low: u64,
+    /// The first time of the newest run.
+    since: u64,
     oldest: usize,
     used: usize,
+    /// The verdict of the newest run.
+    value: bool,
 }
 
 /// What a read shows.
@@ -69,8 +74,10 @@ impl Ring {
         Ring {
             frontier: 0,
             low: 0,
+            since: 0,
             oldest: 0,
             used: 0,
+            value: false,
         }
     }
 
@@ -120,14 +127,11 @@ impl Ring {
         ensures step { steps.new ≡ steps.old + 1 }
     {
         steps.tick();
-        if let Some(newest) = self.newest_with(slots, value) {
-            self.extend(slots, newest, upto);
-            return;
+        if value == self.value {
+            self.frontier = upto + 1;
+        } else {
+            self.turn(slots, upto, value);
         }
-        if self.used == slots.len() {
-            self.forget(slots);
-        }
-        self.add(slots, upto, value);
     }
 
     /// The verdict at time `from`, and a time up to which it stays the same; counts one step.
@@ -142,39 +146,55 @@ impl Ring {
         if self.frontier <= from {
             return Seen::Nothing;
         }
+        if self.since <= from {
+            return Seen::Run(self.frontier - 1, self.value);
+        }
         let run = self.run_at(slots, from);
         Seen::Run(run.upto, run.value)
     }
 
-    /// The index of the newest run, where it has this verdict.
-    fn newest_with(&self, slots: &[Slot], value: bool) -> Option<usize>
-        requires belongs { Belongs self.now slots.now }
-        ensures ring_index { IfSome result (IsNewest self.now slots.now) }
-        ensures same { IsSome result ↔ ((0 < self.now.used)
-            × (value ≡ verdict_at self.now slots.now (frontier_of self.now - 1))) }
+    /// Begins a run up to `upto` that has another verdict than the newest one.
+    fn turn(&mut self, slots: &mut [Slot], upto: u64, value: bool)
+        requires belongs { Belongs self.old slots.old }
+        requires ahead { self.old.frontier ≤ upto }
+        requires in_time { upto < 2 ^ 41 }
+        ensures turned { IsTurned self.old slots.old upto value self.new slots.new }
     {
-        if self.used == 0 {
-            return None;
-        }
-        let newest = ring_index(self.oldest, self.used - 1, slots.len());
-        if slots[newest].value == value {
-            Some(newest)
-        } else {
-            None
-        }
+        self.close(slots);
+        self.since = self.frontier;
+        self.value = value;
+        self.frontier = upto + 1;
     }
 
-    /// Moves the end of the newest run, which has this index.
-    fn extend(&mut self, slots: &mut [Slot], newest: usize, upto: u64)
+    /// Puts the newest run behind those in the slots, if it has some time.
+    fn close(&mut self, slots: &mut [Slot])
         requires belongs { Belongs self.old slots.old }
-        requires newest { IsNewest self.old slots.old newest }
-        requires ahead { frontier_of self.old ≤ upto }
-        requires in_time { upto < 2 ^ 41 }
-        ensures written { IsWritten self.old slots.old upto
-            (verdict_at self.old slots.old (frontier_of self.old - 1)) self.new slots.new }
+        requires in_time { self.old.frontier < 2 ^ 41 }
+        ensures closed { IsClosed self.old slots.old self.new slots.new }
     {
-        slots[newest].upto = upto;
-        self.frontier = upto + 1;
+        if self.since == self.frontier {
+            return;
+        }
+        if self.used == slots.len() {
+            self.forget(slots);
+        }
+        self.add(slots);
+    }
+
+    /// Puts the newest run, which has some time, into a slot that is free.
+    fn add(&mut self, slots: &mut [Slot])
+        requires belongs { Belongs self.old slots.old }
+        requires free { self.old.used < length slots.old }
+        requires some_time { self.old.since < self.old.frontier }
+        requires in_time { self.old.frontier < 2 ^ 41 }
+        ensures low { self.new.low ≡ self.old.low }
+        ensures closed { IsClosed self.old slots.old self.new slots.new }
+    {
+        slots[ring_index(self.oldest, self.used, slots.len())] = Slot {
+            upto: self.frontier - 1,
+            value: self.value,
+        };
+        self.used += 1;
     }
 
     /// Lets the oldest run go.
@@ -182,11 +202,11 @@ impl Ring {
         requires belongs { Belongs self.old slots.now }
         requires some_run { 0 < self.old.used }
         ensures belongs { Belongs self.new slots.now }
-        ensures frontier { frontier_of self.new ≡ frontier_of self.old }
+        ensures newest { KeepsNewest self.old self.new }
         ensures rises { low_of self.old ≤ low_of self.new }
         ensures fewer { self.new.used + 1 ≡ self.old.used }
-        ensures bounded { low_of self.new + self.new.used ≤ frontier_of self.old }
-        ensures kept { (t : ℕ) → low_of self.new ≤ t → t < frontier_of self.old
+        ensures bounded { low_of self.new + self.new.used ≤ self.old.since }
+        ensures kept { (t : ℕ) → low_of self.new ≤ t
             → verdict_at self.new slots.now t ≡ verdict_at self.old slots.now t }
     {
         self.low = slots[self.oldest].upto + 1;
@@ -194,26 +214,13 @@ impl Ring {
         self.used -= 1;
     }
 
-    /// Adds a run, where a slot is free.
-    fn add(&mut self, slots: &mut [Slot], upto: u64, value: bool)
-        requires belongs { Belongs self.old slots.old }
-        requires free { self.old.used < length slots.old }
-        requires ahead { frontier_of self.old ≤ upto }
-        requires in_time { upto < 2 ^ 41 }
-        ensures written { IsWritten self.old slots.old upto value self.new slots.new }
-    {
-        slots[ring_index(self.oldest, self.used, slots.len())] = Slot { upto, value };
-        self.used += 1;
-        self.frontier = upto + 1;
-    }
-
-    /// The run that holds time `from`, found by halving the runs that may.
+    /// The run before the newest one that holds time `from`, found by halving the runs that may.
     fn run_at(&self, slots: &[Slot], from: u64) -> Slot
         requires belongs { Belongs self.now slots.now }
         requires kept { low_of self.now ≤ from }
-        requires known { from < frontier_of self.now }
+        requires before { from < self.now.since }
         ensures reaches { from ≤ result.upto }
-        ensures known { result.upto < frontier_of self.now }
+        ensures before { result.upto < self.now.since }
         ensures verdict { (t : ℕ) → from ≤ t → t ≤ result.upto
             → verdict_at self.now slots.now t ≡ result.value }
     {
@@ -229,12 +236,12 @@ impl Ring {
         slots[ring_index(self.oldest, first, slots.len())]
     }
 
-    /// The first and the last of the runs that may hold time `from`. Nearly every reader wants a new one, so it looks
-    /// from the newest run back, in steps that grow.
+    /// The first and the last of the runs in the slots that may hold time `from`. Nearly every reader wants a new one, so it
+    /// looks from the last of them back, in steps that grow.
     fn newest_around(&self, slots: &[Slot], from: u64) -> (usize, usize)
         requires belongs { Belongs self.now slots.now }
         requires kept { low_of self.now ≤ from }
-        requires known { from < frontier_of self.now }
+        requires before { from < self.now.since }
         ensures around { IsAround self.now slots.now from result.0 result.1 }
     {
         let mut last = self.used - 1;

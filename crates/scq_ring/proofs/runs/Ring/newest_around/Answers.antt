@@ -1,17 +1,17 @@
 use Rattle.std.proofs.Common.{◌≡◌, ℕ, ◌-◌, ◌<◌, ◌≤◌, List, length, get_or, arith, subst, sym}
 use Rattle.scq_ring.specs.Runs.{no_slot, runs_of}
 use Rattle.scq_ring.specs.declared.runs.Slot.{Slot}
-use Rattle.scq_ring.proofs.RunLemmas.{Spans-rising, has_newest, length-runs, run_at_index}
+use Rattle.scq_ring.proofs.RunLemmas.{Spans-rising, has_last, length-runs, run_at_index}
 use Rattle.scq_ring.proofs.runs.Ring.newest_around.Goals as goal
 
 pub overflow_sub-last : goal.overflow_sub-last
-overflow_sub-last c = (has_newest c.args.self.now c.args.slots.now c.requires.belongs (omega arith)).some_run
+overflow_sub-last c = (has_last c.args.self.now c.args.slots.now c.requires.belongs (omega arith)).some_run
 
 pub back-init : goal.back-init
 back-init c =
-    let newest = has_newest c.args.self.now c.args.slots.now c.requires.belongs (omega arith) in
-    let some = newest.some_run in
-    let ends = newest.ends in
+    let last = has_last c.args.self.now c.args.slots.now c.requires.belongs (omega arith) in
+    let some = last.some_run in
+    let ends = last.ends in
     record { onward = omega arith; paced = omega arith; reached = omega arith }
 
 pub returns-then-slots-ring_index : goal.returns-then-slots-ring_index
@@ -28,7 +28,7 @@ returns-then-slots-ring_index c =
       around = record {
         ordered = omega arith;
         within = omega arith;
-        below = λ k h. omega (arith, Spans-rising ring.low runs ring.frontier c.requires.belongs.spans k before (omega arith) (omega arith));
+        below = λ k h. omega (arith, Spans-rising ring.low runs ring.since c.requires.belongs.spans k before (omega arith) (omega arith));
         reached = c.back.invariant.reached;
       };
     }

@@ -1,7 +1,7 @@
-use Rattle.std.proofs.Common.{◌≡◌, ℕ, ◌+◌, ◌-◌, ◌/◌, ◌<◌, ◌≤◌, List, length, get_or, arith, subst, sym}
-use Rattle.scq_ring.specs.Runs.{frontier_of, no_slot, runs_of, verdict_at, value_in}
+use Rattle.std.proofs.Common.{◌≡◌, ℕ, ◌+◌, ◌-◌, ◌/◌, ◌<◌, ◌≤◌, List, length, get_or, arith, subst, sym, ◌∙◌}
+use Rattle.scq_ring.specs.Runs.{no_slot, runs_of, value_in}
 use Rattle.scq_ring.specs.declared.runs.Slot.{Slot}
-use Rattle.scq_ring.proofs.RunLemmas.{Spans-upto, Spans-rising, length-runs, run_at_index, value_in_first}
+use Rattle.scq_ring.proofs.RunLemmas.{Spans-upto, Spans-rising, length-runs, run_at_index, value_in_first, verdict_before}
 use Rattle.scq_ring.proofs.runs.Ring.run_at.Goals as goal
 
 pub halving-preserved-then-slots-ring_index : goal.halving-preserved-then-slots-ring_index
@@ -21,7 +21,7 @@ halving-preserved-then-slots-ring_index c =
       around = record {
         ordered = omega arith;
         within = around.within;
-        below = λ k h. omega (arith, Spans-rising ring.low runs ring.frontier c.requires.belongs.spans k middle (omega arith) (omega arith));
+        below = λ k h. omega (arith, Spans-rising ring.low runs ring.since c.requires.belongs.spans k middle (omega arith) (omega arith));
         reached = around.reached;
       };
     }
@@ -44,7 +44,6 @@ halving-preserved c =
     }
 
 pub returns : goal.returns
-unfolding frontier_of verdict_at
 returns c =
     let ring = c.args.self.now in
     let slots = c.args.slots.now in
@@ -57,11 +56,13 @@ returns c =
     let same : get_or runs c.halving.first no_slot ≡ get_or slots c.ring_index-2.result no_slot =
     run_at_index ring slots c.halving.first c.ring_index-2.result c.requires.belongs (omega arith) c.ring_index-2.ensures.ring_index in
     let Reaches : Slot → Type 0 = λ r. c.args.from ≤ r.upto in
-    let Known : Slot → Type 0 = λ r. r.upto < ring.frontier in
+    let Before : Slot → Type 0 = λ r. r.upto < ring.since in
+    let before : (get_or slots c.ring_index-2.result no_slot).upto < ring.since = subst Before same (Spans-upto ring.low runs ring.since c.requires.belongs.spans c.halving.first (omega arith)) in
     let Alike : Slot → Type 0 = λ r. (t : ℕ) → c.args.from ≤ t → t ≤ r.upto → value_in runs t ≡ r.value in
+    let alike = subst Alike same (value_in_first runs c.halving.first c.args.from (omega arith) around.below) in
     let At : ℕ → Type 0 = λ k. c.args.from ≤ (get_or runs k no_slot).upto in
     record {
       reaches = subst Reaches same (subst At (sym only) around.reached);
-      known = subst Known same (Spans-upto ring.low runs ring.frontier c.requires.belongs.spans c.halving.first (omega arith));
-      verdict = subst Alike same (value_in_first runs c.halving.first c.args.from (omega arith) around.below);
+      before = before;
+      verdict = λ t from to. verdict_before ring slots t (omega arith) ∙ alike t from to;
     }

@@ -1,0 +1,66 @@
+use Rattle.std.proofs.Common.{◌≡◌, ℕ, ◌+◌, ◌≤◌, ◌⊎◌, List, length, arith, refl, subst, sym, ◌∙◌, inl, inr}
+use Rattle.scq_ring.specs.Runs.{IsClosed, Spans, low_of, runs_of, verdict_at}
+use Rattle.scq_ring.specs.declared.runs.Ring.{Ring}
+use Rattle.scq_ring.specs.declared.runs.Slot.{Slot}
+use Rattle.scq_ring.proofs.RunLemmas.{verdict_before}
+use Rattle.scq_ring.proofs.runs.Ring.close.Goals.{then-self-slots, else-self-slots}
+use Rattle.scq_ring.proofs.runs.Ring.close.Goals as goal
+
+pub returns-then-self : goal.returns-then-self
+returns-then-self c =
+    let ring = c.args.self.now in
+    let slots = c.args.slots.now in
+    let b = c.requires.belongs in
+    record {
+      closed = record {
+        oldest_in = b.oldest_in;
+        used_in = b.used_in;
+        spans = subst (Spans ring.low (runs_of ring slots)) c.if-self.true b.spans;
+        frontier = refl;
+        rises = omega arith;
+        bounded = inl refl;
+        kept = λ t from to. sym (verdict_before ring slots t (omega arith));
+      };
+    }
+
+-- a ring that may have let the oldest run go, and stays the same otherwise
+record LetsGo (old : Ring) (slots : List Slot) (mid : Ring) : Type 0 where
+  frontier : mid.frontier ≡ old.frontier
+  rises : old.low ≤ mid.low
+  bounded : (mid.low ≡ old.low) ⊎ (mid.low + length slots ≤ old.frontier)
+  kept : (t : ℕ) → mid.low ≤ t → verdict_at mid slots t ≡ verdict_at old slots t
+
+closed_behind : (old mid new : Ring) (slots new_slots : List Slot) → LetsGo old slots mid → new.low ≡ mid.low → IsClosed mid slots new new_slots → IsClosed old slots new new_slots
+closed_behind old mid new slots new_slots lets low is =
+    let frontier = lets.frontier in
+    let rises = lets.rises in
+    record {
+      oldest_in = is.oldest_in;
+      used_in = is.used_in;
+      spans = is.spans;
+      frontier = is.frontier ∙ frontier;
+      rises = omega arith;
+      bounded = elim lets.bounded [ inl same ↦ inl (low ∙ same) | inr few ↦ inr (omega arith) ];
+      kept = λ t from to. is.kept t from (omega arith) ∙ lets.kept t (omega arith);
+    }
+
+pub returns : goal.returns
+unfolding low_of
+returns c =
+    let ring = c.args.self.now in
+    let slots = c.args.slots.now in
+    let begun = c.requires.belongs.begun in
+    let some_time = c.if-self.false in
+    let closed = λ (lets : LetsGo ring slots c.if-self-slots.self). closed_behind ring c.if-self-slots.self c.add.new.self slots c.add.new.slots lets c.add.ensures.low c.add.ensures.closed in
+    elim c.if-self-slots.branch [
+      | then-self-slots w ↦
+          let forgot = w.forget.ensures in
+          let newest = forgot.newest in
+          let full : ring.used ≡ length slots = w.if-self-slots.true in
+          let fewer = forgot.fewer in
+          let bounded = forgot.bounded in
+          let room : w.forget.new.self.low + length slots ≤ ring.frontier = omega (arith, some_time) in
+          record { closed = closed (subst (LetsGo ring slots) (sym w.self-is) record { frontier = newest.frontier; rises = forgot.rises; bounded = inr room; kept = forgot.kept }) }
+      | else-self-slots w ↦
+          record { closed = closed (subst (LetsGo ring slots) (sym w.self-is) record { frontier = refl; rises = omega arith; bounded = inl refl; kept = λ t from. refl }) }
+    ]
