@@ -1,4 +1,4 @@
-use Rattle.std.proofs.Common.{Bool, ◌≡◌, ℕ, suc, ◌+◌, ◌<◌, ◌≤◌, length, ◌^◌, List, ◌++◌, get_or, take, set, drop, arith, refl, subst, sym, ap, ◌∙◌}
+use Rattle.std.proofs.Common.{Bool, false, ◌≡◌, ℕ, suc, ◌+◌, ◌<◌, ◌≤◌, length, ◌^◌, List, ◌++◌, get_or, take, set, drop, arith, refl, subst, sym, ap, ◌∙◌}
 use Rattle.mltl_base.specs.declared.operators.FtOp.{FtOp}
 use Rattle.scq_ring.specs.declared.Slot.{Slot}
 use Rattle.ft_slab.specs.declared.rows.Node.{Node}
@@ -24,7 +24,7 @@ step-requires-clause-ready g c =
     let low = c.split_at_mut-earlier.result.0.now in
     let high = c.split_at_mut-earlier.result.1.now in
     let front : length before ≡ c.loop-i.i = c.split_at_mut-before.ensures.front_len in
-    let blank : Node = record { ring = record { frontier = 0; low = 0; oldest = 0; used = 0 }; reads_at = 0; start = 0; size = 0 } in
+    let blank : Node = record { ring = record { frontier = 0; low = 0; since = 0; oldest = 0; used = 0; value = false }; reads_at = 0; start = 0; size = 0 } in
     let node : Node = get_or rest 0 blank in
     let t0 : Turned plan c.args.ops.now nodes slab n c.loop-i.i = c.loop-i.invariant.turned plan n few paced in
     let turned : Turned plan c.args.ops.now nodes slab n (length before) = subst (λ (i : ℕ). Turned plan c.args.ops.now nodes slab n i) (sym front) t0 in
@@ -50,7 +50,7 @@ loop-i-preserved g c =
     let low = c.split_at_mut-earlier.result.0.now in
     let high = c.split_at_mut-earlier.result.1.now in
     let front : length before ≡ c.loop-i.i = c.split_at_mut-before.ensures.front_len in
-    let blank : Node = record { ring = record { frontier = 0; low = 0; oldest = 0; used = 0 }; reads_at = 0; start = 0; size = 0 } in
+    let blank : Node = record { ring = record { frontier = 0; low = 0; since = 0; oldest = 0; used = 0; value = false }; reads_at = 0; start = 0; size = 0 } in
     let node : Node = get_or rest 0 blank in
     let t0 : Turned plan c.args.ops.now nodes slab n c.loop-i.i = c.loop-i.invariant.turned plan n few paced in
     let turned : Turned plan c.args.ops.now nodes slab n (length before) = subst (λ (i : ℕ). Turned plan c.args.ops.now nodes slab n i) (sym front) t0 in
