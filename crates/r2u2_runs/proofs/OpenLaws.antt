@@ -10,8 +10,6 @@ use Rattle.obs_verify.specs.Bound.{bound}
 use Rattle.obs_files.specs.declared.fault.FileFault.{FileFault}
 use Rattle.obs_files.specs.declared.fault.FileFault.TheVariants as file
 use Rattle.obs_files.specs.Faults.{Tells, opened}
-use Rattle.trace_feed.specs.declared.header_fault.HeaderFault.{HeaderFault}
-use Rattle.trace_feed.specs.declared.header_fault.HeaderFault.TheVariants as header_fault
 use Rattle.trace_feed.specs.Header.{header_meaning}
 use Rattle.spec_compile.specs.declared.fault.CompileFault.{CompileFault}
 use Rattle.spec_compile.specs.declared.fault.CompileFault.TheVariants as compile
@@ -27,7 +25,7 @@ use Rattle.tool_runs.specs.declared.status.Status.{Status}
 use Rattle.tool_runs.specs.declared.status.Status.TheVariants.{Memory}
 use Rattle.tool_runs.specs.Files.{file_status}
 use Rattle.tool_runs.proofs.StatusLaws.{told_as}
-use Rattle.r2u2_runs.specs.ProgramBy.{compile_status, header_status, with_status, refusal_of, file_refusal, bound_over, bound_under, opened_under, program_by}
+use Rattle.r2u2_runs.specs.ProgramBy.{compile_status, with_status, refusal_of, file_refusal, bound_over, bound_under, opened_under, program_by}
 use Rattle.r2u2_runs.specs.Phases.{Opens}
 use Rattle.std.specs.Prelude.{option_map}
 
@@ -60,7 +58,7 @@ header_refuses source text header items fault is none same refused some =
     subst (λ s. program_by s text header ≡ Err (compile_status fault)) (sym is)
     (ap (with_status compile_status) (header_answer text header items fault none same (refused (λ memory. some (ap compile_status memory)))))
 
--- its program, and the limits that refuse it
+-- its program
 pub spec_program : (source : Bool) (text : List ℕ) (header : Option (List ℕ)) (items : List ItemShape) (columns : Columns) (program : Program) → source ≡ true → first_refusal text ≡ None → items ≡ items_in text
     → columns_by (signals_of items) header ≡ Ok columns → program ≡ image columns (signals_of items) (outputs_of items) → limit_refusal (over_columns columns (outputs_of items)) ≡ None → program_by source text header ≡ Ok program
 unfolding program_by
@@ -68,6 +66,7 @@ spec_program source text header items columns program is none same found made wi
     subst (λ s. program_by s text header ≡ Ok program) (sym is)
     (ap (with_status compile_status) (back_answers text header items columns (Ok program) none same found made within))
 
+-- the program that a compilation gave is that of each specification with these items
 pub spec_programs : (found : Result Program CompileFault) (now : Result Program Status) (header : Option (List ℕ)) (items : List ItemShape) (columns : Columns) → now ≡ told_as compile_status found → columns_by (signals_of items) header ≡ Ok columns
     → IfOk found (λ program. program ≡ image columns (signals_of items) (outputs_of items)) → IfOk found (λ _. limit_refusal (over_columns columns (outputs_of items)) ≡ None)
     → IfOk now (λ program. (source : Bool) (text : List ℕ) → (source ≡ true) × (first_refusal text ≡ None) × (items ≡ items_in text) → program_by source text header ≡ Ok program)
@@ -80,6 +79,7 @@ spec_programs found now header items columns same named made within = subst (λ 
     by_case (Ok program) made within = λ source text opens. spec_program source text header items columns program opens.0 opens.1 opens.2 named made within
     by_case (Err fault) made within = tt
 
+-- the limits that refuse it
 pub limit_refuses : (source : Bool) (text : List ℕ) (header : Option (List ℕ)) (items : List ItemShape) (columns : Columns) (fault : CompileFault) → source ≡ true → first_refusal text ≡ None → items ≡ items_in text
     → columns_by (signals_of items) header ≡ Ok columns → IsFirstRefusal (limit_refusal (over_columns columns (outputs_of items))) fault → compile_status fault ≢ Memory → program_by source text header ≡ Err (compile_status fault)
 unfolding program_by
@@ -100,10 +100,6 @@ under_line line program two =
 
 pub bound_found : (line : List ℕ) (program : Program) (columns : Columns) (now : Program) → program.version ≡ 2 → header_meaning (map (λ s. s.name) program.signals) line ≡ Ok columns → now ≡ bound program columns.width columns.of_signal → bound_under (Some line) program ≡ Ok now
 bound_found line program columns now two found is = under_line line program two ∙ ap (bound_over program) found ∙ ap Ok (sym is)
-
-pub bound_refused : (line : List ℕ) (program : Program) (fault : HeaderFault) → program.version ≡ 2 → (fault ≢ header_fault.Memory → header_meaning (map (λ s. s.name) program.signals) line ≡ Err fault) → header_status fault ≢ Memory → bound_under (Some line) program ≡ Err (header_status fault)
-bound_refused line program fault two refused some =
-    under_line line program two ∙ ap (bound_over program) (refused (λ is. some (ap header_status is)))
 
 -- what was opened isn't refused by itself
 pub opens_unrefused : (made : Opened) (source : Bool) (bytes : List ℕ) → Opens made source bytes → file_refusal source bytes ≡ None
