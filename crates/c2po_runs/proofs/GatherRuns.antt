@@ -10,6 +10,8 @@ use Rattle.tool_io.specs.Host.{IsSource}
 use Rattle.tool_io.specs.Whole.{Takes}
 use Rattle.tool_io.specs.Cutting.{lines_of}
 use Rattle.tool_io.proofs.LogLaws.{taken-append, ended_from-append, names_of-append}
+use Rattle.tool_words.specs.declared.file_kind.FileKind.{FileKind}
+use Rattle.tool_words.specs.declared.file_kind.FileKind.TheVariants.{Spec, Program}
 use Rattle.spec_compile.specs.Front.{first_refusal}
 use Rattle.tool_runs.specs.declared.status.Status as status
 use Rattle.tool_runs.specs.declared.status.Status.TheVariants as answers
@@ -20,7 +22,7 @@ use Rattle.tool_runs.proofs.AttachLaws.{is_attached-append, ReadsAttached-append
 use Rattle.c2po_runs.specs.declared.make.Form.{Form}
 use Rattle.c2po_runs.specs.declared.make.Product.{Product}
 use Rattle.c2po_runs.specs.declared.make.Product.TheVariants.{Compiled, Upgrade, Show}
-use Rattle.c2po_runs.specs.Asking.{MakeAsked, from_text, place_named, read_names}
+use Rattle.c2po_runs.specs.Asking.{MakeAsked, file_kind, place_named, read_names}
 use Rattle.c2po_runs.specs.Made.{made, made_of_text}
 use Rattle.c2po_runs.specs.Run.{Seen, seen, place_of, is_tried, IsFaultless, Makes, MakeOutcome}
 use Rattle.c2po_runs.specs.Phases.{Refuses, HeaderLog, RefusedLog, MadeLog, SpecLog, TextLog, FileMadeLog, BehindLog, OnlySources, Gathered, NotGathered, GatherLog}
@@ -37,17 +39,17 @@ same_seen a b n f w h o t =
     ∙ ap (λ x. record { names = b.names; file = b.file; whole = b.whole; header = b.header; out = b.out; attached = x }) t
 
 -- the file isn't at the place of the header
-header_else : (text : Bool) → same_place at.Header (file_place text) ≡ false
-header_else true = refl
-header_else false = refl
+header_else : (kind : FileKind) → same_place at.Header (file_place kind) ≡ false
+header_else Spec = refl
+header_else Program = refl
 
-file_else : (text : Bool) → same_place (file_place text) at.Header ≡ false
-file_else true = refl
-file_else false = refl
+file_else : (kind : FileKind) → same_place (file_place kind) at.Header ≡ false
+file_else Spec = refl
+file_else Program = refl
 
-file_source : (text : Bool) → IsSource (file_place text)
-file_source true = tt
-file_source false = tt
+file_source : (kind : FileKind) → IsSource (file_place kind)
+file_source Spec = tt
+file_source Program = tt
 
 -- what comes behind the file: the names that are tried there, and the lines of the header file
 pub record Behind (asked : MakeAsked) (names : List (place.Place × List ℕ)) (lines : List (List ℕ)) (events : List Event) : Type 0 where
@@ -81,7 +83,7 @@ behind_missed asked name events is = subst (Behind asked ((at.Header, name) ∷ 
 behind_header : (asked : MakeAsked) (name bytes : List ℕ) (ended : Bool) (log events : List Event) → events ≡ Attached at.Header name ∷ log → Takes at.Header bytes ended log → Behind asked ((at.Header, name) ∷ []) (lines_of ended bytes) events
 behind_header asked name bytes ended log events is takes =
     let read = has_read at.Header name bytes ended log tt takes in
-    let other = file_else (from_text asked.product) in
+    let other = file_else (file_kind asked.product) in
     subst (Behind asked ((at.Header, name) ∷ []) (lines_of ended bytes)) (sym is) (record {
       names_are = read.names;
       sources = read.sources;
@@ -113,8 +115,8 @@ module _ (asked : MakeAsked) (bytes : List ℕ) (ended : Bool) (first second : L
       all_names
       (taken-append p first second ∙ ap (λ b. b ++ taken p second) read.takes ∙ ap (λ b. bytes ++ b) behind.no_file ∙ append-nil bytes)
       (ended_from-append false p first second ∙ behind.no_file_end (ended_from false p first) ∙ read.end)
-      (ap (λ v. lines_of v (taken at.Header all)) (ended_from-append false at.Header first second ∙ ap (λ v. ended_from v at.Header second) (read.end_else at.Header false (header_else (from_text asked.product))))
-      ∙ ap (lines_of (ended_from false at.Header second)) (taken-append at.Header first second ∙ ap (λ b. b ++ taken at.Header second) (read.takes_else at.Header (header_else (from_text asked.product))))
+      (ap (λ v. lines_of v (taken at.Header all)) (ended_from-append false at.Header first second ∙ ap (λ v. ended_from v at.Header second) (read.end_else at.Header false (header_else (file_kind asked.product))))
+      ∙ ap (lines_of (ended_from false at.Header second)) (taken-append at.Header first second ∙ ap (λ b. b ++ taken at.Header second) (read.takes_else at.Header (header_else (file_kind asked.product))))
       ∙ behind.lines_are)
       (sources_given at.Out all all_sources)
       (sources_unattached all all_sources)
@@ -123,7 +125,7 @@ module _ (asked : MakeAsked) (bytes : List ℕ) (ended : Bool) (first second : L
   tries_both : (is_tried at.Header names ≡ true → IsFaultless asked (read_so asked bytes ended names lines)) → is_tried at.Header (names_of all) ≡ true → IsFaultless asked (seen asked all)
   tries_both faultless tried =
       subst (IsFaultless asked) (sym seen_both)
-      (faultless (sym (ap (λ v. v || is_tried at.Header names) (header_else (from_text asked.product))) ∙ sym (ap (is_tried at.Header) all_names) ∙ tried))
+      (faultless (sym (ap (λ v. v || is_tried at.Header names) (header_else (file_kind asked.product))) ∙ sym (ap (is_tried at.Header) all_names) ∙ tried))
 
   pub gather_ok : (made_bytes : List ℕ) → names ≡ place_named at.Header asked.header → Makes asked (read_so asked bytes ended names lines) (Ok made_bytes) → (is_tried at.Header names ≡ true → IsFaultless asked (read_so asked bytes ended names lines)) → Gathered asked made_bytes all
   gather_ok made_bytes complete makes faultless = record {
@@ -159,16 +161,16 @@ refusal_outcome answers.Memory asked run speaks none untried makes = (none, untr
 refusal_outcome answer asked run speaks none untried makes = absurd speaks
 
 -- the output is none of the places that are read
-out_untried : (text : Bool) (name : List ℕ) → is_tried at.Out ((file_place text, name) ∷ []) ≡ false
-out_untried true name = refl
-out_untried false name = refl
+out_untried : (kind : FileKind) (name : List ℕ) → is_tried at.Out ((file_place kind, name) ∷ []) ≡ false
+out_untried Spec name = refl
+out_untried Program name = refl
 
-out_untried_header : (text : Bool) (name head : List ℕ) → is_tried at.Out ((file_place text, name) ∷ (at.Header, head) ∷ []) ≡ false
-out_untried_header true name head = refl
-out_untried_header false name head = refl
+out_untried_header : (kind : FileKind) (name head : List ℕ) → is_tried at.Out ((file_place kind, name) ∷ (at.Header, head) ∷ []) ≡ false
+out_untried_header Spec name head = refl
+out_untried_header Program name head = refl
 
 -- the file was read whole, within its limit
-module _ (asked : MakeAsked) (bytes : List ℕ) (first second : List Event) (read : HasRead (place_of asked) asked.file bytes true first) (within : length bytes ≤ file_limit (from_text asked.product)) where
+module _ (asked : MakeAsked) (bytes : List ℕ) (first second : List Event) (read : HasRead (place_of asked) asked.file bytes true first) (within : length bytes ≤ file_limit (file_kind asked.product)) where
   abbrev alone : Seen
   alone = read_so asked bytes true [] []
 
@@ -182,10 +184,10 @@ module _ (asked : MakeAsked) (bytes : List ℕ) (first second : List Event) (rea
   refused_alone : (answer : status.Status) → RefusedLog (Err answer) (made asked bytes []) second → NotGathered asked answer (first ++ second)
   refused_alone answers.Memory is =
       gather_not asked bytes true first second [] [] read (behind_none asked second is) answers.Memory no_front
-      (refl, out_untried (from_text asked.product) asked.file) (λ tried. absurd (cc)) tt
+      (refl, out_untried (file_kind asked.product) asked.file) (λ tried. absurd (cc)) tt
   refused_alone answer is =
       gather_not asked bytes true first second [] [] read (behind_none asked second is.0) answer no_front
-      (refusal_outcome answer asked alone is.1 refl (out_untried (from_text asked.product) asked.file) (record { whole = record { ended = refl; within = within }; is = is.2 }))
+      (refusal_outcome answer asked alone is.1 refl (out_untried (file_kind asked.product) asked.file) (record { whole = record { ended = refl; within = within }; is = is.2 }))
       (λ tried. absurd (cc)) (refuses_opened answer (first ++ second) is.1)
 
   -- or its bytes are made of it
@@ -211,7 +213,7 @@ module _ (asked : MakeAsked) (bytes : List ℕ) (first second : List Event) (rea
 
     missed_attached : (events : List Event) → is_attached at.Header events ≡ false → is_attached at.Header (first ++ events) ≡ false
     missed_attached events un =
-        is_attached-append at.Header first events ∙ ap (λ v. v || is_attached at.Header events) (read.unattached at.Header (header_else (from_text asked.product))) ∙ un
+        is_attached-append at.Header first events ∙ ap (λ v. v || is_attached at.Header events) (read.unattached at.Header (header_else (file_kind asked.product))) ∙ un
 
     header_missed : second ≡ Missed at.Header name ∷ [] → NotGathered asked (answers.OpenFault at.Header) (first ++ second)
     header_missed is =
@@ -244,7 +246,7 @@ module _ (asked : MakeAsked) (bytes : List ℕ) (first second : List Event) (rea
         let line = is.2 in
         let lines = lines_of line.ended line.bytes in
         gather_not asked bytes true first second ((at.Header, name) ∷ []) lines read (behind_header asked name line.bytes line.ended is.0 second is.1 line.takes) answers.Memory whole_front
-        (refl, out_untried_header (from_text asked.product) asked.file name) (λ tried. faultless lines) tt
+        (refl, out_untried_header (file_kind asked.product) asked.file name) (λ tried. faultless lines) tt
     header_made (Err (answers.TextTooLong at.Header)) is =
         let line = is.2 in
         let lines = lines_of line.ended line.bytes in
@@ -255,7 +257,7 @@ module _ (asked : MakeAsked) (bytes : List ℕ) (first second : List Event) (rea
         let line = is.2.1 in
         let lines = lines_of line.ended line.bytes in
         gather_not asked bytes true first second ((at.Header, name) ∷ []) lines read (behind_header asked name line.bytes line.ended is.0 second is.1 line.takes) answer whole_front
-        (refusal_outcome answer asked (headed name lines) speaks refl (out_untried_header (from_text asked.product) asked.file name) (record { whole = record { ended = refl; within = within }; is = is_made lines ∙ line.makes name }))
+        (refusal_outcome answer asked (headed name lines) speaks refl (out_untried_header (file_kind asked.product) asked.file name) (record { whole = record { ended = refl; within = within }; is = is_made lines ∙ line.makes name }))
         (λ tried. faultless lines) (refuses_opened answer (first ++ second) speaks)
 
   spec_made : (header : Option (List ℕ)) (form : Form) (result : Result (Vec ℕ Global) status.Status) → asked.header ≡ header → ((lines : List (List ℕ)) → made asked bytes lines ≡ made_of_text form header bytes lines) → first_refusal bytes ≡ None → SpecLog result form header bytes second → GatherLog result asked (first ++ second)
@@ -268,8 +270,8 @@ module _ (asked : MakeAsked) (bytes : List ℕ) (first second : List Event) (rea
   text_made form result is_made (inr is) = spec_made asked.header form result refl is_made is.0 is.1
 
 -- by what is made
-file_made : (product : Product) (name : List ℕ) (header out : Option (List ℕ)) (bytes : List ℕ) (result : Result (Vec ℕ Global) status.Status) (first second : List Event) → (from_text product ≡ false → header ≡ None)
-    → HasRead (file_place (from_text product)) name bytes true first → length bytes ≤ file_limit (from_text product) → FileMadeLog product result header bytes second
+file_made : (product : Product) (name : List ℕ) (header out : Option (List ℕ)) (bytes : List ℕ) (result : Result (Vec ℕ Global) status.Status) (first second : List Event) → (file_kind product ≡ Program → header ≡ None)
+    → HasRead (file_place (file_kind product)) name bytes true first → length bytes ≤ file_limit (file_kind product) → FileMadeLog product result header bytes second
     → GatherLog result (record { product = product; file = name; header = header; out = out }) (first ++ second)
 unfolding made
 file_made (Compiled form) name header out bytes result first second no_header read within is =
@@ -279,10 +281,10 @@ file_made Upgrade name header out bytes result first second no_header read withi
 file_made Show name header out bytes result first second no_header read within is =
     made_alone (record { product = Show; file = name; header = header; out = out }) bytes first second read within result (ap (place_named at.Header) (no_header refl)) is
 
-pub gather_behind : (asked : MakeAsked) (bytes : Vec ℕ Global) (result : Result (Vec ℕ Global) status.Status) (first second : List Event) → (from_text asked.product ≡ false → asked.header ≡ None)
-    → FileLog (Ok bytes) (place_of asked) (file_limit (from_text asked.product)) asked.file first → BehindLog result asked bytes.items second → GatherLog result asked (first ++ second)
+pub gather_behind : (asked : MakeAsked) (bytes : Vec ℕ Global) (result : Result (Vec ℕ Global) status.Status) (first second : List Event) → (file_kind asked.product ≡ Program → asked.header ≡ None)
+    → FileLog (Ok bytes) (place_of asked) (file_limit (file_kind asked.product)) asked.file first → BehindLog result asked bytes.items second → GatherLog result asked (first ++ second)
 gather_behind asked bytes result first second no_header read is =
-    let was = subst (HasRead (place_of asked) asked.file bytes.items true) (sym read.1) (has_read (place_of asked) asked.file bytes.items true read.0 (file_source (from_text asked.product)) read.2) in
+    let was = subst (HasRead (place_of asked) asked.file bytes.items true) (sym read.1) (has_read (place_of asked) asked.file bytes.items true read.0 (file_source (file_kind asked.product)) read.2) in
     file_made asked.product asked.file asked.header asked.out bytes.items result first second no_header was read.3 is
 
 -- the file wasn't read whole
@@ -293,17 +295,17 @@ module _ (asked : MakeAsked) where
   read_alone : (answer : status.Status) (bytes : List ℕ) (log events : List Event) → events ≡ Attached (place_of asked) asked.file ∷ log → Takes (place_of asked) bytes false log
       → MakeOutcome answer asked (read_so asked bytes false [] []) → OpensAsTold answer events → NotGathered asked answer events
   read_alone answer bytes log events is takes outcome opened_so =
-      let read = subst (HasRead (place_of asked) asked.file bytes false) (sym is) (has_read (place_of asked) asked.file bytes false log (file_source (from_text asked.product)) takes) in
+      let read = subst (HasRead (place_of asked) asked.file bytes false) (sym is) (has_read (place_of asked) asked.file bytes false log (file_source (file_kind asked.product)) takes) in
       subst (NotGathered asked answer) (append-nil events)
       (gather_not asked bytes false events [] [] [] read (behind_none asked [] refl) answer (record { rest = place_named at.Header asked.header; split = refl }) outcome (λ tried. absurd (cc)) (subst (OpensAsTold answer) (sym (append-nil events)) opened_so))
 
   file_missed : (events : List Event) → (events ≡ Missed (place_of asked) asked.file ∷ []) ⊎ (events ≡ []) → MakeOutcome (answers.OpenFault (place_of asked)) asked untouched → MakeOutcome (answers.OpenFault (place_of asked)) asked (record untouched { names = [] }) → NotGathered asked (answers.OpenFault (place_of asked)) events
   file_missed events (inl is) outcome none = subst (NotGathered asked (answers.OpenFault (place_of asked))) (sym is) (record {
     names = record { rest = place_named at.Header asked.header; split = refl };
-    sources = (file_source (from_text asked.product), tt);
+    sources = (file_source (file_kind asked.product), tt);
     reads = missed_none (place_of asked) asked.file;
     outcome = outcome;
-    tries = λ tried. absurd (let none : same_place at.Header (place_of asked) ≡ false = header_else (from_text asked.product) in let some : (same_place at.Header (place_of asked) || false) ≡ true = tried in cc);
+    tries = λ tried. absurd (let none : same_place at.Header (place_of asked) ≡ false = header_else (file_kind asked.product) in let some : (same_place at.Header (place_of asked) || false) ≡ true = tried in cc);
     opened = refl;
   })
   file_missed events (inr is) outcome none = subst (NotGathered asked (answers.OpenFault (place_of asked))) (sym is) (record {
@@ -316,36 +318,36 @@ module _ (asked : MakeAsked) where
   })
 
 -- an outcome at the place of the file
-open_outcome : (product : Product) (asked : MakeAsked) (run : Seen) → asked.product ≡ product → run.file ≡ [] → run.out ≡ [] → MakeOutcome (answers.OpenFault (file_place (from_text product))) asked run
-open_outcome (Compiled form) asked run is none silent = (ap (λ p. file_place (from_text p)) (sym is), none, silent)
-open_outcome Upgrade asked run is none silent = (ap (λ p. file_place (from_text p)) (sym is), none, silent)
-open_outcome Show asked run is none silent = (ap (λ p. file_place (from_text p)) (sym is), none, silent)
+open_outcome : (product : Product) (asked : MakeAsked) (run : Seen) → asked.product ≡ product → run.file ≡ [] → run.out ≡ [] → MakeOutcome (answers.OpenFault (file_place (file_kind product))) asked run
+open_outcome (Compiled form) asked run is none silent = (ap (λ p. file_place (file_kind p)) (sym is), none, silent)
+open_outcome Upgrade asked run is none silent = (ap (λ p. file_place (file_kind p)) (sym is), none, silent)
+open_outcome Show asked run is none silent = (ap (λ p. file_place (file_kind p)) (sym is), none, silent)
 
-read_outcome : (product : Product) (asked : MakeAsked) (run : Seen) → asked.product ≡ product → length run.file ≤ file_limit (from_text asked.product) → run.out ≡ [] → MakeOutcome (answers.ReadFault (file_place (from_text product))) asked run
-read_outcome (Compiled form) asked run is within silent = (ap (λ p. file_place (from_text p)) (sym is), within, silent)
-read_outcome Upgrade asked run is within silent = (ap (λ p. file_place (from_text p)) (sym is), within, silent)
-read_outcome Show asked run is within silent = (ap (λ p. file_place (from_text p)) (sym is), within, silent)
+read_outcome : (product : Product) (asked : MakeAsked) (run : Seen) → asked.product ≡ product → length run.file ≤ file_limit (file_kind asked.product) → run.out ≡ [] → MakeOutcome (answers.ReadFault (file_place (file_kind product))) asked run
+read_outcome (Compiled form) asked run is within silent = (ap (λ p. file_place (file_kind p)) (sym is), within, silent)
+read_outcome Upgrade asked run is within silent = (ap (λ p. file_place (file_kind p)) (sym is), within, silent)
+read_outcome Show asked run is within silent = (ap (λ p. file_place (file_kind p)) (sym is), within, silent)
 
-long_outcome : (product : Product) (asked : MakeAsked) (run : Seen) → asked.product ≡ product → file_limit (from_text asked.product) < length run.file → run.out ≡ [] → MakeOutcome (answers.TextTooLong (file_place (from_text product))) asked run
-long_outcome (Compiled form) asked run is long silent = (ap (λ p. file_place (from_text p)) (sym is), long, silent)
-long_outcome Upgrade asked run is long silent = (ap (λ p. file_place (from_text p)) (sym is), long, silent)
-long_outcome Show asked run is long silent = (ap (λ p. file_place (from_text p)) (sym is), long, silent)
+long_outcome : (product : Product) (asked : MakeAsked) (run : Seen) → asked.product ≡ product → file_limit (file_kind asked.product) < length run.file → run.out ≡ [] → MakeOutcome (answers.TextTooLong (file_place (file_kind product))) asked run
+long_outcome (Compiled form) asked run is long silent = (ap (λ p. file_place (file_kind p)) (sym is), long, silent)
+long_outcome Upgrade asked run is long silent = (ap (λ p. file_place (file_kind p)) (sym is), long, silent)
+long_outcome Show asked run is long silent = (ap (λ p. file_place (file_kind p)) (sym is), long, silent)
 
-file_attached_so : (text : Bool) (name : List ℕ) (log : List Event) → is_attached (file_place text) (Attached (file_place text) name ∷ log) ≡ true
-file_attached_so true name log = refl
-file_attached_so false name log = refl
+file_attached_so : (kind : FileKind) (name : List ℕ) (log : List Event) → is_attached (file_place kind) (Attached (file_place kind) name ∷ log) ≡ true
+file_attached_so Spec name log = refl
+file_attached_so Program name log = refl
 
-pub gather_unread : (asked : MakeAsked) (answer : status.Status) (events : List Event) → FileLog (Err answer) (place_of asked) (file_limit (from_text asked.product)) asked.file events → NotGathered asked answer events
+pub gather_unread : (asked : MakeAsked) (answer : status.Status) (events : List Event) → FileLog (Err answer) (place_of asked) (file_limit (file_kind asked.product)) asked.file events → NotGathered asked answer events
 gather_unread asked (answers.OpenFault p) events is =
     subst (λ q. NotGathered asked (answers.OpenFault q) events) (sym is.0)
     (file_missed asked events is.1 (open_outcome asked.product asked (untouched asked) refl refl refl) (open_outcome asked.product asked (record (untouched asked) { names = [] }) refl refl refl))
 gather_unread asked (answers.ReadFault p) events is =
     subst (λ q. NotGathered asked (answers.ReadFault q) events) (sym is.0)
     (read_alone asked (answers.ReadFault (place_of asked)) is.2 is.1 events is.3 is.4 (read_outcome asked.product asked (read_so asked is.2 false [] []) refl is.5 refl)
-    (ap (is_attached (place_of asked)) is.3 ∙ file_attached_so (from_text asked.product) asked.file is.1))
+    (ap (is_attached (place_of asked)) is.3 ∙ file_attached_so (file_kind asked.product) asked.file is.1))
 gather_unread asked (answers.TextTooLong p) events is =
     subst (λ q. NotGathered asked (answers.TextTooLong q) events) (sym is.0)
     (read_alone asked (answers.TextTooLong (place_of asked)) is.2 is.1 events is.3 is.4 (long_outcome asked.product asked (read_so asked is.2 false [] []) refl is.5 refl) tt)
 gather_unread asked answers.Memory events is =
-    read_alone asked answers.Memory is.1 is.0 events is.2 is.3 (refl, out_untried (from_text asked.product) asked.file) tt
+    read_alone asked answers.Memory is.1 is.0 events is.2 is.3 (refl, out_untried (file_kind asked.product) asked.file) tt
 gather_unread asked answer events is = absurd is

@@ -20,7 +20,7 @@ use Rattle.tool_runs.specs.Telling.{ToldWhole}
 use Rattle.tool_runs.proofs.AttachLaws.{ReadsAttached-append, writes_unread, opened_still}
 use Rattle.tool_runs.proofs.CauseLaws.{rose_at, err_stays}
 use Rattle.tool_runs.proofs.MessageLaws.{Leaves, message_leaves, unattached}
-use Rattle.c2po_runs.specs.Asking.{Ask, help, make, nothing, MakeAsked, from_text}
+use Rattle.c2po_runs.specs.Asking.{Ask, help, make, nothing, MakeAsked, file_kind}
 use Rattle.c2po_runs.specs.Run.{Seen, seen, place_of, TriesOf, TriesInTurn, WritesAttached, names_out, MakeOutcome, HelpOutcome, NothingOutcome, OutcomeOf, CompletesBy, Ran, IsMade}
 use Rattle.c2po_runs.specs.Made.{made}
 use Rattle.c2po_runs.proofs.LogLaws.{writes-append}
@@ -32,7 +32,7 @@ not_refused answer bytes found is refused = let same : Ok bytes ≡ Err answer =
 
 -- what gives bytes is done, unless memory is wanting
 make_complete : (answer : status.Status) (asked : MakeAsked) (run : Seen) (before between now : place.Place → ℕ) → RunCause answer before between → ((q : place.Place) → q ≢ at.Err → now q ≡ between q) → NoOtherRose before now
-    → (bytes : List ℕ) → length run.file ≤ file_limit (from_text asked.product) → made asked run.file run.header ≡ Ok bytes → MakeOutcome answer asked run → (answer ≡ answers.Done) ⊎ (answer ≡ answers.Memory)
+    → (bytes : List ℕ) → length run.file ≤ file_limit (file_kind asked.product) → made asked run.file run.header ≡ Ok bytes → MakeOutcome answer asked run → (answer ≡ answers.Done) ⊎ (answer ≡ answers.Memory)
 make_complete answers.Done asked run before between now cause same none bytes within makes is = inl refl
 make_complete answers.Memory asked run before between now cause same none bytes within makes is = inr refl
 make_complete (answers.OpenFault at.Err) asked run before between now cause same none bytes within makes is = absurd cause

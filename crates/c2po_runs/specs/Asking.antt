@@ -1,8 +1,10 @@
 -- What the words of c2po ask for, of what it does.
 
-use Rattle.std.specs.Prelude.{ℕ, Bool, true, false, Option, Some, None, option_map, List, [], ◌∷◌, ◌++◌}
+use Rattle.std.specs.Prelude.{ℕ, Option, Some, None, option_map, List, [], ◌∷◌, ◌++◌}
 use Rattle.tool_io.specs.declared.host.Place.{Place}
 use Rattle.tool_io.specs.declared.host.Place.TheVariants.{Header, Out}
+use Rattle.tool_words.specs.declared.file_kind.FileKind.{FileKind}
+use Rattle.tool_words.specs.declared.file_kind.FileKind.TheVariants.{Spec, Program}
 use Rattle.tool_words.specs.C2poWords.{Asked, CompileAsked}
 use Rattle.tool_words.specs.C2poWords as words
 use Rattle.tool_runs.specs.Files.{file_place}
@@ -53,11 +55,11 @@ served words.nothing = nothing
 unfoldable pub ask : List (List ℕ) → Ask
 ask list = served (words.ask list)
 
--- whether the file is a specification
-abbrev pub from_text : Product → Bool
-from_text (Compiled form) = true
-from_text Upgrade = false
-from_text Show = false
+-- what the file is
+abbrev pub file_kind : Product → FileKind
+file_kind (Compiled form) = Spec
+file_kind Upgrade = Program
+file_kind Show = Program
 
 -- a place with the name of a file, where one is named
 abbrev pub place_named : Place → Option (List ℕ) → List (Place × List ℕ)
@@ -66,7 +68,7 @@ place_named p (Some name) = (p, name) ∷ []
 
 -- the places that are read, with their names, in order
 abbrev pub read_names : MakeAsked → List (Place × List ℕ)
-read_names asked = (file_place (from_text asked.product), asked.file) ∷ place_named Header asked.header
+read_names asked = (file_place (file_kind asked.product), asked.file) ∷ place_named Header asked.header
 
 -- the places that are to be attached, with their names, in order: those that are read, and the output
 abbrev pub asked_names : Ask → List (Place × List ℕ)

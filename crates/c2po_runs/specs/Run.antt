@@ -13,7 +13,7 @@ use Rattle.tool_runs.specs.Causes.{NoOtherRose}
 use Rattle.tool_runs.specs.Attaching.{is_attached, ReadsAttached, OpensAsTold}
 use Rattle.tool_runs.specs.Files.{file_place, file_limit}
 use Rattle.tool_runs.specs.Telling.{ToldWhole}
-use Rattle.c2po_runs.specs.Asking.{Ask, help, make, nothing, MakeAsked, from_text, asked_names}
+use Rattle.c2po_runs.specs.Asking.{Ask, help, make, nothing, MakeAsked, file_kind, asked_names}
 use Rattle.c2po_runs.specs.Made.{made}
 
 -- What a log says of a run that makes something: the places that were tried with their names, the bytes of the file and
@@ -28,7 +28,7 @@ pub record Seen : Type 0 where
 
 -- the place at which the file is read
 abbrev pub place_of : MakeAsked → place.Place
-place_of asked = file_place (from_text asked.product)
+place_of asked = file_place (file_kind asked.product)
 
 -- what a log says of such a run
 abbrev pub seen : MakeAsked → List Event → Seen
@@ -56,7 +56,7 @@ is_tried p names = list_any (λ named. same_place p named.0) names
 -- the file was read to its end, within its limit
 pub record IsWhole (asked : MakeAsked) (run : Seen) : Type 0 where
   pub ended : run.whole ≡ true
-  pub within : length run.file ≤ file_limit (from_text asked.product)
+  pub within : length run.file ≤ file_limit (file_kind asked.product)
 
 -- so was a specification, and it has no fault
 pub record IsFaultless (asked : MakeAsked) (run : Seen) : Type 0 where
@@ -114,9 +114,9 @@ MakeOutcome (status.TheVariants.TextTooLong place.TheVariants.Header) asked run 
 MakeOutcome (status.TheVariants.TextTooLong place.TheVariants.Out) asked run = IsRefused (status.TheVariants.TextTooLong place.TheVariants.Out) asked run
 MakeOutcome (status.TheVariants.OpenFault p) asked run = (p ≡ place_of asked) × (run.file ≡ []) × (run.out ≡ [])
 MakeOutcome (status.TheVariants.ReadFault p) asked run =
-    (p ≡ place_of asked) × (length run.file ≤ file_limit (from_text asked.product)) × (run.out ≡ [])
+    (p ≡ place_of asked) × (length run.file ≤ file_limit (file_kind asked.product)) × (run.out ≡ [])
 MakeOutcome (status.TheVariants.TextTooLong p) asked run =
-    (p ≡ place_of asked) × (file_limit (from_text asked.product) < length run.file) × (run.out ≡ [])
+    (p ≡ place_of asked) × (file_limit (file_kind asked.product) < length run.file) × (run.out ≡ [])
 MakeOutcome (status.TheVariants.Refused line why) asked run = IsRefused (status.TheVariants.Refused line why) asked run
 MakeOutcome (status.TheVariants.BadProgram fault) asked run = IsRefused (status.TheVariants.BadProgram fault) asked run
 MakeOutcome (status.TheVariants.BadHeader why) asked run = IsRefused (status.TheVariants.BadHeader why) asked run
@@ -172,7 +172,7 @@ pub record Ran (asked : Ask) (answer : status.Status) (events : List Event) : Ty
 -- and help is given where it is asked for.
 abbrev pub CompletesBy : Ask → status.Status → List Event → Type 0
 CompletesBy (make asked) answer events =
-    (bytes : List ℕ) → length (file_in asked events) ≤ file_limit (from_text asked.product) → made_in asked events ≡ Ok bytes
+    (bytes : List ℕ) → length (file_in asked events) ≤ file_limit (file_kind asked.product) → made_in asked events ≡ Ok bytes
     → (answer ≡ status.TheVariants.Done) ⊎ (answer ≡ status.TheVariants.Memory)
 CompletesBy help answer events = (answer ≡ status.TheVariants.Helped) ⊎ (answer ≡ status.TheVariants.Memory)
 CompletesBy nothing answer events = Unit {0}

@@ -1,12 +1,13 @@
 //! The top call of the compiler.
 
-ghost use Rattle.std.specs.Prelude.{◌≡◌, ◌≢◌, ◌↔◌, None, false};
+ghost use Rattle.std.specs.Prelude.{◌≡◌, ◌≢◌, ◌↔◌, None};
 ghost use Rattle.tool_io.specs.Log.{OnLog};
 ghost use Rattle.tool_io.specs.declared.host.Place.{Place as Where};
 ghost use Rattle.tool_io.specs.declared.host.Place.TheVariants.{Err};
+ghost use Rattle.tool_words.specs.declared.file_kind.FileKind.TheVariants.{Program};
 ghost use Rattle.tool_words.specs.C2poWords.{asked_of};
 ghost use Rattle.tool_runs.specs.Causes.{CauseAt, RunCause};
-ghost use Rattle.c2po_runs.specs.Asking.{ask, from_text as is_text, help, make as made_so, make_of, nothing, served};
+ghost use Rattle.c2po_runs.specs.Asking.{ask, file_kind as kind_of, help, make as made_so, make_of, nothing, served};
 ghost use Rattle.c2po_runs.specs.Run.{IsMade, Ran};
 ghost use Rattle.c2po_runs.specs.Showing.{ShowsProgram};
 
@@ -20,7 +21,7 @@ use tool_words::{C2poAsk, Words, c2po_ask};
 
 /// Makes what was asked for, and writes it.
 fn make<H: Host>(alloc: Global, asked: &Make<'_>, host: &mut H) -> Status
-    requires header { is_text asked.now.product ≡ false → asked.now.header ≡ None }
+    requires header { kind_of asked.now.product ≡ Program → asked.now.header ≡ None }
     ensures cause { RunCause result (H.faults host.old) (H.faults host.new) }
     ensures log { OnLog (H.log host.old) (H.log host.new)
         (Ran (made_so (make_of asked.now)) result) }

@@ -1,12 +1,13 @@
 //! What a run reads, and the bytes that it makes of it.
 
-ghost use Rattle.std.specs.Prelude.{◌≡◌, ◌≤◌, List as Seq, None, ℕ, false, length, option_map};
+ghost use Rattle.std.specs.Prelude.{◌≡◌, ◌≤◌, List as Seq, None, ℕ, length, option_map};
 ghost use Rattle.c2po_tree.specs.ItemShape.{spec_shape};
 ghost use Rattle.spec_compile.specs.Front.{first_refusal, items_in};
 ghost use Rattle.tool_io.specs.Log.{OnLog};
+ghost use Rattle.tool_words.specs.declared.file_kind.FileKind.TheVariants.{Program};
 ghost use Rattle.tool_runs.specs.Causes.{PhaseCause};
 ghost use Rattle.tool_runs.specs.Files.{file_limit};
-ghost use Rattle.c2po_runs.specs.Asking.{from_text as is_text, make_of};
+ghost use Rattle.c2po_runs.specs.Asking.{file_kind as kind_of, make_of};
 ghost use Rattle.c2po_runs.specs.Phases.{BehindLog, GatherLog, SpecLog, TextLog};
 
 use crate::heading::under_header;
@@ -62,7 +63,7 @@ fn of_file<H: Host>(
     bytes: &[u8],
     host: &mut H,
 ) -> Result<Vec<u8>, Status>
-    requires within { length bytes.now ≤ file_limit (is_text asked.now.product) }
+    requires within { length bytes.now ≤ file_limit (kind_of asked.now.product) }
     ensures cause { PhaseCause result (H.faults host.old) (H.faults host.new) }
     ensures log { OnLog (H.log host.old) (H.log host.new)
         (BehindLog result (make_of asked.now) bytes.now) }
@@ -80,10 +81,10 @@ pub(crate) fn gather<H: Host>(
     asked: &Make<'_>,
     host: &mut H,
 ) -> Result<Vec<u8>, Status>
-    requires header { is_text asked.now.product ≡ false → asked.now.header ≡ None }
+    requires header { kind_of asked.now.product ≡ Program → asked.now.header ≡ None }
     ensures cause { PhaseCause result (H.faults host.old) (H.faults host.new) }
     ensures log { OnLog (H.log host.old) (H.log host.new) (GatherLog result (make_of asked.now)) }
 {
-    let bytes = read_file(alloc, asked.product.from_text(), asked.file, host)?;
+    let bytes = read_file(alloc, asked.product.file_kind(), asked.file, host)?;
     of_file(alloc, asked, &bytes, host)
 }

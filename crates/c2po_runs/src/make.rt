@@ -1,10 +1,10 @@
 //! What the words ask to be made.
 
-ghost use Rattle.std.specs.Prelude.{◌≡◌, None, option_map, true};
+ghost use Rattle.std.specs.Prelude.{◌≡◌, None, option_map};
 ghost use Rattle.tool_words.specs.C2poWords.{compile_of};
-ghost use Rattle.c2po_runs.specs.Asking.{compile_asked, from_text as is_text, make_of, show_asked, upgrade_asked};
+ghost use Rattle.c2po_runs.specs.Asking.{compile_asked, file_kind as kind_of, make_of, show_asked, upgrade_asked};
 
-use tool_words::Compile;
+use tool_words::{Compile, FileKind};
 
 /// What is written of a specification: its image or its instruction table, as it stands or in simplified form.
 #[derive(Clone, Copy)]
@@ -25,13 +25,13 @@ pub(crate) enum Product {
 }
 
 impl Product {
-    /// Whether the file is a specification, and not a program.
-    pub(crate) fn from_text(self) -> bool
-        ensures { result ≡ is_text self }
+    /// What the file is.
+    pub(crate) fn file_kind(self) -> FileKind
+        ensures { result ≡ kind_of self }
     {
         match self {
-            Product::Compiled(_) => true,
-            Product::Upgrade | Product::Show => false,
+            Product::Compiled(_) => FileKind::Spec,
+            Product::Upgrade | Product::Show => FileKind::Program,
         }
     }
 }
@@ -50,7 +50,7 @@ pub(crate) struct Make<'a> {
 /// The image or the table of a specification.
 pub(crate) fn compilation<'a>(asked: &Compile<'a>) -> Make<'a>
     ensures made { make_of result ≡ compile_asked (compile_of asked.now) }
-    ensures compiles { is_text result.product ≡ true }
+    ensures compiles { kind_of result.product ≡ FileKind.Spec }
 {
     let form = Form {
         table: asked.table,

@@ -4,13 +4,15 @@ use Rattle.std.proofs.Common.{◌≡◌, ℕ, ◌≤◌, ◌<◌, ◌⊎◌, Boo
 use Rattle.std.specs.declared.alloc.Global.{Global}
 use Rattle.std.proofs.lemmas.List.{append-nil}
 use Rattle.tool_io.specs.declared.host.Place as place
-use Rattle.tool_io.specs.declared.host.Place.TheVariants.{Spec, Trace, Out}
+use Rattle.tool_io.specs.declared.host.Place.TheVariants.{Trace, Out}
 use Rattle.tool_io.specs.declared.host.Place.TheVariants as at
 use Rattle.tool_io.specs.Log.{Event, Attached, Missed, Took, taken, given, ended_from, names_of, Reads, Prompt}
 use Rattle.tool_io.specs.Whole.{Takes}
 use Rattle.tool_io.specs.Cutting.{HasNoNewline, lines_of}
 use Rattle.tool_io.proofs.LogLaws.{same_place-self, taken-append, given-append, ended_from-append, names_of-append, Reads-taken, Reads-taken_elsewhere, Reads-given, Reads-names, Reads-ended, Reads-ended_elsewhere}
 use Rattle.tool_io.proofs.Prompting.{PromptBy, PromptBy-append, PromptBy-from, Prompt-from_by}
+use Rattle.tool_words.specs.declared.file_kind.FileKind.{FileKind}
+use Rattle.tool_words.specs.declared.file_kind.FileKind.TheVariants.{Spec, Program}
 use Rattle.tool_words.specs.R2u2Words.{RunAsked, run}
 use Rattle.mltl_monitor.specs.declared.state.State.{State}
 use Rattle.tool_runs.specs.declared.status.Status as status
@@ -26,42 +28,42 @@ use Rattle.r2u2_runs.specs.Phases.{IsOpened, RanFile, TraceOutcome}
 use Rattle.r2u2_runs.proofs.Refusing.{Refuses, file_refuses}
 use Rattle.r2u2_runs.proofs.TraceRuns.{trace_elsewhere}
 
-no_trace : (source : Bool) (before after : List Event) (pieces : List (List ℕ)) (piece : List ℕ) → map (Took (file_place source)) pieces ≡ before ++ Took Trace piece ∷ after → ⊥
-no_trace true before after pieces piece is = let same = file_reads at.Spec before after pieces Trace piece is in cc
-no_trace false before after pieces piece is = let same = file_reads at.Program before after pieces Trace piece is in cc
+no_trace : (kind : FileKind) (before after : List Event) (pieces : List (List ℕ)) (piece : List ℕ) → map (Took (file_place kind)) pieces ≡ before ++ Took Trace piece ∷ after → ⊥
+no_trace Spec before after pieces piece is = let same = file_reads at.Spec before after pieces Trace piece is in cc
+no_trace Program before after pieces piece is = let same = file_reads at.Program before after pieces Trace piece is in cc
 
-file_prompt : (source : Bool) (due_of : List ℕ → List ℕ) (read sent : List ℕ) (pieces : List (List ℕ)) → PromptBy due_of read sent (map (Took (file_place source)) pieces)
-file_prompt true due_of read sent [] = tt
-file_prompt true due_of read sent (piece ∷ pieces) = file_prompt true due_of read sent pieces
-file_prompt false due_of read sent [] = tt
-file_prompt false due_of read sent (piece ∷ pieces) = file_prompt false due_of read sent pieces
+file_prompt : (kind : FileKind) (due_of : List ℕ → List ℕ) (read sent : List ℕ) (pieces : List (List ℕ)) → PromptBy due_of read sent (map (Took (file_place kind)) pieces)
+file_prompt Spec due_of read sent [] = tt
+file_prompt Spec due_of read sent (piece ∷ pieces) = file_prompt Spec due_of read sent pieces
+file_prompt Program due_of read sent [] = tt
+file_prompt Program due_of read sent (piece ∷ pieces) = file_prompt Program due_of read sent pieces
 
 not_attached : (p q : place.Place) (pieces : List (List ℕ)) → is_attached p (map (Took q) pieces) ≡ false
 not_attached p q [] = refl
 not_attached p q (piece ∷ pieces) = not_attached p q pieces
 
-early_read : (source : Bool) (name : List ℕ) (pieces : List (List ℕ)) (log : List Event) → Reads (file_place source) pieces log → ReadsFirstLine (Attached (file_place source) name ∷ log)
-early_read source name pieces log is [] after piece at_it = cc
-early_read source name pieces log is (event ∷ before) after piece at_it = absurd (no_trace source before after pieces piece (sym is ∙ (let rest : log ≡ before ++ Took Trace piece ∷ after = cc in rest)))
+early_read : (kind : FileKind) (name : List ℕ) (pieces : List (List ℕ)) (log : List Event) → Reads (file_place kind) pieces log → ReadsFirstLine (Attached (file_place kind) name ∷ log)
+early_read kind name pieces log is [] after piece at_it = cc
+early_read kind name pieces log is (event ∷ before) after piece at_it = absurd (no_trace kind before after pieces piece (sym is ∙ (let rest : log ≡ before ++ Took Trace piece ∷ after = cc in rest)))
 
 -- the log of reading a file: its bytes, and whether the end was met
-pub record HasRead (source : Bool) (name bytes : List ℕ) (ended : Bool) (events : List Event) : Type 0 where
-  pub names : names_of events ≡ (file_place source, name) ∷ []
+pub record HasRead (kind : FileKind) (name bytes : List ℕ) (ended : Bool) (events : List Event) : Type 0 where
+  pub names : names_of events ≡ (file_place kind, name) ∷ []
   pub attached : ReadsAttached [] events
-  pub file : taken (file_place source) events ≡ bytes
-  pub file_end : ended_from false (file_place source) events ≡ ended
+  pub file : taken (file_place kind) events ≡ bytes
+  pub file_end : ended_from false (file_place kind) events ≡ ended
   pub no_trace_bytes : taken Trace events ≡ []
   pub no_trace_end : ended_from false Trace events ≡ false
   pub no_lines : given Out events ≡ []
   pub quiet : given at.Err events ≡ []
   pub prompt : (due_of : List ℕ → List ℕ) → PromptBy due_of [] [] events
-  pub opened : is_attached (file_place source) events ≡ true
+  pub opened : is_attached (file_place kind) events ≡ true
   pub unopened : is_attached Trace events ≡ false
   pub early : ReadsFirstLine events
 
-has_read : (source : Bool) (name bytes : List ℕ) (ended : Bool) (log : List Event) → Takes (file_place source) bytes ended log → HasRead source name bytes ended (Attached (file_place source) name ∷ log)
-has_read source name bytes ended log takes =
-    let p = file_place source in
+has_read : (kind : FileKind) (name bytes : List ℕ) (ended : Bool) (log : List Event) → Takes (file_place kind) bytes ended log → HasRead kind name bytes ended (Attached (file_place kind) name ∷ log)
+has_read kind name bytes ended log takes =
+    let p = file_place kind in
     let pieces = takes.pieces in
     let are = takes.are in
     record {
@@ -69,14 +71,14 @@ has_read source name bytes ended log takes =
       attached = subst (λ l. ReadsAttached [] (Attached p name ∷ l)) (sym are) (file_attached p name pieces);
       file = Reads-taken p pieces log are ∙ sym takes.joined;
       file_end = Reads-ended false p pieces log are ∙ takes.end;
-      no_trace_bytes = Reads-taken_elsewhere p Trace pieces log (trace_elsewhere source) are;
-      no_trace_end = Reads-ended_elsewhere false p Trace pieces log (trace_elsewhere source) are;
+      no_trace_bytes = Reads-taken_elsewhere p Trace pieces log (trace_elsewhere kind) are;
+      no_trace_end = Reads-ended_elsewhere false p Trace pieces log (trace_elsewhere kind) are;
       no_lines = Reads-given p Out pieces log are;
       quiet = Reads-given p at.Err pieces log are;
-      prompt = λ due_of. subst (PromptBy due_of [] []) (sym are) (file_prompt source due_of [] [] pieces);
+      prompt = λ due_of. subst (PromptBy due_of [] []) (sym are) (file_prompt kind due_of [] [] pieces);
       opened = ap (λ v. v || is_attached p log) (same_place-self p);
-      unopened = ap (λ v. v || is_attached Trace log) (trace_elsewhere source) ∙ ap (is_attached Trace) are ∙ not_attached Trace p pieces;
-      early = early_read source name pieces log are;
+      unopened = ap (λ v. v || is_attached Trace log) (trace_elsewhere kind) ∙ ap (is_attached Trace) are ∙ not_attached Trace p pieces;
+      early = early_read kind name pieces log are;
     }
 
 silent : Silent [] None
@@ -87,12 +89,12 @@ one_tried : (names : List (place.Place × List ℕ)) (one : place.Place × List 
 one_tried names one is two = let less : 1 < 1 = subst (λ ns. 1 < length ns) is two in omega (arith, less)
 
 -- a run whose file was read, and nothing more: the log is that of the file
-run_read : (asked : RunAsked) (bytes : List ℕ) (ended : Bool) (answer : status.Status) (events : List Event) (read : HasRead asked.source asked.file bytes ended events) → FileOutcome answer asked bytes ended [] false [] None → OpensAsTold answer events → RefusesBehind (run asked) answer events → Ran (run asked) answer None events
+run_read : (asked : RunAsked) (bytes : List ℕ) (ended : Bool) (answer : status.Status) (events : List Event) (read : HasRead asked.kind asked.file bytes ended events) → FileOutcome answer asked bytes ended [] false [] None → OpensAsTold answer events → RefusesBehind (run asked) answer events → Ran (run asked) answer None events
 run_read asked bytes ended answer events read outcome opened begun =
     let due_of = due_by asked (found_in asked events) false in
     record {
       names = record { rest = (Trace, asked.trace) ∷ []; split = ap (λ names. names ++ (Trace, asked.trace) ∷ []) (sym read.names) };
-      second = λ two. absurd (one_tried (names_of events) (file_place asked.source, asked.file) read.names two);
+      second = λ two. absurd (one_tried (names_of events) (file_place asked.kind, asked.file) read.names two);
       attached = read.attached;
       prompt = Prompt-from_by due_of [] events (read.prompt due_of);
       outcome =
@@ -108,28 +110,28 @@ run_read asked bytes ended answer events read outcome opened begun =
     }
 
 -- the file couldn't be attached
-open_outcome : (source : Bool) (asked : RunAsked) → asked.source ≡ source → FileOutcome (status.TheVariants.OpenFault (file_place source)) asked [] false [] false [] None
-open_outcome true asked is = (ap file_place (sym is), refl, silent)
-open_outcome false asked is = (ap file_place (sym is), refl, silent)
+open_outcome : (kind : FileKind) (asked : RunAsked) → asked.kind ≡ kind → FileOutcome (status.TheVariants.OpenFault (file_place kind)) asked [] false [] false [] None
+open_outcome Spec asked is = (ap file_place (sym is), refl, silent)
+open_outcome Program asked is = (ap file_place (sym is), refl, silent)
 
-missed : (asked : RunAsked) (events : List Event) → (events ≡ Missed (file_place asked.source) asked.file ∷ []) ⊎ (events ≡ []) → Ran (run asked) (status.TheVariants.OpenFault (file_place asked.source)) None events
-missed asked events (inl is) = subst (Ran (run asked) (status.TheVariants.OpenFault (file_place asked.source)) None) (sym is) (record {
+missed : (asked : RunAsked) (events : List Event) → (events ≡ Missed (file_place asked.kind) asked.file ∷ []) ⊎ (events ≡ []) → Ran (run asked) (status.TheVariants.OpenFault (file_place asked.kind)) None events
+missed asked events (inl is) = subst (Ran (run asked) (status.TheVariants.OpenFault (file_place asked.kind)) None) (sym is) (record {
   names = record { rest = (Trace, asked.trace) ∷ []; split = refl };
-  second = λ two. absurd (one_tried ((file_place asked.source, asked.file) ∷ []) (file_place asked.source, asked.file) refl two);
-  attached = missed_none (file_place asked.source) asked.file;
-  prompt = Prompt-from_by (due_by asked (found_in asked (Missed (file_place asked.source) asked.file ∷ [])) false) [] (Missed (file_place asked.source) asked.file ∷ []) tt;
-  outcome = open_outcome asked.source asked refl;
+  second = λ two. absurd (one_tried ((file_place asked.kind, asked.file) ∷ []) (file_place asked.kind, asked.file) refl two);
+  attached = missed_none (file_place asked.kind) asked.file;
+  prompt = Prompt-from_by (due_by asked (found_in asked (Missed (file_place asked.kind) asked.file ∷ [])) false) [] (Missed (file_place asked.kind) asked.file ∷ []) tt;
+  outcome = open_outcome asked.kind asked refl;
   opened = refl;
   begun = λ unrefused. tt;
   early = λ memory. cc;
   quiet = refl;
 })
-missed asked events (inr is) = subst (Ran (run asked) (status.TheVariants.OpenFault (file_place asked.source)) None) (sym is) (record {
-  names = record { rest = (file_place asked.source, asked.file) ∷ (Trace, asked.trace) ∷ []; split = refl };
+missed asked events (inr is) = subst (Ran (run asked) (status.TheVariants.OpenFault (file_place asked.kind)) None) (sym is) (record {
+  names = record { rest = (file_place asked.kind, asked.file) ∷ (Trace, asked.trace) ∷ []; split = refl };
   second = λ two. let none : 1 < 0 = two in absurd (omega (arith, none));
   attached = no_reads_none;
   prompt = Prompt-from_by (due_by asked (found_in asked []) false) [] [] tt;
-  outcome = open_outcome asked.source asked refl;
+  outcome = open_outcome asked.kind asked refl;
   opened = refl;
   begun = λ unrefused. tt;
   early = λ memory. cc;
@@ -137,28 +139,28 @@ missed asked events (inr is) = subst (Ran (run asked) (status.TheVariants.OpenFa
 })
 
 -- it couldn't be read whole
-read_outcome : (source : Bool) (asked : RunAsked) (bytes : List ℕ) → asked.source ≡ source → length bytes ≤ file_limit asked.source → FileOutcome (status.TheVariants.ReadFault (file_place source)) asked bytes false [] false [] None
-read_outcome true asked bytes is fits = (ap file_place (sym is), refl, fits, silent)
-read_outcome false asked bytes is fits = (ap file_place (sym is), refl, fits, silent)
+read_outcome : (kind : FileKind) (asked : RunAsked) (bytes : List ℕ) → asked.kind ≡ kind → length bytes ≤ file_limit asked.kind → FileOutcome (status.TheVariants.ReadFault (file_place kind)) asked bytes false [] false [] None
+read_outcome Spec asked bytes is fits = (ap file_place (sym is), refl, fits, silent)
+read_outcome Program asked bytes is fits = (ap file_place (sym is), refl, fits, silent)
 
-pub run_unread : (asked : RunAsked) (answer : status.Status) (events : List Event) → FileLog (Err answer) (file_place asked.source) (file_limit asked.source) asked.file events → Ran (run asked) answer None events
+pub run_unread : (asked : RunAsked) (answer : status.Status) (events : List Event) → FileLog (Err answer) (file_place asked.kind) (file_limit asked.kind) asked.file events → Ran (run asked) answer None events
 run_unread asked (status.TheVariants.OpenFault p) events is = subst (λ q. Ran (run asked) (status.TheVariants.OpenFault q) None events) (sym is.0) (missed asked events is.1)
 run_unread asked (status.TheVariants.ReadFault p) events is =
     let p_is = is.0 in
     let log = is.1 in
     let bytes = is.2 in
     subst (λ q. Ran (run asked) (status.TheVariants.ReadFault q) None events) (sym p_is)
-    (subst (Ran (run asked) (status.TheVariants.ReadFault (file_place asked.source)) None) (sym is.3)
-    (let read = has_read asked.source asked.file bytes false log is.4 in
-    run_read asked bytes false (status.TheVariants.ReadFault (file_place asked.source)) (Attached (file_place asked.source) asked.file ∷ log) read (read_outcome asked.source asked bytes refl is.5) read.opened (λ unrefused. tt)))
+    (subst (Ran (run asked) (status.TheVariants.ReadFault (file_place asked.kind)) None) (sym is.3)
+    (let read = has_read asked.kind asked.file bytes false log is.4 in
+    run_read asked bytes false (status.TheVariants.ReadFault (file_place asked.kind)) (Attached (file_place asked.kind) asked.file ∷ log) read (read_outcome asked.kind asked bytes refl is.5) read.opened (λ unrefused. tt)))
 run_unread asked (status.TheVariants.TextTooLong p) events is =
     let log = is.1 in
     let bytes = is.2 in
     subst (Ran (run asked) (status.TheVariants.TextTooLong p) None) (sym is.3)
-    (run_read asked bytes false (status.TheVariants.TextTooLong p) (Attached (file_place asked.source) asked.file ∷ log) (has_read asked.source asked.file bytes false log is.4) (is.0, is.5, silent) tt (λ unrefused. tt))
+    (run_read asked bytes false (status.TheVariants.TextTooLong p) (Attached (file_place asked.kind) asked.file ∷ log) (has_read asked.kind asked.file bytes false log is.4) (is.0, is.5, silent) tt (λ unrefused. tt))
 run_unread asked status.TheVariants.Memory events is =
     subst (Ran (run asked) status.TheVariants.Memory None) (sym is.2)
-    (run_read asked is.1 false status.TheVariants.Memory (Attached (file_place asked.source) asked.file ∷ is.0) (has_read asked.source asked.file is.1 false is.0 is.3) (is.4, silent) tt (λ unrefused. tt))
+    (run_read asked is.1 false status.TheVariants.Memory (Attached (file_place asked.kind) asked.file ∷ is.0) (has_read asked.kind asked.file is.1 false is.0 is.3) (is.4, silent) tt (λ unrefused. tt))
 run_unread asked answer events is = absurd is
 
 -- how the outcome over a trace is one of the run
@@ -191,9 +193,9 @@ early_both first second a none b before after piece is =
     ]
 
 -- the file is readable, and the trace was run over
-module _ (asked : RunAsked) (bytes : List ℕ) (answer : status.Status) (kept : Option State) (first second : List Event) (read : HasRead asked.source asked.file bytes true first) (within : length bytes ≤ file_limit asked.source) (is : IsOpened asked bytes answer kept second) where
+module _ (asked : RunAsked) (bytes : List ℕ) (answer : status.Status) (kept : Option State) (first second : List Event) (read : HasRead asked.kind asked.file bytes true first) (within : length bytes ≤ file_limit asked.kind) (is : IsOpened asked bytes answer kept second) where
   abbrev p : place.Place
-  p = file_place asked.source
+  p = file_place asked.kind
 
   abbrev all : List Event
   all = first ++ second
@@ -213,16 +215,16 @@ module _ (asked : RunAsked) (bytes : List ℕ) (answer : status.Status) (kept : 
   all_out : given Out all ≡ given Out second
   all_out = given-append Out first second ∙ ap (λ b. b ++ given Out second) read.no_lines
 
-  all_found : found_in asked all ≡ program_over asked.source bytes (lines_in second)
+  all_found : found_in asked all ≡ program_over asked.kind bytes (lines_in second)
   all_found =
-      ap (λ b. program_over asked.source b (lines_in all)) all_file
-      ∙ ap (program_over asked.source bytes) (ap (λ v. lines_of v (trace_of all)) all_ended ∙ ap (lines_of (trace_ended second)) all_trace)
+      ap (λ b. program_over asked.kind b (lines_in all)) all_file
+      ∙ ap (program_over asked.kind bytes) (ap (λ v. lines_of v (trace_of all)) all_ended ∙ ap (lines_of (trace_ended second)) all_trace)
 
   readable : IsReadable asked bytes true
   readable = record { whole = refl; within = within; unrefused = is.unrefused }
 
   abbrev due_of : List ℕ → List ℕ
-  due_of = due_by asked (program_over asked.source bytes (lines_in second)) false
+  due_of = due_by asked (program_over asked.kind bytes (lines_in second)) false
 
   all_prompt : Prompt due_of [] all
   all_prompt =
@@ -251,11 +253,11 @@ module _ (asked : RunAsked) (bytes : List ℕ) (answer : status.Status) (kept : 
   }
 
 -- the file is refused by itself
-refused_over : (source : Bool) (bytes : List ℕ) (lines : List (List ℕ)) (answer : status.Status) → file_refusal source bytes ≡ Some answer → program_over source bytes lines ≡ Err answer
+refused_over : (kind : FileKind) (bytes : List ℕ) (lines : List (List ℕ)) (answer : status.Status) → file_refusal kind bytes ≡ Some answer → program_over kind bytes lines ≡ Err answer
 unfolding program_over
-refused_over source bytes lines answer is = ap (λ o. unless_refused o (unless_long (begins_long lines) (program_by source bytes (header_in lines)))) is
+refused_over kind bytes lines answer is = ap (λ o. unless_refused o (unless_long (begins_long lines) (program_by kind bytes (header_in lines)))) is
 
-closed_outcome : (answer : status.Status) (asked : RunAsked) (bytes : List ℕ) → Refuses answer → length bytes ≤ file_limit asked.source → program_over asked.source bytes [] ≡ Err answer → FileOutcome answer asked bytes true [] false [] None
+closed_outcome : (answer : status.Status) (asked : RunAsked) (bytes : List ℕ) → Refuses answer → length bytes ≤ file_limit asked.kind → program_over asked.kind bytes [] ≡ Err answer → FileOutcome answer asked bytes true [] false [] None
 closed_outcome (status.TheVariants.Refused line why) asked bytes speaks fits is = record { whole = refl; within = fits; lines = record { refused = is; silent = silent } }
 closed_outcome (status.TheVariants.BadProgram fault) asked bytes speaks fits is = record { whole = refl; within = fits; lines = record { refused = is; silent = silent } }
 closed_outcome (status.TheVariants.BadTrace number why) asked bytes speaks fits is = record { whole = refl; within = fits; lines = inl (record { refused = is; silent = silent }) }
@@ -267,19 +269,19 @@ closed_opened (status.TheVariants.OpenFault p) events speaks = absurd speaks
 closed_opened (status.TheVariants.ReadFault p) events speaks = absurd speaks
 closed_opened answer events speaks = tt
 
-run_closed : (asked : RunAsked) (bytes : List ℕ) (answer : status.Status) (first : List Event) → HasRead asked.source asked.file bytes true first → length bytes ≤ file_limit asked.source → (answer ≡ status.TheVariants.Memory) ⊎ (file_refusal asked.source bytes ≡ Some answer) → Ran (run asked) answer None first
+run_closed : (asked : RunAsked) (bytes : List ℕ) (answer : status.Status) (first : List Event) → HasRead asked.kind asked.file bytes true first → length bytes ≤ file_limit asked.kind → (answer ≡ status.TheVariants.Memory) ⊎ (file_refusal asked.kind bytes ≡ Some answer) → Ran (run asked) answer None first
 run_closed asked bytes answer first read fits (inl memory) = subst (λ s. Ran (run asked) s None first) (sym memory) (run_read asked bytes true status.TheVariants.Memory first read (fits, silent) tt (λ unrefused. tt))
 run_closed asked bytes answer first read fits (inr refused) =
-    let speaks = file_refuses asked.source bytes answer refused in
-    run_read asked bytes true answer first read (closed_outcome answer asked bytes speaks fits (refused_over asked.source bytes [] answer refused)) (closed_opened answer first speaks)
-    (λ unrefused. absurd (let no : None ≡ Some answer = sym unrefused ∙ ap (file_refusal asked.source) read.file ∙ refused in cc))
+    let speaks = file_refuses asked.kind bytes answer refused in
+    run_read asked bytes true answer first read (closed_outcome answer asked bytes speaks fits (refused_over asked.kind bytes [] answer refused)) (closed_opened answer first speaks)
+    (λ unrefused. absurd (let no : None ≡ Some answer = sym unrefused ∙ ap (file_refusal asked.kind) read.file ∙ refused in cc))
 
-pub run_file_ran : (asked : RunAsked) (bytes : Vec ℕ Global) (answer : status.Status) (kept : Option State) (first second : List Event) → FileLog (Ok bytes) (file_place asked.source) (file_limit asked.source) asked.file first → RanFile asked bytes.items answer kept second → Ran (run asked) answer kept (first ++ second)
+pub run_file_ran : (asked : RunAsked) (bytes : Vec ℕ Global) (answer : status.Status) (kept : Option State) (first second : List Event) → FileLog (Ok bytes) (file_place asked.kind) (file_limit asked.kind) asked.file first → RanFile asked bytes.items answer kept second → Ran (run asked) answer kept (first ++ second)
 run_file_ran asked bytes answer kept first second read (inl closed) =
-    let was = subst (HasRead asked.source asked.file bytes.items true) (sym read.1) (has_read asked.source asked.file bytes.items true read.0 read.2) in
+    let was = subst (HasRead asked.kind asked.file bytes.items true) (sym read.1) (has_read asked.kind asked.file bytes.items true read.0 read.2) in
     subst (λ k. Ran (run asked) answer k (first ++ second)) (sym closed.no_monitor)
     (subst (λ e. Ran (run asked) answer None (first ++ e)) (sym closed.no_events)
     (subst (Ran (run asked) answer None) (sym (append-nil first)) (run_closed asked bytes.items answer first was read.3 closed.why)))
 run_file_ran asked bytes answer kept first second read (inr is) =
-    let was = subst (HasRead asked.source asked.file bytes.items true) (sym read.1) (has_read asked.source asked.file bytes.items true read.0 read.2) in
+    let was = subst (HasRead asked.kind asked.file bytes.items true) (sym read.1) (has_read asked.kind asked.file bytes.items true read.0 read.2) in
     run_opened_file asked bytes.items answer kept first second was read.3 is

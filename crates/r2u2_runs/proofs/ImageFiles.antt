@@ -27,6 +27,7 @@ use Rattle.spec_compile.specs.Image.{image, plain_outputs}
 use Rattle.spec_compile.specs.ImageFiles.{CanMove, IsFirstImageFile, IsImageFile, first_image_in, image_in, moved_image, stored_columns}
 use Rattle.spec_compile.specs.Compiled.{outputs_in, signals_in}
 use Rattle.spec_compile.proofs.MovedImages.{bound_stored, image_called, image_reports, layout_of, moved_called, moved_reports, stored_names, stored_places}
+use Rattle.tool_words.specs.declared.file_kind.FileKind.TheVariants as kinds
 use Rattle.r2u2_runs.specs.ProgramBy.{bound_over, bound_under, opened_under, program_by}
 use Rattle.r2u2_runs.specs.Settled.{AreSettled, TellsText}
 use Rattle.r2u2_runs.specs.Formulas.{TellsImage, TellsProgram, columns_under}
@@ -61,12 +62,12 @@ opened_found : (file : List ℕ) (header : Option (List ℕ)) (program : Program
 opened_found file header program (Ok from) opens binds = record { from = from; opens = opens; binds = binds }
 opened_found file header program (Err fault) opens binds = absurd (cc)
 
-opened_by : (file : List ℕ) (header : Option (List ℕ)) (program : Program) → program_by false file header ≡ Ok program → IsOpenedBy file header program
+opened_by : (file : List ℕ) (header : Option (List ℕ)) (program : Program) → program_by kinds.Program file header ≡ Ok program → IsOpenedBy file header program
 unfolding program_by
 opened_by file header program is = opened_found file header program (opened file) refl is
 
 -- the program that bytes spell is well-formed where it runs, and bound to the header
-spelled_bound : (p program : Program) (file : List ℕ) (header : Option (List ℕ)) → Fits p → file ≡ spelling p → program_by false file header ≡ Ok program → IsWellFormed p × (bound_under header p ≡ Ok program)
+spelled_bound : (p program : Program) (file : List ℕ) (header : Option (List ℕ)) → Fits p → file ≡ spelling p → program_by kinds.Program file header ≡ Ok program → IsWellFormed p × (bound_under header p ≡ Ok program)
 spelled_bound p program file header fits spells is =
     let by = opened_by file header program is in
     let found = opened_spelled p by.from file fits spells by.opens in
@@ -142,7 +143,7 @@ module _ (style : Style) (text : List ℕ) (own : Columns) (rows : List Row) whe
       moves file line at.new program is well
       (ap (λ names. header_meaning names line) (sym (image_named text own is.serve.one_each)) ∙ at.is) at.moved
 
-  pub image_told : (file : List ℕ) (header : Option (List ℕ)) (program : Program) → program_by false file header ≡ Ok program → IsImageFile text own file → TellsImage style text own header program rows
+  pub image_told : (file : List ℕ) (header : Option (List ℕ)) (program : Program) → program_by kinds.Program file header ≡ Ok program → IsImageFile text own file → TellsImage style text own header program rows
   image_told file header program runs is =
       let found = spelled_bound (image_in text own) program file header is.fits is.bytes runs in
       under_header file header program is found.0 found.1
@@ -152,7 +153,7 @@ module _ (style : Style) (text : List ℕ) (own : Columns) (rows : List Row) whe
   first_stays None = refl
   first_stays (Some line) = refl
 
-  pub first_told : (file : List ℕ) (header : Option (List ℕ)) (program : Program) → program_by false file header ≡ Ok program → IsFirstImageFile text own file → TellsText style text own program rows
+  pub first_told : (file : List ℕ) (header : Option (List ℕ)) (program : Program) → program_by kinds.Program file header ≡ Ok program → IsFirstImageFile text own file → TellsText style text own program rows
   first_told file header program runs is =
       let found = spelled_bound (first_image_in text own) program file header is.fits is.bytes runs in
       let same : first_image_in text own ≡ program = (let both = sym (first_stays header) ∙ found.1 in cc) in
@@ -160,7 +161,7 @@ module _ (style : Style) (text : List ℕ) (own : Columns) (rows : List Row) whe
       (tells_text style text own (first_image_in text own) rows (image_called text own) (image_reports style text own rows is.faultless))
 
 -- a program file tells what it unfolds to, and the text whose image it is
-pub program_told : (style : Style) (file : List ℕ) (header : Option (List ℕ)) (program : Program) (rows : List Row) → program_by false file header ≡ Ok program → TellsProgram style file header program rows
+pub program_told : (style : Style) (file : List ℕ) (header : Option (List ℕ)) (program : Program) (rows : List Row) → program_by kinds.Program file header ≡ Ok program → TellsProgram style file header program rows
 program_told style file header program rows runs = record {
   unfolded = record { lines_are = refl; settled = are_settled style (outputs program) rows };
   image = λ text own is. image_told style text own rows file header program runs is;

@@ -13,6 +13,7 @@ use Rattle.tool_io.specs.Cutting.{Cutting, HasNoNewline, OnlyWhereNeeded, lines_
 use Rattle.tool_io.proofs.LogLaws.{taken-append, given-append, ended_from-append, Reads-taken, Reads-given, Reads-ended}
 use Rattle.tool_io.proofs.CutLaws.{lines_of-none, lines_of-long, is_long-row}
 use Rattle.tool_io.proofs.Prompting.{PromptBy, PromptBy-append, PromptBy-from, Prompt-from_by}
+use Rattle.tool_words.specs.declared.file_kind.FileKind.{FileKind}
 use Rattle.tool_words.specs.R2u2Words.{RunAsked}
 use Rattle.mltl_monitor.specs.declared.state.State.{State}
 use Rattle.trace_feed.specs.Header.{begins_header}
@@ -91,12 +92,12 @@ first_of_lines (Some raw) pending ended_first stands ended more follows =
     record { short = ap begins_long split ∙ is_long-row raw rest ended_first stands.2 stands.3; header = ap header_in split }
 
 -- the program over such lines is that of the header
-found_over : (source : Bool) (bytes : List ℕ) (row : Option (List ℕ)) (lines : List (List ℕ)) → file_refusal source bytes ≡ None → HasFirst row lines → program_over source bytes lines ≡ program_by source bytes (header_of_row row)
+found_over : (kind : FileKind) (bytes : List ℕ) (row : Option (List ℕ)) (lines : List (List ℕ)) → file_refusal kind bytes ≡ None → HasFirst row lines → program_over kind bytes lines ≡ program_by kind bytes (header_of_row row)
 unfolding program_over
-found_over source bytes row lines none has =
-    ap (λ o. unless_refused o (unless_long (begins_long lines) (program_by source bytes (header_in lines)))) none
-    ∙ ap (λ b. unless_long b (program_by source bytes (header_in lines))) has.short
-    ∙ ap (program_by source bytes) has.header
+found_over kind bytes row lines none has =
+    ap (λ o. unless_refused o (unless_long (begins_long lines) (program_by kind bytes (header_in lines)))) none
+    ∙ ap (λ b. unless_long b (program_by kind bytes (header_in lines))) has.short
+    ∙ ap (program_by kind bytes) has.header
 
 -- what the loop left is what the run leaves
 told_all : (program : Program) (asked : RunAsked) (ended : Bool) (bytes out : List ℕ) (monitor : State) → IsTold program asked.style (rows_by asked program 1) ended bytes out monitor → AllTold asked (Ok program) ended bytes out (Some monitor)
@@ -137,7 +138,7 @@ loop_begun watched.TheVariants.WriteFault ended raws = tt
 -- no memory came
 lines_no_memory : (asked : RunAsked) (bytes : List ℕ) (cut : Cutting) (events : List Event) → FirstRead cut events → RanLines asked bytes status.TheVariants.Memory None events
 lines_no_memory asked bytes cut events has =
-    let found = program_over asked.source bytes (lines_in events) in
+    let found = program_over asked.kind bytes (lines_in events) in
     record {
       only = first_only cut events has;
       prompt = Prompt-from_by (due_by asked found false) [] events (first_prompt asked found cut events has);
@@ -164,20 +165,20 @@ row_marked (Some raw) =
     elim (begins_header (line_text raw)) as (λ b. begins_header (line_text raw) ≡ b → IsMarked (if b then Some (line_text raw) else None)) [ true ↦ λ is. is | false ↦ λ is. tt ] refl
 
 -- what was found after the first line was read, and nothing more
-found_first : (asked : RunAsked) (bytes : List ℕ) (start : Cutting) (events : List Event) → FirstRead start events → IsFirst start → file_refusal asked.source bytes ≡ None → program_over asked.source bytes (lines_in events) ≡ program_by asked.source bytes (header_at start)
+found_first : (asked : RunAsked) (bytes : List ℕ) (start : Cutting) (events : List Event) → FirstRead start events → IsFirst start → file_refusal asked.kind bytes ≡ None → program_over asked.kind bytes (lines_in events) ≡ program_by asked.kind bytes (header_at start)
 found_first asked bytes start events has first none =
     let are : lines_in events ≡ lines_of start.ended (start.pending ++ []) = ap (λ v. lines_of v (taken Trace events)) (first_ended start events has) ∙ ap (lines_of start.ended) (first_taken start events has ∙ sym (append-nil start.pending)) in
-    ap (program_over asked.source bytes) are ∙ found_over asked.source bytes start.row (lines_of start.ended (start.pending ++ [])) none (first_of_lines start.row start.pending start.ended first.stands start.ended [] (λ met. (met, refl)))
+    ap (program_over asked.kind bytes) are ∙ found_over asked.kind bytes start.row (lines_of start.ended (start.pending ++ [])) none (first_of_lines start.row start.pending start.ended first.stands start.ended [] (λ met. (met, refl)))
 
 -- the header or a limit refused the program
-lines_refused : (asked : RunAsked) (bytes : List ℕ) (start : Cutting) (answer : status.Status) (events : List Event) → FirstRead start events → IsFirst start → file_refusal asked.source bytes ≡ None → program_by asked.source bytes (header_at start) ≡ Err answer → RanLines asked bytes answer None events
+lines_refused : (asked : RunAsked) (bytes : List ℕ) (start : Cutting) (answer : status.Status) (events : List Event) → FirstRead start events → IsFirst start → file_refusal asked.kind bytes ≡ None → program_by asked.kind bytes (header_at start) ≡ Err answer → RanLines asked bytes answer None events
 lines_refused asked bytes start answer events has first none is =
-    let found = program_over asked.source bytes (lines_in events) in
+    let found = program_over asked.kind bytes (lines_in events) in
     let refused : found ≡ Err answer = found_first asked bytes start events has first none ∙ is in
     record {
       only = first_only start events has;
       prompt = Prompt-from_by (due_by asked found false) [] events (first_prompt asked found start events has);
-      outcome = refused_outcome answer asked found (trace_ended events) (trace_of events) (given Out events) (program_refuses asked.source bytes (header_at start) answer (row_marked start.row) is) refused (first_given start events has);
+      outcome = refused_outcome answer asked found (trace_ended events) (trace_of events) (given Out events) (program_refuses asked.kind bytes (header_at start) answer (row_marked start.row) is) refused (first_given start events has);
       begun = begun_for answer (trace_ended events) (lines_in events) (has_begun start events has first);
       early = refused_early answer start events has;
     }
@@ -191,7 +192,7 @@ never_memory watched.TheVariants.ReadFault is = cc
 never_memory watched.TheVariants.WriteFault is = cc
 
 -- the loop ran
-module _ (asked : RunAsked) (bytes : List ℕ) (start : Cutting) (answer : status.Status) (kept : Option State) (first second : List Event) (program : Program) (has : FirstRead start first) (is_first : IsFirst start) (none : file_refusal asked.source bytes ≡ None) (is : program_by asked.source bytes (header_at start) ≡ Ok program) (ran : RanLoop program asked start answer kept second) where
+module _ (asked : RunAsked) (bytes : List ℕ) (start : Cutting) (answer : status.Status) (kept : Option State) (first second : List Event) (program : Program) (has : FirstRead start first) (is_first : IsFirst start) (none : file_refusal asked.kind bytes ≡ None) (is : program_by asked.kind bytes (header_at start) ≡ Ok program) (ran : RanLoop program asked start answer kept second) where
   abbrev all : List Event
   all = first ++ second
 
@@ -207,10 +208,10 @@ module _ (asked : RunAsked) (bytes : List ℕ) (start : Cutting) (answer : statu
   all_ended : ran.cut.ended ≡ trace_ended all
   all_ended = ran.watch.ended ∙ ap (λ v. ended_from v Trace second) (sym (first_ended start first has)) ∙ sym (ended_from-append false Trace first second)
 
-  found_is : program_over asked.source bytes (lines_in all) ≡ Ok program
+  found_is : program_over asked.kind bytes (lines_in all) ≡ Ok program
   found_is =
       let are : lines_in all ≡ lines_of ran.cut.ended (start.pending ++ taken Trace second) = ap (λ v. lines_of v (trace_of all)) (sym all_ended) ∙ ap (lines_of ran.cut.ended) (sym all_taken) in
-      ap (program_over asked.source bytes) are ∙ found_over asked.source bytes start.row (lines_of ran.cut.ended (start.pending ++ taken Trace second)) none (first_of_lines start.row start.pending start.ended is_first.stands ran.cut.ended (taken Trace second) ran.watch.no_more) ∙ is
+      ap (program_over asked.kind bytes) are ∙ found_over asked.kind bytes start.row (lines_of ran.cut.ended (start.pending ++ taken Trace second)) none (first_of_lines start.row start.pending start.ended is_first.stands ran.cut.ended (taken Trace second) ran.watch.no_more) ∙ is
 
   loop_outcome : Outcome ran.ended_so program asked.style rows_in (trace_ended all) (trace_of all) (given Out all) ran.monitor
   loop_outcome =
@@ -244,11 +245,11 @@ lines_alone : (asked : RunAsked) (bytes : List ℕ) (answer : status.Status) (ke
 lines_alone asked bytes answer kept first second no_monitor no_events ran =
     subst (λ k. RanLines asked bytes answer k (first ++ second)) (sym no_monitor) (subst (λ e. RanLines asked bytes answer None (first ++ e)) (sym no_events) (subst (RanLines asked bytes answer None) (sym (append-nil first)) ran))
 
-lines_stayed : (asked : RunAsked) (bytes : List ℕ) (start : Cutting) (answer : status.Status) (first : List Event) → FirstRead start first → IsFirst start → file_refusal asked.source bytes ≡ None → (answer ≡ status.TheVariants.Memory) ⊎ (program_by asked.source bytes (header_at start) ≡ Err answer) → RanLines asked bytes answer None first
+lines_stayed : (asked : RunAsked) (bytes : List ℕ) (start : Cutting) (answer : status.Status) (first : List Event) → FirstRead start first → IsFirst start → file_refusal asked.kind bytes ≡ None → (answer ≡ status.TheVariants.Memory) ⊎ (program_by asked.kind bytes (header_at start) ≡ Err answer) → RanLines asked bytes answer None first
 lines_stayed asked bytes start answer first has is_first none (inl memory) = subst (λ s. RanLines asked bytes s None first) (sym memory) (lines_no_memory asked bytes start first has)
 lines_stayed asked bytes start answer first has is_first none (inr refused) = lines_refused asked bytes start answer first has is_first none refused
 
-pub lines_ran : (asked : RunAsked) (bytes : List ℕ) (start : Cutting) (answer : status.Status) (kept : Option State) (first second : List Event) → file_refusal asked.source bytes ≡ None → FirstRead start first → IsFirst start → RanRows asked bytes start answer kept second → RanLines asked bytes answer kept (first ++ second)
+pub lines_ran : (asked : RunAsked) (bytes : List ℕ) (start : Cutting) (answer : status.Status) (kept : Option State) (first second : List Event) → file_refusal asked.kind bytes ≡ None → FirstRead start first → IsFirst start → RanRows asked bytes start answer kept second → RanLines asked bytes answer kept (first ++ second)
 lines_ran asked bytes start answer kept first second none has is_first (inl stayed) =
     lines_alone asked bytes answer kept first second stayed.no_monitor stayed.no_events (lines_stayed asked bytes start answer first has is_first none stayed.why)
 lines_ran asked bytes start answer kept first second none has is_first (inr some) =
@@ -262,16 +263,16 @@ pub lines_unmade : (asked : RunAsked) (bytes : List ℕ) → RanLines asked byte
 lines_unmade asked bytes = lines_no_memory asked bytes fresh [] (record { pieces = []; reads = refl; needed = tt; pending = refl; ended = refl })
 
 -- the first line is too long
-lines_long : (asked : RunAsked) (bytes : List ℕ) (number : ℕ) (cut : Cutting) (events : List Event) → file_refusal asked.source bytes ≡ None → FirstRead cut events → number ≡ 1 → HasNoNewline cut.pending → length cut.pending ≡ 65536 → RanLines asked bytes (status.TheVariants.BadTrace number LongLine) None events
+lines_long : (asked : RunAsked) (bytes : List ℕ) (number : ℕ) (cut : Cutting) (events : List Event) → file_refusal asked.kind bytes ≡ None → FirstRead cut events → number ≡ 1 → HasNoNewline cut.pending → length cut.pending ≡ 65536 → RanLines asked bytes (status.TheVariants.BadTrace number LongLine) None events
 unfolding program_over
 lines_long asked bytes number cut events none has numbered plain size =
-    let found = program_over asked.source bytes (lines_in events) in
+    let found = program_over asked.kind bytes (lines_in events) in
     let long = lines_of-long (trace_ended events) cut.pending [] plain size in
     let split : lines_in events ≡ long.raw ∷ long.others = ap (lines_of (trace_ended events)) (first_taken cut events has ∙ sym (append-nil cut.pending)) ∙ long.split in
     let begins : begins_long (lines_in events) ≡ true = ap begins_long split ∙ long.long in
     let refused : found ≡ Err (status.TheVariants.BadTrace 1 LongLine) =
-    ap (λ o. unless_refused o (unless_long (begins_long (lines_in events)) (program_by asked.source bytes (header_in (lines_in events))))) none
-    ∙ ap (λ b. unless_long b (program_by asked.source bytes (header_in (lines_in events)))) begins in
+    ap (λ o. unless_refused o (unless_long (begins_long (lines_in events)) (program_by asked.kind bytes (header_in (lines_in events))))) none
+    ∙ ap (λ b. unless_long b (program_by asked.kind bytes (header_in (lines_in events)))) begins in
     record {
       only = first_only cut events has;
       prompt = Prompt-from_by (due_by asked found false) [] events (first_prompt asked found cut events has);
@@ -283,7 +284,7 @@ lines_long asked bytes number cut events none has numbered plain size =
 -- it couldn't be read
 lines_unread : (asked : RunAsked) (bytes : List ℕ) (cut : Cutting) (events : List Event) → FirstRead cut events → HasNoNewline cut.pending → length cut.pending < 65536 → cut.ended ≡ false → RanLines asked bytes (status.TheVariants.ReadFault Trace) None events
 lines_unread asked bytes cut events has plain short unmet =
-    let found = program_over asked.source bytes (lines_in events) in
+    let found = program_over asked.kind bytes (lines_in events) in
     record {
       only = first_only cut events has;
       prompt = Prompt-from_by (due_by asked found false) [] events (first_prompt asked found cut events has);
@@ -300,7 +301,7 @@ lines_unread asked bytes cut events has plain short unmet =
       early = λ is. cc;
     }
 
-pub lines_stopped : (asked : RunAsked) (bytes : List ℕ) (answer : status.Status) (cut : Cutting) (events : List Event) → file_refusal asked.source bytes ≡ None → FirstLog (Err answer) cut events → RanLines asked bytes answer None events
+pub lines_stopped : (asked : RunAsked) (bytes : List ℕ) (answer : status.Status) (cut : Cutting) (events : List Event) → file_refusal asked.kind bytes ≡ None → FirstLog (Err answer) cut events → RanLines asked bytes answer None events
 lines_stopped asked bytes (status.TheVariants.BadTrace number LongLine) cut events none is = lines_long asked bytes number cut events none is.0 is.1 is.2 is.3
 lines_stopped asked bytes (status.TheVariants.ReadFault place.TheVariants.Trace) cut events none is = lines_unread asked bytes cut events is.0 is.1 is.2 is.3
 lines_stopped asked bytes answer cut events none is = absurd is

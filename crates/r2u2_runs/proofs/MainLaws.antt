@@ -55,7 +55,7 @@ lines_complete (status.TheVariants.BadTrace number why) asked found bytes ended 
 lines_complete status.TheVariants.TooLong asked found bytes ended out kept before between now cause same none clean is = absurd (let stop = not_clean Past asked found ended bytes is.0 clean in cc)
 lines_complete answer asked found bytes ended out kept before between now cause same none clean is = absurd is
 
-file_complete : (answer : status.Status) (asked : RunAsked) (file : List ℕ) (file_end : Bool) (bytes : List ℕ) (ended : Bool) (out : List ℕ) (kept : Option State) (before between now : place.Place → ℕ) → RunCause answer before between → ((q : place.Place) → q ≢ at.Err → now q ≡ between q) → NoOtherRose before now → length file ≤ file_limit asked.source → StopsBy Clean asked (program_over asked.source file (lines_of ended bytes)) ended bytes → FileOutcome answer asked file file_end bytes ended out kept → (answer ≡ status.TheVariants.Done) ⊎ (answer ≡ status.TheVariants.Memory)
+file_complete : (answer : status.Status) (asked : RunAsked) (file : List ℕ) (file_end : Bool) (bytes : List ℕ) (ended : Bool) (out : List ℕ) (kept : Option State) (before between now : place.Place → ℕ) → RunCause answer before between → ((q : place.Place) → q ≢ at.Err → now q ≡ between q) → NoOtherRose before now → length file ≤ file_limit asked.kind → StopsBy Clean asked (program_over asked.kind file (lines_of ended bytes)) ended bytes → FileOutcome answer asked file file_end bytes ended out kept → (answer ≡ status.TheVariants.Done) ⊎ (answer ≡ status.TheVariants.Memory)
 file_complete (status.TheVariants.OpenFault at.Err) asked file file_end bytes ended out kept before between now cause same none fits clean is = absurd cause
 file_complete (status.TheVariants.OpenFault p) asked file file_end bytes ended out kept before between now cause same none fits clean is = absurd (rose_at before between now p cause same none (λ e. cc))
 file_complete (status.TheVariants.ReadFault at.Err) asked file file_end bytes ended out kept before between now cause same none fits clean is = absurd cause
@@ -65,11 +65,11 @@ file_complete status.TheVariants.Memory asked file file_end bytes ended out kept
 file_complete status.TheVariants.Done asked file file_end bytes ended out kept before between now cause same none fits clean is = inl refl
 file_complete status.TheVariants.Helped asked file file_end bytes ended out kept before between now cause same none fits clean is = absurd is.lines
 file_complete status.TheVariants.Usage asked file file_end bytes ended out kept before between now cause same none fits clean is = absurd is.lines
-file_complete (status.TheVariants.Refused line why) asked file file_end bytes ended out kept before between now cause same none fits clean is = lines_complete (status.TheVariants.Refused line why) asked (program_over asked.source file (lines_of ended bytes)) bytes ended out kept before between now cause same none clean is.lines
-file_complete (status.TheVariants.BadProgram fault) asked file file_end bytes ended out kept before between now cause same none fits clean is = lines_complete (status.TheVariants.BadProgram fault) asked (program_over asked.source file (lines_of ended bytes)) bytes ended out kept before between now cause same none clean is.lines
+file_complete (status.TheVariants.Refused line why) asked file file_end bytes ended out kept before between now cause same none fits clean is = lines_complete (status.TheVariants.Refused line why) asked (program_over asked.kind file (lines_of ended bytes)) bytes ended out kept before between now cause same none clean is.lines
+file_complete (status.TheVariants.BadProgram fault) asked file file_end bytes ended out kept before between now cause same none fits clean is = lines_complete (status.TheVariants.BadProgram fault) asked (program_over asked.kind file (lines_of ended bytes)) bytes ended out kept before between now cause same none clean is.lines
 file_complete (status.TheVariants.BadHeader why) asked file file_end bytes ended out kept before between now cause same none fits clean is = absurd is.lines
-file_complete (status.TheVariants.BadTrace number why) asked file file_end bytes ended out kept before between now cause same none fits clean is = lines_complete (status.TheVariants.BadTrace number why) asked (program_over asked.source file (lines_of ended bytes)) bytes ended out kept before between now cause same none clean is.lines
-file_complete status.TheVariants.TooLong asked file file_end bytes ended out kept before between now cause same none fits clean is = lines_complete status.TheVariants.TooLong asked (program_over asked.source file (lines_of ended bytes)) bytes ended out kept before between now cause same none clean is.lines
+file_complete (status.TheVariants.BadTrace number why) asked file file_end bytes ended out kept before between now cause same none fits clean is = lines_complete (status.TheVariants.BadTrace number why) asked (program_over asked.kind file (lines_of ended bytes)) bytes ended out kept before between now cause same none clean is.lines
+file_complete status.TheVariants.TooLong asked file file_end bytes ended out kept before between now cause same none fits clean is = lines_complete status.TheVariants.TooLong asked (program_over asked.kind file (lines_of ended bytes)) bytes ended out kept before between now cause same none clean is.lines
 file_complete (status.TheVariants.WriteFault at.Err) asked file file_end bytes ended out kept before between now cause same none fits clean is = absurd cause
 file_complete (status.TheVariants.WriteFault p) asked file file_end bytes ended out kept before between now cause same none fits clean is = absurd (rose_at before between now p cause same none (λ e. cc))
 
@@ -99,23 +99,23 @@ module _ (first all : List Event) (leaves : Leaves first all) where
   all_lines = ap (λ v. lines_of v (trace_of all)) (leaves.ends Trace) ∙ ap (lines_of (trace_ended first)) (leaves.bytes Trace)
 
   pub all_found : (asked : RunAsked) → found_in asked all ≡ found_in asked first
-  all_found asked = ap (λ b. program_over asked.source b (lines_in all)) (leaves.bytes (file_place asked.source)) ∙ ap (program_over asked.source (file_of asked first)) all_lines
+  all_found asked = ap (λ b. program_over asked.kind b (lines_in all)) (leaves.bytes (file_place asked.kind)) ∙ ap (program_over asked.kind (file_of asked first)) all_lines
 
   pub second_still : (asked : Asked) → TriesSecond asked first → TriesSecond asked all
   second_still help is = tt
   second_still nothing is = tt
   second_still (demo seed rows) is = tt
   second_still (run asked) is = λ two.
-      subst (λ b. IsReadable asked b (file_ended asked all)) (sym (leaves.bytes (file_place asked.source)))
-      (subst (IsReadable asked (file_of asked first)) (sym (leaves.ends (file_place asked.source))) (is (subst (λ ns. 1 < length ns) leaves.names two)))
+      subst (λ b. IsReadable asked b (file_ended asked all)) (sym (leaves.bytes (file_place asked.kind)))
+      (subst (IsReadable asked (file_of asked first)) (sym (leaves.ends (file_place asked.kind))) (is (subst (λ ns. 1 < length ns) leaves.names two)))
 
   pub outcome_still : (asked : Asked) (answer : status.Status) (kept : Option State) → OutcomeOf answer asked first kept → OutcomeOf answer asked all kept
   outcome_still help answer kept is = subst (λ b. HelpOutcome answer b kept) (sym leaves.out) is
   outcome_still nothing answer kept is = subst (λ b. NothingOutcome answer b kept) (sym leaves.out) is
   outcome_still (demo seed rows) answer kept is = subst (λ b. DemoOutcome answer seed rows b kept) (sym leaves.out) is
   outcome_still (run asked) answer kept is =
-      subst (λ b. FileOutcome answer asked b (file_ended asked all) (trace_of all) (trace_ended all) (given Out all) kept) (sym (leaves.bytes (file_place asked.source)))
-      (subst (λ v. FileOutcome answer asked (file_of asked first) v (trace_of all) (trace_ended all) (given Out all) kept) (sym (leaves.ends (file_place asked.source)))
+      subst (λ b. FileOutcome answer asked b (file_ended asked all) (trace_of all) (trace_ended all) (given Out all) kept) (sym (leaves.bytes (file_place asked.kind)))
+      (subst (λ v. FileOutcome answer asked (file_of asked first) v (trace_of all) (trace_ended all) (given Out all) kept) (sym (leaves.ends (file_place asked.kind)))
       (subst (λ b. FileOutcome answer asked (file_of asked first) (file_ended asked first) b (trace_ended all) (given Out all) kept) (sym (leaves.bytes Trace))
       (subst (λ v. FileOutcome answer asked (file_of asked first) (file_ended asked first) (trace_of first) v (given Out all) kept) (sym (leaves.ends Trace))
       (subst (λ b. FileOutcome answer asked (file_of asked first) (file_ended asked first) (trace_of first) (trace_ended first) b kept) (sym leaves.out) is))))
@@ -126,7 +126,7 @@ module _ (first all : List Event) (leaves : Leaves first all) where
   begun_still nothing answer is = tt
   begun_still (run asked) answer is = λ unrefused.
       subst (λ v. BegunFor answer v (lines_in all)) (sym (leaves.ends Trace))
-      (subst (BegunFor answer (trace_ended first)) (sym all_lines) (is (ap (file_refusal asked.source) (sym (leaves.bytes (file_place asked.source))) ∙ unrefused)))
+      (subst (BegunFor answer (trace_ended first)) (sym all_lines) (is (ap (file_refusal asked.kind) (sym (leaves.bytes (file_place asked.kind))) ∙ unrefused)))
 
 -- nor are lines due behind it
 module _ (first second : List Event) (sent : List ℕ) (writes : Writes at.Err sent second) where

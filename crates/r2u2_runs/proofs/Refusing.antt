@@ -1,6 +1,6 @@
 -- Which statuses a file, a header and the limits of a program give.
 
-use Rattle.std.proofs.Common.{◌≡◌, ℕ, ◌==◌, Bool, true, false, if◌then◌else◌, Option, Some, None, Result, Ok, Err, List, [], ◌∷◌, length, map, sym, subst}
+use Rattle.std.proofs.Common.{◌≡◌, ℕ, ◌==◌, true, false, if◌then◌else◌, Option, Some, None, Result, Ok, Err, List, [], ◌∷◌, length, map, sym, subst}
 use Rattle.std.specs.Prelude.{option_map}
 use Rattle.std.specs.Option.{option_or}
 use Rattle.mltl_base.specs.declared.program.Columns.{Columns}
@@ -29,8 +29,10 @@ use Rattle.spec_compile.specs.Refusals.{token_refusal, tree_refusal, check_refus
 use Rattle.spec_compile.specs.Front.{items_in, tokens_in, refusal_in, first_refusal}
 use Rattle.spec_compile.specs.Limits.{has_many_nodes, is_late, has_many_slots, limit_refusal}
 use Rattle.spec_compile.specs.Image.{over_columns, image}
-use Rattle.spec_compile.specs.Compiled.{columns_by, signals_in, outputs_in, image_within, image_under, image_of_text}
+use Rattle.spec_compile.specs.Compiled.{columns_by, signals_in, outputs_in, image_under, image_of_text}
 use Rattle.spec_compile.specs.Compiled as text
+use Rattle.tool_words.specs.declared.file_kind.FileKind.{FileKind}
+use Rattle.tool_words.specs.declared.file_kind.FileKind.TheVariants as kinds
 use Rattle.tool_runs.specs.declared.status.Status.{Status}
 use Rattle.tool_runs.specs.declared.status.Status.TheVariants.{Refused, BadProgram, BadTrace, Memory}
 use Rattle.tool_runs.specs.Files.{file_status}
@@ -209,13 +211,13 @@ opened_speaks header (Ok program) marked = bound_speaks header program marked
 opened_speaks header (Err fault) marked = fault_speaks fault
 
 -- what a file gives under a header is a program, or a status by which there is none
-pub program_speaks : (source : Bool) (bytes : List ℕ) (header : Option (List ℕ)) → IsMarked header → IsFound (program_by source bytes header)
+pub program_speaks : (kind : FileKind) (bytes : List ℕ) (header : Option (List ℕ)) → IsMarked header → IsFound (program_by kind bytes header)
 unfolding program_by
-program_speaks true bytes header marked = text_speaks bytes header marked
-program_speaks false bytes header marked = opened_speaks header (opened bytes) marked
+program_speaks kinds.Spec bytes header marked = text_speaks bytes header marked
+program_speaks kinds.Program bytes header marked = opened_speaks header (opened bytes) marked
 
-pub program_refuses : (source : Bool) (bytes : List ℕ) (header : Option (List ℕ)) (answer : Status) → IsMarked header → program_by source bytes header ≡ Err answer → Refuses answer
-program_refuses source bytes header answer marked is = subst IsFound is (program_speaks source bytes header marked)
+pub program_refuses : (kind : FileKind) (bytes : List ℕ) (header : Option (List ℕ)) (answer : Status) → IsMarked header → program_by kind bytes header ≡ Err answer → Refuses answer
+program_refuses kind bytes header answer marked is = subst IsFound is (program_speaks kind bytes header marked)
 
 -- so does a file by itself
 map_refuses : (found : Option CompileFault) → MaySpeak found → MayRefuse (option_map compile_status found)
@@ -226,10 +228,10 @@ of_refuses : (found : Result Program FileFault) → MayRefuse (refusal_of found)
 of_refuses (Ok program) = tt
 of_refuses (Err fault) = fault_speaks fault
 
-file_speaks : (source : Bool) (bytes : List ℕ) → MayRefuse (file_refusal source bytes)
+file_speaks : (kind : FileKind) (bytes : List ℕ) → MayRefuse (file_refusal kind bytes)
 unfolding file_refusal
-file_speaks true bytes = map_refuses (first_refusal bytes) (first_speaks bytes)
-file_speaks false bytes = of_refuses (opened bytes)
+file_speaks kinds.Spec bytes = map_refuses (first_refusal bytes) (first_speaks bytes)
+file_speaks kinds.Program bytes = of_refuses (opened bytes)
 
-pub file_refuses : (source : Bool) (bytes : List ℕ) (answer : Status) → file_refusal source bytes ≡ Some answer → Refuses answer
-file_refuses source bytes answer is = subst MayRefuse is (file_speaks source bytes)
+pub file_refuses : (kind : FileKind) (bytes : List ℕ) (answer : Status) → file_refusal kind bytes ≡ Some answer → Refuses answer
+file_refuses kind bytes answer is = subst MayRefuse is (file_speaks kind bytes)

@@ -8,6 +8,8 @@ use Rattle.mltl_base.specs.declared.signal.Signal.{Signal}
 use Rattle.mltl_base.specs.Atoms.{Row}
 use Rattle.mltl_base.specs.Subformulas.{Asked}
 use Rattle.trace_feed.specs.declared.header_fault.HeaderFault.{HeaderFault}
+use Rattle.tool_words.specs.declared.file_kind.FileKind.{FileKind}
+use Rattle.tool_words.specs.declared.file_kind.FileKind.TheVariants as kinds
 use Rattle.tool_words.specs.R2u2Words.{RunAsked}
 use Rattle.spec_compile.specs.declared.fault.CompileFault.{CompileFault}
 use Rattle.spec_compile.specs.Front.{first_refusal}
@@ -37,11 +39,11 @@ long_found : (long : Bool) (found : Result Program Status) (program : Program) �
 long_found false found program is = is
 long_found true found program is = absurd (cc)
 
-over_found : (source : Bool) (bytes : List ℕ) (raws : List (List ℕ)) (program : Program) → program_over source bytes raws ≡ Ok program → program_by source bytes (header_in raws) ≡ Ok program
+over_found : (kind : FileKind) (bytes : List ℕ) (raws : List (List ℕ)) (program : Program) → program_over kind bytes raws ≡ Ok program → program_by kind bytes (header_in raws) ≡ Ok program
 unfolding program_over
-over_found source bytes raws program is =
-    long_found (begins_long raws) (program_by source bytes (header_in raws)) program
-    (refusal_found (file_refusal source bytes) (unless_long (begins_long raws) (program_by source bytes (header_in raws))) program is)
+over_found kind bytes raws program is =
+    long_found (begins_long raws) (program_by kind bytes (header_in raws)) program
+    (refusal_found (file_refusal kind bytes) (unless_long (begins_long raws) (program_by kind bytes (header_in raws))) program is)
 
 -- a text has a program only where its signals have columns
 columns_under : (signals : List Signal) (outs : List Asked) (found : Result Columns HeaderFault) (program : Program) → image_under signals outs found ≡ Ok program → (columns : Columns) × (found ≡ Ok columns)
@@ -59,10 +61,10 @@ tells_source style bytes header program rows is =
     let found = columns_found bytes header program is in
     (found.0, found.1, tells_text style bytes found.0 program rows (text_names bytes header found.0 program is found.1) (text_reports style bytes header found.0 program rows is found.1))
 
-tells_file : (source : Bool) (style : Style) (bytes : List ℕ) (header : Option (List ℕ)) (program : Program) (rows : List Row) → program_by source bytes header ≡ Ok program → TellsFile source style bytes header program rows
+tells_file : (kind : FileKind) (style : Style) (bytes : List ℕ) (header : Option (List ℕ)) (program : Program) (rows : List Row) → program_by kind bytes header ≡ Ok program → TellsFile kind style bytes header program rows
 unfolding program_by
-tells_file true style bytes header program rows is = tells_source style bytes header program rows (status_found (image_of_text bytes header) program is)
-tells_file false style bytes header program rows is = program_told style bytes header program rows is
+tells_file kinds.Spec style bytes header program rows is = tells_source style bytes header program rows (status_found (image_of_text bytes header) program is)
+tells_file kinds.Program style bytes header program rows is = program_told style bytes header program rows is
 
-pub settled_by : (asked : RunAsked) (bytes : List ℕ) (raws : List (List ℕ)) (ended : Bool) (trace : List ℕ) → IsSettledBy asked bytes (header_in raws) (program_over asked.source bytes raws) ended trace
-settled_by asked bytes raws ended trace program is rows more split = tells_file asked.source asked.style bytes (header_in raws) program rows (over_found asked.source bytes raws program is)
+pub settled_by : (asked : RunAsked) (bytes : List ℕ) (raws : List (List ℕ)) (ended : Bool) (trace : List ℕ) → IsSettledBy asked bytes (header_in raws) (program_over asked.kind bytes raws) ended trace
+settled_by asked bytes raws ended trace program is rows more split = tells_file asked.kind asked.style bytes (header_in raws) program rows (over_found asked.kind bytes raws program is)

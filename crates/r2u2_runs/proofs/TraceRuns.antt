@@ -8,6 +8,8 @@ use Rattle.tool_io.specs.declared.host.Place.TheVariants as at
 use Rattle.tool_io.specs.Log.{Event, Attached, Missed, Took, Gave, same_place, is_empty, taken, given, ended_from, names_of}
 use Rattle.tool_io.specs.Cutting.{HasNoNewline}
 use Rattle.tool_io.proofs.Prompting.{PromptBy-from, Prompt-from_by}
+use Rattle.tool_words.specs.declared.file_kind.FileKind.{FileKind}
+use Rattle.tool_words.specs.declared.file_kind.FileKind.TheVariants.{Spec, Program}
 use Rattle.tool_words.specs.R2u2Words.{RunAsked}
 use Rattle.mltl_monitor.specs.declared.state.State.{State}
 use Rattle.trace_watch.specs.Watch.{OnlyRun}
@@ -21,13 +23,13 @@ use Rattle.r2u2_runs.specs.Run.{trace_of, trace_ended, lines_in, ReadsFirstLine}
 use Rattle.r2u2_runs.specs.Phases.{RanLines, TraceOutcome, RanTrace}
 
 -- the file isn't at the place of the trace, nor at those that are written
-pub file_elsewhere : (source : Bool) → same_place (file_place source) Trace ≡ false
-file_elsewhere true = refl
-file_elsewhere false = refl
+pub file_elsewhere : (kind : FileKind) → same_place (file_place kind) Trace ≡ false
+file_elsewhere Spec = refl
+file_elsewhere Program = refl
 
-pub trace_elsewhere : (source : Bool) → same_place Trace (file_place source) ≡ false
-trace_elsewhere true = refl
-trace_elsewhere false = refl
+pub trace_elsewhere : (kind : FileKind) → same_place Trace (file_place kind) ≡ false
+trace_elsewhere Spec = refl
+trace_elsewhere Program = refl
 
 -- what reads of the trace and writes of verdicts don't tell
 run_names : (events : List Event) → OnlyRun events → names_of events ≡ []
@@ -78,11 +80,11 @@ early_first trace events early (event ∷ before) after piece is =
     subst (λ e. HasNoNewline (taken Trace (e ∷ before))) first (early before after piece rest)
 
 -- an outcome of lines is one of the trace, and was opened
-trace_outcome : (answer : status.Status) (asked : RunAsked) (bytes : List ℕ) (events : List Event) (kept : Option State) → LinesOutcome answer asked (program_over asked.source bytes (lines_in events)) (trace_ended events) (trace_of events) (given Out events) kept → TraceOutcome answer asked bytes events kept
+trace_outcome : (answer : status.Status) (asked : RunAsked) (bytes : List ℕ) (events : List Event) (kept : Option State) → LinesOutcome answer asked (program_over asked.kind bytes (lines_in events)) (trace_ended events) (trace_of events) (given Out events) kept → TraceOutcome answer asked bytes events kept
 trace_outcome (status.TheVariants.OpenFault p) asked bytes events kept is = absurd is
 trace_outcome answer asked bytes events kept is = is
 
-opens_first : (answer : status.Status) (asked : RunAsked) (bytes : List ℕ) (log : List Event) (kept : Option State) (trace : List ℕ) (events : List Event) → LinesOutcome answer asked (program_over asked.source bytes (lines_in log)) (trace_ended log) (trace_of log) (given Out log) kept → OpensAsTold answer (Attached Trace trace ∷ events)
+opens_first : (answer : status.Status) (asked : RunAsked) (bytes : List ℕ) (log : List Event) (kept : Option State) (trace : List ℕ) (events : List Event) → LinesOutcome answer asked (program_over asked.kind bytes (lines_in log)) (trace_ended log) (trace_of log) (given Out log) kept → OpensAsTold answer (Attached Trace trace ∷ events)
 opens_first (status.TheVariants.OpenFault p) asked bytes log kept trace events is = absurd is
 opens_first (status.TheVariants.ReadFault Trace) asked bytes log kept trace events is = refl
 opens_first (status.TheVariants.ReadFault p) asked bytes log kept trace events is = absurd is
@@ -91,12 +93,12 @@ opens_first answer asked bytes log kept trace events is = tt
 -- the trace was attached, and its lines were run over
 pub trace_ran : (asked : RunAsked) (bytes : List ℕ) (answer : status.Status) (kept : Option State) (events log : List Event) → events ≡ Attached Trace asked.trace ∷ log → RanLines asked bytes answer kept log → RanTrace asked bytes answer kept events
 trace_ran asked bytes answer kept events log is ran =
-    let due_of = due_by asked (program_over asked.source bytes (lines_in log)) false in
+    let due_of = due_by asked (program_over asked.kind bytes (lines_in log)) false in
     subst (RanTrace asked bytes answer kept) (sym is) (record {
       names = record { rest = []; split = ap (λ names. (Trace, asked.trace) ∷ names) (sym (append-nil (names_of log) ∙ run_names log ran.only)) };
       attached = attached_first asked.trace log ran.only;
-      no_file = run_file (file_place asked.source) (file_elsewhere asked.source) log ran.only;
-      no_file_end = λ ended. run_file_end (file_place asked.source) (file_elsewhere asked.source) log ended ran.only;
+      no_file = run_file (file_place asked.kind) (file_elsewhere asked.kind) log ran.only;
+      no_file_end = λ ended. run_file_end (file_place asked.kind) (file_elsewhere asked.kind) log ended ran.only;
       prompt = Prompt-from_by due_of [] (Attached Trace asked.trace ∷ log) (PromptBy-from due_of [] log ran.prompt);
       outcome = trace_outcome answer asked bytes (Attached Trace asked.trace ∷ log) kept ran.outcome;
       opened = opens_first answer asked bytes log kept asked.trace log ran.outcome;
@@ -112,7 +114,7 @@ trace_missed asked bytes events (inl is) = subst (RanTrace asked bytes (status.T
   attached = missed_none Trace asked.trace;
   no_file = refl;
   no_file_end = λ ended. refl;
-  prompt = Prompt-from_by (due_by asked (program_over asked.source bytes []) false) [] (Missed Trace asked.trace ∷ []) tt;
+  prompt = Prompt-from_by (due_by asked (program_over asked.kind bytes []) false) [] (Missed Trace asked.trace ∷ []) tt;
   outcome = record { no_lines = refl; no_monitor = refl };
   opened = refl;
   begun = tt;
@@ -124,7 +126,7 @@ trace_missed asked bytes events (inr is) = subst (RanTrace asked bytes (status.T
   attached = no_reads_none;
   no_file = refl;
   no_file_end = λ ended. refl;
-  prompt = Prompt-from_by (due_by asked (program_over asked.source bytes []) false) [] [] tt;
+  prompt = Prompt-from_by (due_by asked (program_over asked.kind bytes []) false) [] [] tt;
   outcome = record { no_lines = refl; no_monitor = refl };
   opened = refl;
   begun = tt;

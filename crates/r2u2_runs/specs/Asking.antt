@@ -9,6 +9,6 @@ use Rattle.tool_runs.specs.Files.{file_place}
 -- the places that are to be attached, with their names, in order
 abbrev pub asked_names : Asked → List (Place × List ℕ)
 asked_names help = []
-asked_names (run asked) = (file_place asked.source, asked.file) ∷ (Trace, asked.trace) ∷ []
+asked_names (run asked) = (file_place asked.kind, asked.file) ∷ (Trace, asked.trace) ∷ []
 asked_names (demo seed rows) = []
 asked_names nothing = []

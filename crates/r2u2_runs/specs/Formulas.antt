@@ -1,6 +1,6 @@
 -- What the lines of a run tell of the formulas of its file: a specification, or a program.
 
-use Rattle.std.specs.Prelude.{◌≡◌, ℕ, Bool, true, false, Option, Some, None, Result, Ok, List, ◌++◌}
+use Rattle.std.specs.Prelude.{◌≡◌, ℕ, Bool, Option, Some, None, Result, Ok, List, ◌++◌}
 use Rattle.mltl_base.specs.declared.program.Columns.{Columns}
 use Rattle.mltl_base.specs.declared.program.Program.{Program}
 use Rattle.mltl_base.specs.declared.report.Style.{Style}
@@ -8,6 +8,8 @@ use Rattle.mltl_base.specs.declared.signal.Signal.{Signal}
 use Rattle.mltl_base.specs.Atoms.{Row}
 use Rattle.mltl_base.specs.Programs.{outputs, output_names}
 use Rattle.trace_feed.specs.declared.header_fault.HeaderFault.{HeaderFault}
+use Rattle.tool_words.specs.declared.file_kind.FileKind.{FileKind}
+use Rattle.tool_words.specs.declared.file_kind.FileKind.TheVariants as kinds
 use Rattle.tool_words.specs.R2u2Words.{RunAsked}
 use Rattle.spec_compile.specs.Compiled.{columns_by, signals_in}
 use Rattle.spec_compile.specs.ImageFiles.{IsFirstImageFile, IsImageFile, stored_columns}
@@ -39,12 +41,12 @@ pub record TellsProgram (style : Style) (file : List ℕ) (header : Option (List
   pub first_image : (text : List ℕ) (own : Columns) → IsFirstImageFile text own file → TellsText style text own program rows
 
 -- the outputs of either file
-abbrev pub TellsFile : Bool → Style → List ℕ → Option (List ℕ) → Program → List Row → Type 0
-TellsFile true style file header program rows = TellsSource style file header program rows
-TellsFile false style file header program rows = TellsProgram style file header program rows
+abbrev pub TellsFile : FileKind → Style → List ℕ → Option (List ℕ) → Program → List Row → Type 0
+TellsFile kinds.Spec style file header program rows = TellsSource style file header program rows
+TellsFile kinds.Program style file header program rows = TellsProgram style file header program rows
 
 -- so after each front of the rows that the program takes
 abbrev pub IsSettledBy : RunAsked → List ℕ → Option (List ℕ) → Result Program Status → Bool → List ℕ → Type 0
 IsSettledBy asked file header found ended bytes =
     (program : Program) → found ≡ Ok program → (rows more : List Row) → (rows_over asked program ended bytes).rows ≡ rows ++ more
-    → TellsFile asked.source asked.style file header program rows
+    → TellsFile asked.kind asked.style file header program rows

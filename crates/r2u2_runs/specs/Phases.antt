@@ -9,6 +9,8 @@ use Rattle.tool_io.specs.Cutting.{Cutting, HasNoNewline, IsRow, OnlyWhereNeeded,
 use Rattle.c2po_tree.specs.ItemShape.{spec_shape}
 use Rattle.obs_files.specs.Faults.{opened}
 use Rattle.spec_compile.specs.Front.{items_in, first_refusal}
+use Rattle.tool_words.specs.declared.file_kind.FileKind.{FileKind}
+use Rattle.tool_words.specs.declared.file_kind.FileKind.TheVariants as kinds
 use Rattle.tool_words.specs.R2u2Words.{RunAsked}
 use Rattle.trace_feed.specs.Header.{begins_header}
 use Rattle.mltl_monitor.specs.declared.state.State.{State}
@@ -25,9 +27,9 @@ use Rattle.r2u2_runs.specs.Outcome.{due_by, rows_by, Silent, LinesOutcome}
 use Rattle.r2u2_runs.specs.Run.{BegunFor, trace_of, trace_ended, lines_in, ReadsFirstLine}
 
 -- what was made of a file: a specification that says its items, or the program that its bytes spell
-abbrev pub Opens : Opened → Bool → List ℕ → Type 0
-Opens (file.Spec spec) source bytes = (source ≡ true) × (first_refusal bytes ≡ None) × (spec_shape spec ≡ items_in bytes)
-Opens (file.Program checked) source bytes = (source ≡ false) × (opened bytes ≡ Ok checked)
+abbrev pub Opens : Opened → FileKind → List ℕ → Type 0
+Opens (file.Spec spec) kind bytes = (kind ≡ kinds.Spec) × (first_refusal bytes ≡ None) × (spec_shape spec ≡ items_in bytes)
+Opens (file.Program checked) kind bytes = (kind ≡ kinds.Program) × (opened bytes ≡ Ok checked)
 
 -- the first line of the trace was read, and nothing was cut
 pub record FirstRead (cut : Cutting) (events : List Event) : Type 0 where
@@ -93,14 +95,14 @@ LoopLog program asked start answer kept events = NoMemory answer kept events ⊎
 
 -- the header or a limit refused the program, or memory was wanting for it
 pub record NoProgram (asked : RunAsked) (bytes : List ℕ) (start : Cutting) (answer : status.Status) (kept : Option State) (events : List Event) : Type 0 where
-  pub why : (answer ≡ status.TheVariants.Memory) ⊎ (program_by asked.source bytes (header_at start) ≡ Err answer)
+  pub why : (answer ≡ status.TheVariants.Memory) ⊎ (program_by asked.kind bytes (header_at start) ≡ Err answer)
   pub no_monitor : kept ≡ None
   pub no_events : events ≡ []
 
 -- there is a program, which ran
 pub record HasProgram (asked : RunAsked) (bytes : List ℕ) (start : Cutting) (answer : status.Status) (kept : Option State) (events : List Event) : Type 0 where
   pub program : Program
-  pub is : program_by asked.source bytes (header_at start) ≡ Ok program
+  pub is : program_by asked.kind bytes (header_at start) ≡ Ok program
   pub loop : LoopLog program asked start answer kept events
 
 -- the log of a run whose first line was read
@@ -110,8 +112,8 @@ RanRows asked bytes start answer kept events = NoProgram asked bytes start answe
 -- the log of a run over the lines of an attached trace
 pub record RanLines (asked : RunAsked) (bytes : List ℕ) (answer : status.Status) (kept : Option State) (events : List Event) : Type 0 where
   pub only : OnlyRun events
-  pub prompt : Prompt (due_by asked (program_over asked.source bytes (lines_in events)) false) [] events
-  pub outcome : LinesOutcome answer asked (program_over asked.source bytes (lines_in events)) (trace_ended events) (trace_of events) (given place.TheVariants.Out events) kept
+  pub prompt : Prompt (due_by asked (program_over asked.kind bytes (lines_in events)) false) [] events
+  pub outcome : LinesOutcome answer asked (program_over asked.kind bytes (lines_in events)) (trace_ended events) (trace_of events) (given place.TheVariants.Out events) kept
   pub begun : BegunFor answer (trace_ended events) (lines_in events)
   pub early : answer ≡ status.TheVariants.Memory → ReadsFirstLine events
 
@@ -119,15 +121,15 @@ pub record RanLines (asked : RunAsked) (bytes : List ℕ) (answer : status.Statu
 abbrev pub TraceOutcome : status.Status → RunAsked → List ℕ → List Event → Option State → Type 0
 TraceOutcome (status.TheVariants.OpenFault place.TheVariants.Trace) asked bytes events kept = Silent (given place.TheVariants.Out events) kept
 TraceOutcome answer asked bytes events kept =
-    LinesOutcome answer asked (program_over asked.source bytes (lines_in events)) (trace_ended events) (trace_of events) (given place.TheVariants.Out events) kept
+    LinesOutcome answer asked (program_over asked.kind bytes (lines_in events)) (trace_ended events) (trace_of events) (given place.TheVariants.Out events) kept
 
 -- the log of a run over a trace that is to be attached; nothing is read of the file
 pub record RanTrace (asked : RunAsked) (bytes : List ℕ) (answer : status.Status) (kept : Option State) (events : List Event) : Type 0 where
   pub names : IsFront (names_of events) ((place.TheVariants.Trace, asked.trace) ∷ [])
   pub attached : ReadsAttached [] events
-  pub no_file : taken (file_place asked.source) events ≡ []
-  pub no_file_end : (ended : Bool) → ended_from ended (file_place asked.source) events ≡ ended
-  pub prompt : Prompt (due_by asked (program_over asked.source bytes (lines_in events)) false) [] events
+  pub no_file : taken (file_place asked.kind) events ≡ []
+  pub no_file_end : (ended : Bool) → ended_from ended (file_place asked.kind) events ≡ ended
+  pub prompt : Prompt (due_by asked (program_over asked.kind bytes (lines_in events)) false) [] events
   pub outcome : TraceOutcome answer asked bytes events kept
   pub opened : OpensAsTold answer events
   pub begun : BegunFor answer (trace_ended events) (lines_in events)
@@ -136,13 +138,13 @@ pub record RanTrace (asked : RunAsked) (bytes : List ℕ) (answer : status.Statu
 
 -- the file is refused by itself, or memory was wanting for it
 pub record NotOpened (asked : RunAsked) (bytes : List ℕ) (answer : status.Status) (kept : Option State) (events : List Event) : Type 0 where
-  pub why : (answer ≡ status.TheVariants.Memory) ⊎ (file_refusal asked.source bytes ≡ Some answer)
+  pub why : (answer ≡ status.TheVariants.Memory) ⊎ (file_refusal asked.kind bytes ≡ Some answer)
   pub no_monitor : kept ≡ None
   pub no_events : events ≡ []
 
 -- it isn't, and the trace was run over
 pub record IsOpened (asked : RunAsked) (bytes : List ℕ) (answer : status.Status) (kept : Option State) (events : List Event) : Type 0 where
-  pub unrefused : file_refusal asked.source bytes ≡ None
+  pub unrefused : file_refusal asked.kind bytes ≡ None
   pub ran : RanTrace asked bytes answer kept events
 
 -- the log of a run behind the reading of its file

@@ -17,6 +17,8 @@ use Rattle.spec_compile.specs.declared.fault.CompileFault.TheVariants as compile
 use Rattle.spec_compile.specs.declared.fault.HeaderWhy.TheVariants as why
 use Rattle.spec_compile.specs.Front.{first_refusal}
 use Rattle.spec_compile.specs.Compiled.{image_of_text}
+use Rattle.tool_words.specs.declared.file_kind.FileKind.{FileKind}
+use Rattle.tool_words.specs.declared.file_kind.FileKind.TheVariants as kinds
 use Rattle.tool_runs.specs.declared.status.Status.{Status}
 use Rattle.tool_runs.specs.declared.status.Status.TheVariants.{Refused, BadHeader, BadTrace, Memory}
 use Rattle.tool_runs.specs.Files.{file_status}
@@ -47,10 +49,10 @@ abbrev pub refusal_of : Result Program FileFault → Option Status
 refusal_of (Ok program) = None
 refusal_of (Err fault) = Some (file_status fault)
 
--- what refuses a file by itself: a specification, or a program
-unfoldable pub file_refusal : Bool → List ℕ → Option Status
-file_refusal true file = option_map compile_status (first_refusal file)
-file_refusal false file = refusal_of (opened file)
+-- what refuses a file by itself
+unfoldable pub file_refusal : FileKind → List ℕ → Option Status
+file_refusal kinds.Spec file = option_map compile_status (first_refusal file)
+file_refusal kinds.Program file = refusal_of (opened file)
 
 -- a program over the columns that a header names
 abbrev pub bound_over : Program → Result Columns HeaderFault → Result Program Status
@@ -68,10 +70,10 @@ abbrev pub opened_under : Option (List ℕ) → Result Program FileFault → Res
 opened_under header (Ok program) = bound_under header program
 opened_under header (Err fault) = Err (file_status fault)
 
--- the program of a file, a specification or a program, under the header of a trace; or the first that refuses it
-unfoldable pub program_by : Bool → List ℕ → Option (List ℕ) → Result Program Status
-program_by true file header = with_status compile_status (image_of_text file header)
-program_by false file header = opened_under header (opened file)
+-- the program of a file under the header of a trace; or the first that refuses it
+unfoldable pub program_by : FileKind → List ℕ → Option (List ℕ) → Result Program Status
+program_by kinds.Spec file header = with_status compile_status (image_of_text file header)
+program_by kinds.Program file header = opened_under header (opened file)
 
 -- the header of a trace: its first line, where that begins with `#`
 abbrev pub header_in : List (List ℕ) → Option (List ℕ)
@@ -90,6 +92,6 @@ unless_refused (Some status) found = Err status
 
 -- The program that runs over the lines of a trace, or the first that refuses it: the file by itself, then a first line
 -- that is too long, then the header, then the limits of a program.
-unfoldable pub program_over : Bool → List ℕ → List (List ℕ) → Result Program Status
-program_over source file lines =
-    unless_refused (file_refusal source file) (unless_long (begins_long lines) (program_by source file (header_in lines)))
+unfoldable pub program_over : FileKind → List ℕ → List (List ℕ) → Result Program Status
+program_over kind file lines =
+    unless_refused (file_refusal kind file) (unless_long (begins_long lines) (program_by kind file (header_in lines)))

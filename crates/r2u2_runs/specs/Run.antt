@@ -23,11 +23,11 @@ use Rattle.r2u2_runs.specs.Formulas.{IsSettledBy}
 
 -- the bytes of the file that were taken
 abbrev pub file_of : RunAsked → List Event → List ℕ
-file_of asked events = taken (file_place asked.source) events
+file_of asked events = taken (file_place asked.kind) events
 
 -- whether its end was met
 abbrev pub file_ended : RunAsked → List Event → Bool
-file_ended asked events = ended_from false (file_place asked.source) events
+file_ended asked events = ended_from false (file_place asked.kind) events
 
 -- the bytes of the trace that were taken
 abbrev pub trace_of : List Event → List ℕ
@@ -43,13 +43,13 @@ lines_in events = lines_of (trace_ended events) (trace_of events)
 
 -- the program that runs over the trace
 abbrev pub found_in : RunAsked → List Event → Result Program status.Status
-found_in asked events = program_over asked.source (file_of asked events) (lines_in events)
+found_in asked events = program_over asked.kind (file_of asked events) (lines_in events)
 
 -- the file was read to its end, within its limit, and isn't refused by itself
 pub record IsReadable (asked : RunAsked) (file : List ℕ) (ended : Bool) : Type 0 where
   pub whole : ended ≡ true
-  pub within : length file ≤ file_limit asked.source
-  pub unrefused : file_refusal asked.source file ≡ None
+  pub within : length file ≤ file_limit asked.kind
+  pub unrefused : file_refusal asked.kind file ≡ None
 
 -- the trace, which comes second, is tried only behind a file that is readable
 abbrev pub TriesSecond : Asked → List Event → Type 0
@@ -74,20 +74,20 @@ TellsFormulas other events = Unit {0}
 -- the file was read to its end, and the answer follows from the lines of the trace
 pub record ByLines (answer : status.Status) (asked : RunAsked) (file : List ℕ) (file_end : Bool) (bytes : List ℕ) (ended : Bool) (out : List ℕ) (kept : Option State) : Type 0 where
   pub whole : file_end ≡ true
-  pub within : length file ≤ file_limit asked.source
-  pub lines : LinesOutcome answer asked (program_over asked.source file (lines_of ended bytes)) ended bytes out kept
+  pub within : length file ≤ file_limit asked.kind
+  pub lines : LinesOutcome answer asked (program_over asked.kind file (lines_of ended bytes)) ended bytes out kept
 
 -- how each answer of a run over a trace follows from the bytes that were taken and given
 abbrev pub FileOutcome : status.Status → RunAsked → List ℕ → Bool → List ℕ → Bool → List ℕ → Option State → Type 0
 FileOutcome (status.TheVariants.OpenFault place.TheVariants.Trace) asked file file_end bytes ended out kept = IsReadable asked file file_end × Silent out kept
-FileOutcome (status.TheVariants.OpenFault p) asked file file_end bytes ended out kept = (p ≡ file_place asked.source) × (file ≡ []) × Silent out kept
+FileOutcome (status.TheVariants.OpenFault p) asked file file_end bytes ended out kept = (p ≡ file_place asked.kind) × (file ≡ []) × Silent out kept
 FileOutcome (status.TheVariants.ReadFault place.TheVariants.Trace) asked file file_end bytes ended out kept =
     IsReadable asked file file_end × ByLines (status.TheVariants.ReadFault place.TheVariants.Trace) asked file file_end bytes ended out kept
 FileOutcome (status.TheVariants.ReadFault p) asked file file_end bytes ended out kept =
-    (p ≡ file_place asked.source) × (file_end ≡ false) × (length file ≤ file_limit asked.source) × Silent out kept
+    (p ≡ file_place asked.kind) × (file_end ≡ false) × (length file ≤ file_limit asked.kind) × Silent out kept
 FileOutcome (status.TheVariants.TextTooLong p) asked file file_end bytes ended out kept =
-    (p ≡ file_place asked.source) × (file_limit asked.source < length file) × Silent out kept
-FileOutcome status.TheVariants.Memory asked file file_end bytes ended out kept = (length file ≤ file_limit asked.source) × Silent out kept
+    (p ≡ file_place asked.kind) × (file_limit asked.kind < length file) × Silent out kept
+FileOutcome status.TheVariants.Memory asked file file_end bytes ended out kept = (length file ≤ file_limit asked.kind) × Silent out kept
 FileOutcome answer asked file file_end bytes ended out kept = ByLines answer asked file file_end bytes ended out kept
 
 -- the usage line is out whole, or a front of it that misses some
@@ -123,7 +123,7 @@ BegunFor answer ended lines = Unit {0}
 -- so they do where the file isn't refused by itself
 abbrev pub RefusesBehind : Asked → status.Status → List Event → Type 0
 RefusesBehind (run asked) answer events =
-    file_refusal asked.source (file_of asked events) ≡ None → BegunFor answer (trace_ended events) (lines_in events)
+    file_refusal asked.kind (file_of asked events) ≡ None → BegunFor answer (trace_ended events) (lines_in events)
 RefusesBehind other answer events = Unit {0}
 
 -- the log of a run before its message
@@ -142,7 +142,7 @@ pub record Ran (asked : Asked) (answer : status.Status) (kept : Option State) (e
 -- unless memory is wanting, and so does a demo; help is given where it is asked for.
 abbrev pub CompletesBy : Asked → status.Status → List Event → Type 0
 CompletesBy (run asked) answer events =
-    length (file_of asked events) ≤ file_limit asked.source
+    length (file_of asked events) ≤ file_limit asked.kind
     → StopsBy Clean asked (found_in asked events) (trace_ended events) (trace_of events)
     → (answer ≡ status.TheVariants.Done) ⊎ (answer ≡ status.TheVariants.Memory)
 CompletesBy help answer events = (answer ≡ status.TheVariants.Helped) ⊎ (answer ≡ status.TheVariants.Memory)

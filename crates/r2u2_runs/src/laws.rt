@@ -1,11 +1,12 @@
 //! What program files tell that are images of specifications: the law is the contract of a function with an empty body.
 
-ghost use Rattle.std.specs.Prelude.{◌≡◌, Bool, List as Seq, Ok, Option as Maybe, ℕ};
+ghost use Rattle.std.specs.Prelude.{◌≡◌, List as Seq, Ok, Option as Maybe, ℕ};
 ghost use Rattle.mltl_base.specs.Atoms.{Row};
 ghost use Rattle.mltl_base.specs.declared.program.Columns.{Columns as Places};
 ghost use Rattle.mltl_base.specs.declared.program.Program.{Program as Observer};
 ghost use Rattle.mltl_base.specs.declared.report.Style.{Style as Form};
 ghost use Rattle.spec_compile.specs.ImageFiles.{IsFirstImageFile, IsImageFile};
+ghost use Rattle.tool_words.specs.declared.file_kind.FileKind.TheVariants.{Program};
 ghost use Rattle.r2u2_runs.specs.ProgramBy.{program_by};
 ghost use Rattle.r2u2_runs.specs.Formulas.{TellsImage};
 ghost use Rattle.r2u2_runs.specs.Settled.{TellsText};
@@ -17,9 +18,9 @@ ghost use Rattle.r2u2_runs.specs.Settled.{TellsText};
 pub fn images_tell_their_texts()
     ensures image { (style : Form) (text file : Seq ℕ) (own : Places) (header : Maybe (Seq ℕ))
         (program : Observer) (rows : Seq Row) → IsImageFile text own file →
-        program_by Bool.false file header ≡ Ok program →
+        program_by Program file header ≡ Ok program →
         TellsImage style text own header program rows }
     ensures first_image { (style : Form) (text file : Seq ℕ) (own : Places) (header : Maybe (Seq ℕ))
         (program : Observer) (rows : Seq Row) → IsFirstImageFile text own file →
-        program_by Bool.false file header ≡ Ok program → TellsText style text own program rows }
+        program_by Program file header ≡ Ok program → TellsText style text own program rows }
 {}

@@ -1,6 +1,6 @@
 //! From the bytes of a file to the program that runs over a trace.
 
-ghost use Rattle.std.specs.Prelude.{◌≡◌, ◌≢◌, ◌≤◌, Bool, Err, List as Seq, ℕ, None, Ok, OnOk, Option as Maybe, Some, IfErr, IfOk, length};
+ghost use Rattle.std.specs.Prelude.{◌≡◌, ◌≢◌, ◌≤◌, Err, List as Seq, ℕ, None, Ok, OnOk, Option as Maybe, Some, IfErr, IfOk, length};
 ghost use Rattle.std.specs.Option.{ForSome, option_copied};
 ghost use Rattle.obs_files.specs.Faults.{opened as opened_by};
 ghost use Rattle.tool_runs.specs.Causes.{TellsNoCall};
@@ -14,6 +14,7 @@ use obs_verify::{Checked, rebind};
 use spec_compile::{CompileFault, HeaderWhy, back, columns_of, front};
 use std::alloc::Global;
 use tool_runs::Status;
+use tool_words::FileKind;
 use trace_feed::{HeaderFault, header_of};
 use trace_watch::TraceWhy;
 
@@ -27,27 +28,26 @@ pub(crate) enum Opened {
 }
 
 /// What the bytes of a specification, or of a program file, stand for.
-pub(crate) fn open_file(alloc: Global, source: bool, bytes: &[u8]) -> Result<Opened, Status>
-    requires { length bytes.now ≤ file_limit source }
-    ensures opens { IfOk result (λ opened. Opens opened source bytes.now) }
-    ensures unrefused { OnOk result (file_refusal source bytes.now ≡ None) }
+pub(crate) fn open_file(alloc: Global, kind: FileKind, bytes: &[u8]) -> Result<Opened, Status>
+    requires { length bytes.now ≤ file_limit kind }
+    ensures opens { IfOk result (λ opened. Opens opened kind bytes.now) }
+    ensures unrefused { OnOk result (file_refusal kind bytes.now ≡ None) }
     ensures refused { IfErr result (λ status. status ≢ Status.Memory →
-        file_refusal source bytes.now ≡ Some status) }
+        file_refusal kind bytes.now ≡ Some status) }
     ensures no_call { IfErr result TellsNoCall }
 {
-    if source {
-        open_spec(alloc, bytes)
-    } else {
-        open_program(alloc, bytes)
+    match kind {
+        FileKind::Spec => open_spec(alloc, bytes),
+        FileKind::Program => open_program(alloc, bytes),
     }
 }
 
 fn open_spec(alloc: Global, text: &[u8]) -> Result<Opened, Status>
     requires { length text.now ≤ 1048576 }
-    ensures opens { IfOk result (λ opened. Opens opened Bool.true text.now) }
-    ensures unrefused { OnOk result (file_refusal Bool.true text.now ≡ None) }
+    ensures opens { IfOk result (λ opened. Opens opened FileKind.Spec text.now) }
+    ensures unrefused { OnOk result (file_refusal FileKind.Spec text.now ≡ None) }
     ensures refused { IfErr result (λ status. status ≢ Status.Memory →
-        file_refusal Bool.true text.now ≡ Some status) }
+        file_refusal FileKind.Spec text.now ≡ Some status) }
     ensures no_call { IfErr result TellsNoCall }
 {
     let spec = front(alloc, text).map_err(status_of_compile)?;
@@ -55,10 +55,10 @@ fn open_spec(alloc: Global, text: &[u8]) -> Result<Opened, Status>
 }
 
 fn open_program(alloc: Global, bytes: &[u8]) -> Result<Opened, Status>
-    ensures opens { IfOk result (λ opened. Opens opened Bool.false bytes.now) }
-    ensures unrefused { OnOk result (file_refusal Bool.false bytes.now ≡ None) }
+    ensures opens { IfOk result (λ opened. Opens opened FileKind.Program bytes.now) }
+    ensures unrefused { OnOk result (file_refusal FileKind.Program bytes.now ≡ None) }
     ensures refused { IfErr result (λ status. status ≢ Status.Memory →
-        file_refusal Bool.false bytes.now ≡ Some status) }
+        file_refusal FileKind.Program bytes.now ≡ Some status) }
     ensures no_call { IfErr result TellsNoCall }
 {
     let checked = open(alloc, bytes)?;
@@ -73,11 +73,11 @@ pub(crate) fn program_for(
 ) -> Result<Checked, Status>
     requires line { ForSome header (λ line. length line.now ≤ 65535) }
     ensures program { IfOk result (λ checked.
-        (source : Bool) (bytes : Seq ℕ) → Opens opened source bytes →
-        program_by source bytes (option_copied header.entry) ≡ Ok checked) }
+        (kind : FileKind) (bytes : Seq ℕ) → Opens opened kind bytes →
+        program_by kind bytes (option_copied header.entry) ≡ Ok checked) }
     ensures refused { IfErr result (λ status. status ≢ Status.Memory →
-        (source : Bool) (bytes : Seq ℕ) → Opens opened source bytes →
-        program_by source bytes (option_copied header.entry) ≡ Err status) }
+        (kind : FileKind) (bytes : Seq ℕ) → Opens opened kind bytes →
+        program_by kind bytes (option_copied header.entry) ≡ Err status) }
     ensures no_call { IfErr result TellsNoCall }
 {
     match opened {
@@ -90,11 +90,11 @@ pub(crate) fn program_for(
 fn compiled(alloc: Global, spec: &TypedSpec, header: Option<&[u8]>) -> Result<Checked, Status>
     requires line { ForSome header (λ line. length line.now ≤ 65535) }
     ensures program { IfOk result (λ checked.
-        (source : Bool) (bytes : Seq ℕ) → Opens (Opened.Spec spec.now) source bytes →
-        program_by source bytes (option_copied header.entry) ≡ Ok checked) }
+        (kind : FileKind) (bytes : Seq ℕ) → Opens (Opened.Spec spec.now) kind bytes →
+        program_by kind bytes (option_copied header.entry) ≡ Ok checked) }
     ensures refused { IfErr result (λ status. status ≢ Status.Memory →
-        (source : Bool) (bytes : Seq ℕ) → Opens (Opened.Spec spec.now) source bytes →
-        program_by source bytes (option_copied header.entry) ≡ Err status) }
+        (kind : FileKind) (bytes : Seq ℕ) → Opens (Opened.Spec spec.now) kind bytes →
+        program_by kind bytes (option_copied header.entry) ≡ Err status) }
     ensures no_call { IfErr result TellsNoCall }
 {
     let columns = columns_of(alloc, spec, header).map_err(status_of_compile)?;

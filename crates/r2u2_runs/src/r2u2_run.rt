@@ -27,14 +27,14 @@ fn run_bytes<H: Host>(
     host: &mut H,
     kept: &mut Option<Monitor>,
 ) -> Status
-    requires within { length bytes.now ≤ file_limit asked.now.source }
+    requires within { length bytes.now ≤ file_limit asked.now.kind }
     requires mission { asked.now.mission ≤ 2 ^ 40 }
     requires none_kept { kept.old ≡ None }
     ensures cause { RunCause result (H.faults host.old) (H.faults host.new) }
     ensures log { OnLog (H.log host.old) (H.log host.new)
         (RanFile (run_of asked.now) bytes.now result kept.new) }
 {
-    match open_file(alloc, asked.source, bytes) {
+    match open_file(alloc, asked.kind, bytes) {
         Ok(opened) => run_trace(alloc, asked, opened, host, kept),
         Err(status) => status,
     }
@@ -53,7 +53,7 @@ fn run_file<H: Host>(
     ensures log { OnLog (H.log host.old) (H.log host.new)
         (Ran (run_over (run_of asked.now)) result kept.new) }
 {
-    match read_file(alloc, asked.source, asked.file, host) {
+    match read_file(alloc, asked.kind, asked.file, host) {
         Ok(bytes) => run_bytes(alloc, asked, &bytes, host, kept),
         Err(status) => status,
     }

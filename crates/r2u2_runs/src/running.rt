@@ -30,7 +30,7 @@ pub(crate) fn run_trace<H: Host>(
     requires mission { asked.now.mission ≤ 2 ^ 40 }
     requires none_kept { kept.old ≡ None }
     ensures cause { RunCause result (H.faults host.old) (H.faults host.new) }
-    ensures log { (bytes : Seq ℕ) → Opens opened asked.now.source bytes →
+    ensures log { (bytes : Seq ℕ) → Opens opened asked.now.kind bytes →
         OnLog (H.log host.old) (H.log host.new)
         (RanTrace (run_of asked.now) bytes result kept.new) }
 {
@@ -51,7 +51,7 @@ fn run_lines<H: Host>(
     requires mission { asked.now.mission ≤ 2 ^ 40 }
     requires none_kept { kept.old ≡ None }
     ensures cause { RunCause result (H.faults host.old) (H.faults host.new) }
-    ensures log { (bytes : Seq ℕ) → Opens opened asked.now.source bytes →
+    ensures log { (bytes : Seq ℕ) → Opens opened asked.now.kind bytes →
         OnLog (H.log host.old) (H.log host.new)
         (RanLines (run_of asked.now) bytes result kept.new) }
 {
@@ -80,7 +80,7 @@ fn run_rows<H: Host>(
     requires any { any ≡ is_some cut.old.row }
     requires none_kept { kept.old ≡ None }
     ensures cause { RunCause result (H.faults host.old) (H.faults host.new) }
-    ensures log { (bytes : Seq ℕ) → Opens opened asked.now.source bytes →
+    ensures log { (bytes : Seq ℕ) → Opens opened asked.now.kind bytes →
         OnLog (H.log host.old) (H.log host.new)
         (RanRows (run_of asked.now) bytes cut.old result kept.new) }
 {

@@ -10,32 +10,32 @@ use crate::Status;
 use mltl_base::limits::{MAX_PROGRAM_BYTES, MAX_SPEC_BYTES};
 use std::alloc::Global;
 use tool_io::{Attached, Host, Place, WholeFault, read_whole};
+use tool_words::FileKind;
 
-/// Where a file is read, and how many bytes it may have: a specification, or a program.
-fn place_of(source: bool) -> (Place, usize)
-    ensures place { result.0 ≡ file_place source }
-    ensures limit { result.1 ≡ file_limit source }
+/// Where a file is read, and how many bytes it may have.
+fn place_of(kind: FileKind) -> (Place, usize)
+    ensures place { result.0 ≡ file_place kind }
+    ensures limit { result.1 ≡ file_limit kind }
 {
-    if source {
-        (Place::Spec, MAX_SPEC_BYTES)
-    } else {
-        (Place::Program, MAX_PROGRAM_BYTES)
+    match kind {
+        FileKind::Spec => (Place::Spec, MAX_SPEC_BYTES),
+        FileKind::Program => (Place::Program, MAX_PROGRAM_BYTES),
     }
 }
 
-/// Reads a file whole: a specification, or a program.
+/// Reads a specification or a program whole.
 pub fn read_file<H: Host>(
     alloc: Global,
-    source: bool,
+    kind: FileKind,
     name: &str,
     host: &mut H,
 ) -> Result<Vec<u8>, Status>
     ensures cause { PhaseCause result (H.faults host.old) (H.faults host.new) }
     ensures log { OnLog (H.log host.old) (H.log host.new)
-        (FileLog result (file_place source) (file_limit source) name.now) }
-    ensures within { IfOk result (λ bytes. length bytes.items ≤ file_limit source) }
+        (FileLog result (file_place kind) (file_limit kind) name.now) }
+    ensures within { IfOk result (λ bytes. length bytes.items ≤ file_limit kind) }
 {
-    let (place, limit) = place_of(source);
+    let (place, limit) = place_of(kind);
     if let Attached::Failed = host.attach(place, name) {
         return Err(Status::OpenFault(place));
     }

@@ -6,12 +6,13 @@ use Rattle.std.specs.Str.{is_utf8, chars}
 use Rattle.clap.specs.Words.{Text}
 use Rattle.clap.proofs.OnLiterals.{clap_on_literals}
 use Rattle.mltl_base.specs.declared.report.Style.TheVariants.{Each, Runs}
+use Rattle.tool_words.specs.declared.file_kind.FileKind.TheVariants.{Spec, Program}
 use Rattle.tool_words.specs.R2u2Words as r2u2
 use Rattle.tool_words.specs.C2poWords as c2po
 
 -- a run of a program without options, but for its mission time
 abbrev plain_run : ℕ → Text → r2u2.Asked
-plain_run mission file = r2u2.run (record { source = false; style = Each; timed = false; mission = mission; file = file; trace = codes "-" })
+plain_run mission file = r2u2.run (record { kind = Program; style = Each; timed = false; mission = mission; file = file; trace = codes "-" })
 
 -- an image that is written to a file
 abbrev plain_image : Text → Text → c2po.Asked
@@ -26,12 +27,12 @@ unfolding clap_on_literals is_utf8 chars r2u2.command
 mission_after_equals = refl
 
 options_between : r2u2.ask (codes "a" ∷ codes "--mission-time" ∷ codes "007" ∷ codes "--source" ∷ codes "t" ∷ [])
-    ≡ r2u2.run (record { source = true; style = Each; timed = false; mission = 7; file = codes "a"; trace = codes "t" })
+    ≡ r2u2.run (record { kind = Spec; style = Each; timed = false; mission = 7; file = codes "a"; trace = codes "t" })
 unfolding clap_on_literals is_utf8 chars r2u2.command
 options_between = refl
 
 stamped_runs : r2u2.ask (codes "--timed" ∷ codes "--runs" ∷ codes "a" ∷ [])
-    ≡ r2u2.run (record { source = false; style = Runs; timed = true; mission = 16777216; file = codes "a"; trace = codes "-" })
+    ≡ r2u2.run (record { kind = Program; style = Runs; timed = true; mission = 16777216; file = codes "a"; trace = codes "-" })
 unfolding clap_on_literals is_utf8 chars r2u2.command
 stamped_runs = refl
 

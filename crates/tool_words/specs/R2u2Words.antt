@@ -6,6 +6,8 @@ use Rattle.std.specs.Option.{option_map_or}
 use Rattle.clap.specs.Words.{App, Row, Text, first_of}
 use Rattle.mltl_base.specs.declared.report.Style.{Style}
 use Rattle.mltl_base.specs.declared.report.Style.TheVariants.{Each, Runs}
+use Rattle.tool_words.specs.declared.file_kind.FileKind.{FileKind}
+use Rattle.tool_words.specs.declared.file_kind.FileKind.TheVariants.{Spec, Program}
 use Rattle.tool_words.specs.declared.r2u2_words.R2u2Ask as r2u2_ask
 use Rattle.tool_words.specs.declared.r2u2_words.Run as told
 use Rattle.tool_words.specs.Texts.{are_texts}
@@ -17,9 +19,9 @@ command = command_of (codes "r2u2")
     (flag (codes "source") ∷ flag (codes "runs") ∷ flag (codes "timed") ∷ option (codes "mission-time") ∷ option (codes "demo")
     ∷ positional (codes "file") ∷ positional (codes "trace") ∷ [])
 
--- a run over a trace; `source` says that the file is a specification
+-- a run over a trace
 pub record RunAsked : Type 0 where
-  pub source : Bool
+  pub kind : FileKind
   pub style : Style
   pub timed : Bool
   pub mission : ℕ
@@ -33,6 +35,10 @@ pub data Asked : Type 0 where
   demo : ℕ → ℕ → Asked
   nothing : Asked
 
+-- the file is a specification where `--source` is given, else a program
+abbrev pub kind_in : List Row → FileKind
+kind_in found = if is_set (codes "source") found then Spec else Program
+
 -- reports for stretches are asked for by `--runs`
 abbrev pub style_in : List Row → Style
 style_in found = if is_set (codes "runs") found then Runs else Each
@@ -45,7 +51,7 @@ mission_in found = option_map_or (number_in 13 1 1099511627776) (first_of (codes
 -- the run over a file, where an absent trace is `-`
 abbrev pub run_with : List Row → Text → ℕ → RunAsked
 run_with found file mission = record {
-  source = is_set (codes "source") found;
+  kind = kind_in found;
   style = style_in found;
   timed = is_set (codes "timed") found;
   mission = mission;
@@ -86,7 +92,7 @@ ask words = if are_texts words then ask_of_texts words else nothing
 
 -- the run that an answer tells
 abbrev pub run_of : told.Run → RunAsked
-run_of r = record { source = r.source; style = r.style; timed = r.timed; mission = r.mission; file = r.file.now; trace = r.trace.now }
+run_of r = record { kind = r.kind; style = r.style; timed = r.timed; mission = r.mission; file = r.file.now; trace = r.trace.now }
 
 -- what an answer tells
 abbrev pub asked_of : r2u2_ask.R2u2Ask → Asked

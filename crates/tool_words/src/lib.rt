@@ -5,6 +5,7 @@
 #![tactic(auto)]
 
 mod c2po_words;
+mod file_kind;
 mod given;
 mod numbers;
 mod r2u2_words;
@@ -12,6 +13,7 @@ mod reading;
 mod words;
 
 pub use c2po_words::{C2poAsk, Compile, c2po_ask};
+pub use file_kind::FileKind;
 pub use given::words_of;
 pub use r2u2_words::{R2u2Ask, Run, r2u2_ask};
 pub use words::Words;

@@ -5,11 +5,11 @@ ghost use Rattle.clap.specs.Words.{app_of};
 ghost use Rattle.tool_words.specs.R2u2Words as r2u2;
 ghost use Rattle.tool_words.specs.Reading.{rows};
 
-use crate::Words;
 use crate::numbers::Numbers;
 use crate::reading::{
     asks_for_help, bare_command, flag, is_set, matches_in, option, positional, value_of,
 };
+use crate::{FileKind, Words};
 use clap::{ArgMatches, Command};
 use mltl_base::Style;
 use mltl_base::limits::{MAX_MISSION, TIMED_MISSION};
@@ -18,8 +18,8 @@ use std::alloc::{AllocError, Global};
 /// A run of the monitor over a trace.
 #[derive(Clone, Copy, Debug)]
 pub struct Run<'a> {
-    /// Whether the file is a specification, and not a program.
-    pub source: bool,
+    /// What the file is.
+    pub kind: FileKind,
     pub style: Style,
     /// Whether the rows of the trace are stamped.
     pub timed: bool,
@@ -147,13 +147,23 @@ fn run_in<'a>(matches: &ArgMatches<'a>) -> Option<Run<'a>>
     let file = value_of(matches, "file")?;
     let mission = mission_time(matches)?;
     Some(Run {
-        source: is_set(matches, "source"),
+        kind: file_kind(matches),
         style: style(matches),
         timed: is_set(matches, "timed"),
         mission,
         file,
         trace: value_of(matches, "trace").unwrap_or("-"),
     })
+}
+
+fn file_kind(matches: &ArgMatches<'_>) -> FileKind
+    ensures { result ≡ r2u2.kind_in (rows matches.now) }
+{
+    if is_set(matches, "source") {
+        FileKind::Spec
+    } else {
+        FileKind::Program
+    }
 }
 
 fn style(matches: &ArgMatches<'_>) -> Style

@@ -25,11 +25,11 @@ const TABLE: &str = "--help # Help # Help
 -h # Help # Help
 a --help # Nothing # Nothing
 -h a # Nothing # Nothing
--- -h # Run(Run { source: false, style: Each, timed: false, mission: 1099511627776, file: \"-h\", trace: \"-\" }) # Compile(Compile { header: None, out: Some(\"spec.bin\"), table: false, simplify: false, spec: \"-h\" })
---source --runs - t # Run(Run { source: true, style: Runs, timed: false, mission: 1099511627776, file: \"-\", trace: \"t\" }) # Nothing
-a --mission-time 007 --timed # Run(Run { source: false, style: Each, timed: true, mission: 7, file: \"a\", trace: \"-\" }) # Nothing
---timed a # Run(Run { source: false, style: Each, timed: true, mission: 16777216, file: \"a\", trace: \"-\" }) # Nothing
---mission-time=1099511627776 a # Run(Run { source: false, style: Each, timed: false, mission: 1099511627776, file: \"a\", trace: \"-\" }) # Nothing
+-- -h # Run(Run { kind: Program, style: Each, timed: false, mission: 1099511627776, file: \"-h\", trace: \"-\" }) # Compile(Compile { header: None, out: Some(\"spec.bin\"), table: false, simplify: false, spec: \"-h\" })
+--source --runs - t # Run(Run { kind: Spec, style: Runs, timed: false, mission: 1099511627776, file: \"-\", trace: \"t\" }) # Nothing
+a --mission-time 007 --timed # Run(Run { kind: Program, style: Each, timed: true, mission: 7, file: \"a\", trace: \"-\" }) # Nothing
+--timed a # Run(Run { kind: Program, style: Each, timed: true, mission: 16777216, file: \"a\", trace: \"-\" }) # Nothing
+--mission-time=1099511627776 a # Run(Run { kind: Program, style: Each, timed: false, mission: 1099511627776, file: \"a\", trace: \"-\" }) # Nothing
 --mission-time=1099511627777 a # Nothing # Nothing
 --mission-time=0 a # Nothing # Nothing
 --mission-time=+5 a # Nothing # Nothing
@@ -56,7 +56,7 @@ a --mission-time 007 --timed # Run(Run { source: false, style: Each, timed: true
 --upgrade --table b # Nothing # Nothing
 --show --header h b # Nothing # Nothing
 -o a # Nothing # Nothing
-~ # Run(Run { source: false, style: Each, timed: false, mission: 1099511627776, file: \"\", trace: \"-\" }) # Compile(Compile { header: None, out: Some(\"spec.bin\"), table: false, simplify: false, spec: \"\" })";
+~ # Run(Run { kind: Program, style: Each, timed: false, mission: 1099511627776, file: \"\", trace: \"-\" }) # Compile(Compile { header: None, out: Some(\"spec.bin\"), table: false, simplify: false, spec: \"\" })";
 
 #[test]
 fn words_ask(rt: HostRuntime) -> Result<(), Fail> {

@@ -14,12 +14,12 @@ returns-in_err-bytes-clause-log g c =
     let asked = make_of c.args.asked.now in
     let answer = c.in_err-bytes.field-0.0 in
     rw (p.1, p.2) (OnLog-map _ _ _ c.in_err-bytes.ensures.log
-    (λ events read. gather_unread asked answer events (subst (λ source. FileLog (Err answer) (file_place source) (file_limit source) asked.file events) c.from_text.ensures read)))
+    (λ events read. gather_unread asked answer events (subst (λ kind. FileLog (Err answer) (file_place kind) (file_limit kind) asked.file events) c.file_kind.ensures read)))
 
 pub returns-clause-log : goal.returns-clause-log
 returns-clause-log g c =
     let asked = make_of c.args.asked.now in
     OnLog-then _ _ _ _ c.in_ok-bytes.ensures.log c.of_file.ensures.log
     (λ first second read behind. gather_behind asked c.in_ok-bytes.bytes c.of_file.result first second (λ is. ap (option_map (λ name. name.now)) (c.requires.header is))
-    (subst (λ source. FileLog (Ok c.in_ok-bytes.bytes) (file_place source) (file_limit source) asked.file first) c.from_text.ensures read)
+    (subst (λ kind. FileLog (Ok c.in_ok-bytes.bytes) (file_place kind) (file_limit kind) asked.file first) c.file_kind.ensures read)
     (subst (λ bytes. BehindLog c.of_file.result asked bytes second) c.deref.ensures.value behind))

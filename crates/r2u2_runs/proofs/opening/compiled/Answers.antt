@@ -11,8 +11,8 @@ pub returns-in_err-columns-clause-refused : goal.returns-in_err-columns-clause-r
 returns-in_err-columns-clause-refused c =
     let p = err_from_is_err_and c.from_residual.result c.from_residual.ensures.1 in
     let why = told_fault compile_status c.columns_of.result c.in_err-columns.field-0.0 _ (search rules) c.columns_of.ensures.fault in
-    rw (p.1, p.2, why.2) (λ some source bytes opens.
-    header_refuses source bytes (option_copied c.args.header) (spec_shape c.args.spec.now) why.0 opens.0 opens.1 opens.2 why.1 some)
+    rw (p.1, p.2, why.2) (λ some kind bytes opens.
+    header_refuses kind bytes (option_copied c.args.header) (spec_shape c.args.spec.now) why.0 opens.0 opens.1 opens.2 why.1 some)
 
 pub returns-clause-program : goal.returns-clause-program
 returns-clause-program c =

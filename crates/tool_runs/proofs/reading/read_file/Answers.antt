@@ -11,4 +11,4 @@ returns-clause-log g c =
     let to = c.place_of-place.result in
     let told : c.map_err.result ≡ told_as (unread to.0) c.read_whole.result = search rules in
     OnLog-map _ _ _ (OnLog-attached _ _ _ to.0 c.args.name.now _ c.in_default.ensures.log c.read_whole.ensures.log)
-    (λ events has. rw told (file_log (told_as (unread to.0) c.read_whole.result) to.0 (file_place c.args.source) to.1 (file_limit c.args.source) c.args.name.now events c.place_of-place.ensures.place c.place_of-place.ensures.limit (whole_log c.read_whole.result to.0 to.1 c.args.name.now events has)))
+    (λ events has. rw told (file_log (told_as (unread to.0) c.read_whole.result) to.0 (file_place c.args.kind) to.1 (file_limit c.args.kind) c.args.name.now events c.place_of-place.ensures.place c.place_of-place.ensures.limit (whole_log c.read_whole.result to.0 to.1 c.args.name.now events has)))
