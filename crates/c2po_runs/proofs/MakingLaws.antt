@@ -1,6 +1,6 @@
 -- What a text gives, from the answers of the calls that compile it.
 
-use Rattle.std.proofs.Common.{◌≡◌, ◌≢◌, ◌∙◌, ℕ, Bool, true, false, Option, Some, None, Result, Ok, Err, List, [], Vec, IfOk, refl, subst, sym, ap}
+use Rattle.std.proofs.Common.{◌≡◌, ◌≢◌, ◌∙◌, ℕ, Bool, true, false, Option, Some, None, Result, Ok, Err, List, [], Vec, IfOk, refl, sym, ap}
 use Rattle.std.specs.declared.alloc.Global.{Global}
 use Rattle.mltl_base.specs.declared.program.Columns.{Columns}
 use Rattle.mltl_base.specs.declared.program.Program.{Program}
@@ -22,7 +22,6 @@ use Rattle.tool_runs.specs.declared.status.Status.TheVariants.{Memory}
 use Rattle.c2po_runs.specs.declared.make.Form.{Form}
 use Rattle.tool_runs.specs.FirstLine.{begins_long}
 use Rattle.c2po_runs.specs.Made.{compile_status, compiled_bytes, image_by, program_by, text_bytes, written_as, unless_long, unless_refused, first_line, made_of_text}
-use Rattle.std.specs.Result.{MatchResult, IsErrAnd}
 
 -- a text is refused alike in both forms
 pub refused_by : (simplify : Bool) (text : List ℕ) (header : Option (List ℕ)) (fault : CompileFault) → image_of_text text header ≡ Err fault → program_by simplify text header ≡ Err fault
@@ -72,8 +71,3 @@ refused_so form (Some name) text (compile.Refused line why) is some =
     ap (λ r. unless_refused r (unless_long (begins_long []) (text_bytes form text (Some (first_line []))))) is
 refused_so form (Some name) text (compile.BadHeader why) is some = absurd is
 refused_so form (Some name) text compile.Memory is some = absurd (some refl)
-
--- what is Ok behind a call that may put one fault for another was Ok before it
-pub ok_before : {T E D : Type 0} (found : Result T E) (now : Result T D) (P : E → D → Type 0) (value : T) → MatchResult found (λ other. now ≡ Ok other) (λ fault. IsErrAnd now (P fault)) → now ≡ Ok value → found ≡ Ok value
-ok_before (Ok other) now P value same is = cc
-ok_before (Err fault) now P value refused is = absurd (subst (λ n. IsErrAnd n (P fault)) is refused)

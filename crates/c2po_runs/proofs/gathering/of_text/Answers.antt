@@ -14,6 +14,6 @@ returns-in_err-spec-clause-log g c =
 
 pub returns-clause-log : goal.returns-clause-log
 returns-clause-log g c =
-    let faultless = told_value compile_status c.front.result c.in_ok-spec.spec _ (search rules) c.front.ensures.faultless in
-    let items = told_value compile_status c.front.result c.in_ok-spec.spec _ (search rules) c.front.ensures.items in
+    let faultless = told_value c.front.result c.map_err.result _ c.in_ok-spec.spec _ c.map_err.ensures.cases c.in_ok-spec.was c.front.ensures.faultless in
+    let items = told_value c.front.result c.map_err.result _ c.in_ok-spec.spec _ c.map_err.ensures.cases c.in_ok-spec.was c.front.ensures.items in
     OnLog-map _ _ _ (c.of_spec.ensures.log c.args.text.now faultless items) (λ events has. inr (faultless, has))

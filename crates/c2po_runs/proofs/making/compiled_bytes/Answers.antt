@@ -1,10 +1,10 @@
 use Rattle.std.proofs.Common.{rules}
-use Rattle.std.proofs.lemmas.Result.{IfOk-at_ok, err_from_is_err_and}
+use Rattle.std.proofs.lemmas.Result.{err_from_is_err_and}
 use Rattle.std.specs.Option.{option_copied}
 use Rattle.c2po_tree.specs.ItemShape.{spec_shape}
 use Rattle.tool_runs.proofs.StatusLaws.{told_fault, told_value}
 use Rattle.c2po_runs.specs.Made.{compile_status}
-use Rattle.c2po_runs.proofs.MakingLaws.{header_refuses, limit_refuses, ok_before, text_written}
+use Rattle.c2po_runs.proofs.MakingLaws.{header_refuses, limit_refuses, text_written}
 use Rattle.c2po_runs.proofs.making.compiled_bytes.Goals as goal
 
 pub returns-in_err-columns-clause-refused : goal.returns-in_err-columns-clause-refused
@@ -17,14 +17,14 @@ returns-in_err-columns-clause-refused c =
 pub returns-in_err-checked-clause-refused : goal.returns-in_err-checked-clause-refused
 returns-in_err-checked-clause-refused c =
     let p = err_from_is_err_and c.from_residual-in_err-checked.result c.from_residual-in_err-checked.ensures.1 in
-    let found = told_value compile_status c.columns_of.result c.in_ok-columns.columns _ (search rules) c.columns_of.ensures.columns in
+    let found = told_value c.columns_of.result c.map_err.result _ c.in_ok-columns.columns _ c.map_err.ensures.cases c.in_ok-columns.was c.columns_of.ensures.columns in
     let why = told_fault compile_status c.program_of.result c.in_err-checked.field-0.0 _ (search rules) c.program_of.ensures.refused in
     rw (p.1, p.2, why.2) (λ some text none same.
     limit_refuses c.args.form text (option_copied c.args.header) (spec_shape c.args.spec.now) c.in_ok-columns.columns why.0 none same found why.1 some)
 
 pub returns-clause-made : goal.returns-clause-made
 returns-clause-made c =
-    let named = ok_before c.columns_of.result c.map_err.result _ c.in_ok-columns.columns c.map_err.ensures.cases c.in_ok-columns.was in
-    let made = ok_before c.program_of.result c.map_err-2.result _ c.in_ok-checked.checked c.map_err-2.ensures.cases c.in_ok-checked.was in
-    text_written c.args.form (option_copied c.args.header) (spec_shape c.args.spec.now) c.in_ok-columns.columns c.in_ok-checked.checked c.written.result
-    (IfOk-at_ok _ named c.columns_of.ensures.columns) (IfOk-at_ok _ made c.program_of.ensures.image) (IfOk-at_ok _ made c.program_of.ensures.within) c.written.ensures.bytes
+    let named = told_value c.columns_of.result c.map_err.result _ c.in_ok-columns.columns _ c.map_err.ensures.cases c.in_ok-columns.was c.columns_of.ensures.columns in
+    let made = told_value c.program_of.result c.map_err-2.result _ c.in_ok-checked.checked _ c.map_err-2.ensures.cases c.in_ok-checked.was c.program_of.ensures.image in
+    let within = told_value c.program_of.result c.map_err-2.result _ c.in_ok-checked.checked _ c.map_err-2.ensures.cases c.in_ok-checked.was c.program_of.ensures.within in
+    text_written c.args.form (option_copied c.args.header) (spec_shape c.args.spec.now) c.in_ok-columns.columns c.in_ok-checked.checked c.written.result named made within c.written.ensures.bytes

@@ -16,7 +16,7 @@ returns-in_err-columns-clause-refused c =
 
 pub returns-clause-program : goal.returns-clause-program
 returns-clause-program c =
-    let named = told_value compile_status c.columns_of.result c.in_ok-columns.columns _ (search rules) c.columns_of.ensures.columns in
+    let named = told_value c.columns_of.result c.map_err.result _ c.in_ok-columns.columns _ c.map_err.ensures.cases c.in_ok-columns.was c.columns_of.ensures.columns in
     let told : c.map_err-2.result ≡ told_as compile_status c.back.result = search rules in
     spec_programs c.back.result c.map_err-2.result (option_copied c.args.header) (spec_shape c.args.spec.now) c.in_ok-columns.columns told named c.back.ensures.image c.back.ensures.within
 

@@ -13,4 +13,4 @@ returns-in_err-spec-clause-refused c =
 
 pub returns-clause-unrefused : goal.returns-clause-unrefused
 returns-clause-unrefused c =
-    spec_unrefused c.args.text.now (told_value compile_status c.front.result c.in_ok-spec.spec _ (search rules) c.front.ensures.faultless)
+    spec_unrefused c.args.text.now (told_value c.front.result c.map_err.result _ c.in_ok-spec.spec _ c.map_err.ensures.cases c.in_ok-spec.was c.front.ensures.faultless)
