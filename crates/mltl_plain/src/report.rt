@@ -126,10 +126,8 @@ fn put_if(due: bool, report: Report, told: &mut List<Report>) -> Result<(), Faul
     if !due {
         return Ok(());
     }
-    match told.push(report) {
-        Ok(()) => Ok(()),
-        Err(_) => Err(Fault::Memory),
-    }
+    told.push(report)?;
+    Ok(())
 }
 
 /// Whether the word at a time is told: with `Runs` only the last of a stretch of one word is.
@@ -187,10 +185,7 @@ fn named_slice(alloc: Global, vs: &[bool]) -> Result<List<Word>, Fault>
     let mut ws = List::new(alloc);
     for v in vs {
         let word = if *v { Word::True } else { Word::False };
-        match ws.push(word) {
-            Ok(()) => (),
-            Err(_) => return Err(Fault::Memory),
-        }
+        ws.push(word)?;
     }
     Ok(ws)
 }
@@ -213,10 +208,7 @@ fn statuses_of(alloc: Global, ps: &[bool], qs: &[bool], n: usize) -> Result<List
     let mut ws = List::new(alloc);
     for t in 0..n {
         match status_of(known(ps, t), known(qs, t)) {
-            Some(word) => match ws.push(word) {
-                Ok(()) => (),
-                Err(_) => return Err(Fault::Memory),
-            },
+            Some(word) => ws.push(word)?,
             None => return Ok(ws),
         }
     }

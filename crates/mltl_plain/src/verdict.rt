@@ -14,7 +14,7 @@ use crate::operators::{finally, globally, historically, known, once, since, unti
 use crate::values::holds;
 use crate::{Atom, Formula};
 use mltl_base::{BetweenOp, Interval, List, LogicOp, WindowOp};
-use std::alloc::Global;
+use std::alloc::{AllocFailed, Global};
 
 /// Why there is no answer.
 #[derive(Clone, Copy)]
@@ -23,6 +23,16 @@ pub enum Fault {
     Memory,
     /// A whole number leaves 64 bits, or a divisor is 0.
     Number,
+}
+
+impl<T: Drop> From<AllocFailed<T>> for Fault {
+    ghost use Rattle.mltl_plain.specs.declared.verdict.Fault.TheVariants.{Memory};
+
+    ghost from_gives = { λ _ fault. fault ≡ Memory };
+
+    fn from(_refused: AllocFailed<T>) -> Fault {
+        Fault::Memory
+    }
 }
 
 /// The operator at the top of a formula.
@@ -95,10 +105,7 @@ fn constant(alloc: Global, b: bool, rows: &[List<i64>]) -> Result<List<bool>, Fa
 {
     let mut known = List::new(alloc);
     for _ in rows {
-        match known.push(b) {
-            Ok(()) => (),
-            Err(_) => return Err(Fault::Memory),
-        }
+        known.push(b)?;
     }
     Ok(known)
 }
@@ -111,13 +118,8 @@ fn truths(alloc: Global, a: &Atom, rows: &[List<i64>]) -> Result<List<bool>, Fau
 {
     let mut known = List::new(alloc);
     for row in rows {
-        match holds(a, row.as_slice()) {
-            Some(v) => match known.push(v) {
-                Ok(()) => (),
-                Err(_) => return Err(Fault::Memory),
-            },
-            None => return Err(Fault::Number),
-        }
+        let truth = holds(a, row.as_slice()).ok_or(Fault::Number)?;
+        known.push(truth)?;
     }
     Ok(known)
 }
@@ -152,10 +154,7 @@ fn front_of(
     let mut known = List::new(alloc);
     for t in 0..n {
         match known_at(op, ps, qs, t) {
-            Some(v) => match known.push(v) {
-                Ok(()) => (),
-                Err(_) => return Err(Fault::Memory),
-            },
+            Some(v) => known.push(v)?,
             None => return Ok(known),
         }
     }

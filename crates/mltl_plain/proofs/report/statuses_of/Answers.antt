@@ -6,7 +6,7 @@ use Rattle.mltl_plain.proofs.report.statuses_of.Goals as goal
 
 pub loop-t-preserved : goal.loop-t-preserved
 loop-t-preserved c =
-    found_more _ _ _ _ _ c.loop-t.invariant (c.in-Some.ensures ∙ ap₂ status c.known.ensures c.known-in-loop-t.ensures) c.in-Ok.ensures.pushed
+    found_more _ _ _ _ _ c.loop-t.invariant (c.in-Some.ensures ∙ ap₂ status c.known.ensures c.known-in-loop-t.ensures) c.in_ok-push-in-Some.ensures.pushed
 
 pub returns-in-None-clause-known : goal.returns-in-None-clause-known
 returns-in-None-clause-known c = found_stop _ _ _ _ c.loop-t.invariant (omega arith) (c.in-None.ensures ∙ ap₂ status c.known.ensures c.known-in-loop-t.ensures)
