@@ -1,6 +1,7 @@
 -- What is found by parts, where no part has a fault.
-use Rattle.std.proofs.Common.{◌≡◌, Bool, true, false, Ok, Err, refl, sym, subst, if◌then◌else◌}
+use Rattle.std.proofs.Common.{◌≡◌, Bool, true, false, Result, Ok, Err, refl, sym, subst, if◌then◌else◌}
 use Rattle.std.proofs.Common.{ℕ, Option, Some, None}
+use Rattle.std.specs.Result.{MatchResult, IsErrAnd}
 use Rattle.mltl_base.specs.Ranges.{NoRange}
 use Rattle.c2po_types.specs.FirstFault.{State, when_ranged}
 use Rattle.c2po_kinds.specs.declared.fault.TypeFault.{TypeFault}
@@ -35,3 +36,8 @@ when_ranged-ok line (Some why) m t h = absurd (cc)
 pub fails-second : {X Y Z : Type 0} (fault : TypeFault) (m : Checked X) (x : X) (n : Checked Y) (f : X → Y → Checked Z) → m ≡ Ok x → Fails fault n
     → Fails fault (m >>= λ x. n >>= f x)
 fails-second fault m x n f h k = subst (λ r. Fails fault (r >>= λ y. n >>= f y)) (sym h) (fails-bind fault n (f x) k)
+
+-- what is Ok behind a call that puts one fault for another was Ok before it
+pub ok_before : {X E F : Type 0} (found : Result X E) (now : Result X F) (P : E → F → Type 0) (x : X) → MatchResult found (λ y. now ≡ Ok y) (λ fault. IsErrAnd now (P fault)) → now ≡ Ok x → found ≡ Ok x
+ok_before (Ok y) now P x same is = cc
+ok_before (Err fault) now P x refused is = absurd (subst (λ r. IsErrAnd r (P fault)) is refused)

@@ -151,19 +151,19 @@ fn step_define(
         total,
     } = progress;
     let kind = check_define(alloc, &declared, line, name, expr)?;
-    match values.define(alloc, name, expr, MAX_WEIGHT) {
-        Ok(Some(why)) => Err(no_range(line, why)),
-        Ok(None) => {
-            let declared = declare_value(alloc, declared, name, kind)?;
-            Ok(Progress {
-                declared,
-                labels,
-                values,
-                total,
-            })
-        }
-        Err(why) => Err(too_wide(line, why)),
+    let fault = values
+        .define(alloc, name, expr, MAX_WEIGHT)
+        .map_err(|why| too_wide(line, why))?;
+    if let Some(fault) = fault {
+        return Err(no_range(line, fault));
     }
+    let declared = declare_value(alloc, declared, name, kind)?;
+    Ok(Progress {
+        declared,
+        labels,
+        values,
+        total,
+    })
 }
 
 /// Whether a formula has an operator of the other tense than its engine's.
