@@ -52,10 +52,8 @@ fn demo_monitor(alloc: Global) -> Result<Monitor, AllocError>
     ensures stands { IfOk result (λ monitor. Stands monitor []) }
     ensures drained { IfOk result (λ monitor. IsDrained monitor) }
 {
-    match compile(alloc, DEMO_TEXT, None) {
-        Ok(checked) => Monitor::load(alloc, checked),
-        Err(fault) => Err(want_of_memory(fault)),
-    }
+    let checked = compile(alloc, DEMO_TEXT, None).map_err(want_of_memory)?;
+    Monitor::load(alloc, checked)
 }
 
 /// What a fault of the demo's text is: the text isn't refused.
