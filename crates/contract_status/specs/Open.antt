@@ -1,6 +1,6 @@
 -- The reports that the outputs' next times leave open.
 
-use Rattle.std.specs.Prelude.{ℕ, suc, ◌≡◌, ◌<◌, ◌≤◌, ◌-◌, Option, Some, None, List, [], ◌∷◌, ◌++◌, length, map, drop, slice_index, sum_by}
+use Rattle.std.specs.Prelude.{ℕ, suc, ◌≡◌, ◌+◌, ◌<◌, ◌≤◌, ◌-◌, Option, Some, None, List, [], ◌∷◌, ◌++◌, length, map, drop, slice_index, slice_set, sum_by}
 use Rattle.mltl_base.specs.declared.program.Program.{Program}
 use Rattle.mltl_base.specs.declared.report.Report.{Report}
 use Rattle.mltl_base.specs.declared.report.Style.{Style}
@@ -45,3 +45,11 @@ GivesFirst style program rows before after (Some report) = open_of style program
 -- how many times below n the next times leave
 abbrev pub times_left : ℕ → List ℕ → ℕ
 times_left n next_times = sum_by (λ next_time. n - next_time) next_times
+
+-- A report was given after n rows: it is of an output that there is, at a time that was taken. The next time of this output alone moved,
+-- past the report, so fewer times are left.
+pub record IsGiven (program : Program) (n : ℕ) (report : Report) (before after : List ℕ) : Type 0 where
+  pub exists : report.out < length program.outs
+  pub taken : report.time < n
+  pub moved : after ≡ slice_set before report.out (report.time + 1)
+  pub fewer : times_left n after < times_left n before

@@ -25,12 +25,12 @@ impl Model for Outs {
 }
 
 impl Outs {
-    ghost use Rattle.std.specs.Prelude.{◌≡◌, ℕ, ◌+◌, ◌^◌, ◌<◌, ◌≤◌, ◌↔◌, List, [], length, slice_set, replicate, IfOk, IfSome, IsNone, IsTrue, Some, OnSome};
+    ghost use Rattle.std.specs.Prelude.{◌≡◌, ℕ, ◌^◌, ◌≤◌, ◌↔◌, List, [], length, replicate, IfOk, IfSome, IsNone, IsTrue, Some, OnSome};
     ghost use Rattle.mltl_base.specs.declared.report.Style.{Style as Form};
     ghost use Rattle.mltl_base.specs.declared.report.Style.TheVariants.{Each as each, Runs as runs};
     ghost use Rattle.mltl_base.specs.Atoms.{Row};
     ghost use Rattle.contract_status.specs.Cursors.{FitsCursor};
-    ghost use Rattle.contract_status.specs.Open.{ArePlaced, GivesFirst, known_counts_of, open_of, times_left};
+    ghost use Rattle.contract_status.specs.Open.{ArePlaced, GivesFirst, IsGiven, known_counts_of, open_of};
     ghost use Rattle.contract_status.specs.Standing.{StandFor};
 
     /// The outputs of a program before the first row, with 0 for each next time. It takes all its memory at once.
@@ -52,11 +52,7 @@ impl Outs {
         ensures placed { (rows : List Row) → StandFor checked.now rows n ft.now pt.now self.old
             → ArePlaced checked.now rows self.new }
         ensures none { IsNone result → self.new ≡ self.old }
-        ensures moved { IfSome result
-            (λ report. self.new ≡ slice_set self.old report.out (report.time + 1)) }
-        ensures exists { IfSome result (λ report. report.out < length checked.now.outs) }
-        ensures taken { IfSome result (λ report. report.time < n) }
-        ensures fewer { IfSome result (λ _. times_left n self.new < times_left n self.old) }
+        ensures given { IfSome result (λ report. IsGiven checked.now n report self.old self.new) }
     {
         self.next_at(Style::Each, &mut Cursor::start(), checked, ft, pt, n)
     }
@@ -71,11 +67,7 @@ impl Outs {
         ensures placed { (rows : List Row) → StandFor checked.now rows n ft.now pt.now self.old
             → ArePlaced checked.now rows self.new }
         ensures none { IsNone result → self.new ≡ self.old }
-        ensures moved { IfSome result
-            (λ report. self.new ≡ slice_set self.old report.out (report.time + 1)) }
-        ensures exists { IfSome result (λ report. report.out < length checked.now.outs) }
-        ensures taken { IfSome result (λ report. report.time < n) }
-        ensures fewer { IfSome result (λ _. times_left n self.new < times_left n self.old) }
+        ensures given { IfSome result (λ report. IsGiven checked.now n report self.old self.new) }
     {
         self.next_at(Style::Runs, &mut Cursor::start(), checked, ft, pt, n)
     }
@@ -100,14 +92,10 @@ impl Outs {
             → ArePlaced checked.now rows self.new }
         ensures cursor { FitsCursor checked.now n ft.now pt.now self.new cursor.new }
         ensures none { IsNone result → self.new ≡ self.old }
-        ensures moved { IfSome result
-            (λ report. self.new ≡ slice_set self.old report.out (report.time + 1)) }
-        ensures exists { IfSome result (λ report. report.out < length checked.now.outs) }
-        ensures taken { IfSome result (λ report. report.time < n) }
-        ensures fewer { IfSome result (λ _. times_left n self.new < times_left n self.old) }
+        ensures given { IfSome result (λ report. IsGiven checked.now n report self.old self.new) }
     {
         let engines = Engines { ft, pt, rows: n };
-        tell_first(style, checked.program(), &engines, &mut self.times, cursor)
+        tell_first(style, checked, &engines, &mut self.times, cursor)
     }
 
     /// Whether no report is open after `n` rows, in either style.

@@ -1,6 +1,6 @@
 -- What an answer says of the reports that were open.
 
-use Rattle.std.proofs.Common.{◌≡◌, ◌↔◌, Bool, Option, None, Some, List, [], ◌∷◌, refl, ap, sym, subst, ◌∙◌}
+use Rattle.std.proofs.Common.{◌≡◌, ◌↔◌, ℕ, ◌^◌, ◌≤◌, Bool, Option, None, Some, List, [], ◌∷◌, refl, ap, sym, subst, ◌∙◌, arith}
 use Rattle.std.specs.Prelude.{IfNone, IsNone, IsTrue}
 use Rattle.mltl_base.specs.declared.program.Program.{Program}
 use Rattle.mltl_base.specs.declared.report.Report.{Report}
@@ -11,7 +11,9 @@ use Rattle.mltl_base.specs.Programs.{outputs}
 use Rattle.contract_status.specs.Open as status
 use Rattle.contract_status.proofs.Opening.{no_other}
 use Rattle.mltl_monitor.specs.declared.running.Running.{Running}
-use Rattle.mltl_monitor.specs.Running.{GivesFirst, HasTaken, IsDrained, open_of}
+use Rattle.mltl_monitor.specs.declared.state.State.{State}
+use Rattle.mltl_monitor.specs.Running.{GivesFirst, HasTaken, IsDrained, IsGiven, open_of}
+use Rattle.mltl_monitor.specs.Monitoring as monitor
 
 -- what is given of next times is given of what runs
 pub gives_of_places : (style : Style) (program : Program) (result : Option Report) (before after : Running) (rows : List Row) → before.checked ≡ program → after.checked ≡ program → status.GivesFirst style program rows before.outs after.outs result
@@ -19,6 +21,25 @@ pub gives_of_places : (style : Style) (program : Program) (result : Option Repor
 gives_of_places style program None before after rows e e' gives = subst (λ (p : Program). status.open_of style p rows before.outs ≡ []) (sym e) gives
 gives_of_places style program (Some report) before after rows e e' gives =
     ap (λ (p : Program). status.open_of style p rows before.outs) e ∙ gives ∙ ap (λ (p : Program). report ∷ status.open_of style p rows after.outs) (sym e')
+
+-- a report that next times gave was given by what runs, where they alone changed
+pub given_of_places : (before : Running) (next_times : List ℕ) (report : Report) → status.IsGiven before.checked before.taken report before.outs next_times → IsGiven report before (record before { outs = next_times })
+given_of_places before next_times report given = record {
+  exists = given.exists;
+  taken = given.taken;
+  moved = ap (λ (outs : List ℕ). record before { outs = outs }) given.moved;
+  fewer = given.fewer;
+}
+
+-- and so by a monitor that changed in nothing else, whose rows are at most 2 ^ 40
+pub given_of_running : (before : State) (after : Running) (report : Report) → before.running.taken ≤ 2 ^ 40 → IsGiven report before.running after → monitor.IsGiven report before (record before { running = after })
+given_of_running before after report early given = record {
+  moved = record { moved = given.moved; last = refl; read = refl };
+  exists = given.exists;
+  taken = given.taken;
+  early = omega (arith, given.taken, early);
+  fewer = given.fewer;
+}
 
 -- nothing is open in one style: so it is in each
 pub drained_in_all : (running : Running) (style : Style) → ((rows : List Row) → HasTaken running rows → open_of style running rows ≡ []) → IsDrained running

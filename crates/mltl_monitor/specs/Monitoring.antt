@@ -1,6 +1,6 @@
 -- What a monitor stands for.
 
-use Rattle.std.specs.Prelude.{◌≡◌, ℕ, ◌+◌, ◌^◌, ◌≤◌, Option, List, [], ◌∷◌, ◌++◌, length, map, vec_len}
+use Rattle.std.specs.Prelude.{◌≡◌, ℕ, ◌+◌, ◌^◌, ◌<◌, ◌≤◌, Option, List, [], ◌∷◌, ◌++◌, length, map, vec_len}
 use Rattle.std.specs.List.{range_with_len}
 use Rattle.mltl_base.specs.declared.program.Program.{Program}
 use Rattle.mltl_base.specs.declared.report.Report.{Report}
@@ -71,6 +71,15 @@ pub record HasGiven (report : Report) (before after : State) : Type 0 where
   pub moved : after.running ≡ running.after_report report before.running
   pub last : last_of after ≡ last_of before
   pub read : read_of after ≡ read_of before
+
+-- A report was given: it is of an output that there is, at a time that was taken, one of the first 2 ^ 40. Nothing else changed, and
+-- fewer times are left to tell.
+pub record IsGiven (report : Report) (before after : State) : Type 0 where
+  pub moved : HasGiven report before after
+  pub exists : report.out < length (program_of before).outs
+  pub taken : report.time < taken_by before
+  pub early : report.time < 2 ^ 40
+  pub fewer : left_to_tell after < left_to_tell before
 
 -- nothing changed of what the monitor stands for
 pub record IsSame (before after : State) : Type 0 where

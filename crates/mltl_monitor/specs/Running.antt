@@ -1,6 +1,6 @@
 -- What runs in a monitor, after some rows.
 
-use Rattle.std.specs.Prelude.{◌≡◌, ℕ, ◌+◌, Option, None, Some, List, [], ◌∷◌, ◌++◌, All, slice_set}
+use Rattle.std.specs.Prelude.{◌≡◌, ℕ, ◌+◌, ◌<◌, Option, None, Some, List, [], ◌∷◌, ◌++◌, All, length, slice_set}
 use Rattle.mltl_base.specs.declared.program.Program.{Program}
 use Rattle.mltl_base.specs.declared.report.Report.{Report}
 use Rattle.mltl_base.specs.declared.report.Style.{Style}
@@ -40,6 +40,14 @@ left_to_tell running = status.times_left running.taken running.outs
 -- the same after a report was given: the next time of its output is the one after the report's
 abbrev pub after_report : Report → Running → Running
 after_report report running = record running { outs = slice_set running.outs report.out (report.time + 1) }
+
+-- A report was given: it is of an output that there is, at a time that was taken. Nothing but the next time of this output moved, so
+-- fewer times are left.
+pub record IsGiven (report : Report) (before after : Running) : Type 0 where
+  pub exists : report.out < length before.checked.outs
+  pub taken : report.time < before.taken
+  pub moved : after ≡ after_report report before
+  pub fewer : left_to_tell after < left_to_tell before
 
 -- the search for open reports may go on at this cursor
 abbrev pub Fits : Running → Cursor → Type 0

@@ -43,7 +43,7 @@ impl Model for Monitor {
 }
 
 impl Monitor {
-    ghost use Rattle.std.specs.Prelude.{◌≡◌, ◌+◌, ◌^◌, ◌<◌, ◌≤◌, ◌↔◌, List, [], length, IfOk, IfNone, IfSome, IsNone, IsTrue};
+    ghost use Rattle.std.specs.Prelude.{◌≡◌, ◌+◌, ◌^◌, ◌<◌, ◌≤◌, ◌↔◌, List, [], IfOk, IfNone, IfSome, IsNone, IsTrue};
     ghost use Rattle.mltl_base.specs.declared.report.Style.{Style as Form};
     ghost use Rattle.mltl_base.specs.declared.report.Style.TheVariants.{Each, Runs};
     ghost use Rattle.mltl_base.specs.Atoms.{Row};
@@ -51,7 +51,7 @@ impl Monitor {
     ghost use Rattle.mltl_monitor.specs.Running.{row_work};
     ghost use Rattle.trace_feed.specs.Rows.{Tells, line_meaning};
     ghost use Rattle.mltl_monitor.specs.TakingLines.{TakesLine};
-    ghost use Rattle.mltl_monitor.specs.Monitoring.{HasGiven, GivesFirst, IsDrained, IsSame, Stands, TakesRow, last_of, left_to_tell, open_of, program_of, read_of, taken_by};
+    ghost use Rattle.mltl_monitor.specs.Monitoring.{GivesFirst, IsDrained, IsGiven, IsSame, Stands, TakesRow, last_of, open_of, program_of, read_of, taken_by};
 
     /// A monitor that has taken no rows. All its memory is taken here.
     pub fn load(alloc: Global, checked: Checked) -> Result<Monitor, AllocError>
@@ -170,11 +170,7 @@ impl Monitor {
         ensures none { IsNone result ↔ IsDrained self.old }
         ensures same { IfNone result (self.new ≡ self.old) }
         ensures drained { IfNone result (IsDrained self.new) }
-        ensures moved { IfSome result (λ report. HasGiven report self.old self.new) }
-        ensures exists { IfSome result (λ report. report.out < length (program_of self.old).outs) }
-        ensures taken { IfSome result (λ report. report.time < taken_by self.old) }
-        ensures early { IfSome result (λ report. report.time < 2 ^ 40) }
-        ensures fewer { IfSome result (λ _. left_to_tell self.new < left_to_tell self.old) }
+        ensures given { IfSome result (λ report. IsGiven report self.old self.new) }
         ensures program { program_of self.new ≡ program_of self.old }
         ensures as_many { taken_by self.new ≡ taken_by self.old }
     {
@@ -189,11 +185,7 @@ impl Monitor {
         ensures none { IsNone result ↔ IsDrained self.old }
         ensures same { IfNone result (self.new ≡ self.old) }
         ensures drained { IfNone result (IsDrained self.new) }
-        ensures moved { IfSome result (λ report. HasGiven report self.old self.new) }
-        ensures exists { IfSome result (λ report. report.out < length (program_of self.old).outs) }
-        ensures taken { IfSome result (λ report. report.time < taken_by self.old) }
-        ensures early { IfSome result (λ report. report.time < 2 ^ 40) }
-        ensures fewer { IfSome result (λ _. left_to_tell self.new < left_to_tell self.old) }
+        ensures given { IfSome result (λ report. IsGiven report self.old self.new) }
         ensures program { program_of self.new ≡ program_of self.old }
         ensures as_many { taken_by self.new ≡ taken_by self.old }
     {
@@ -209,11 +201,7 @@ impl Monitor {
         ensures none { IsNone result ↔ IsDrained self.old }
         ensures same { IfNone result (self.new ≡ self.old) }
         ensures drained { IfNone result (IsDrained self.new) }
-        ensures moved { IfSome result (λ report. HasGiven report self.old self.new) }
-        ensures exists { IfSome result (λ report. report.out < length (program_of self.old).outs) }
-        ensures taken { IfSome result (λ report. report.time < taken_by self.old) }
-        ensures early { IfSome result (λ report. report.time < 2 ^ 40) }
-        ensures fewer { IfSome result (λ _. left_to_tell self.new < left_to_tell self.old) }
+        ensures given { IfSome result (λ report. IsGiven report self.old self.new) }
         ensures program { program_of self.new ≡ program_of self.old }
         ensures as_many { taken_by self.new ≡ taken_by self.old }
     {

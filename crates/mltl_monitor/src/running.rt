@@ -26,7 +26,7 @@ impl Running {
     ghost use Rattle.mltl_base.specs.declared.report.Style.{Style as Form};
     ghost use Rattle.mltl_base.specs.Atoms.{Row};
     ghost use Rattle.mltl_base.specs.Programs.{IsFit};
-    ghost use Rattle.mltl_monitor.specs.Running.{Fits, GivesFirst, HasTaken, IsDrained, TakesRow, after_report, left_to_tell, open_of, row_work};
+    ghost use Rattle.mltl_monitor.specs.Running.{Fits, GivesFirst, HasTaken, IsDrained, IsGiven, TakesRow, open_of, row_work};
 
     /// The engines of a program, before the first row. All memory is taken here.
     pub fn load(alloc: Global, checked: Checked) -> Result<Running, AllocError>
@@ -78,10 +78,7 @@ impl Running {
         ensures stands { (rows : List Row) → HasTaken self.old rows → HasTaken self.new rows }
         ensures cursor { Fits self.new cursor.new }
         ensures none { IsNone result → self.new ≡ self.old }
-        ensures moved { IfSome result (λ report. self.new ≡ after_report report self.old) }
-        ensures exists { IfSome result (λ report. report.out < length self.old.checked.outs) }
-        ensures taken { IfSome result (λ report. report.time < self.old.taken) }
-        ensures fewer { IfSome result (λ _. left_to_tell self.new < left_to_tell self.old) }
+        ensures given { IfSome result (λ report. IsGiven report self.old self.new) }
     {
         self.outs.next_at(style, cursor, &self.checked, &self.ft, &self.pt, self.taken)
     }

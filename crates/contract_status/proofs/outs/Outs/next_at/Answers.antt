@@ -12,7 +12,7 @@ returns-clause-first c = λ rows stands.
     let next_times : c.deref_mut.result.now ≡ c.args.self.now = c.deref_mut.ensures.value ∙ c.self.view_is in
     let whole : times.len ≡ length new = omega (arith, c.tell_first.auto.next_times, ap length c.deref_mut.ensures.value, times.ok.0) in
     let written : take times.len (new ++ drop (length new) times.items) ≡ new = ap (λ n. take n (new ++ drop (length new) times.items)) whole ∙ take-append_seam new (drop (length new) times.items) in
-    let first = rw (c.program.ensures.program, next_times) at c.tell_first.ensures.first in
+    let first = rw next_times at c.tell_first.ensures.first in
     rw written (first rows (taken_by c.args.checked.now rows engines c.args.self.now stands) stands.placed)
 
 pub returns-clause-cursor : goal.returns-clause-cursor
@@ -21,5 +21,14 @@ returns-clause-cursor c = λ rows future past count.
     let new : List ℕ = c.tell_first.new.next_times in
     let whole : times.len ≡ length new = omega (arith, c.tell_first.auto.next_times, ap length c.deref_mut.ensures.value, times.ok.0) in
     let written : take times.len (new ++ drop (length new) times.items) ≡ new = ap (λ n. take n (new ++ drop (length new) times.items)) whole ∙ take-append_seam new (drop (length new) times.items) in
-    let fits = rw c.program.ensures.program at c.tell_first.ensures.cursor in
-    rw written (fits rows (record { future = future; past = past; count = count }))
+    rw written (c.tell_first.ensures.cursor rows (record { future = future; past = past; count = count }))
+
+pub returns-clause-given : goal.returns-clause-given
+returns-clause-given c =
+    let times = c.self.inside.times in
+    let new : List ℕ = c.tell_first.new.next_times in
+    let next_times : c.deref_mut.result.now ≡ c.args.self.now = c.deref_mut.ensures.value ∙ c.self.view_is in
+    let whole : times.len ≡ length new = omega (arith, c.tell_first.auto.next_times, ap length c.deref_mut.ensures.value, times.ok.0) in
+    let written : take times.len (new ++ drop (length new) times.items) ≡ new = ap (λ n. take n (new ++ drop (length new) times.items)) whole ∙ take-append_seam new (drop (length new) times.items) in
+    let given = rw next_times at c.tell_first.ensures.given in
+    rw written given
