@@ -39,8 +39,8 @@ loop-report-preserved g c =
       no_fault = NoFault-then _ _ _ was.no_fault c.in_default-put_all.ensures.cause;
       program = c.next.ensures.program ∙ was.program;
       as_many = c.next.ensures.as_many ∙ was.as_many;
-      last = c.in-Some.ensures.moved.last ∙ was.last;
-      read = c.in-Some.ensures.moved.read ∙ was.read;
+      last = c.in-Some.ensures.given.moved.last ∙ was.last;
+      read = c.in-Some.ensures.given.moved.read ∙ was.read;
       stands = λ rows stands. c.next.ensures.stands rows (was.stands rows stands);
       log = λ rows stands.
           let lines = next_line names (output_names c.checked.result.now) (open_of c.args.style c.loop-report.monitor rows) (open_of c.args.style c.next.new.self rows) c.in-Some.report c.put_line.new.text.items c.deref.result.now (c.in-Some.ensures.first rows (was.stands rows stands)) same c.put_line.ensures.line c.deref.ensures.0 in
@@ -60,13 +60,13 @@ pub returns-clause-as_many : goal.returns-clause-as_many
 returns-clause-as_many g c = c.next.ensures.as_many ∙ c.loop-report.invariant.as_many
 
 pub returns-in-Failed-clause-last : goal.returns-in-Failed-clause-last
-returns-in-Failed-clause-last g c = c.in-Some.ensures.moved.last ∙ c.loop-report.invariant.last
+returns-in-Failed-clause-last g c = c.in-Some.ensures.given.moved.last ∙ c.loop-report.invariant.last
 
 pub returns-clause-last : goal.returns-clause-last
 returns-clause-last g c = ap last_of c.in_default.ensures.same ∙ c.loop-report.invariant.last
 
 pub returns-in-Failed-clause-read : goal.returns-in-Failed-clause-read
-returns-in-Failed-clause-read g c = c.in-Some.ensures.moved.read ∙ c.loop-report.invariant.read
+returns-in-Failed-clause-read g c = c.in-Some.ensures.given.moved.read ∙ c.loop-report.invariant.read
 
 pub returns-clause-read : goal.returns-clause-read
 returns-clause-read g c = ap read_of c.in_default.ensures.same ∙ c.loop-report.invariant.read
