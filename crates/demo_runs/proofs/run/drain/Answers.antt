@@ -8,7 +8,7 @@ loop-report-init c = record { some = c.requires.counted; program = refl; taken =
 pub with-requires : goal.with-requires
 with-requires c =
     let some = c.loop-report.invariant.some in
-    record { room = room_at c.loop-report.tallies c.loop-report.monitor c.next_report.new.self some.0 c.in-Some.report some.2 (c.in-Some.ensures.first some.0 some.1) c.in-Some.ensures.exists c.in-Some.ensures.early }
+    record { room = room_at c.loop-report.tallies c.loop-report.monitor c.next_report.new.self some.0 c.in-Some.report some.2 (c.in-Some.ensures.first some.0 some.1) c.in-Some.ensures.given.exists c.in-Some.ensures.given.early }
 
 pub loop-report-preserved : goal.loop-report-preserved
 loop-report-preserved c =
@@ -19,12 +19,12 @@ loop-report-preserved c =
         some.0,
         c.in-Some.ensures.stands some.0 some.1,
         counted_step_of c.loop-report.tallies c.with.result c.loop-report.monitor c.next_report.new.self some.0 c.in-Some.report c.in-Some.ensures.program
-            (c.in-Some.ensures.first some.0 some.1) c.in-Some.ensures.exists c.with.ensures some.2,
+            (c.in-Some.ensures.first some.0 some.1) c.in-Some.ensures.given.exists c.with.ensures some.2,
       );
       program = c.in-Some.ensures.program ∙ was.program;
       taken = c.in-Some.ensures.as_many ∙ was.taken;
       stands = λ rows stands. c.in-Some.ensures.stands rows (was.stands rows stands);
       counted = λ rows stands all.
           counted_step_of c.loop-report.tallies c.with.result c.loop-report.monitor c.next_report.new.self rows c.in-Some.report c.in-Some.ensures.program
-          (c.in-Some.ensures.first rows (was.stands rows stands)) c.in-Some.ensures.exists c.with.ensures (was.counted rows stands all);
+          (c.in-Some.ensures.first rows (was.stands rows stands)) c.in-Some.ensures.given.exists c.with.ensures (was.counted rows stands all);
     }
