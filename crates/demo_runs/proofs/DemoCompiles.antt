@@ -1,8 +1,7 @@
 -- The demo's text is compiled.
 
-use Rattle.std.proofs.Common.{◌≡◌, ◌≢◌, ◌∙◌, ℕ, List, [], ◌∷◌, refl, sym, subst, ap, ap₂, codes}
+use Rattle.std.proofs.Common.{◌≡◌, ◌≢◌, ◌∙◌, ℕ, List, [], ◌∷◌, refl, sym, ap, ap₂, codes}
 use Rattle.std.specs.Prelude.{true, false, None, Result, Ok, Err}
-use Rattle.std.specs.Result.{MatchResult, IsErrAnd}
 use Rattle.mltl_base.specs.declared.program.Columns.{Columns}
 use Rattle.mltl_base.specs.declared.program.Program.{Program}
 use Rattle.mltl_base.specs.declared.signal.Signal.{Signal}
@@ -71,8 +70,3 @@ both found p fault h e = cc
 -- no fault but want of memory
 pub never_refused : (fault : CompileFault) → (fault ≢ Memory → image_of_text demo_text None ≡ Err fault) → fault ≢ Memory → ⊥
 never_refused fault h other = both (image_of_text demo_text None) demo_program fault compiles (h other)
-
--- what is Ok behind a call that puts one fault for another was Ok before it
-pub ok_before : {X E F : Type 0} (found : Result X E) (now : Result X F) (P : E → F → Type 0) (x : X) → MatchResult found (λ y. now ≡ Ok y) (λ fault. IsErrAnd now (P fault)) → now ≡ Ok x → found ≡ Ok x
-ok_before (Ok y) now P x same is = cc
-ok_before (Err fault) now P x refused is = absurd (subst (λ r. IsErrAnd r (P fault)) is refused)

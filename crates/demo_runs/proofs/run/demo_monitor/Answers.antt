@@ -1,6 +1,6 @@
 use Rattle.std.proofs.Common.{◌∙◌, ap, sym, Ok}
 use Rattle.std.proofs.lemmas.Result.{IfOk-at_ok, IfOk-weaker}
-use Rattle.demo_runs.proofs.DemoCompiles.{ok_before}
+use Rattle.c2po_types.proofs.Parts.{ok_before}
 use Rattle.demo_runs.proofs.run.demo_monitor.Goals as goal
 
 pub returns-clause-program : goal.returns-clause-program
