@@ -13,7 +13,8 @@ import os
 import subprocess
 import sys
 import tempfile
-import time
+
+from measure import measured
 
 BYTES = 1 << 20
 ANSWERS = (0, 2, 8)
@@ -80,15 +81,6 @@ def write(text, folder):
     return path
 
 
-def run(program, path):
-    """The seconds, the peak of memory in MB, and the status; below 0 that of a signal."""
-    began = time.monotonic()
-    child = subprocess.Popen([program, '-o', path + '.bin', path], stderr=subprocess.DEVNULL)
-    _, status, used = os.wait4(child.pid, 0)
-    child.returncode = os.waitstatus_to_exitcode(status)
-    return time.monotonic() - began, used.ru_maxrss / 1024, child.returncode
-
-
 def main():
     parser = argparse.ArgumentParser(description=__doc__, formatter_class=argparse.RawDescriptionHelpFormatter)
     parser.add_argument('compiler')
@@ -100,10 +92,12 @@ def main():
     for text in TEXTS:
         if asked.only and text.name not in asked.only:
             continue
-        seconds, peak, status = run(asked.compiler, write(text, folder))
-        wrong = peak > MOST or status not in ANSWERS
+        path = write(text, folder)
+        taken = measured([asked.compiler, '-o', path + '.bin', path], stderr=subprocess.DEVNULL)
+        wrong = taken.peak > MOST or taken.status not in ANSWERS
         failed = failed or wrong
-        print('%-10s %8.2f %8.1f %7d  %s%s' % (text.name, seconds, peak, status, text.shows, '   TOO MUCH' if wrong else ''))
+        shown = '%-10s %8.2f %8.1f %7d  %s' % (text.name, taken.seconds, taken.peak, taken.status, text.shows)
+        print(shown + '   TOO MUCH' * wrong)
     return failed
 
 
