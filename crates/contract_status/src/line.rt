@@ -32,11 +32,14 @@ pub fn put_line(text: &mut ArrayVec<u8, 128>, report: &Report, checked: &Checked
     ensures line { text.new.items ≡ line (output_names checked.now) report.now }
     ensures short { array_vec_len text.new ≤ 88 }
 {
+    // The digits come first, since a copy of bytes that were only just stored has to wait for them.
+    let mut buffer = Buffer::new();
+    let time = buffer.format(report.time).as_bytes();
     *text = ArrayVec::new();
     let out = checked.program().outs.get(report.out as usize);
     add(text, out.name().bytes());
     text.push(b':');
-    add_number(text, report.time);
+    add(text, time);
     text.push(b',');
     add_word(text, report.word);
     text.push(b'\n');
@@ -62,14 +65,4 @@ fn add_word(text: &mut Line, word: Word)
         Word::False => text.push(b'F'),
         _ => add(text, word.text().as_bytes()),
     }
-}
-
-fn add_number(text: &mut Line, n: u64)
-    requires early { n < 2 ^ 41 }
-    requires room { array_vec_len text.old + 13 ≤ 128 }
-    ensures items { text.new.items ≡ text.old.items ++ decimal n }
-    ensures len { array_vec_len text.new ≤ array_vec_len text.old + 13 }
-{
-    let mut buffer = Buffer::new();
-    add(text, buffer.format(n).as_bytes());
 }
