@@ -36,6 +36,7 @@ impl Cursor {
         ensures next_time { (self.new.out ≡ out) ⊎ ((self.new.out ≡ out + 1) × (time + 1 ≡ rows)) }
         ensures kept { (left : Found) → self.new.stretch ≡ Some left
             → (self.new.out ≡ out) × (left ≡ stretch) × (time < left.last) }
+        ensures keeps { time + 1 < rows → time < stretch.last → self.new.stretch ≡ Some stretch }
     {
         if time + 1 == rows {
             self.out = out + 1;
