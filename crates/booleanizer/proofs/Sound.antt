@@ -1,7 +1,7 @@
 -- Sound instructions can be computed on every row that fits them.
 
 use Rattle.std.proofs.Common.{◌≢◌, ℕ, zero, suc, List, [], ◌∷◌, ◌++◌, length, Option, Some, None, sym, subst}
-use Rattle.std.specs.Prelude.{ℤ, pos, IsOk, FitsSigned, slice_get}
+use Rattle.std.specs.Prelude.{ℤ, pos, IsOk, FitsSigned, slice_get, ⊤}
 use Rattle.std.specs.Int.{w64}
 use Rattle.std.specs.List.{AllByRecursion}
 use Rattle.std.proofs.lemmas.List.Elements.{recursion_from_All}
@@ -22,8 +22,8 @@ use Rattle.obs_verify.proofs.SoundOps.{all_sound}
 -- the whole number at a place asks nothing of the row that it hasn't
 abbrev Fitting : Row → Option Expression → Type 0
 Fitting row (Some (whole e)) = FitsTerm row e
-Fitting row (Some (truth a)) = Unit {0}
-Fitting row None = Unit {0}
+Fitting row (Some (truth a)) = ⊤
+Fitting row None = ⊤
 
 AllFitting : Row → List Expression → Type 0
 AllFitting row before = (a : ℕ) → Fitting row (slice_get before a)

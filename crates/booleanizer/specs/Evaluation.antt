@@ -1,7 +1,7 @@
 -- What the Booleanizer computes on a row, in numbers of 64 bits.
 -- A reader of the contracts needs this file.
 
-use Rattle.std.specs.Prelude.{◌≢◌, ◌<◌, ℕ, ℤ, pos, neg_ℤ, ◌+ℤ◌, ◌-ℤ◌, ◌*ℤ◌, int_div, int_rem, int_lt, int_le, Bool, if◌then◌else◌, List, [], ◌∷◌, ◌++◌, length, map, slice_index_or, FitsSigned}
+use Rattle.std.specs.Prelude.{◌≢◌, ◌<◌, ℕ, ℤ, pos, neg_ℤ, ◌+ℤ◌, ◌-ℤ◌, ◌*ℤ◌, int_div, int_rem, int_lt, int_le, Bool, if◌then◌else◌, List, [], ◌∷◌, ◌++◌, length, map, slice_index_or, FitsSigned, ⊤}
 use Rattle.std.specs.Int.{w64}
 use Rattle.std.specs.Ordering.{int_eq}
 use Rattle.mltl_base.specs.declared.operators.BzOp.{BzOp}
@@ -32,7 +32,7 @@ value_at row before a = value (term_at before a) row
 abbrev pub CanCompute : Row → List Expression → BzOp → Type 0
 CanCompute row before (Column c) = c < length row
 CanCompute row before (IsTrue c) = c < length row
-CanCompute row before (Const n) = Unit {0}
+CanCompute row before (Const n) = ⊤
 CanCompute row before (Neg a) = IsWhole before a × FitsSigned w64 (neg_ℤ (value_at row before a))
 CanCompute row before (Add a b) = AreWhole before a b × FitsSigned w64 (value_at row before a +ℤ value_at row before b)
 CanCompute row before (Sub a b) = AreWhole before a b × FitsSigned w64 (value_at row before a -ℤ value_at row before b)
@@ -45,7 +45,7 @@ CanCompute row before (Le a b) = AreWhole before a b
 
 -- each instruction can be computed, over the expressions of those before it
 unfoldable pub AllCompute : Row → List Expression → List BzOp → Type 0
-AllCompute row before [] = Unit {0}
+AllCompute row before [] = ⊤
 AllCompute row before (op ∷ ops) = CanCompute row before op × AllCompute row (before ++ expression_of before op ∷ []) ops
 
 -- ---- one instruction over numbers
@@ -77,7 +77,7 @@ AreIn numbers a b = (a < length numbers) × (b < length numbers)
 abbrev pub CanApply : Row → List ℤ → BzOp → Type 0
 CanApply row numbers (Column c) = c < length row
 CanApply row numbers (IsTrue c) = c < length row
-CanApply row numbers (Const n) = Unit {0}
+CanApply row numbers (Const n) = ⊤
 CanApply row numbers (Neg a) = (a < length numbers) × FitsSigned w64 (neg_ℤ (number_at numbers a))
 CanApply row numbers (Add a b) = AreIn numbers a b × FitsSigned w64 (number_at numbers a +ℤ number_at numbers b)
 CanApply row numbers (Sub a b) = AreIn numbers a b × FitsSigned w64 (number_at numbers a -ℤ number_at numbers b)

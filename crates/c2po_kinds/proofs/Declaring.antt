@@ -9,7 +9,7 @@ use Rattle.c2po_kinds.specs.Checking.{Checked, Fails, in_turn}
 use Rattle.c2po_kinds.specs.Items.{new, with_field, with_struct}
 use Rattle.c2po_kinds.proofs.Turns.{fails-bind}
 
--- what stands behind a name that isn't there
+-- what stands after a name that isn't there
 pub new-fails : {X V : Type 0} (fault : TypeFault) (line : ℕ) (x : List ℕ) (names : Table V) (rest : Checked X) → is_named x names ≡ false → Fails fault rest → Fails fault (new line x names rest)
 new-fails fault line x names rest absent h = subst (λ (b : Bool). Fails fault (if b then Err (Twice line) else rest)) (sym absent) h
 

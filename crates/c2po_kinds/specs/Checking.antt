@@ -1,4 +1,4 @@
-use Rattle.std.specs.Prelude.{◌≡◌, List, [], ◌∷◌, Result, Ok, Err}
+use Rattle.std.specs.Prelude.{◌≡◌, List, [], ◌∷◌, Result, Ok, Err, ⊤}
 use Rattle.c2po_kinds.specs.declared.fault.TypeFault.{TypeFault}
 use Rattle.c2po_kinds.specs.declared.fault.TypeFault.TheVariants.{Memory}
 
@@ -17,12 +17,12 @@ abbrev pub in_turn : {X S : Type 0} → (X → S → Checked S) → List X → S
 in_turn step [] s = Ok s
 in_turn step (x ∷ xs) s = step x s >>= in_turn step xs
 
--- A fault is the one that the definition finds, unless memory is wanting.
+-- A fault is the one that the definition finds, unless out of memory.
 abbrev pub Fails : {Y : Type 0} → TypeFault → Checked Y → Type 0
-Fails Memory found = Unit {0}
+Fails Memory found = ⊤
 Fails fault found = found ≡ Err fault
 
--- What was answered, as view sees it, is what the definition finds, unless memory is wanting.
+-- What was answered, as view sees it, is what the definition finds, unless out of memory.
 abbrev pub Gives : {X Y : Type 0} → (X → Y) → Checked X → Checked Y → Type 0
 Gives view (Ok x) found = found ≡ Ok (view x)
 Gives view (Err fault) found = Fails fault found

@@ -1,4 +1,4 @@
-use Rattle.std.specs.Prelude.{ℕ, nat_le, Bool, true, false, List, [], ◌∷◌, ◌++◌, length, codes, Option, Some, None, Ok, Err, if◌then◌else◌}
+use Rattle.std.specs.Prelude.{ℕ, nat_le, Bool, true, false, List, [], ◌∷◌, ◌++◌, length, codes, Option, Some, None, Ok, Err, if◌then◌else◌, ⊤}
 use Rattle.std.specs.Str.{bytes_eq}
 use Rattle.mltl_base.specs.declared.limits.TheConstants.{MAX_SIGNALS}
 use Rattle.c2po_tree.specs.Shape.{Shape}
@@ -37,7 +37,7 @@ type_kind line d (type_named x) = if bytes_eq x (codes "int") then Ok whole
     else struct_kind line (entry_of x d.names)
 type_kind line d (set_of t) = type_kind line d t >>= λ k. Ok (set_kind k)
 
--- one more field behind those before
+-- one more field after those before
 abbrev pub with_field : ℕ → Declarations → FieldShape → Table Kind → Checked (Table Kind)
 with_field line d f fields = new line f.name fields (type_kind line d f.kind >>= λ k. Ok (fields ++ (f.name, k) ∷ []))
 
@@ -72,7 +72,7 @@ with_signal line b x d = new line x d.names (if nat_le MAX_SIGNALS (length d.sig
 abbrev pub with_input : ℕ → List (List ℕ) → TypeShape → Declarations → Checked Declarations
 with_input line xs t d = type_kind line d t >>= signal_truth line >>= λ b. in_turn (with_signal line b) xs d
 
--- the kind of a defined value, whose name is visible only behind its item
+-- the kind of a defined value, whose name is visible only after its item
 abbrev pub define_kind : ℕ → List ℕ → Shape → Declarations → Checked Kind
 define_kind line x e d = kind_of e (outside d) >>= λ k. new line x d.names (Ok k)
 
@@ -82,7 +82,7 @@ with_value x k d = record { names = d.names ++ (x, Value k) ∷ []; structs = d.
 
 -- The names of outputs, which have a space of their own.
 abbrev pub Labels : Type 0
-Labels = Table (Unit {0})
+Labels = Table ⊤
 
 -- one more output
 abbrev pub with_label : ℕ → Option (List ℕ) → Labels → Checked Labels

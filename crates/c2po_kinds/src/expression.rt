@@ -137,7 +137,7 @@ fn in_window(
 /// The kind of an expression, at a place where a scope is visible.
 ///
 /// Errors: the first fault of names and kinds, operands first and from the left, with the line of its expression;
-/// `Memory` where memory is wanting.
+/// `Memory` when out of memory.
 #[cycle(kinds)]
 pub fn kind_of(alloc: Global, scope: &Scope<'_>, expr: &Expr) -> Result<Kind, TypeFault>
     ensures kind { Gives (λ k. k) result (kind_in (shape expr.now) (visible scope.now)) }

@@ -30,7 +30,7 @@ pub enum TypeFault {
     Range(u32),
     /// An output of both tenses, or of the other tense than its section.
     Tense(u32),
-    /// Memory is wanting.
+    /// Out of memory.
     Memory,
 }
 

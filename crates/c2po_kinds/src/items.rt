@@ -60,7 +60,7 @@ fn written_kind(line: u32, declared: &Declarations, tree: &TypeTree) -> Result<K
     }
 }
 
-/// One more field behind those before.
+/// One more field after those before.
 fn with_field(
     alloc: Global,
     declared: &Declarations,

@@ -1,7 +1,7 @@
 -- The names among the tokens of a text are words.
 use Rattle.std.proofs.Common.{◌≡◌, ℕ, ◌-◌, ◌+◌, ◌<◌, zero, suc, Bool, true, false, if◌then◌else◌, List, [], ◌∷◌, length, take, map, Option, Some, None, option_map, Result, Ok, Err, IfOk, IfSome, pos, refl, sym, subst, arith, nat_lt}
 use Rattle.std.specs.List.{All, AllPass, prefix_len, starts_with}
-use Rattle.std.specs.Prelude.{nat_eq, codes, slice_index}
+use Rattle.std.specs.Prelude.{nat_eq, codes, slice_index, ⊤}
 use Rattle.std.specs.Char.{is_ascii_digit}
 use Rattle.std.specs.Str.Parse.{digits_value}
 use Rattle.std.proofs.lemmas.List.{get_or-take, length-take-le}
@@ -30,7 +30,7 @@ AllPass-prefix p xs k d inside =
 -- the bytes of a word
 abbrev pub IsWord : Front → List ℕ → Type 0
 IsWord (front.Word n) bytes = (begins_word (slice_index bytes 0) ≡ true) × AllPass is_in_word bytes
-IsWord _ bytes = Unit {0}
+IsWord _ bytes = ⊤
 
 -- a word begins as the text does
 begins_too : (text : List ℕ) → begins_word (slice_index text 0) ≡ true → begins_word (slice_index (take (prefix_len is_in_word text) text) 0) ≡ true

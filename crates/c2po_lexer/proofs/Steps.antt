@@ -4,7 +4,7 @@ use Rattle.std.proofs.lemmas.List.{drop-drop, length-drop, length-take-le, drop_
 use Rattle.std.proofs.Math.Seq.{take-add}
 use Rattle.std.proofs.lemmas.List.Sums.{sum_by-append}
 use Rattle.c2po_lexer.specs.Cut.{front_of, size_of, piece_at, pieces_from}
-use Rattle.c2po_lexer.specs.Tokens.{IsBehind, line_at, reading_of, reading_at, size_at, before, all_of, tokens_of, result_map}
+use Rattle.c2po_lexer.specs.Tokens.{IsAfter, line_at, reading_of, reading_at, size_at, before, all_of, tokens_of, result_map}
 use Rattle.c2po_lexer.specs.declared.token.Token.{Token}
 use Rattle.c2po_lexer.specs.declared.fault.LexFault.{LexFault}
 
@@ -47,10 +47,10 @@ line_past text start size line count rest e inside l k =
     let past = line_at-add text start size in
     cc
 
--- the place behind a piece
-pub behind_piece : (text : List ℕ) (start size line count : ℕ) (rest : List ℕ) → start < length text → rest ≡ drop start text → size ≡ size_of (front_of rest) → size ≤ length rest → line ≡ line_at text start
-    → count ≡ count_by (λ b. b == 10) (take size rest) → IsBehind text start (start + length (take size rest)) (line + count)
-behind_piece text start size line count rest within e is inside l k =
+-- the place after a piece
+pub after_piece : (text : List ℕ) (start size line count : ℕ) (rest : List ℕ) → start < length text → rest ≡ drop start text → size ≡ size_of (front_of rest) → size ≤ length rest → line ≡ line_at text start
+    → count ≡ count_by (λ b. b == 10) (take size rest) → IsAfter text start (start + length (take size rest)) (line + count)
+after_piece text start size line count rest within e is inside l k =
     let whole : length (take size rest) ≡ size = length-take-le size rest inside in
     let same : size ≡ size_at text start = is ∙ ap (λ r. size_of (front_of r)) e in
     let left : length rest ≡ length text - start = ap length e ∙ length-drop start text in
@@ -84,7 +84,7 @@ onto-before old None (Err f) = refl
 onto-before old (Some t) (Ok ts) = ap (λ us. Ok us) (sym (append_assoc old (t ∷ []) ts))
 onto-before old (Some t) (Err f) = refl
 
--- a piece that was read well: its token stands behind those before
+-- a piece that was read well: its token stands after those before
 pub tokens_read : (text : List ℕ) (old : List Token) (start next : ℕ) (token : Option Token) → start < length text → 1 ≤ size_at text start → reading_at text start ≡ Ok token → next ≡ start + size_at text start → onto old (tokens_from text start) ≡ onto (old ++ option_to_list token) (tokens_from text next)
 tokens_read text old start next token inside size reading same =
     ap (λ r. onto old r) (tokens_step text start inside size)

@@ -1,6 +1,6 @@
 -- The bytes of a token's span are how the token is written.
 use Rattle.std.proofs.Common.{◌≡◌, ◌∙◌, ℕ, pos, ◌+◌, ◌-◌, ◌≤◌, zero, suc, Bool, true, false, if◌then◌else◌, List, [], ◌∷◌, length, take, drop, map, Option, Some, None, option_map, Result, Ok, Err, IfOk, IfSome, refl, ap, sym, subst, arith, nat_lt}
-use Rattle.std.specs.Prelude.{nat_eq, codes, slice_index}
+use Rattle.std.specs.Prelude.{nat_eq, codes, slice_index, ⊤}
 use Rattle.std.specs.List.{All, prefix_len, starts_with}
 use Rattle.std.specs.Str.{bytes_eq}
 use Rattle.std.specs.Str.Parse.{digits_value}
@@ -36,7 +36,7 @@ keyword_stands word k e =
 -- the bytes of a sign
 abbrev pub IsSign : Front → List ℕ → Type 0
 IsSign (front.Sign s) bytes = sign_text s ≡ bytes
-IsSign _ bytes = Unit {0}
+IsSign _ bytes = ⊤
 
 sign_or_none : (text : List ℕ) (s : Option Sign) → sign_at text ≡ s → IsSign (sign_or_stray s) (take (size_of (sign_or_stray s)) text)
 sign_or_none text (Some s) e = sign_stands text s e

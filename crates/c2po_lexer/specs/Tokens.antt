@@ -1,5 +1,5 @@
 -- The tokens of a text, or its first fault.
-use Rattle.std.specs.Prelude.{◌≡◌, ℕ, ◌+◌, ◌-◌, ◌<◌, ◌≤◌, List, [], ◌∷◌, length, ◌==◌, if◌then◌else◌, nat_lt, take, drop, map, count_by, Option, Some, None, option_map, Result, Ok, Err, pos}
+use Rattle.std.specs.Prelude.{◌≡◌, ℕ, ◌+◌, ◌-◌, ◌<◌, ◌≤◌, List, [], ◌∷◌, length, ◌==◌, if◌then◌else◌, nat_lt, take, drop, map, count_by, Option, Some, None, option_map, Result, Ok, Err, pos, ⊤}
 use Rattle.std.specs.List.{AllPass}
 use Rattle.std.specs.Str.Parse.{digits_value}
 use Rattle.c2po_lexer.specs.Spelling.{keyword_text, keyword_of, sign_text}
@@ -71,8 +71,8 @@ reading_at text start = reading_of text (piece_at start (drop start text))
 abbrev pub size_at : List ℕ → ℕ → ℕ
 size_at text start = size_of (front_of (drop start text))
 
--- a place and its line, just behind the piece at another place
-pub record IsBehind (text : List ℕ) (first next number : ℕ) : Type 0 where
+-- a place and its line, just after the piece at another place
+pub record IsAfter (text : List ℕ) (first next number : ℕ) : Type 0 where
   pub start : next ≡ first + size_at text first
   pub inside : next ≤ length text
   pub line : number ≡ line_at text next
@@ -112,4 +112,4 @@ AreInOrder from to (t ∷ ts) = (from ≤ t.start) × (t.start < t.end) × AreIn
 -- a name is made of letters of ASCII, digits and `_`
 abbrev pub HasPlainName : What → Type 0
 HasPlainName (what.Word name) = AllPass is_in_word name
-HasPlainName _ = Unit {0}
+HasPlainName _ = ⊤

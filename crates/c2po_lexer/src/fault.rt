@@ -14,7 +14,7 @@ pub enum LexFault {
     /// A number above 9,223,372,036,854,775,807.
     #[error("line {0}: a number above 9223372036854775807")]
     Number(u32),
-    /// Memory is wanting.
+    /// Out of memory.
     #[error("out of memory")]
     Memory,
 }

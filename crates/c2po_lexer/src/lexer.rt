@@ -4,7 +4,7 @@ ghost use Rattle.std.specs.Prelude.{◌≡◌, ◌≢◌, ◌==◌, ◌<◌, ◌
 ghost use Rattle.std.specs.Str.{all_ascii_digits};
 ghost use Rattle.std.specs.Str.Parse.{digits_value};
 ghost use Rattle.c2po_lexer.specs.Cut.{HasDigitsAlone};
-ghost use Rattle.c2po_lexer.specs.Tokens.{line_at, word_of, number_of, what_of, reading_at, size_at, tokens_of, HasPlainName, AreInOrder, IsBehind, IsWrittenAs, bytes_of};
+ghost use Rattle.c2po_lexer.specs.Tokens.{line_at, word_of, number_of, what_of, reading_at, size_at, tokens_of, HasPlainName, AreInOrder, IsAfter, IsWrittenAs, bytes_of};
 
 use crate::fault::LexFault;
 use crate::front::Front;
@@ -87,7 +87,7 @@ fn piece(text: &[u8], place: Place) -> Result<(Option<Token>, Place), LexFault>
     requires inside { place.start < length text.now }
     requires line { place.line ≡ line_at text.now place.start }
     ensures token { IfOk result (λ r. reading_at text.now place.start ≡ Ok r.0) }
-    ensures next { IfOk result (λ r. IsBehind text.now place.start r.1.start r.1.line) }
+    ensures next { IfOk result (λ r. IsAfter text.now place.start r.1.start r.1.line) }
     ensures some { 1 ≤ size_at text.now place.start }
     ensures fault { IfErr result (λ fault. reading_at text.now place.start ≡ Err fault) }
 {
@@ -108,7 +108,7 @@ fn piece(text: &[u8], place: Place) -> Result<(Option<Token>, Place), LexFault>
     Ok((token, next))
 }
 
-// puts a token behind the others
+// puts a token after the others
 fn add(tokens: &mut Tokens, token: Option<Token>) -> Result<(), LexFault>
     ensures added { OnOk result (tokens.new ≡ tokens.old ++ option_to_list token) }
     ensures memory { IfErr result (λ fault. fault ≡ LexFault.Memory) }
@@ -126,7 +126,7 @@ fn add(tokens: &mut Tokens, token: Option<Token>) -> Result<(), LexFault>
 /// `--` to the end of their line and may hold any bytes, stand between tokens.
 ///
 /// Errors: `Letter` at a byte outside a comment that begins no token, `LongWord` at a word of more than 64 bytes,
-/// `Number` at a number above 9,223,372,036,854,775,807, `Memory` where memory is wanting.
+/// `Number` at a number above 9,223,372,036,854,775,807, `Memory` when out of memory.
 pub fn lex(alloc: Global, text: &[u8]) -> Result<Tokens, LexFault>
     requires { length text.now ≤ MAX_SPEC_BYTES }
     ensures tokens { IfOk result (λ tokens. tokens_of text.now ≡ Ok tokens) }

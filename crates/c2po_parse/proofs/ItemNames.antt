@@ -1,5 +1,5 @@
 use Rattle.std.proofs.Common.{◌≡◌, ℕ, zero, suc, ◌+◌, Bool, true, false, List, [], ◌∷◌, ◌++◌, length, take, drop, refl, subst, Option, Some, None, Result, Ok, Err, nat_lt, inl, inr}
-use Rattle.std.specs.Prelude.{codes, is_some}
+use Rattle.std.specs.Prelude.{codes, is_some, ⊤}
 use Rattle.std.proofs.lemmas.List.Sums.{AllPass-from_list_all}
 use Rattle.std.proofs.lemmas.Option.{same_Some, some_pair_parts}
 use Rattle.mltl_base.specs.declared.interval.Engine.{Engine}
@@ -250,7 +250,7 @@ body-names (Output engine) ts b h words = output-names engine ts b h words
 
 -- pieces of plain tokens
 ArePlainPieces : List Piece → Type 0
-ArePlainPieces [] = Unit {0}
+ArePlainPieces [] = ⊤
 ArePlainPieces (p ∷ ps) = PlainWords p.tokens × ArePlainPieces ps
 
 left_over-plain : (s : Option Section) (before : List Token) (ps : List Piece) → PlainWords before → ArePlainPieces ps → ArePlainPieces (left_over s before ++ ps)

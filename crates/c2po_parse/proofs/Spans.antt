@@ -10,9 +10,9 @@ use Rattle.c2po_parse.specs.declared.section.Section.{Section}
 use Rattle.c2po_parse.specs.Sections.{section_of, braces_after, Piece, item_of, left_over, is_end, chosen, pieces, depth_within, counted, piece_len, begins_item, ended_of, tail_of}
 use Rattle.c2po_parse.specs.Specification.{piece_body, with_line, piece_tree, with_first, first_or, piece_trees, all_with, reads_on, spec_of}
 
--- The first piece of a token list and those behind it.
+-- The first piece of a token list and those after it.
 
--- the pieces from some tokens of one piece and what stands behind them
+-- the pieces from some tokens of one piece and what stands after them
 finish : Option Section → List Token → List Token → List Piece
 finish s before [] = left_over s before
 finish s before (t ∷ ts) = chosen (section_of t.what) true (λ next. left_over s before ++ pieces (Some next) 0 [] ts) (item_of s t.line before ∷ pieces s 0 [] ts) []
@@ -73,7 +73,7 @@ pieces-span s d before [] = nothing-left s d before
 pieces-span s d before (t ∷ ts) =
     span-step s d before t ts (section_of t.what) (is_end s d t.what) refl refl (λ us. pieces-span s (braces_after t.what d) us ts)
 
--- the pieces behind the first one
+-- the pieces after the first one
 abbrev pub others_of : Option Section → List Token → List Piece
 others_of s [] = []
 others_of s (t ∷ ts) = chosen (section_of t.what) true (λ next. pieces (Some next) 0 [] ts) (pieces s 0 [] ts) []
@@ -172,7 +172,7 @@ read-trees s t ts item plain few h =
     few-trees s t ts plain few ∙ ap (λ r. first_or r (piece_trees (others_of s (drop n (t ∷ ts))))) h
     ∙ ap (λ ps. with_first item (piece_trees ps)) (ended-others s t.line (take n (t ∷ ts)) (drop n (t ∷ ts)) item h)
 
--- an item goes behind those that were read
+-- an item goes after those that were read
 pub with_item : (items : List ItemShape) (item : ItemShape) (r : Result (List ItemShape) ParseFault) →
     all_with items (with_first item r) ≡ all_with (items ++ item ∷ []) r
 with_item items item (Err fault) = refl

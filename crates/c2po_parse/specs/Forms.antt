@@ -55,7 +55,7 @@ unfoldable pub names_within : ℕ → NamesRead
 names_within zero ts = None
 names_within (suc n) ts = name_at ts >>= λ x. names_or (names_within n) x.0 x.1 (past sign.Comma x.1)
 
--- names behind others
+-- names after others
 abbrev pub names_behind : List (List ℕ) → Option (List (List ℕ) × List Token) → Option (List (List ℕ) × List Token)
 names_behind so_far o = option_map (λ xs. (so_far ++ xs.0, xs.1)) o
 
@@ -86,7 +86,7 @@ fields_within zero ts = None
 fields_within (suc n) ts = typed_at ts >>= λ d. past sign.Semicolon d.2 >>= λ us.
     fields_or (fields_within n) (fields_of d.0 d.1) us (past sign.RightCurly us)
 
--- fields behind others
+-- fields after others
 abbrev pub fields_behind : List FieldShape → Option (List FieldShape × List Token) → Option (List FieldShape × List Token)
 fields_behind so_far o = option_map (λ fs. (so_far ++ fs.0, fs.1)) o
 

@@ -21,7 +21,7 @@ section_of (what.Reserved keyword.FtSpec) = Some (Output Ft)
 section_of (what.Reserved keyword.PtSpec) = Some (Output Pt)
 section_of _ = None
 
--- how many braces are open behind a token; a `}` without its `{` leaves none open
+-- how many braces are open after a token; a `}` without its `{` leaves none open
 abbrev pub braces_after : What → ℕ → ℕ
 braces_after (what.Sign sign.LeftCurly) d = suc d
 braces_after (what.Sign sign.RightCurly) d = pred d
@@ -58,7 +58,7 @@ chosen (Some section) ended begins ends goes_on = begins section
 chosen None true begins ends goes_on = ends
 chosen None false begins ends goes_on = goes_on
 
--- The pieces of a token list behind some tokens of the same piece, within a section or before the first one, with so
+-- The pieces of a token list after some tokens of the same piece, within a section or before the first one, with so
 -- many braces open.
 unfoldable pub pieces : Option Section → ℕ → List Token → List Token → List Piece
 pieces section depth before [] = left_over section before
@@ -67,7 +67,7 @@ pieces section depth before (t ∷ ts) = chosen (section_of t.what) (is_end sect
     (item_of section t.line before ∷ pieces section 0 [] ts)
     (pieces section (braces_after t.what depth) (before ++ t ∷ []) ts)
 
--- how many braces are open behind a token that doesn't end the piece
+-- how many braces are open after a token that doesn't end the piece
 abbrev pub depth_within : Option Section → ℕ → What → Option ℕ
 depth_within section depth w = chosen (section_of w) (is_end section depth w) (λ next. None) None (Some (braces_after w depth))
 
@@ -91,7 +91,7 @@ abbrev pub ended_of : List Token → Bool
 ended_of [] = false
 ended_of (t ∷ ts) = is_none (section_of t.what)
 
--- the tokens behind an end
+-- the tokens after an end
 abbrev pub tail_of : List Token → List Token
 tail_of [] = []
 tail_of (t ∷ ts) = ts

@@ -15,7 +15,7 @@ pub enum ParseFault {
     /// An item that the grammar gives no tree.
     #[error("line {0}: an item that the grammar doesn't know")]
     Grammar(u32),
-    /// Memory is wanting.
+    /// Out of memory.
     #[error("out of memory")]
     Memory,
 }

@@ -15,7 +15,7 @@ use mltl_base::limits::MAX_ITEM_TOKENS;
 use mltl_base::{Engine, List, Name};
 use std::alloc::Global;
 
-/// What is left of the room for nested or repeated steps behind one step.
+/// What is left of the room for nested or repeated steps after one step.
 fn deeper(room: usize) -> Result<usize, TreeFault>
     ensures { MatchResult result (λ left. room ≡ suc left) (λ e. (room ≡ 0) × (e ≡ NoTree)) }
 {
@@ -76,7 +76,7 @@ fn take_type(
     }
 }
 
-/// Names with one more behind them.
+/// Names with one more after them.
 fn with_name(names: List<Name>, name: Name) -> Result<List<Name>, TreeFault>
     ensures { Gives (λ xs. xs) result (Some (names ++ name ∷ [])) }
 {
@@ -85,7 +85,7 @@ fn with_name(names: List<Name>, name: Name) -> Result<List<Name>, TreeFault>
     Ok(names)
 }
 
-/// Names with commas between them, behind those that were read, and what follows them.
+/// Names with commas between them, after those that were read, and what follows them.
 #[tactic(auto, unfolding(crate::specs::Forms::names_within))]
 fn take_names(
     room: usize,
@@ -134,7 +134,7 @@ fn copy_type(alloc: Global, kind: &TypeTree) -> Result<TypeTree, TreeFault>
     }
 }
 
-/// Fields with one more behind them.
+/// Fields with one more after them.
 fn with_field(
     alloc: Global,
     fields: List<FieldDecl>,
@@ -152,7 +152,7 @@ fn with_field(
     Ok(fields)
 }
 
-/// Fields with one more for each name behind them.
+/// Fields with one more for each name after them.
 fn with_fields(
     alloc: Global,
     fields: List<FieldDecl>,
@@ -171,7 +171,7 @@ fn with_fields(
     }
 }
 
-/// Fields behind those that were read, up to the brace that closes them, and what follows it.
+/// Fields after those that were read, up to the brace that closes them, and what follows it.
 #[tactic(auto, unfolding(crate::specs::Forms::fields_within))]
 fn take_fields(
     alloc: Global,

@@ -16,7 +16,7 @@ use mltl_base::List;
 use mltl_base::limits::MAX_ITEM_TOKENS;
 use std::alloc::Global;
 
-/// An item on a line from its tokens and what stands behind them.
+/// An item on a line from its tokens and what stands after them.
 fn item_on(
     alloc: Global,
     line: u32,
@@ -43,7 +43,7 @@ fn item_on(
     }
 }
 
-/// Whether the first of these tokens ends an item, where it ends a piece; and what stands behind it.
+/// Whether the first of these tokens ends an item, where it ends a piece; and what stands after it.
 fn behind_end(tokens: &[Token]) -> (bool, &[Token])
     ensures ended { result.0 ≡ ended_of tokens.now }
     ensures tail { result.1.now ≡ tail_of tokens.now }
@@ -54,7 +54,7 @@ fn behind_end(tokens: &[Token]) -> (bool, &[Token])
     }
 }
 
-/// The item at the front, whose first token begins no section, and what stands behind its `;`.
+/// The item at the front, whose first token begins no section, and what stands after its `;`.
 fn item_at(
     alloc: Global,
     section: Option<Section>,
@@ -78,7 +78,7 @@ fn item_at(
     Ok((item, rest))
 }
 
-/// Items with one more behind them.
+/// Items with one more after them.
 fn with_item(items: List<Item>, item: Item) -> Result<List<Item>, ParseFault>
     ensures more { IfOk result (λ all. all ≡ items ++ item ∷ []) }
     ensures only { IfErr result (λ fault. fault ≡ ParseFault.Memory) }
@@ -88,7 +88,7 @@ fn with_item(items: List<Item>, item: Item) -> Result<List<Item>, ParseFault>
     Ok(items)
 }
 
-/// What is left behind the section's word or the item at the front: the items so far, the section, the tokens.
+/// What is left after the section's word or the item at the front: the items so far, the section, the tokens.
 fn read_front(
     alloc: Global,
     items: List<Item>,
@@ -117,7 +117,7 @@ fn read_front(
 /// operator outside brackets, level by level; the tokens are gone through once, from the left.
 ///
 /// Errors: `TooManyTokens` at an item of more than 1,024 tokens, else `Grammar` at an item that has no tree, each with
-/// the line of the item's first token, or of its `;` where it has no token; `Memory` where memory is wanting.
+/// the line of the item's first token, or of its `;` where it has no token; `Memory` when out of memory.
 pub fn parse(alloc: Global, tokens: &Tokens) -> Result<SpecTree, ParseFault>
     // The trees of the definition, exactly where each item has one.
     ensures tree { IfOk result (λ tree. spec_of tokens.now ≡ Ok (spec_shape tree)) }

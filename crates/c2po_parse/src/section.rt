@@ -32,7 +32,7 @@ pub fn section_begun(what: &What) -> Option<Section>
     }
 }
 
-/// How many braces are open behind a token; a `}` without its `{` leaves none open.
+/// How many braces are open after a token; a `}` without its `{` leaves none open.
 fn braces_behind(what: &What, depth: usize) -> usize
     requires { depth + 1 < 2 ^ 64 }
     ensures { result ≡ braces_after what.now depth }
@@ -44,7 +44,7 @@ fn braces_behind(what: &What, depth: usize) -> usize
     }
 }
 
-/// How many braces are open behind a token of an item; `None` where the token ends the item or begins a section.
+/// How many braces are open after a token of an item; `None` where the token ends the item or begins a section.
 fn depth_behind(section: Option<Section>, depth: usize, what: &What) -> Option<usize>
     requires { depth + 1 < 2 ^ 64 }
     ensures { result ≡ depth_within section depth what.now }
@@ -78,8 +78,8 @@ pub fn piece_end(section: Option<Section>, tokens: &[Token]) -> usize
     count
 }
 
-/// How many brackets are open behind a token.
-fn brackets_behind(what: &What, depth: usize) -> usize
+/// How many brackets are open after a token.
+fn brackets_after(what: &What, depth: usize) -> usize
     requires { depth + 1 < 2 ^ 64 }
     ensures { result ≡ depth_after what.now depth }
 {
@@ -112,7 +112,7 @@ pub fn promise_place(tokens: &[Token]) -> Option<usize>
         if splits_contract(depth, &token.what) {
             return Some(count);
         }
-        depth = brackets_behind(&token.what, depth);
+        depth = brackets_after(&token.what, depth);
         count += 1;
         rest = tail;
     }

@@ -1,4 +1,4 @@
--- Runs by what the words ask for: help, nothing, or what memory is wanting for.
+-- Runs by what the words ask for: help, nothing, or what it is out of memory for.
 
 use Rattle.std.proofs.Common.{◌≡◌, ◌≢◌, ◌↔◌, ℕ, Bool, List, [], ◌∷◌, refl, sym, ◌∙◌, ap, subst}
 use Rattle.std.proofs.lemmas.List.{append-nil}

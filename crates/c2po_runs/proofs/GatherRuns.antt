@@ -25,7 +25,7 @@ use Rattle.c2po_runs.specs.declared.make.Product.TheVariants.{Compiled, Upgrade,
 use Rattle.c2po_runs.specs.Asking.{MakeAsked, file_kind, place_named, read_names}
 use Rattle.c2po_runs.specs.Made.{made, made_of_text}
 use Rattle.c2po_runs.specs.Run.{Seen, seen, place_of, is_tried, IsFaultless, Makes, MakeOutcome}
-use Rattle.c2po_runs.specs.Phases.{Refuses, HeaderLog, RefusedLog, MadeLog, SpecLog, TextLog, FileMadeLog, BehindLog, OnlySources, Gathered, NotGathered, GatherLog}
+use Rattle.c2po_runs.specs.Phases.{Refuses, HeaderLog, RefusedLog, MadeLog, SpecLog, TextLog, FileMadeLog, AfterLog, OnlySources, Gathered, NotGathered, GatherLog}
 use Rattle.c2po_runs.proofs.LogLaws.{HasRead, has_read, sources-append, sources_given, sources_unattached}
 
 -- what two logs say alike
@@ -51,7 +51,7 @@ file_source : (kind : FileKind) → IsSource (file_place kind)
 file_source Spec = tt
 file_source Program = tt
 
--- what comes behind the file: the names that are tried there, and the lines of the header file
+-- what comes after the file: the names that are tried there, and the lines of the header file
 pub record Behind (asked : MakeAsked) (names : List (place.Place × List ℕ)) (lines : List (List ℕ)) (events : List Event) : Type 0 where
   pub names_are : names_of events ≡ names
   pub sources : OnlySources events
@@ -60,8 +60,8 @@ pub record Behind (asked : MakeAsked) (names : List (place.Place × List ℕ)) (
   pub no_file_end : (ended : Bool) → ended_from ended (place_of asked) events ≡ ended
   pub lines_are : lines_of (ended_from false at.Header events) (taken at.Header events) ≡ lines
 
-behind_none : (asked : MakeAsked) (events : List Event) → events ≡ [] → Behind asked [] [] events
-behind_none asked events is = subst (Behind asked [] []) (sym is) (record {
+after_none : (asked : MakeAsked) (events : List Event) → events ≡ [] → Behind asked [] [] events
+after_none asked events is = subst (Behind asked [] []) (sym is) (record {
   names_are = refl;
   sources = tt;
   reads = no_reads_none;
@@ -70,8 +70,8 @@ behind_none asked events is = subst (Behind asked [] []) (sym is) (record {
   lines_are = refl;
 })
 
-behind_missed : (asked : MakeAsked) (name : List ℕ) (events : List Event) → events ≡ Missed at.Header name ∷ [] → Behind asked ((at.Header, name) ∷ []) [] events
-behind_missed asked name events is = subst (Behind asked ((at.Header, name) ∷ []) []) (sym is) (record {
+after_missed : (asked : MakeAsked) (name : List ℕ) (events : List Event) → events ≡ Missed at.Header name ∷ [] → Behind asked ((at.Header, name) ∷ []) [] events
+after_missed asked name events is = subst (Behind asked ((at.Header, name) ∷ []) []) (sym is) (record {
   names_are = refl;
   sources = (tt, tt);
   reads = missed_none at.Header name;
@@ -80,8 +80,8 @@ behind_missed asked name events is = subst (Behind asked ((at.Header, name) ∷ 
   lines_are = refl;
 })
 
-behind_header : (asked : MakeAsked) (name bytes : List ℕ) (ended : Bool) (log events : List Event) → events ≡ Attached at.Header name ∷ log → Takes at.Header bytes ended log → Behind asked ((at.Header, name) ∷ []) (lines_of ended bytes) events
-behind_header asked name bytes ended log events is takes =
+after_header : (asked : MakeAsked) (name bytes : List ℕ) (ended : Bool) (log events : List Event) → events ≡ Attached at.Header name ∷ log → Takes at.Header bytes ended log → Behind asked ((at.Header, name) ∷ []) (lines_of ended bytes) events
+after_header asked name bytes ended log events is takes =
     let read = has_read at.Header name bytes ended log tt takes in
     let other = file_else (file_kind asked.product) in
     subst (Behind asked ((at.Header, name) ∷ []) (lines_of ended bytes)) (sym is) (record {
@@ -93,7 +93,7 @@ behind_header asked name bytes ended log events is takes =
       lines_are = ap (λ v. lines_of v (taken at.Header (Attached at.Header name ∷ log))) read.end ∙ ap (lines_of ended) read.takes;
     })
 
--- the file was read, and this came behind it
+-- the file was read, and this came after it
 abbrev pub read_so : MakeAsked → List ℕ → Bool → List (place.Place × List ℕ) → List (List ℕ) → Seen
 read_so asked bytes ended names lines = record { names = (place_of asked, asked.file) ∷ names; file = bytes; whole = ended; header = lines; out = []; attached = false }
 
@@ -180,24 +180,24 @@ module _ (asked : MakeAsked) (bytes : List ℕ) (first second : List Event) (rea
   no_front : IsFront {X = place.Place × List ℕ} [] (place_named at.Header asked.header)
   no_front = record { rest = place_named at.Header asked.header; split = refl }
 
-  -- nothing comes behind it: it is refused
+  -- nothing comes after it: it is refused
   refused_alone : (answer : status.Status) → RefusedLog (Err answer) (made asked bytes []) second → NotGathered asked answer (first ++ second)
   refused_alone answers.Memory is =
-      gather_not asked bytes true first second [] [] read (behind_none asked second is) answers.Memory no_front
+      gather_not asked bytes true first second [] [] read (after_none asked second is) answers.Memory no_front
       (refl, out_untried (file_kind asked.product) asked.file) (λ tried. absurd (cc)) tt
   refused_alone answer is =
-      gather_not asked bytes true first second [] [] read (behind_none asked second is.0) answer no_front
+      gather_not asked bytes true first second [] [] read (after_none asked second is.0) answer no_front
       (refusal_outcome answer asked alone is.1 refl (out_untried (file_kind asked.product) asked.file) (record { whole = record { ended = refl; within = within }; is = is.2 }))
       (λ tried. absurd (cc)) (refuses_opened answer (first ++ second) is.1)
 
   -- or its bytes are made of it
   made_alone : (result : Result (Vec ℕ Global) status.Status) → place_named at.Header asked.header ≡ [] → MadeLog result (made asked bytes []) second → GatherLog result asked (first ++ second)
   made_alone (Ok bytes_made) none is =
-      gather_ok asked bytes true first second [] [] read (behind_none asked second is.0) bytes_made.items (sym none)
+      gather_ok asked bytes true first second [] [] read (after_none asked second is.0) bytes_made.items (sym none)
       (record { whole = record { ended = refl; within = within }; is = is.1 }) (λ tried. absurd (cc))
   made_alone (Err answer) none is = refused_alone answer is
 
-  -- a header file comes behind it, which a specification without a fault names
+  -- a header file comes after it, which a specification without a fault names
   module _ (form : Form) (name : List ℕ) (named : asked.header ≡ Some name) (is_made : (lines : List (List ℕ)) → made asked bytes lines ≡ made_of_text form (Some name) bytes lines) (none : first_refusal bytes ≡ None) where
     faultless : (lines : List (List ℕ)) → IsFaultless asked (headed name lines)
     faultless lines = record { whole = record { ended = refl; within = within }; faultless = none }
@@ -217,12 +217,12 @@ module _ (asked : MakeAsked) (bytes : List ℕ) (first second : List Event) (rea
 
     header_missed : second ≡ Missed at.Header name ∷ [] → NotGathered asked (answers.OpenFault at.Header) (first ++ second)
     header_missed is =
-        gather_not asked bytes true first second ((at.Header, name) ∷ []) [] read (behind_missed asked name second is) (answers.OpenFault at.Header) whole_front
+        gather_not asked bytes true first second ((at.Header, name) ∷ []) [] read (after_missed asked name second is) (answers.OpenFault at.Header) whole_front
         (record { named = has_name; spec = faultless []; none_out = refl }) (λ tried. faultless []) (missed_attached second (ap (is_attached at.Header) is))
 
     header_untold : second ≡ [] → NotGathered asked (answers.OpenFault at.Header) (first ++ second)
     header_untold is =
-        gather_not asked bytes true first second [] [] read (behind_none asked second is) (answers.OpenFault at.Header) no_front
+        gather_not asked bytes true first second [] [] read (after_none asked second is) (answers.OpenFault at.Header) no_front
         (record { named = has_name; spec = record { whole = record { ended = refl; within = within }; faultless = none }; none_out = refl }) (λ tried. absurd (cc)) (missed_attached second (ap (is_attached at.Header) is))
 
     header_attached : (log : List Event) → second ≡ Attached at.Header name ∷ log → is_attached at.Header (first ++ second) ≡ true
@@ -233,30 +233,30 @@ module _ (asked : MakeAsked) (bytes : List ℕ) (first second : List Event) (rea
     header_made (Ok made_bytes) is =
         let line = is.2 in
         let lines = lines_of line.ended line.bytes in
-        gather_ok asked bytes true first second ((at.Header, name) ∷ []) lines read (behind_header asked name line.bytes line.ended is.0 second is.1 line.takes) made_bytes.items all_named
+        gather_ok asked bytes true first second ((at.Header, name) ∷ []) lines read (after_header asked name line.bytes line.ended is.0 second is.1 line.takes) made_bytes.items all_named
         (record { whole = record { ended = refl; within = within }; is = is_made lines ∙ line.makes name }) (λ tried. faultless lines)
     header_made (Err (answers.OpenFault at.Header)) (inl is) = header_missed is
     header_made (Err (answers.OpenFault at.Header)) (inr is) = header_untold is
     header_made (Err (answers.ReadFault at.Header)) is =
         let line = is.2 in
         let lines = lines_of line.ended line.bytes in
-        gather_not asked bytes true first second ((at.Header, name) ∷ []) lines read (behind_header asked name line.bytes line.ended is.0 second is.1 line.takes) (answers.ReadFault at.Header) whole_front
+        gather_not asked bytes true first second ((at.Header, name) ∷ []) lines read (after_header asked name line.bytes line.ended is.0 second is.1 line.takes) (answers.ReadFault at.Header) whole_front
         (record { named = has_name; spec = faultless lines; none_out = refl }) (λ tried. faultless lines) (header_attached is.0 is.1)
     header_made (Err answers.Memory) is =
         let line = is.2 in
         let lines = lines_of line.ended line.bytes in
-        gather_not asked bytes true first second ((at.Header, name) ∷ []) lines read (behind_header asked name line.bytes line.ended is.0 second is.1 line.takes) answers.Memory whole_front
+        gather_not asked bytes true first second ((at.Header, name) ∷ []) lines read (after_header asked name line.bytes line.ended is.0 second is.1 line.takes) answers.Memory whole_front
         (refl, out_untried_header (file_kind asked.product) asked.file name) (λ tried. faultless lines) tt
     header_made (Err (answers.TextTooLong at.Header)) is =
         let line = is.2 in
         let lines = lines_of line.ended line.bytes in
-        gather_not asked bytes true first second ((at.Header, name) ∷ []) lines read (behind_header asked name line.bytes line.ended is.0 second is.1 line.takes) (answers.TextTooLong at.Header) whole_front
+        gather_not asked bytes true first second ((at.Header, name) ∷ []) lines read (after_header asked name line.bytes line.ended is.0 second is.1 line.takes) (answers.TextTooLong at.Header) whole_front
         (record { refused = record { whole = record { ended = refl; within = within }; is = is_made lines ∙ line.makes name }; none_out = refl }) (λ tried. faultless lines) tt
     header_made (Err answer) is =
         let speaks = is.2.0 in
         let line = is.2.1 in
         let lines = lines_of line.ended line.bytes in
-        gather_not asked bytes true first second ((at.Header, name) ∷ []) lines read (behind_header asked name line.bytes line.ended is.0 second is.1 line.takes) answer whole_front
+        gather_not asked bytes true first second ((at.Header, name) ∷ []) lines read (after_header asked name line.bytes line.ended is.0 second is.1 line.takes) answer whole_front
         (refusal_outcome answer asked (headed name lines) speaks refl (out_untried_header (file_kind asked.product) asked.file name) (record { whole = record { ended = refl; within = within }; is = is_made lines ∙ line.makes name }))
         (λ tried. faultless lines) (refuses_opened answer (first ++ second) speaks)
 
@@ -281,9 +281,9 @@ file_made Upgrade name header out bytes result first second no_header read withi
 file_made Show name header out bytes result first second no_header read within is =
     made_alone (record { product = Show; file = name; header = header; out = out }) bytes first second read within result (ap (place_named at.Header) (no_header refl)) is
 
-pub gather_behind : (asked : MakeAsked) (bytes : Vec ℕ Global) (result : Result (Vec ℕ Global) status.Status) (first second : List Event) → (file_kind asked.product ≡ Program → asked.header ≡ None)
-    → FileLog (Ok bytes) (place_of asked) (file_limit (file_kind asked.product)) asked.file first → BehindLog result asked bytes.items second → GatherLog result asked (first ++ second)
-gather_behind asked bytes result first second no_header read is =
+pub gather_after : (asked : MakeAsked) (bytes : Vec ℕ Global) (result : Result (Vec ℕ Global) status.Status) (first second : List Event) → (file_kind asked.product ≡ Program → asked.header ≡ None)
+    → FileLog (Ok bytes) (place_of asked) (file_limit (file_kind asked.product)) asked.file first → AfterLog result asked bytes.items second → GatherLog result asked (first ++ second)
+gather_after asked bytes result first second no_header read is =
     let was = subst (HasRead (place_of asked) asked.file bytes.items true) (sym read.1) (has_read (place_of asked) asked.file bytes.items true read.0 (file_source (file_kind asked.product)) read.2) in
     file_made asked.product asked.file asked.header asked.out bytes.items result first second no_header was read.3 is
 
@@ -297,7 +297,7 @@ module _ (asked : MakeAsked) where
   read_alone answer bytes log events is takes outcome opened_so =
       let read = subst (HasRead (place_of asked) asked.file bytes false) (sym is) (has_read (place_of asked) asked.file bytes false log (file_source (file_kind asked.product)) takes) in
       subst (NotGathered asked answer) (append-nil events)
-      (gather_not asked bytes false events [] [] [] read (behind_none asked [] refl) answer (record { rest = place_named at.Header asked.header; split = refl }) outcome (λ tried. absurd (cc)) (subst (OpensAsTold answer) (sym (append-nil events)) opened_so))
+      (gather_not asked bytes false events [] [] [] read (after_none asked [] refl) answer (record { rest = place_named at.Header asked.header; split = refl }) outcome (λ tried. absurd (cc)) (subst (OpensAsTold answer) (sym (append-nil events)) opened_so))
 
   file_missed : (events : List Event) → (events ≡ Missed (place_of asked) asked.file ∷ []) ⊎ (events ≡ []) → MakeOutcome (answers.OpenFault (place_of asked)) asked untouched → MakeOutcome (answers.OpenFault (place_of asked)) asked (record untouched { names = [] }) → NotGathered asked (answers.OpenFault (place_of asked)) events
   file_missed events (inl is) outcome none = subst (NotGathered asked (answers.OpenFault (place_of asked))) (sym is) (record {

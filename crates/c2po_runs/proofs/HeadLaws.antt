@@ -116,7 +116,7 @@ module _ (cut : Cutting) (events : List Event) where
 pub none_made : (form : Form) (text : List ℕ) → LineLog (Err answers.Memory) form text []
 none_made form text = record { bytes = []; ended = false; takes = record { pieces = []; are = refl; joined = refl; end = refl } }
 
--- behind the attach of a header file
+-- after the attach of a header file
 pub header_log : (result : Result (Vec ℕ Global) status.Status) (form : Form) (name text : List ℕ) (events : List Event) → (log : List Event) × (events ≡ Attached Header name ∷ log) × LineLog result form text log → HeaderLog result form name text events
 header_log (Ok bytes) form name text events has = has
 header_log (Err (answers.OpenFault Header)) form name text events has = absurd has.2.0

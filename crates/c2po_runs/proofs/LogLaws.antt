@@ -1,4 +1,4 @@
--- Logs of reads, logs of writes, and one behind the other.
+-- Logs of reads, logs of writes, and one after the other.
 
 use Rattle.std.proofs.Common.{◌≡◌, ℕ, Bool, true, false, ◌||◌, List, [], ◌∷◌, ◌++◌, map, refl, sym, ◌∙◌, ap, subst, inl, inr}
 use Rattle.tool_io.specs.declared.host.Place as place
@@ -111,13 +111,13 @@ pub gave_unattached : (pieces : List (List ℕ)) → is_attached at.Out (map (Ga
 gave_unattached [] = refl
 gave_unattached (piece ∷ pieces) = gave_unattached pieces
 
--- what is tried, over names behind names
+-- what is tried, over names after names
 pub is_tried-append : (p : place.Place) (first second : List (place.Place × List ℕ)) → is_tried p (first ++ second) ≡ (is_tried p first || is_tried p second)
 is_tried-append p [] second = refl
 is_tried-append p (named ∷ first) second =
     elim (same_place p named.0) as (λ v. (v || is_tried p (first ++ second)) ≡ ((v || is_tried p first) || is_tried p second)) [ true ↦ refl | false ↦ is_tried-append p first second ]
 
--- writes of attached outputs, one log behind another
+-- writes of attached outputs, one log after another
 pub writes-append : (named : Bool) (first second : List Event) → WritesAttached named first → WritesAttached named second → WritesAttached named (first ++ second)
 writes-append named first second a b is before after piece split =
     elim (split_at first second before after (Gave at.Out piece) split) [

@@ -1,4 +1,4 @@
--- The message behind a run, and what follows from a run without a fault.
+-- The message after a run, and what follows from a run without a fault.
 
 use Rattle.std.proofs.Common.{◌≡◌, ◌≢◌, ℕ, ◌≤◌, ◌⊎◌, Bool, false, Result, Ok, Err, List, [], ◌∷◌, ◌++◌, length, map, refl, sym, ◌∙◌, ap, subst, inl, inr, arith}
 use Rattle.std.proofs.lemmas.List.{append-nil}
@@ -30,7 +30,7 @@ use Rattle.c2po_runs.proofs.GatherRuns.{same_seen}
 not_refused : (answer : status.Status) (bytes : List ℕ) (found : Result (List ℕ) status.Status) → found ≡ Ok bytes → found ≡ Err answer → ⊥
 not_refused answer bytes found is refused = let same : Ok bytes ≡ Err answer = sym is ∙ refused in cc
 
--- what gives bytes is done, unless memory is wanting
+-- what gives bytes is done, unless out of memory
 make_complete : (answer : status.Status) (asked : MakeAsked) (run : Seen) (before between now : place.Place → ℕ) → RunCause answer before between → ((q : place.Place) → q ≢ at.Err → now q ≡ between q) → NoOtherRose before now
     → (bytes : List ℕ) → length run.file ≤ file_limit (file_kind asked.product) → made asked run.file run.header ≡ Ok bytes → MakeOutcome answer asked run → (answer ≡ answers.Done) ⊎ (answer ≡ answers.Memory)
 make_complete answers.Done asked run before between now cause same none bytes within makes is = inl refl
@@ -61,7 +61,7 @@ complete_run nothing answer before between now events cause same is = λ none. t
 complete_run help answer before between now events cause same is = λ none. help_complete answer (given at.Out events) before between now cause same none is
 complete_run (make asked) answer before between now events cause same is = λ none bytes within makes. make_complete answer asked (seen asked events) before between now cause same none bytes within makes is
 
--- a message behind a run changes nothing but what Err was given
+-- a message after a run changes nothing but what Err was given
 module _ (first all : List Event) (leaves : Leaves first all) where
   all_seen : (asked : MakeAsked) → seen asked all ≡ seen asked first
   all_seen asked = same_seen (seen asked all) (seen asked first) leaves.names (leaves.bytes (place_of asked)) (leaves.ends (place_of asked))

@@ -1,6 +1,6 @@
 -- What each phase of a run tells.
 
-use Rattle.std.specs.Prelude.{◌≡◌, ℕ, ◌⊎◌, Bool, true, false, Option, Some, None, is_some, Result, Ok, Err, List, [], ◌∷◌, Vec}
+use Rattle.std.specs.Prelude.{◌≡◌, ℕ, ◌⊎◌, Bool, true, false, Option, Some, None, is_some, Result, Ok, Err, List, [], ◌∷◌, Vec, ⊤}
 use Rattle.std.specs.declared.alloc.Global.{Global}
 use Rattle.tool_io.specs.declared.host.Place as place
 use Rattle.tool_io.specs.Log.{Event, Attached, Missed, Took, Gave, given, names_of, IsFront, IsProperFront, Writes, WritesFront}
@@ -18,13 +18,13 @@ use Rattle.c2po_runs.specs.Made.{bytes_of, made_of_text, opened_as, text_within}
 use Rattle.obs_files.specs.Faults.{opened}
 use Rattle.c2po_runs.specs.Run.{seen, is_tried, IsFaultless, Makes, MakeOutcome, WritesAttached}
 
--- a status by which a file, a header or a limit refuses, that of a text that is to be written too, or memory is wanting
+-- a status by which a file, a header or a limit refuses, that of a text that is to be written too, or out of memory
 abbrev pub Refuses : status.Status → Type 0
-Refuses (status.TheVariants.Refused line refusal) = Unit {0}
-Refuses (status.TheVariants.BadProgram fault) = Unit {0}
-Refuses (status.TheVariants.BadHeader why) = Unit {0}
-Refuses (status.TheVariants.TextTooLong place.TheVariants.Out) = Unit {0}
-Refuses status.TheVariants.Memory = Unit {0}
+Refuses (status.TheVariants.Refused line refusal) = ⊤
+Refuses (status.TheVariants.BadProgram fault) = ⊤
+Refuses (status.TheVariants.BadHeader why) = ⊤
+Refuses (status.TheVariants.TextTooLong place.TheVariants.Out) = ⊤
+Refuses status.TheVariants.Memory = ⊤
 Refuses answer = ⊥
 
 -- reads of an attached header file gave its first line, or met its end before one, or there is no end of that line
@@ -67,30 +67,30 @@ abbrev pub MadeLog : Result (Vec ℕ Global) status.Status → Result (List ℕ)
 MadeLog (Ok bytes) found events = (events ≡ []) × (found ≡ Ok bytes.items)
 MadeLog result found events = RefusedLog result found events
 
--- behind a specification without a fault
+-- after a specification without a fault
 abbrev pub SpecLog : Result (Vec ℕ Global) status.Status → Form → Option (List ℕ) → List ℕ → List Event → Type 0
 SpecLog result form None text events = MadeLog result (made_of_text form None text []) events
 SpecLog result form (Some name) text events = HeaderLog result form name text events
 
--- behind the text of a specification: it is refused, or it has no fault
+-- after the text of a specification: it is refused, or it has no fault
 abbrev pub TextLog : Result (Vec ℕ Global) status.Status → Form → Option (List ℕ) → List ℕ → List Event → Type 0
 TextLog result form header text events =
     RefusedLog result (made_of_text form header text []) events
     ⊎ ((first_refusal text ≡ None) × SpecLog result form header text events)
 
--- behind the bytes of a file
+-- after the bytes of a file
 abbrev pub FileMadeLog : Product → Result (Vec ℕ Global) status.Status → Option (List ℕ) → List ℕ → List Event → Type 0
 FileMadeLog (Compiled form) result header file events = TextLog result form header file events
 FileMadeLog Upgrade result header file events = MadeLog result (opened_as bytes_of (opened file)) events
 FileMadeLog Show result header file events = MadeLog result (opened_as text_within (opened file)) events
 
--- behind the bytes of the file that the words ask for
-abbrev pub BehindLog : Result (Vec ℕ Global) status.Status → MakeAsked → List ℕ → List Event → Type 0
-BehindLog result asked file events = FileMadeLog asked.product result asked.header file events
+-- after the bytes of the file that the words ask for
+abbrev pub AfterLog : Result (Vec ℕ Global) status.Status → MakeAsked → List ℕ → List Event → Type 0
+AfterLog result asked file events = FileMadeLog asked.product result asked.header file events
 
 -- the events are calls at places that are read
 abbrev pub OnlySources : List Event → Type 0
-OnlySources [] = Unit {0}
+OnlySources [] = ⊤
 OnlySources (Attached p name ∷ events) = IsSource p × OnlySources events
 OnlySources (Missed p name ∷ events) = IsSource p × OnlySources events
 OnlySources (Took p piece ∷ events) = IsSource p × OnlySources events
@@ -126,7 +126,7 @@ GivenLog answer bytes events = ⊥
 
 -- the events are calls at Out
 abbrev pub OnlyOut : List Event → Type 0
-OnlyOut [] = Unit {0}
+OnlyOut [] = ⊤
 OnlyOut (Attached place.TheVariants.Out name ∷ events) = OnlyOut events
 OnlyOut (Missed place.TheVariants.Out name ∷ events) = OnlyOut events
 OnlyOut (Gave place.TheVariants.Out piece ∷ events) = OnlyOut events

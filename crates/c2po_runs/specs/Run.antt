@@ -1,6 +1,6 @@
 -- What a whole run of c2po tells: from its words to its message.
 
-use Rattle.std.specs.Prelude.{◌≡◌, ℕ, ◌<◌, ◌≤◌, ◌⊎◌, Bool, true, false, None, is_some, Result, Ok, Err, List, [], ◌∷◌, ◌++◌, length}
+use Rattle.std.specs.Prelude.{◌≡◌, ℕ, ◌<◌, ◌≤◌, ◌⊎◌, Bool, true, false, None, is_some, Result, Ok, Err, List, [], ◌∷◌, ◌++◌, length, ⊤}
 use Rattle.std.specs.List.{list_any}
 use Rattle.tool_io.specs.declared.host.Place as place
 use Rattle.tool_io.specs.Log.{Event, Gave, same_place, taken, given, ended_from, names_of, IsFront, IsProperFront}
@@ -68,7 +68,7 @@ pub record Makes (asked : MakeAsked) (run : Seen) (found : Result (List ℕ) sta
   pub whole : IsWhole asked run
   pub is : made asked run.file run.header ≡ found
 
--- the header is tried only behind a specification without a fault, and Out only where the bytes exist
+-- the header is tried only after a specification without a fault, and Out only where the bytes exist
 pub record TriesInTurn (asked : MakeAsked) (run : Seen) : Type 0 where
   pub header : is_tried place.TheVariants.Header run.names ≡ true → IsFaultless asked run
   pub out : is_tried place.TheVariants.Out run.names ≡ true → (bytes : List ℕ) × Makes asked run (Ok bytes)
@@ -92,7 +92,7 @@ pub record IsUnwritten (asked : MakeAsked) (run : Seen) : Type 0 where
   pub named : is_some asked.out ≡ true
   pub none_out : run.out ≡ []
 
--- the header was asked for, behind a specification without a fault, and nothing is out
+-- the header was asked for, after a specification without a fault, and nothing is out
 pub record IsUnheaded (asked : MakeAsked) (run : Seen) : Type 0 where
   pub named : is_some asked.header ≡ true
   pub spec : IsFaultless asked run
@@ -145,14 +145,14 @@ OutcomeOf answer nothing events = NothingOutcome answer (given place.TheVariants
 -- the places of what is made are tried in turn
 abbrev pub TriesOf : Ask → List Event → Type 0
 TriesOf (make asked) events = TriesInTurn asked (seen asked events)
-TriesOf other events = Unit {0}
+TriesOf other events = ⊤
 
 -- whether the words name a file that is written
 abbrev pub names_out : Ask → Bool
 names_out (make asked) = is_some asked.out
 names_out other = false
 
--- each write of an output that is to be attached comes behind its attach
+-- each write of an output that is to be attached comes after its attach
 abbrev pub WritesAttached : Bool → List Event → Type 0
 WritesAttached named events =
     named ≡ true → (before after : List Event) (piece : List ℕ) → events ≡ before ++ Gave place.TheVariants.Out piece ∷ after
@@ -168,14 +168,14 @@ pub record Ran (asked : Ask) (answer : status.Status) (events : List Event) : Ty
   pub opened : OpensAsTold answer events
   pub quiet : given place.TheVariants.Err events ≡ []
 
--- A file without a fault and a header that names its signals, within the limits, give Done, unless memory is wanting;
+-- A file without a fault and a header that names its signals, within the limits, give Done, unless out of memory;
 -- and help is given where it is asked for.
 abbrev pub CompletesBy : Ask → status.Status → List Event → Type 0
 CompletesBy (make asked) answer events =
     (bytes : List ℕ) → length (file_in asked events) ≤ file_limit (file_kind asked.product) → made_in asked events ≡ Ok bytes
     → (answer ≡ status.TheVariants.Done) ⊎ (answer ≡ status.TheVariants.Memory)
 CompletesBy help answer events = (answer ≡ status.TheVariants.Helped) ⊎ (answer ≡ status.TheVariants.Memory)
-CompletesBy nothing answer events = Unit {0}
+CompletesBy nothing answer events = ⊤
 
 -- The log of a whole run: the message is out, or a front of it, and the run completes where no call failed but those at
 -- Err.

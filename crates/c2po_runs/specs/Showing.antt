@@ -1,6 +1,6 @@
 -- What is written where a program is shown as text, and how an image returns from it.
 
-use Rattle.std.specs.Prelude.{◌≡◌, ℕ, None, Ok, List}
+use Rattle.std.specs.Prelude.{◌≡◌, ℕ, None, Ok, List, ⊤}
 use Rattle.mltl_base.specs.declared.program.Columns.{Columns}
 use Rattle.mltl_base.specs.declared.program.Program.{Program}
 use Rattle.tool_io.specs.declared.host.Place.TheVariants.{Out}
@@ -41,9 +41,9 @@ pub record IsShown (file written : List ℕ) : Type 0 where
 -- what is written of a file that is shown; of others nothing is said here
 abbrev pub ShowsFile : Product → List ℕ → List ℕ → Type 0
 ShowsFile Show file written = IsShown file written
-ShowsFile product file written = Unit {0}
+ShowsFile product file written = ⊤
 
 -- what a run shows of its file, where it is done
 abbrev pub ShowsProgram : Ask → Status → List Event → Type 0
 ShowsProgram (make asked) answer events = answer ≡ Done → ShowsFile asked.product (file_in asked events) (given Out events)
-ShowsProgram asked answer events = Unit {0}
+ShowsProgram asked answer events = ⊤

@@ -8,7 +8,7 @@ ghost use Rattle.tool_words.specs.declared.file_kind.FileKind.TheVariants.{Progr
 ghost use Rattle.tool_runs.specs.Causes.{PhaseCause};
 ghost use Rattle.tool_runs.specs.Files.{file_limit};
 ghost use Rattle.c2po_runs.specs.Asking.{file_kind as kind_of, make_of};
-ghost use Rattle.c2po_runs.specs.Phases.{BehindLog, GatherLog, SpecLog, TextLog};
+ghost use Rattle.c2po_runs.specs.Phases.{AfterLog, GatherLog, SpecLog, TextLog};
 
 use crate::heading::under_header;
 use crate::make::{Form, Make, Product};
@@ -66,7 +66,7 @@ fn of_file<H: Host>(
     requires within { length bytes.now ≤ file_limit (kind_of asked.now.product) }
     ensures cause { PhaseCause result (H.faults host.old) (H.faults host.new) }
     ensures log { OnLog (H.log host.old) (H.log host.new)
-        (BehindLog result (make_of asked.now) bytes.now) }
+        (AfterLog result (make_of asked.now) bytes.now) }
 {
     match asked.product {
         Product::Compiled(form) => of_text(alloc, bytes, asked.header, form, host),

@@ -83,7 +83,7 @@ pub natural-flat : (w : What) (n d : ℕ) → natural_in w ≡ Some n → depth_
 natural-flat (what.Number z) n d h = refl
 natural-flat _ n d h = absurd (cc)
 
--- the bounds of an interval behind its first number
+-- the bounds of an interval after its first number
 pub record IsBounds (n a b : ℕ) (us : List Token) : Type 0 where
   pub reads : (z : List Token) → bounds_at (n, us ++ z) ≡ Some (a, b, z)
   pub quiet : Quiet 12 true 1 us

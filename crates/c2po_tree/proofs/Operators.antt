@@ -1,3 +1,4 @@
+use Rattle.std.specs.Prelude.{⊤}
 use Rattle.std.proofs.Common.{◌≡◌, ℕ, Bool, true, false, List, [], ◌∷◌, ◌++◌, refl, ap, ◌∙◌, subst, Option, Some, None, inl, inr, ◌⊎◌}
 use Rattle.std.proofs.lemmas.Option.{same_Some, some_pair_parts}
 use Rattle.c2po_lexer.specs.declared.token.Sign.{Sign}
@@ -33,7 +34,7 @@ record IsInfixSign (s : Sign) (op : Infix) : Type 0 where
   reads : (line : ℕ) (ts : List Token) → sign_operator line s ts ≡ Some (Binary line op, ts)
 
 InfixSign : Sign → Option Infix → Type 0
-InfixSign s None = Unit {0}
+InfixSign s None = ⊤
 InfixSign s (Some op) = IsInfixSign s op
 
 infix_sign : (s : Sign) → InfixSign s (sign_infix s)
@@ -98,7 +99,7 @@ is_field (Field line x) = true
 
 -- the name of a picked field is plain
 abbrev pub OperatorNames : Operator → Type 0
-OperatorNames (Binary line op) = Unit {0}
+OperatorNames (Binary line op) = ⊤
 OperatorNames (Field line x) = IsPlainName x
 
 -- An operator: its first token, and its interval or the field's name.

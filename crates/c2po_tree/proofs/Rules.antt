@@ -104,7 +104,7 @@ prefix_low (Not line) = (omega arith, omega arith, refl, refl)
 prefix_low (Minus line) = (omega arith, omega arith, refl, refl)
 prefix_low (Window line op a b) = (omega arith, omega arith, refl, refl)
 
--- A list behind another, told how that one ends: outside brackets all is plain for level k, and so it ends.
+-- A list after another, told how that one ends: outside brackets all is plain for level k, and so it ends.
 pub record QuietTo (k : ℕ) (a : Bool) (d : ℕ) (b : Bool) (n : ℕ) (c : List Token) : Type 0 where
   pub quiet : Quiet k a d c
   pub ends : ends_of a c ≡ b
@@ -128,7 +128,7 @@ deeper k a b c s = record {
   depth = depth_of-deeper k a 0 c s.quiet ∙ ap suc s.depth;
 }
 
--- a first token whose effect is known, and what stands behind it
+-- a first token whose effect is known, and what stands after it
 first : (k : ℕ) (a b e : Bool) (d n m : ℕ) (t : Token) (us : List Token) → IsQuiet k a d t → ends_operand t.what ≡ b → depth_after t.what d ≡ n →
     Quiet k b n us → ends_of b us ≡ e → depth_of n us ≡ m → QuietTo k a d e m (t ∷ us)
 unfolding Quiet ends_of depth_of

@@ -286,10 +286,10 @@ operator-splits false k line op a t us b right level left is is_level right_stan
     let high = level.high in
     let right_is : right_level k ≡ suc k = right-of k right level.split in
     let b_stands : QuietTo (suc k) false 0 true 0 b = subst (λ n. QuietTo n false 0 true 0 b) right_is right_stands in
-    let behind_t : QuietTo (suc k) false 0 true 0 (us ++ b) =
+    let after_t : QuietTo (suc k) false 0 true 0 (us ++ b) =
     row (suc k) false false true 0 0 0 us b (operator-inner (suc k) t us (Binary line op) (omega arith) is) b_stands in
     let none : cut_last (has_level k) (ends_operand t.what) (depth_after t.what 0) (us ++ b) ≡ None =
-    last-none k t (us ++ b) is.operand (is.flat 0) (cut_last-none (has_level k) (suc k) false 0 (us ++ b) (level_skips k (suc k) level.low (omega arith)) behind_t.quiet) in
+    last-none k t (us ++ b) is.operand (is.flat 0) (cut_last-none (has_level k) (suc k) false 0 (us ++ b) (level_skips k (suc k) level.low (omega arith)) after_t.quiet) in
     if-false (is_right_level k) (cut_first (has_level k) false 0 (a ++ t ∷ (us ++ b))) (cut_last (has_level k) false 0 (a ++ t ∷ (us ++ b)))
     (Some (a, t ∷ (us ++ b))) right
     (cut_last-at (has_level k) false 0 a t (us ++ b) left.depth (has-level k a t us (Binary line op) is is_level left.ends) none)

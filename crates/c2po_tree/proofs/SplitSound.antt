@@ -38,7 +38,7 @@ minus-or : (b : Bool) (n k : ℕ) → 1 ≤ k → (if b then 0 else n) ≡ k →
 minus-or true n k low h = absurd (omega arith)
 minus-or false n k low h = h
 
--- a token that is an operator of a level behind some token is one behind an operand
+-- a token that is an operator of a level after some token is one after an operand
 level-operator : (k : ℕ) (a : Bool) (t : Token) (us : List Token) (o : Operator) → 1 ≤ k → has_level k a t ≡ true → IsOperator t us o → level_of o ≡ k
 level-operator k true t us o low h is = sym is.level ∙ eqb-true (token_level t.what) k h
 level-operator k false t us o low h is =

@@ -1,3 +1,4 @@
+use Rattle.std.specs.Prelude.{⊤}
 use Rattle.std.proofs.Common.{◌≡◌, ℕ, ◌≤◌, Bool, true, false, List, [], ◌∷◌, ◌++◌, length, refl, ap, ◌∙◌, subst, arith, Option, Some, None}
 use Rattle.std.proofs.lemmas.Option.{same_Some, some_pair_parts}
 use Rattle.c2po_lexer.specs.declared.token.Sign.{Sign}
@@ -48,18 +49,18 @@ opened (Bind line q x) = 1
 
 -- the names in a beginning are plain
 abbrev pub AtomNames : Atom → Type 0
-AtomNames (Number n) = Unit {0}
-AtomNames (Truth b) = Unit {0}
+AtomNames (Number n) = ⊤
+AtomNames (Truth b) = ⊤
 AtomNames (Ref x) = IsPlainName x
 
 abbrev pub BracketNames : Bracket → Type 0
-BracketNames (Curly line) = Unit {0}
+BracketNames (Curly line) = ⊤
 BracketNames (Call line x) = IsPlainName x
 
 abbrev pub StartNames : Start → Type 0
 StartNames (Leaf line a) = AtomNames a
-StartNames (Before p) = Unit {0}
-StartNames Round = Unit {0}
+StartNames (Before p) = ⊤
+StartNames Round = ⊤
 StartNames (Open b) = BracketNames b
 StartNames (Bind line q x) = IsPlainName x
 
@@ -327,7 +328,7 @@ counted-middle op m c n r o comma number close opens = record {
   depth = rw (comma, natural-flat n.what m 1 number, close, opens) refl;
 }
 
--- `)` and `(` behind the number
+-- `)` and `(` after the number
 abbrev turn : ℕ → List Token → Option (ℕ × List Token)
 turn m us = past sign.RightRound us >>= λ vs. past sign.LeftRound vs >>= λ ws. Some (m, ws)
 

@@ -1,5 +1,5 @@
 use Rattle.std.proofs.Common.{◌≡◌, ℕ, zero, suc, pred, ◌<◌, ◌≤◌, Bool, true, false, ◌&&◌, List, [], ◌∷◌, ◌++◌, refl, ap, sym, ◌∙◌, subst, arith, Option, Some, None, nat_eq, if◌then◌else◌, inl, inr, ◌⊎◌}
-use Rattle.std.specs.Prelude.{option_and_then}
+use Rattle.std.specs.Prelude.{option_and_then, ⊤}
 use Rattle.std.proofs.lemmas.Option.{same_Some}
 use Rattle.std.proofs.lemmas.Bool.Decides.{nat_tests}
 use Rattle.std.proofs.lemmas.Bool.{and_parts}
@@ -12,7 +12,7 @@ use Rattle.c2po_tree.specs.Splitting.{Cut, Test, with_front, cut_first, cut_last
 
 -- Facts on going through a token list.
 
--- what stands behind a step that gave something
+-- what stands after a step that gave something
 pub bind-some : {A B : Type 0} (o : Option A) (f : A → Option B) (r : B) → option_and_then f o ≡ Some r → (x : A) × (o ≡ Some x) × (f x ≡ Some r)
 bind-some None f r h = absurd (cc)
 bind-some (Some x) f r h = (x, refl, h)
@@ -38,11 +38,11 @@ pub record IsPlain (k : ℕ) (after : Bool) (t : Token) : Type 0 where
 
 abbrev pub IsQuiet : ℕ → Bool → ℕ → Token → Type 0
 IsQuiet k after zero t = IsPlain k after t
-IsQuiet k after (suc d) t = Unit {0}
+IsQuiet k after (suc d) t = ⊤
 
 -- all tokens outside brackets are plain
 unfoldable pub Quiet : ℕ → Bool → ℕ → List Token → Type 0
-Quiet k after d [] = Unit {0}
+Quiet k after d [] = ⊤
 Quiet k after d (t ∷ ts) = IsQuiet k after d t × Quiet k (ends_operand t.what) (depth_after t.what d) ts
 
 pub ends_of-append : (a : Bool) (x y : List Token) → ends_of a (x ++ y) ≡ ends_of (ends_of a x) y
@@ -111,7 +111,7 @@ here-not test k a (suc d) t s q = grind (arith, nat_tests)
 here : (test : Test) (a : Bool) (d : ℕ) (t : Token) → d ≡ 0 → test a t ≡ true → (nat_eq d 0 && test a t) ≡ true
 here test a d t z h = rw (z, h) refl
 
--- the first cut goes on behind a list whose plain tokens don't pass the test
+-- the first cut goes on after a list whose plain tokens don't pass the test
 with_fronts : List Token → Option Cut → Option Cut
 with_fronts [] c = c
 with_fronts (t ∷ x) c = with_front t (with_fronts x c)

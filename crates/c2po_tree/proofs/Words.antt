@@ -1,5 +1,5 @@
 use Rattle.std.proofs.Common.{ℕ, suc, ◌≡◌, List, [], ◌∷◌, ◌++◌, arith, subst}
-use Rattle.std.specs.Prelude.{All}
+use Rattle.std.specs.Prelude.{All, ⊤}
 use Rattle.c2po_lexer.specs.declared.token.What.{What}
 use Rattle.c2po_lexer.specs.declared.token.What.TheVariants as what
 use Rattle.c2po_lexer.specs.declared.token.Token.{Token}
@@ -8,7 +8,7 @@ use Rattle.c2po_tree.specs.Names.{IsPlainName}
 
 -- Token lists whose names are made of letters, digits and `_`.
 pub PlainWords : List Token → Type 0
-PlainWords [] = Unit {0}
+PlainWords [] = ⊤
 PlainWords (t ∷ ts) = HasPlainName t.what × PlainWords ts
 
 pub words-all : (ts : List Token) → All (λ t. HasPlainName t.what) ts → PlainWords ts

@@ -23,10 +23,10 @@ pub data Goal : Type 0 where
   Operand : (level : ℕ) → Goal
   -- what follows an operand that was read
   Rest : (level : ℕ) (left : Shape) → Goal
-  -- elements within brackets, behind those that were read
+  -- elements within brackets, after those that were read
   Elements : (bracket : Bracket) (so_far : List Shape) → Goal
 
--- the tree that is read, and the tokens behind it
+-- the tree that is read, and the tokens after it
 abbrev pub Climbs : Type 0
 Climbs = Goal → List Token → Option (Shape × List Token)
 
@@ -34,12 +34,12 @@ Climbs = Goal → List Token → Option (Shape × List Token)
 abbrev pub closed : Climbs → List Token → Option (Shape × List Token)
 closed read ts = read (Whole 1) ts >>= λ x. past sign.RightRound x.1 >>= λ rest. Some (x.0, rest)
 
--- a quantifier behind its variable
+-- a quantifier after its variable
 abbrev pub bound : Climbs → ℕ → Quantifier → List ℕ → List Token → Option (Shape × List Token)
 bound read line q x ts = read (Whole 1) ts >>= λ s. middle_at q s.1 >>= λ m.
     closed read m.1 >>= λ e. Some (quantified line q x s.0 m.0 e.0, e.1)
 
--- an operand behind a prefix, which no operator of a tighter level takes
+-- an operand after a prefix, which no operator of a tighter level takes
 abbrev pub before : Climbs → ℕ → Prefix → List Token → Option (Shape × List Token)
 before read level p ts =
     if nat_le level (prefix_level p) then (read (Whole (prefix_level p)) ts >>= λ x. Some (prefixed p x.0, x.1)) else None
@@ -52,7 +52,7 @@ operand read level (Round, rest) = closed read rest
 operand read level (Open b, rest) = read (Elements b []) rest
 operand read level (Bind line q x, rest) = bound read line q x rest
 
--- an operator behind an operand
+-- an operator after an operand
 abbrev pub joins : Climbs → ℕ → Shape → Operator × List Token → Option (Shape × List Token)
 joins read level left (Binary line op, rest) =
     read (Whole (right_level (level_of (Binary line op)))) rest >>= λ x. read (Rest level (joined line op left x.0)) x.1
@@ -63,7 +63,7 @@ abbrev pub rest_of : Climbs → ℕ → Shape → List Token → Option (Operato
 rest_of read level left ts None = Some (left, ts)
 rest_of read level left ts (Some o) = if nat_le level (level_of o.0) then joins read level left o else Some (left, ts)
 
--- behind an element a comma leads to more of them, the closing sign ends them
+-- after an element a comma leads to more of them, the closing sign ends them
 abbrev pub elements_of : Climbs → Bracket → List Shape → List Token → Option (List Token) → Option (Shape × List Token)
 elements_of read b es ts (Some rest) = read (Elements b es) rest
 elements_of read b es ts None = past (closing b) ts >>= λ rest. Some (enclosed b es, rest)

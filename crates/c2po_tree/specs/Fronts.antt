@@ -66,7 +66,7 @@ abbrev pub natural_at : List Token → Option (ℕ × List Token)
 natural_at [] = None
 natural_at (t ∷ ts) = natural_in t.what >>= λ n. Some (n, ts)
 
--- the end of an interval behind its first number: that number alone is the upper bound
+-- the end of an interval after its first number: that number alone is the upper bound
 abbrev pub bounds_or : ℕ × List Token → Option (List Token) → Option (ℕ × ℕ × List Token)
 bounds_or first (Some rest) = Some (0, first.0, rest)
 bounds_or first None = past sign.Comma first.1 >>= λ ts. natural_at ts >>= λ second.
@@ -172,7 +172,7 @@ joined line (Between op a b) e f = between line op a b e f
 joined line (Compare op) e f = compare line op e f
 joined line (Arith op) e f = arith line op e f
 
--- an operand behind a prefix
+-- an operand after a prefix
 abbrev pub prefixed : Prefix → Shape → Shape
 prefixed (Not line) e = negation line e
 prefixed (Minus line) e = minus line e
@@ -247,7 +247,7 @@ unfoldable pub start_at : List Token → Option (Start × List Token)
 start_at [] = None
 start_at (t ∷ ts) = start_in t.line t.what ts
 
--- the number behind the set of a quantifier that counts; the others have 0
+-- the number after the set of a quantifier that counts; the others have 0
 abbrev pub number_at : Quantifier → List Token → Option (ℕ × List Token)
 number_at Each ts = Some (0, ts)
 number_at Exists ts = Some (0, ts)

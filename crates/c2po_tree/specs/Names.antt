@@ -1,4 +1,4 @@
-use Rattle.std.specs.Prelude.{ℕ, List, [], ◌∷◌, Option, Some, None}
+use Rattle.std.specs.Prelude.{ℕ, List, [], ◌∷◌, Option, Some, None, ⊤}
 use Rattle.std.specs.List.{AllPass}
 use Rattle.c2po_lexer.specs.Cut.{is_in_word}
 use Rattle.c2po_tree.specs.Shape.{Shape, Shapes, number, truth, named, build, group, pick, minus, negation, arith, compare, logic, window, between, each, exists, count, none, more}
@@ -11,8 +11,8 @@ IsPlainName x = AllPass is_in_word x
 -- every name in a tree is so made
 abbrev mutual
   pub HasPlainNames : Shape → Type 0
-  HasPlainNames (number line n) = Unit {0}
-  HasPlainNames (truth line b) = Unit {0}
+  HasPlainNames (number line n) = ⊤
+  HasPlainNames (truth line b) = ⊤
   HasPlainNames (named line x) = IsPlainName x
   HasPlainNames (build line x es) = IsPlainName x × HavePlainNames es
   HasPlainNames (group line es) = HavePlainNames es
@@ -29,7 +29,7 @@ abbrev mutual
   HasPlainNames (count line op x s n e) = IsPlainName x × (HasPlainNames s × HasPlainNames e)
 
   pub HavePlainNames : Shapes → Type 0
-  HavePlainNames none = Unit {0}
+  HavePlainNames none = ⊤
   HavePlainNames (more e es) = HasPlainNames e × HavePlainNames es
 
 -- every name in a type is so made
@@ -39,17 +39,17 @@ HasPlainType (set_of k) = HasPlainType k
 
 -- every name in fields is so made
 abbrev pub ArePlainFields : List FieldShape → Type 0
-ArePlainFields [] = Unit {0}
+ArePlainFields [] = ⊤
 ArePlainFields (f ∷ fs) = (IsPlainName f.name × HasPlainType f.kind) × ArePlainFields fs
 
 -- every name of a list is so made
 abbrev pub ArePlain : List (List ℕ) → Type 0
-ArePlain [] = Unit {0}
+ArePlain [] = ⊤
 ArePlain (x ∷ xs) = IsPlainName x × ArePlain xs
 
 -- a label is so made, where there is one
 abbrev pub IsPlainLabel : Option (List ℕ) → Type 0
-IsPlainLabel None = Unit {0}
+IsPlainLabel None = ⊤
 IsPlainLabel (Some x) = IsPlainName x
 
 -- every name in what an item says is so made
@@ -62,5 +62,5 @@ IsPlainBody (contract engine label e f) = IsPlainLabel label × (HasPlainNames e
 
 -- every name in the items of a specification is so made
 abbrev pub ArePlainItems : List ItemShape → Type 0
-ArePlainItems [] = Unit {0}
+ArePlainItems [] = ⊤
 ArePlainItems (i ∷ is) = IsPlainBody i.body × ArePlainItems is

@@ -42,7 +42,7 @@ abbrev pub is_sign : Sign → What → Bool
 is_sign s (what.Sign r) = nat_eq (sign_number r) (sign_number s)
 is_sign s _ = false
 
--- The level of the operator between or behind operands that a sign or a word is; 0 where it is none. Level 1 binds
+-- The level of the operator between or after operands that a sign or a word is; 0 where it is none. Level 1 binds
 -- loosest. The prefixes `!`, `F`, `G`, `O` and `H` have level 6 and the prefix `-` has level 10.
 
 -- the level of the operator that a sign is
@@ -89,12 +89,12 @@ ends_operand (what.Sign sign.RightCurly) = true
 ends_operand _ = false
 
 -- The level of a token as an operator, told whether the token before it ends an operand: a `-` stands between
--- operands only behind such a token.
+-- operands only after such a token.
 abbrev pub level_after : Bool → What → ℕ
 level_after true w = token_level w
 level_after false w = if is_sign sign.Minus w then 0 else token_level w
 
--- how many brackets are open behind a token, from the number before it
+-- how many brackets are open after a token, from the number before it
 abbrev pub depth_after : What → ℕ → ℕ
 depth_after (what.Sign sign.LeftRound) d = suc d
 depth_after (what.Sign sign.LeftCurly) d = suc d

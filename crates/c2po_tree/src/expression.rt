@@ -20,7 +20,7 @@ use mltl_base::Name;
 use mltl_base::limits::MAX_ITEM_TOKENS;
 use std::alloc::Global;
 
-/// What is left of the room for nested steps behind one step.
+/// What is left of the room for nested steps after one step.
 fn deeper(room: u32) -> Result<u32, TreeFault>
     ensures { MatchResult result (λ left. room ≡ suc left) (λ e. (room ≡ 0) × (e ≡ NoTree)) }
 {
@@ -83,7 +83,7 @@ fn operand(
     }
 }
 
-/// The operand behind a prefix, which no operator of a tighter level takes.
+/// The operand after a prefix, which no operator of a tighter level takes.
 #[cycle(climbing)]
 fn prefixed_operand(
     alloc: Global,
@@ -142,7 +142,7 @@ fn quantified_operand(
     ))
 }
 
-/// What goes on behind an operand, and what follows the whole.
+/// What goes on after an operand, and what follows the whole.
 #[cycle(climbing)]
 #[tactic(auto, unfolding(crate::specs::Climbing::climb))]
 fn follow(
@@ -176,7 +176,7 @@ fn follow(
     }
 }
 
-/// Elements with commas between them, behind those that were read, up to the sign that closes them.
+/// Elements with commas between them, after those that were read, up to the sign that closes them.
 #[cycle(climbing)]
 #[tactic(auto, unfolding(crate::specs::Climbing::climb))]
 fn elements(

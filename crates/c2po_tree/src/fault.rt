@@ -12,7 +12,7 @@ pub enum TreeFault {
     /// The grammar has no tree for the tokens.
     #[error("no expression")]
     NoTree,
-    /// Memory is wanting.
+    /// Out of memory.
     #[error("out of memory")]
     Memory,
 }

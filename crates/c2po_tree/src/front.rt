@@ -139,7 +139,7 @@ fn quantifier_of(word: Keyword) -> Option<Quantifier>
     }
 }
 
-/// The picked field behind a `.`, and what follows it.
+/// The picked field after a `.`, and what follows it.
 fn take_field(tokens: &[Token]) -> Option<(Operator, &[Token])>
     ensures { option_map (λ x. (x.0, x.1.now)) result ≡ field_of tokens.now }
 {
@@ -156,7 +156,7 @@ fn take_field(tokens: &[Token]) -> Option<(Operator, &[Token])>
     }
 }
 
-/// An operator behind an operand, and what follows it.
+/// An operator after an operand, and what follows it.
 #[tactic(auto, unfolding(crate::specs::Fronts::operator_at))]
 pub(crate) fn take_operator(tokens: &[Token]) -> Option<(Operator, &[Token])>
     ensures { option_map (λ x. (x.0, x.1.now)) result ≡ operator_at tokens.now }

@@ -59,7 +59,7 @@ pub fn pick_of(alloc: Global, line: u32, left: Expr, field: Name) -> Result<Expr
     Ok(Expr { line, node })
 }
 
-/// An operand behind a prefix.
+/// An operand after a prefix.
 pub fn prefixed_by(prefix: Prefix, operand: Box<Expr>) -> Expr
     ensures { shape result ≡ prefixed prefix (shape operand.value) }
 {
@@ -79,7 +79,7 @@ pub fn prefixed_by(prefix: Prefix, operand: Box<Expr>) -> Expr
     }
 }
 
-/// An operand put into a box behind a prefix.
+/// An operand put into a box after a prefix.
 pub fn behind(alloc: Global, prefix: Prefix, operand: Expr) -> Result<Expr, TreeFault>
     ensures { Gives shape result (Some (prefixed prefix (shape operand))) }
 {
@@ -115,7 +115,7 @@ pub fn quantify(
     }
 }
 
-/// Elements with one more behind them.
+/// Elements with one more after them.
 pub fn with_member(elements: Vec<Expr>, element: Expr) -> Result<Vec<Expr>, TreeFault>
     ensures { Gives (λ v. map shape v.items) result
         (Some (map shape elements.items ++ shape element ∷ [])) }
@@ -167,7 +167,7 @@ fn infix_level_of(binary: Infix) -> u8
     }
 }
 
-/// The level of what goes on behind an operand: a picked field binds tightest.
+/// The level of what goes on after an operand: a picked field binds tightest.
 pub fn operator_level(operator: &Operator) -> u8
     ensures { result ≡ level_of operator.now }
 {

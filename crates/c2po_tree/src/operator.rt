@@ -11,7 +11,7 @@ pub enum Infix {
     Arith(ArithOp),
 }
 
-/// What goes on behind an operand: an operator with its line, or a picked field with the line of its name.
+/// What goes on after an operand: an operator with its line, or a picked field with the line of its name.
 #[derive(Drop)]
 pub enum Operator {
     Binary(u32, Infix),

@@ -37,7 +37,7 @@ pub fails-second : {X Y Z : Type 0} (fault : TypeFault) (m : Checked X) (x : X) 
     → Fails fault (m >>= λ x. n >>= f x)
 fails-second fault m x n f h k = subst (λ r. Fails fault (r >>= λ y. n >>= f y)) (sym h) (fails-bind fault n (f x) k)
 
--- what is Ok behind a call that puts one fault for another was Ok before it
+-- what is Ok after a call that puts one fault for another was Ok before it
 pub ok_before : {X E F : Type 0} (found : Result X E) (now : Result X F) (P : E → F → Type 0) (x : X) → MatchResult found (λ y. now ≡ Ok y) (λ fault. IsErrAnd now (P fault)) → now ≡ Ok x → found ≡ Ok x
 ok_before (Ok y) now P x same is = cc
 ok_before (Err fault) now P x refused is = absurd (subst (λ r. IsErrAnd r (P fault)) is refused)

@@ -21,7 +21,7 @@ use Rattle.unfold.specs.Environment.{Env, no_names, declare, fields, value, sign
 use Rattle.unfold.specs.Values.{Value, weight, formula_of}
 use Rattle.unfold.specs.Faults.{value_fault}
 
--- What is known behind some items: what they declare, the names of outputs, what names stand for, and the weight of the
+-- What is known after some items: what they declare, the names of outputs, what names stand for, and the weight of the
 -- outputs together.
 pub record State : Type 0 where
   pub declared : Declarations
@@ -84,31 +84,31 @@ abbrev pub two_out : ℕ → Engine → Labels → Value → Value → State →
 two_out line engine labels v w s = with_out line labels (weight v + weight w) (or_later (formula_fault (formula_of v)) (formula_fault (formula_of w)))
     (is_mixed engine (formula_of v) || is_mixed engine (formula_of w)) s
 
--- what is known behind one more struct, or its first fault
+-- what is known after one more struct, or its first fault
 abbrev pub struct_step : ℕ → List ℕ → List FieldShape → State → Checked State
 struct_step line x fs s = with_struct line x fs s.declared >>= λ d.
     Ok (record { declared = d; labels = s.labels; values = declare x (fields (map (λ f. f.name) fs)) s.values; total = s.total })
 
--- what is known behind one more declaration of signals, or its first fault
+-- what is known after one more declaration of signals, or its first fault
 abbrev pub input_step : ℕ → List (List ℕ) → TypeShape → State → Checked State
 input_step line xs t s = with_input line xs t s.declared >>= λ d. let n = length s.declared.signals in
     Ok (record { declared = d; labels = s.labels; values = with_signals n (drop n d.signals) s.values; total = s.total })
 
--- what is known behind one more definition, or its first fault
+-- what is known after one more definition, or its first fault
 abbrev pub define_step : ℕ → List ℕ → Shape → State → Checked State
 define_step line x e s = define_kind line x e s.declared >>= λ k. defined line x (with_value x k s.declared) (value_of e s.values) s
 
--- what is known behind one more output with a formula, or its first fault
+-- what is known after one more output with a formula, or its first fault
 abbrev pub formula_step : ℕ → Engine → Option (List ℕ) → Shape → State → Checked State
 formula_step line engine label e s = with_label line label s.labels >>= λ labels. formula_kind line e s.declared >>= λ _.
     one_out line engine labels (value_of e s.values) s
 
--- what is known behind one more output with a contract, or its first fault
+-- what is known after one more output with a contract, or its first fault
 abbrev pub contract_step : ℕ → Engine → Option (List ℕ) → Shape → Shape → State → Checked State
 contract_step line engine label e f s = with_label line label s.labels >>= λ labels. contract_kind line e f s.declared >>= λ _.
     two_out line engine labels (value_of e s.values) (value_of f s.values) s
 
--- what is known behind one more item of any sort on a line, or its first fault
+-- what is known after one more item of any sort on a line, or its first fault
 abbrev pub body_step : ℕ → BodyShape → State → Checked State
 body_step line (structure x fs) s = struct_step line x fs s
 body_step line (input xs t) s = input_step line xs t s
@@ -116,11 +116,11 @@ body_step line (define x e) s = define_step line x e s
 body_step line (formula engine label e) s = formula_step line engine label e s
 body_step line (contract engine label e f) s = contract_step line engine label e f s
 
--- what is known behind one more item, or its first fault
+-- what is known after one more item, or its first fault
 abbrev pub item_step : ItemShape → State → Checked State
 item_step item s = body_step item.line item.body s
 
--- what is known behind all items, or the first fault
+-- what is known after all items, or the first fault
 unfoldable pub checked : List ItemShape → Checked State
 checked items = in_turn item_step items start
 

@@ -14,7 +14,7 @@ use c2po_tree::{Item, SpecTree, copy_tree};
 use std::alloc::Global;
 use unfold::Unfolding;
 
-/// What is known behind all items.
+/// What is known after all items.
 fn run(alloc: Global, items: &[Item]) -> Result<Progress, TypeFault>
     ensures { Reaches result (checked (map item_shape items.now)) }
 {
@@ -35,7 +35,7 @@ fn run(alloc: Global, items: &[Item]) -> Result<Progress, TypeFault>
 /// Items are taken in the order of the text. Within an item names and kinds come first, operands before operators and
 /// from left to right; then the weight of what it unfolds to, divisors and ranges, and tenses.
 ///
-/// Errors: the first fault with its line; `Memory` where memory is wanting.
+/// Errors: the first fault with its line; `Memory` when out of memory.
 pub fn check(alloc: Global, tree: &SpecTree) -> Result<TypedSpec, TypeFault>
     requires plain { ArePlainItems (spec_shape tree.now) }
     ensures unchanged { IfOk result (λ spec. spec_shape spec ≡ spec_shape tree.now) }

@@ -3,7 +3,7 @@
 use c2po_kinds::{Declarations, NameTable};
 use unfold::Unfolding;
 
-/// What is known behind some items.
+/// What is known after some items.
 #[derive(Drop)]
 pub struct Progress {
     pub declared: Declarations,

@@ -1,4 +1,4 @@
-//! The check of one item behind others.
+//! The check of one item after others.
 
 ghost use Rattle.std.specs.Prelude.{◌≡◌, ◌+◌, ◌≤◌, length, drop, map, option_map, IfOk, IfErr};
 ghost use Rattle.mltl_base.specs.declared.limits.TheConstants.{MAX_WEIGHT};
@@ -48,7 +48,7 @@ fn no_range(line: u32, why: NoRange) -> TypeFault
     }
 }
 
-/// What is known behind a struct.
+/// What is known after a struct.
 fn step_struct(
     alloc: Global,
     progress: Progress,
@@ -101,7 +101,7 @@ fn add_signals(
     Ok(values)
 }
 
-/// What is known behind signals.
+/// What is known after signals.
 fn step_input(
     alloc: Global,
     progress: Progress,
@@ -131,7 +131,7 @@ fn step_input(
     })
 }
 
-/// What is known behind a definition.
+/// What is known after a definition.
 fn step_define(
     alloc: Global,
     progress: Progress,
@@ -203,7 +203,7 @@ fn add_label(
     })
 }
 
-/// What is known behind an output with so much weight, where nothing is wrong with it.
+/// What is known after an output with so much weight, where nothing is wrong with it.
 fn put_out(
     progress: Progress,
     line: u32,
@@ -237,7 +237,7 @@ fn put_out(
     })
 }
 
-/// What is known behind a formula whose names and kinds are right.
+/// What is known after a formula whose names and kinds are right.
 fn put_formula(
     alloc: Global,
     progress: Progress,
@@ -261,7 +261,7 @@ fn put_formula(
     put_out(progress, line, found.weight, found.fault, mixed)
 }
 
-/// What is known behind an output with a formula.
+/// What is known after an output with a formula.
 fn step_formula(
     alloc: Global,
     progress: Progress,
@@ -281,7 +281,7 @@ fn step_formula(
     put_formula(alloc, progress, line, engine, expr)
 }
 
-/// What is known behind a contract whose left formula is unfolded.
+/// What is known after a contract whose left formula is unfolded.
 fn put_right(
     alloc: Global,
     progress: Progress,
@@ -307,7 +307,7 @@ fn put_right(
     put_out(progress, line, left.weight + found.weight, why, mixed)
 }
 
-/// What is known behind a contract whose names and kinds are right.
+/// What is known after a contract whose names and kinds are right.
 fn put_contract(
     alloc: Global,
     progress: Progress,
@@ -331,7 +331,7 @@ fn put_contract(
     put_right(alloc, progress, line, engine, left, right)
 }
 
-/// What is known behind an output with a contract.
+/// What is known after an output with a contract.
 fn step_contract(
     alloc: Global,
     progress: Progress,
@@ -352,7 +352,7 @@ fn step_contract(
     put_contract(alloc, progress, line, engine, left, right)
 }
 
-/// What is known behind one more item.
+/// What is known after one more item.
 pub fn step(alloc: Global, progress: Progress, item: &Item) -> Result<Progress, TypeFault>
     requires { progress.total ≤ MAX_WEIGHT }
     ensures reached { (env : Env) → StandsFor progress.values env

@@ -88,7 +88,7 @@ fn fails_exactly_where_it_should(rt: HostRuntime) -> Result<(), Fail> {
     let cases = [
         // nothing fails
         narrow(4, 10, [ready, four, end, wrote]),
-        // a listed call, and none behind it
+        // a listed call, and none after it
         roomy(Some((Place::Trace, 0)), [unready, ready, four, wrote]),
         roomy(Some((Place::Trace, 1)), [ready, unread, four, end]),
         roomy(Some((Place::Out, 1)), [wrote, unwritten, wrote, wrote]),

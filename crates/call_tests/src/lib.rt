@@ -1,4 +1,4 @@
-//! Tests of calls that no program makes: on hosts, of a cut into lines behind a fault, and on a queue.
+//! Tests of calls that no program makes: on hosts, of a cut into lines after a fault, and on a queue.
 //!
 //! They stand apart from the crates that they test, since a crate with tests is proved twice.
 #![tactic(auto)]

@@ -17,7 +17,7 @@ fn trace_of(alloc: Global, bytes: &[u8], block: usize) -> Result<MemHost, AllocE
     Ok(host)
 }
 
-/// Puts the row that was cut behind the text: the last digit of its number and its text, between `:` and `|`.
+/// Puts the row that was cut after the text: the last digit of its number and its text, between `:` and `|`.
 fn push_row(text: &mut Vec<u8>, cut: &LineCut) -> Result<(), AllocError>
     requires { IsSome cut.now.row }
 {
@@ -29,7 +29,7 @@ fn push_row(text: &mut Vec<u8>, cut: &LineCut) -> Result<(), AllocError>
     Ok(())
 }
 
-/// Puts the answer of the next call behind the text: a row, the end as `.`, a long line as `!` and a fault as `?`.
+/// Puts the answer of the next call after the text: a row, the end as `.`, a long line as `!` and a fault as `?`.
 /// Where `keeps` says so, the row is kept.
 fn push_answer<H: Host>(
     text: &mut Vec<u8>,

@@ -48,7 +48,7 @@ drained_counts style program rows next_times placed none =
 pub counts_drained : (style : Style) (program : Program) (rows : List Row) → open_of style program rows (known_counts_of program rows) ≡ []
 counts_drained style program rows = none_left style rows 0 (outputs program) (known_counts_of program rows) (λ j below. le_refl (slice_index (known_counts_of program rows) j))
 
--- the numbers of known words are next times behind one more row
+-- the numbers of known words are next times after one more row
 more_words : (rows more : List Row) (o : Output) → length (words rows o) ≤ length (words (rows ++ more) o)
 more_words rows more o =
     let p = words_begin rows more o in

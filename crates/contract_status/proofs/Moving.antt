@@ -8,7 +8,7 @@ use Rattle.std.proofs.lemmas.Option.{get_or_from_slice_get, slice_get-map, slice
 use Rattle.mltl_base.specs.declared.program.Out.{Out}
 use Rattle.mltl_base.specs.declared.program.Program.{Program}
 use Rattle.mltl_base.specs.declared.report.Word.{Word}
-use Rattle.mltl_base.specs.declared.report.Word.TheVariants.{True, False, Inactive, Invalid, Verified}
+use Rattle.mltl_base.specs.declared.report.Word.TheVariants.{T, F, Inactive, Invalid, Verified}
 use Rattle.mltl_base.specs.declared.report.Style.{Style}
 use Rattle.mltl_base.specs.declared.report.Style.TheVariants.{Each, Runs}
 use Rattle.mltl_base.specs.Atoms.{Row}
@@ -76,29 +76,29 @@ each_first k p ws w there =
 
 -- whether the next word is the same
 same_word_other : (v w : Word) → v ≢ w → same_word v w ≡ false
-same_word_other True True differ = absurd (differ refl)
-same_word_other False False differ = absurd (differ refl)
+same_word_other T T differ = absurd (differ refl)
+same_word_other F F differ = absurd (differ refl)
 same_word_other Inactive Inactive differ = absurd (differ refl)
 same_word_other Invalid Invalid differ = absurd (differ refl)
 same_word_other Verified Verified differ = absurd (differ refl)
-same_word_other True False differ = refl
-same_word_other True Inactive differ = refl
-same_word_other True Invalid differ = refl
-same_word_other True Verified differ = refl
-same_word_other False True differ = refl
-same_word_other False Inactive differ = refl
-same_word_other False Invalid differ = refl
-same_word_other False Verified differ = refl
-same_word_other Inactive True differ = refl
-same_word_other Inactive False differ = refl
+same_word_other T F differ = refl
+same_word_other T Inactive differ = refl
+same_word_other T Invalid differ = refl
+same_word_other T Verified differ = refl
+same_word_other F T differ = refl
+same_word_other F Inactive differ = refl
+same_word_other F Invalid differ = refl
+same_word_other F Verified differ = refl
+same_word_other Inactive T differ = refl
+same_word_other Inactive F differ = refl
 same_word_other Inactive Invalid differ = refl
 same_word_other Inactive Verified differ = refl
-same_word_other Invalid True differ = refl
-same_word_other Invalid False differ = refl
+same_word_other Invalid T differ = refl
+same_word_other Invalid F differ = refl
 same_word_other Invalid Inactive differ = refl
 same_word_other Invalid Verified differ = refl
-same_word_other Verified True differ = refl
-same_word_other Verified False differ = refl
+same_word_other Verified T differ = refl
+same_word_other Verified F differ = refl
 same_word_other Verified Inactive differ = refl
 same_word_other Verified Invalid differ = refl
 
@@ -233,9 +233,9 @@ told_past program rows next_times k last stretch inside first end =
     let fit : length (known_words program rows first.output) ≤ length rows = words_fit rows (output_of program first.output) in
     more_told program rows (slice_set next_times k (last + 1)) k first.output first.there (told_moved program rows next_times k (last + 1) first.told) (omega (arith, moved, fit, end))
 
-pub cursor_behind : (program : Program) (rows : List Row) (next_times : List ℕ) (k last : ℕ) (stretch : Stretch) (cursor : Cursor) → k < length next_times → slice_index next_times k ≤ last → IsFirstOpen program rows next_times k stretch
+pub cursor_after : (program : Program) (rows : List Row) (next_times : List ℕ) (k last : ℕ) (stretch : Stretch) (cursor : Cursor) → k < length next_times → slice_index next_times k ≤ last → IsFirstOpen program rows next_times k stretch
     → (cursor.out ≡ k) ⊎ ((cursor.out ≡ k + 1) × (last + 1 ≡ length rows)) → ((left : Stretch) → cursor.stretch ≡ Some left → (cursor.out ≡ k) × (left ≡ stretch) × (last < left.last)) → IsCursor program rows (slice_set next_times k (last + 1)) cursor
-cursor_behind program rows next_times k last stretch cursor inside up first here left =
+cursor_after program rows next_times k last stretch cursor inside up first here left =
     let told : AreTold program rows (slice_set next_times k (last + 1)) k = told_moved program rows next_times k (last + 1) first.told in
     let moved : slice_index (slice_set next_times k (last + 1)) k ≡ last + 1 = get_or-set_same next_times k (last + 1) 0 inside in
     record {

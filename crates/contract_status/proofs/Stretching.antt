@@ -1,4 +1,4 @@
--- Stretches of words, one behind another, and the next times of outputs.
+-- Stretches of words, one after another, and the next times of outputs.
 
 use Rattle.std.proofs.Common.{◌≡◌, ℕ, ◌+◌, ◌<◌, ◌≤◌, inl, inr, Some, None, List, length, slice_get, slice_index, refl, ◌∙◌, ap, arith}
 use Rattle.std.proofs.lemmas.Bool.{cases_lt}

@@ -28,9 +28,9 @@ impl Cursor {
         }
     }
 
-    /// The search goes on behind a report of an output up to `time`, after so many rows: at the next output where no
+    /// The search goes on after a report of an output up to `time`, after so many rows: at the next output where no
     /// further time can be known, else at this one, with what is left of the stretch.
-    pub fn move_behind(&mut self, out: usize, time: u64, stretch: Stretch, rows: u64)
+    pub fn move_after(&mut self, out: usize, time: u64, stretch: Stretch, rows: u64)
         requires within { out + 1 < 2 ^ 64 }
         requires early { time < rows }
         ensures next_time { (self.new.out ≡ out) ⊎ ((self.new.out ≡ out + 1) × (time + 1 ≡ rows)) }

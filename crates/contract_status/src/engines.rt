@@ -71,11 +71,11 @@ impl Engines<'_> {
         match self.verdicts_from(engine, i, from) {
             Seen::Run(last, true) => Some(Stretch {
                 last,
-                word: Word::True,
+                word: Word::T,
             }),
             Seen::Run(last, false) => Some(Stretch {
                 last,
-                word: Word::False,
+                word: Word::F,
             }),
             Seen::Nothing => None,
         }

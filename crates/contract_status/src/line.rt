@@ -45,7 +45,7 @@ pub fn put_line(text: &mut ArrayVec<u8, 128>, report: &Report, checked: &Checked
     text.push(b'\n');
 }
 
-/// Puts a piece behind a line that has room for it.
+/// Puts a piece after a line that has room for it.
 fn add(text: &mut Line, piece: &[u8])
     requires { array_vec_len text.old + length piece.now ≤ 128 }
     ensures items { text.new.items ≡ text.old.items ++ piece.now }
@@ -54,15 +54,15 @@ fn add(text: &mut Line, piece: &[u8])
     let _ = text.try_extend_from_slice(piece);
 }
 
-/// Puts a word behind a line that has room for it. The words of formulas have one byte.
+/// Puts a word after a line that has room for it. The words of formulas have one byte.
 fn add_word(text: &mut Line, word: Word)
     requires room { array_vec_len text.old + 8 ≤ 128 }
     ensures items { text.new.items ≡ text.old.items ++ word_text word }
     ensures len { array_vec_len text.new ≤ array_vec_len text.old + 8 }
 {
     match word {
-        Word::True => text.push(b'T'),
-        Word::False => text.push(b'F'),
+        Word::T => text.push(b'T'),
+        Word::F => text.push(b'F'),
         _ => add(text, word.text().as_bytes()),
     }
 }

@@ -40,7 +40,7 @@ pub fn tell_first(
     let (k, stretch) = engines.next_open(program, next_times, *cursor)?;
     let time = engines.last_covered(style, program.outs.get(k), next_times[k], stretch);
     next_times[k] = time + 1;
-    cursor.move_behind(k, time, stretch, engines.rows);
+    cursor.move_after(k, time, stretch, engines.rows);
     Some(Report {
         out: k as u32,
         time,

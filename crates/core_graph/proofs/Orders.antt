@@ -1,5 +1,6 @@
 -- Lists that a walk completes: what is listed stays, operands are listed, and what is listed already adds nothing.
 
+use Rattle.std.specs.Prelude.{⊤}
 use Rattle.std.proofs.Common.{◌≡◌, ℕ, zero, suc, ◌+◌, ◌≤◌, Bool, true, false, ◌||◌, if◌then◌else◌, Some, List, [], ◌∷◌, ◌++◌, fold, filter, length, map, take, slice_get, refl, sym, subst, ap, ◌∙◌, arith}
 use Rattle.std.proofs.lemmas.Bool.{true≢false, false≢true, or_parts, or_right}
 use Rattle.std.proofs.lemmas.List.{length-append}
@@ -190,7 +191,7 @@ count_push part t ts =
 
 -- no tree stands twice
 abbrev pub AreDistinct : List Tree → Type 0
-AreDistinct [] = Unit {0}
+AreDistinct [] = ⊤
 AreDistinct (t ∷ ts) = (listed same_tree t ts ≡ false) × AreDistinct ts
 
 or_same : (b c d : Bool) → (c ≡ false → d ≡ false) → (b || c) ≡ false → (b || d) ≡ false

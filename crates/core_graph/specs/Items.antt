@@ -1,6 +1,6 @@
 -- Items over numbered ones: the trees that they unfold to, and forests of them.
 
-use Rattle.std.specs.Prelude.{◌≡◌, ◌⊎◌, ℕ, ◌<◌, Bool, Some, List, [], ◌∷◌, ◌++◌, fold, length, slice_get, slice_index_or}
+use Rattle.std.specs.Prelude.{◌≡◌, ◌⊎◌, ℕ, ◌<◌, Bool, Some, List, [], ◌∷◌, ◌++◌, fold, length, slice_get, slice_index_or, ⊤}
 use Rattle.mltl_base.specs.declared.operators.ArithOp as arith
 use Rattle.core_graph.specs.declared.item.Item.{Item}
 use Rattle.core_graph.specs.declared.item.Item.TheVariants.{Column, Const, Neg, Arith, IsTrue, Eq, Lt, Le, True, Load, Not, And, Until, Since}
@@ -79,7 +79,7 @@ pub record Has (items : List Item) (n : ℕ) (tree : Tree) : Type 0 where
 
 -- the operands stand before place n
 abbrev pub AreBelow : ℕ → Operands → Type 0
-AreBelow n Zero = Unit {0}
+AreBelow n Zero = ⊤
 AreBelow n (One a) = a < n
 AreBelow n (Two a b) = (a < n) × (b < n)
 

@@ -1,6 +1,6 @@
 -- A walk over a forest that completes items, operands first.
 
-use Rattle.std.specs.Prelude.{◌≡◌, ◌⊎◌, ℕ, suc, ◌+◌, ◌*◌, ◌<◌, Bool, true, false, Some, List, [], ◌∷◌, length, map, slice_get}
+use Rattle.std.specs.Prelude.{◌≡◌, ◌⊎◌, ℕ, suc, ◌+◌, ◌*◌, ◌<◌, Bool, true, false, Some, List, [], ◌∷◌, length, map, slice_get, ⊤}
 use Rattle.mltl_base.specs.Subformulas.{listed}
 use Rattle.core_graph.specs.declared.item.Item.{Item}
 use Rattle.core_graph.specs.declared.item.Operands.{Operands}
@@ -14,7 +14,7 @@ trees_of items ids = map (tree_at (trees items)) ids
 
 -- the operands of a tree are listed
 abbrev pub HasOperands : List Tree → Tree → Type 0
-HasOperands ts (leaf l) = Unit {0}
+HasOperands ts (leaf l) = ⊤
 HasOperands ts (one l t) = listed same_tree t ts ≡ true
 HasOperands ts (two l t u) = (listed same_tree t ts ≡ true) × (listed same_tree u ts ≡ true)
 
@@ -31,7 +31,7 @@ pub record IsWalk (items : List Item) (order : List ℕ) (done : List Bool) : Ty
 
 -- all operands are complete
 abbrev pub AreDone : List Bool → Operands → Type 0
-AreDone done Zero = Unit {0}
+AreDone done Zero = ⊤
 AreDone done (One a) = slice_get done a ≡ Some true
 AreDone done (Two a b) = (slice_get done a ≡ Some true) × (slice_get done b ≡ Some true)
 
@@ -45,7 +45,7 @@ IsFirstOpen done (Two a b) n =
 
 -- each number of the list is below the one before it, the first below n
 abbrev pub Descends : ℕ → List ℕ → Type 0
-Descends n [] = Unit {0}
+Descends n [] = ⊤
 Descends n (m ∷ ms) = (m < n) × Descends m ms
 
 -- items that wait for operands, the latest last

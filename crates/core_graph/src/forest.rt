@@ -1,4 +1,4 @@
-//! Items in one list, each once, behind its operands.
+//! Items in one list, each once, after its operands.
 
 ghost use Rattle.std.specs.Prelude.{◌≡◌, ◌<◌, [], length, slice_get, Some, OnOk, IfOk};
 ghost use Rattle.core_graph.specs.Items.{AreBelow, Grows, Has, IsAdded, IsForest, operands_of, tree_of, trees};

@@ -129,7 +129,7 @@ fn select(
     Ok(ids)
 }
 
-/// Puts an item behind the others if it is of the part.
+/// Puts an item after the others if it is of the part.
 fn keep(ids: &mut Vec<usize>, forest: &Forest, id: usize, part: Part) -> Result<(), AllocError>
     requires forest { IsForest forest.now }
     requires there { id < length forest.now }

@@ -116,7 +116,7 @@ next_cell k i gates w a b le s t u =
     subst (λ f. UnfoldsTo (gates ++ Both w a ∷ [] ++ Either (length gates) b ∷ []) (length gates + 1) f) (sym (least_more i k le))
     (subst (λ n. UnfoldsTo (gates ++ Both w a ∷ [] ++ Either (length gates) b ∷ []) n (either (both (body k) (least i k)) (least (i + 1) k))) size new)
 
--- two gates stay behind what the table has
+-- two gates stay after what the table has
 two_more : (plan : Plan) (k j : ℕ) (gates : List Gate) (row : List ℕ) (w a b : ℕ) → Filling plan k j gates row → w < length gates → a < length gates → b < length gates
     → Filling plan k j (gates ++ Both w a ∷ [] ++ Either (length gates) b ∷ []) row
 two_more plan k j gates row w a b f s t u =

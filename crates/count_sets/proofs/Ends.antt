@@ -1,4 +1,4 @@
--- The first row of a table, and the gates behind the last one.
+-- The first row of a table, and the gates after the last one.
 use Rattle.std.proofs.Common.{◌≡◌, ◌<◌, ◌≤◌, ◌+◌, min, ℕ, zero, suc, Bool, true, false, List, [], ◌∷◌, ◌++◌, length, get_or, set, replicate, Some, refl, sym, ◌∙◌, ap, subst, arith, ◌≢◌}
 use Rattle.std.proofs.lemmas.List.{length_push, length-set, length-replicate, get_or-set_same, get_or-set_other, get_or-replicate, get_or_read}
 use Rattle.count_sets.specs.declared.gate.Gate.{Gate}
@@ -60,7 +60,7 @@ started plan empty one gates row none whole z a b d e f =
     (subst (λ y. IsTable plan 0 (Truth false ∷ Truth true ∷ []) (set row 0 y)) (sym second)
     (subst (λ r. IsTable plan 0 (Truth false ∷ Truth true ∷ []) (set r 0 1)) (sym cells) (first_row plan)))
 
--- a Not behind the gates is the last one
+-- a Not after the gates is the last one
 pub not_last : (gates new : List Gate) (a : ℕ) (p : Counted) → UnfoldsTo gates a p → new ≡ gates ++ Not a ∷ [] → last_formula new ≡ Some (negation p)
 not_last gates new a p s e =
     subst (λ gs. last_formula gs ≡ Some (negation p)) (sym e)

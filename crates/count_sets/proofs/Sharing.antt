@@ -231,7 +231,7 @@ rising_start plan empty one gates row z a d =
       rising = λ i le low band. absurd (omega arith);
     })
 
--- behind a table, or one truth, the last gates are new
+-- after a table, or one truth, the last gates are new
 pub alone_shared : (empty gates : List Gate) (v : Bool) → empty ≡ [] → gates ≡ empty ++ Truth v ∷ [] → IsShared gates
 alone_shared empty gates v z e =
     let single : gates ≡ Truth v ∷ [] = rw z at e in

@@ -1,6 +1,6 @@
 -- Networks of gates: what each gate stands for, and what comes out of it.
 
-use Rattle.std.specs.Prelude.{◌≡◌, ℕ, ◌-◌, ◌<◌, Bool, false, not, ◌&&◌, ◌||◌, List, [], ◌∷◌, ◌++◌, length, slice_get, slice_index_or, Option, Some, fold}
+use Rattle.std.specs.Prelude.{◌≡◌, ℕ, ◌-◌, ◌<◌, Bool, false, not, ◌&&◌, ◌||◌, List, [], ◌∷◌, ◌++◌, length, slice_get, slice_index_or, Option, Some, fold, ⊤}
 use Rattle.count_sets.specs.declared.gate.Gate.{Gate}
 use Rattle.count_sets.specs.declared.gate.Gate.TheVariants.{Truth, Body, Both, Either, Not}
 use Rattle.count_sets.specs.Counting.{Counted, truth, body, both, either, negation}
@@ -47,7 +47,7 @@ last_truth bodies gates = slice_get (truths bodies gates) (length gates - 1)
 
 -- gate i has earlier gates as operands, and bodies below n
 abbrev pub IsOver : ℕ → ℕ → Gate → Type 0
-IsOver n i (Truth v) = Unit {0}
+IsOver n i (Truth v) = ⊤
 IsOver n i (Body k) = k < n
 IsOver n i (Both a b) = (a < i) × (b < i)
 IsOver n i (Either a b) = (a < i) × (b < i)

@@ -10,7 +10,7 @@ use Rattle.mltl_base.specs.declared.program.Program.{Program}
 use Rattle.mltl_base.specs.declared.report.Report.{Report}
 use Rattle.mltl_base.specs.declared.report.Style.TheVariants.{Each}
 use Rattle.mltl_base.specs.declared.report.Word.{Word}
-use Rattle.mltl_base.specs.declared.report.Word.TheVariants.{True, False, Inactive, Invalid, Verified}
+use Rattle.mltl_base.specs.declared.report.Word.TheVariants.{T, F, Inactive, Invalid, Verified}
 use Rattle.mltl_base.specs.Atoms.{Row}
 use Rattle.mltl_base.specs.Formula.{truth}
 use Rattle.mltl_base.specs.Programs.{output_of, outputs}
@@ -62,8 +62,8 @@ plus_none : (n : ℕ) → n + 0 ≡ n
 plus_none n = omega arith
 
 none_counted : (w : Word) → count_in none w ≡ 0
-none_counted True = refl
-none_counted False = refl
+none_counted T = refl
+none_counted F = refl
 none_counted Inactive = refl
 none_counted Invalid = refl
 none_counted Verified = refl

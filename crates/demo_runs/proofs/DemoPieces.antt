@@ -12,7 +12,7 @@ use Rattle.c2po_parse.specs.Sections.{Piece, section_of, braces_after, item_of, 
 use Rattle.c2po_parse.specs.Specification.{piece_body, with_line, first_or, piece_trees}
 use Rattle.c2po_tree.proofs.Walks.{bind-some}
 
--- how many braces are open behind tokens that end no piece
+-- how many braces are open after tokens that end no piece
 unfoldable pub span : Option Section → ℕ → List Token → Option ℕ
 span section depth [] = Some depth
 span section depth (t ∷ ts) = option_and_then (λ next. span section next ts) (depth_within section depth t.what)

@@ -17,7 +17,7 @@ counts_same f g (w ∷ ws) same = ap₂ (λ xs ys. xs ++ ys) (ap (count_text w) 
 line_same : (o : Listed) (f g : Word → ℕ) → ((w : Word) → f w ≡ g w) → line_text o f ≡ line_text o g
 line_same o f g same = ap (λ counts. o.name ++ codes ":" ++ counts ++ codes "\n") (counts_same f g o.words same)
 
--- the line of output k, and those behind it
+-- the line of output k, and those after it
 lines_of : (k : ℕ) (o : Listed) (outs : List Listed) (told : List Report) (f : Word → ℕ) → ((w : Word) → f w ≡ count_of k w told)
     → lines_from k (o ∷ outs) told ≡ line_text o f ++ lines_from (suc k) outs told
 unfolding lines_from

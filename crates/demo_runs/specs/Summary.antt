@@ -7,7 +7,7 @@ use Rattle.mltl_base.specs.declared.program.Out.TheVariants as out
 use Rattle.mltl_base.specs.declared.report.Report.{Report}
 use Rattle.mltl_base.specs.declared.report.Style.TheVariants.{Each}
 use Rattle.mltl_base.specs.declared.report.Word.{Word}
-use Rattle.mltl_base.specs.declared.report.Word.TheVariants.{True, False, Inactive, Invalid, Verified}
+use Rattle.mltl_base.specs.declared.report.Word.TheVariants.{T, F, Inactive, Invalid, Verified}
 use Rattle.mltl_base.specs.Atoms.{Row}
 use Rattle.mltl_base.specs.Lines.{word_text}
 use Rattle.mltl_base.specs.Programs.{name_of}
@@ -27,7 +27,7 @@ pub record Listed : Type 0 where
 
 -- the words that a formula's reports may have
 abbrev pub formula_words : List Word
-formula_words = True ∷ False ∷ []
+formula_words = T ∷ F ∷ []
 
 -- the words that a contract's reports may have
 abbrev pub contract_words : List Word

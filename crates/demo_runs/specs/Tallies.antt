@@ -4,7 +4,7 @@ use Rattle.std.specs.Prelude.{◌≡◌, ℕ, ◌<◌, ◌==◌, ◌&&◌, ◌++
 use Rattle.mltl_base.specs.declared.report.Report.{Report}
 use Rattle.mltl_base.specs.declared.report.Style.TheVariants.{Each}
 use Rattle.mltl_base.specs.declared.report.Word.{Word}
-use Rattle.mltl_base.specs.declared.report.Word.TheVariants.{True, False, Inactive, Invalid, Verified}
+use Rattle.mltl_base.specs.declared.report.Word.TheVariants.{T, F, Inactive, Invalid, Verified}
 use Rattle.mltl_base.specs.Atoms.{Row}
 use Rattle.mltl_base.specs.Programs.{outputs}
 use Rattle.mltl_base.specs.Reports.{reports, same_word}
@@ -18,8 +18,8 @@ count_of k w told = count_by (λ r. r.out == k && same_word r.word w) told
 
 -- the number of a word in a tally
 abbrev pub count_in : Tally → Word → ℕ
-count_in tally True = tally.holds
-count_in tally False = tally.fails
+count_in tally T = tally.holds
+count_in tally F = tally.fails
 count_in tally Inactive = tally.inactive
 count_in tally Invalid = tally.invalid
 count_in tally Verified = tally.verified

@@ -42,8 +42,8 @@ fn add_line(text: &mut Vec<u8>, out: &Out, tally: &Tally) -> Result<(), AllocErr
     text.extend_from_slice(b":")?;
     match out {
         Out::Formula(..) => {
-            add_count(text, Word::True, tally)?;
-            add_count(text, Word::False, tally)?;
+            add_count(text, Word::T, tally)?;
+            add_count(text, Word::F, tally)?;
         }
         Out::Contract(..) => {
             add_count(text, Word::Inactive, tally)?;

@@ -39,8 +39,8 @@ impl Tally {
     {
         let mut tally = self;
         match word {
-            Word::True => tally.holds += 1,
-            Word::False => tally.fails += 1,
+            Word::T => tally.holds += 1,
+            Word::F => tally.fails += 1,
             Word::Inactive => tally.inactive += 1,
             Word::Invalid => tally.invalid += 1,
             Word::Verified => tally.verified += 1,
@@ -53,8 +53,8 @@ impl Tally {
         ensures { result ≡ count_in self.now word }
     {
         match word {
-            Word::True => self.holds,
-            Word::False => self.fails,
+            Word::T => self.holds,
+            Word::F => self.fails,
             Word::Inactive => self.inactive,
             Word::Invalid => self.invalid,
             Word::Verified => self.verified,

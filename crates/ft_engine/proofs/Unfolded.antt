@@ -1,4 +1,5 @@
 -- The formula of an instruction is made of the formulas of its operands.
+use Rattle.std.specs.Prelude.{⊤}
 use Rattle.std.proofs.Common.{◌≡◌, ℕ, zero, suc, ◌+◌, ◌<◌, List, [], ◌∷◌, ◌++◌, length, arith, refl, subst, sym, ap, ap₂, ◌∙◌, length-append}
 use Rattle.std.proofs.lemmas.List.{get_or_append_left, get_or_push}
 use Rattle.mltl_base.specs.declared.operators.FtOp.{FtOp}
@@ -11,8 +12,8 @@ use Rattle.ft_slab.specs.Plans.{Plan, IsSeated}
 
 -- operands stand before index i
 abbrev pub IsBefore : ℕ → FtOp → Type 0
-IsBefore i True = Unit {0}
-IsBefore i (Load k) = Unit {0}
+IsBefore i True = ⊤
+IsBefore i (Load k) = ⊤
 IsBefore i (Not g) = g < i
 IsBefore i (And l r) = (l < i) × (r < i)
 IsBefore i (Until l r window) = (l < i) × (r < i)

@@ -1,5 +1,5 @@
 -- The state of the engine after some rows.
-use Rattle.std.specs.Prelude.{◌≡◌, ℕ, ◌+◌, ◌-◌, ◌≤◌, ◌<◌, Bool, List, length, slice_get, slice_index, sum, Some}
+use Rattle.std.specs.Prelude.{◌≡◌, ℕ, ◌+◌, ◌-◌, ◌≤◌, ◌<◌, Bool, List, length, slice_get, slice_index, sum, Some, ⊤}
 use Rattle.mltl_base.specs.declared.interval.Engine.TheVariants.{Ft as future}
 use Rattle.mltl_base.specs.declared.operators.FtOp.{FtOp}
 use Rattle.mltl_base.specs.declared.operators.FtOp.TheVariants.{True, Load, Not, And, Until}
@@ -52,8 +52,8 @@ place_of ops ft i = place_at ops ft.queues i
 
 -- the reading time lies at or past so early a time of each operand
 abbrev pub ReadsFrom : FtOp → (ℕ → ℕ) → ℕ → Type 0
-ReadsFrom True early reads_at = Unit {0}
-ReadsFrom (Load k) early reads_at = Unit {0}
+ReadsFrom True early reads_at = ⊤
+ReadsFrom (Load k) early reads_at = ⊤
 ReadsFrom (Not g) early reads_at = early g ≤ reads_at
 ReadsFrom (And l r) early reads_at = (early l ≤ reads_at) × (early r ≤ reads_at)
 ReadsFrom (Until l r window) early reads_at = (early l ≤ reads_at) × (early r ≤ reads_at)

@@ -1,5 +1,5 @@
 -- What the queue of a future-time operator says of the verdicts that are known.
-use Rattle.std.specs.Prelude.{◌≡◌, ℕ, ◌-◌, ◌<◌, ◌≤◌, max, min, List, length, Some, None, IsSome}
+use Rattle.std.specs.Prelude.{◌≡◌, ℕ, ◌-◌, ◌<◌, ◌≤◌, max, min, List, length, Some, None, IsSome, ⊤}
 use Rattle.mltl_base.specs.Verdicts.{Known}
 use Rattle.scq_ring.specs.declared.Ring.{Ring}
 use Rattle.scq_ring.specs.declared.Slot.{Slot}
@@ -53,9 +53,9 @@ IsStretch value from Nothing = value from ≡ None
 -- a run takes in its first time and ends before `end`
 abbrev pub IsWithin : ℕ → ℕ → Seen → Type 0
 IsWithin from end (Run upto v) = (from ≤ upto) × (upto < end)
-IsWithin from end Nothing = Unit {0}
+IsWithin from end Nothing = ⊤
 
 -- nothing is shown only where the first operand that ends has ended
 abbrev pub IsStoppedAfter : ℕ → ℕ → Seen → Type 0
-IsStoppedAfter end from (Run upto v) = Unit {0}
+IsStoppedAfter end from (Run upto v) = ⊤
 IsStoppedAfter end from Nothing = end ≤ from

@@ -33,7 +33,7 @@ pub part_here : {X : Type 0} → (low own high : List X) (start size : ℕ) → 
 part_here low own high start size starts sized =
     ap (λ xs. take size xs) (drop_at low (own ++ high) start starts) ∙ take_at own high size sized
 
--- a part behind
+-- a part after
 pub part_after : {X : Type 0} → (low own high : List X) (start size : ℕ) → length low + length own ≤ start → take size (drop start (low ++ (own ++ high))) ≡ take size (drop (start - (length low + length own)) high)
 part_after low own high start size behind =
     let further : length low + (length own + (start - (length low + length own))) ≡ start = omega arith in
@@ -45,8 +45,8 @@ part_after low own high start size behind =
     ∙ ap (λ xs. drop (start - (length low + length own)) xs) (drop_at own high (length own) refl)
     )
 
--- the first member behind
-pub first_behind : {X : Type 0} → (front back : List X) (d e : X) → 0 < length back → get_or back 0 d ≡ get_or (front ++ back) (length front) e
-first_behind front back d e some =
+-- the first member after
+pub first_after : {X : Type 0} → (front back : List X) (d e : X) → 0 < length back → get_or back 0 d ≡ get_or (front ++ back) (length front) e
+first_after front back d e some =
     let here : length front - length front ≡ 0 = omega arith in
     get_or_default back 0 d e some ∙ ap (λ (k : ℕ). get_or back k e) (sym here) ∙ sym (get_or-append_right front back (length front) (length front) e refl (omega arith))

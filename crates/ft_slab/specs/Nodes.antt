@@ -1,5 +1,5 @@
 -- Instructions and their parts of the slab.
-use Rattle.std.specs.Prelude.{◌≡◌, ℕ, zero, suc, ◌+◌, ◌*◌, ◌≤◌, List, length, max, min, take, drop, slice_index_or}
+use Rattle.std.specs.Prelude.{◌≡◌, ℕ, zero, suc, ◌+◌, ◌*◌, ◌≤◌, List, length, max, min, take, drop, slice_index_or, ⊤}
 use Rattle.mltl_base.specs.declared.operators.FtOp.{FtOp}
 use Rattle.mltl_base.specs.declared.operators.FtOp.TheVariants.{True, Load, Not, And, Until}
 use Rattle.scq_ring.specs.declared.Slot.{Slot}
@@ -69,8 +69,8 @@ reads_from (Until l r window) node = node.reads_at
 
 -- a reading time is at least the least frontier of the operands
 abbrev pub ReadsAhead : FtOp → (ℕ → ℕ) → ℕ → Type 0
-ReadsAhead True front reads_at = Unit {0}
-ReadsAhead (Load k) front reads_at = Unit {0}
+ReadsAhead True front reads_at = ⊤
+ReadsAhead (Load k) front reads_at = ⊤
 ReadsAhead (Not g) front reads_at = front g ≤ reads_at
 ReadsAhead (And l r) front reads_at = min (front l) (front r) ≤ reads_at
 ReadsAhead (Until l r window) front reads_at = min (front l) (front r) ≤ reads_at

@@ -1,5 +1,5 @@
 -- How far the queues of instructions go after n rows (Kempa and others 2020), and which verdicts they keep.
-use Rattle.std.specs.Prelude.{◌≡◌, ℕ, ◌+◌, ◌-◌, ◌≤◌, ◌<◌, ◌^◌, List, length, min, max}
+use Rattle.std.specs.Prelude.{◌≡◌, ℕ, ◌+◌, ◌-◌, ◌≤◌, ◌<◌, ◌^◌, List, length, min, max, ⊤}
 use Rattle.mltl_base.specs.declared.operators.FtOp.{FtOp}
 use Rattle.mltl_base.specs.declared.operators.FtOp.TheVariants.{True, Load, Not, And, Until}
 use Rattle.scq_ring.specs.declared.Slot.{Slot}
@@ -37,10 +37,10 @@ pub record IsPlanned (plan : Plan) (i : ℕ) (op : FtOp) : Type 0 where
 
 -- where an until reads next, after n rows
 abbrev pub IsPlaced : Plan → ℕ → FtOp → Node → ℕ → Type 0
-IsPlaced plan i True node n = Unit {0}
-IsPlaced plan i (Load k) node n = Unit {0}
-IsPlaced plan i (Not g) node n = Unit {0}
-IsPlaced plan i (And l r) node n = Unit {0}
+IsPlaced plan i True node n = ⊤
+IsPlaced plan i (Load k) node n = ⊤
+IsPlaced plan i (Not g) node n = ⊤
+IsPlaced plan i (And l r) node n = ⊤
 IsPlaced plan i (Until l r window) node n =
     (frontier_of node.ring + window.lo ≤ node.reads_at)
     × (n + window.hi ≤ node.reads_at + plan.worst i)

@@ -1,5 +1,5 @@
 -- The verdicts of instructions that are known after some rows, and a queue that has them.
-use Rattle.std.specs.Prelude.{◌≡◌, ℕ, ◌+◌, ◌≤◌, ◌<◌, ◌^◌, Bool, true, List, length, Some, None, slice_get, if◌then◌else◌, nat_lt}
+use Rattle.std.specs.Prelude.{◌≡◌, ℕ, ◌+◌, ◌≤◌, ◌<◌, ◌^◌, Bool, true, List, length, Some, None, slice_get, if◌then◌else◌, nat_lt, ⊤}
 use Rattle.mltl_base.specs.declared.operators.FtOp.{FtOp}
 use Rattle.mltl_base.specs.declared.operators.FtOp.TheVariants.{True, Load, Not, And, Until}
 use Rattle.mltl_base.specs.Verdicts.{Known, IsLongestKnown, k_negation, k_conjunction, k_until}
@@ -42,10 +42,10 @@ pub record HasVerdicts (ring : Ring) (slots : List Slot) (verdicts : List Bool) 
 
 -- an until has scanned its operands up to its reading time
 abbrev pub IsScanned : FtOp → Table → Node → Type 0
-IsScanned True table node = Unit {0}
-IsScanned (Load k) table node = Unit {0}
-IsScanned (Not g) table node = Unit {0}
-IsScanned (And l r) table node = Unit {0}
+IsScanned True table node = ⊤
+IsScanned (Load k) table node = ⊤
+IsScanned (Not g) table node = ⊤
+IsScanned (And l r) table node = ⊤
 IsScanned (Until l r window) table node =
     Scan window (slice_get (table l)) (slice_get (table r)) (frontier_of node.ring) node.reads_at node.reads_at
 

@@ -79,7 +79,7 @@ fn step<T: Truths, L: Ledger>(
     }
 }
 
-/// Takes the row for all instructions in order. Each has its own part of the slab, behind those of its operands.
+/// Takes the row for all instructions in order. Each has its own part of the slab, after those of its operands.
 pub fn row_of<T: Truths, L: Ledger>(
     ops: &[FtOp],
     truths: &T,

@@ -1,5 +1,6 @@
 -- The instructions of the Booleanizer unfold to the expressions of the outputs, and each atom is loaded.
 
+use Rattle.std.specs.Prelude.{⊤}
 use Rattle.std.proofs.Common.{◌≡◌, Bool, true, false, if◌then◌else◌, Some, List, [], ◌∷◌, ◌++◌, map, fold, slice_index_or, refl, sym, ap, ap₂, ◌∙◌, append_assoc, append-nil}
 use Rattle.std.proofs.lemmas.Option.{get_or_from_slice_get, slice_get-map}
 use Rattle.mltl_base.specs.Atoms.{Term, column, constant, negative, plus, minus, times, quotient, remainder, Atom, is_true, equal, less, at_most, different, greater, at_least}
@@ -13,15 +14,15 @@ use Rattle.mltl_base.proofs.Unfolding.{HasExpression, Deep, Each}
 -- the comparison of a formula that is one is a comparison that instructions have
 abbrev pub HasCoreAtom : Core → Type 0
 HasCoreAtom (catom a) = IsCoreAtom a
-HasCoreAtom _ = Unit {0}
+HasCoreAtom _ = ⊤
 
 -- the operands of an expression are listed
 abbrev pub HasBoth : List Expression → Term → Term → Type 0
 HasBoth es a b = HasExpression es (whole a) × HasExpression es (whole b)
 
 abbrev pub HasTerms : List Expression → Term → Type 0
-HasTerms es (column c) = Unit {0}
-HasTerms es (constant n) = Unit {0}
+HasTerms es (column c) = ⊤
+HasTerms es (constant n) = ⊤
 HasTerms es (negative a) = HasExpression es (whole a)
 HasTerms es (plus a b) = HasBoth es a b
 HasTerms es (minus a b) = HasBoth es a b
@@ -30,7 +31,7 @@ HasTerms es (quotient a b) = HasBoth es a b
 HasTerms es (remainder a b) = HasBoth es a b
 
 abbrev pub HasSides : List Expression → Atom → Type 0
-HasSides es (is_true c) = Unit {0}
+HasSides es (is_true c) = ⊤
 HasSides es (equal a b) = HasBoth es a b
 HasSides es (less a b) = HasBoth es a b
 HasSides es (at_most a b) = HasBoth es a b
@@ -41,7 +42,7 @@ HasParts es (whole a) = HasTerms es a
 HasParts es (truth a) = HasSides es a
 
 abbrev pub IsWholeAfter : List Expression → List Expression → Type 0
-IsWholeAfter before [] = Unit {0}
+IsWholeAfter before [] = ⊤
 IsWholeAfter before (e ∷ es) = HasParts before e × IsWholeAfter (before ++ e ∷ []) es
 
 whole_append : (before ps qs : List Expression) → IsWholeAfter before ps → IsWholeAfter (before ++ ps) qs → IsWholeAfter before (ps ++ qs)
@@ -137,7 +138,7 @@ expressions_whole (csince i p q) es d h = expressions_whole q _ d.2 (expressions
 -- the atoms of a formula are listed
 abbrev pub HasAtom : List Expression → Core → Type 0
 HasAtom es (catom a) = HasExpression es (truth a)
-HasAtom es _ = Unit {0}
+HasAtom es _ = ⊤
 
 -- a list of expressions is what its instructions unfold to
 term_at_place : (a : Term) (before rest : List Expression) → HasExpression before (whole a) → term_at before (instruction_of (before ++ rest) a) ≡ a

@@ -20,7 +20,7 @@ pub each_right : {X : Type 0} (P : X → Type 0) (xs ys : List X) → Each P (xs
 each_right P [] ys h = h
 each_right P (x ∷ xs) ys h = each_right P xs ys h.1
 
--- the member behind some others
-pub get_behind : {X : Type 0} (before rest : List X) (x : X) → slice_get (before ++ x ∷ rest) (length before) ≡ Some x
-get_behind [] rest x = refl
-get_behind (y ∷ before) rest x = get_behind before rest x
+-- the member after some others
+pub get_after : {X : Type 0} (before rest : List X) (x : X) → slice_get (before ++ x ∷ rest) (length before) ≡ Some x
+get_after [] rest x = refl
+get_after (y ∷ before) rest x = get_after before rest x

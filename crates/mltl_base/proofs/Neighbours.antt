@@ -1,6 +1,7 @@
 -- The reports of one output: with a report for each time they are one for each known word, and those of one row with a
 -- report for each stretch differ in their word where they are neighbours.
 
+use Rattle.std.specs.Prelude.{⊤}
 use Rattle.std.proofs.Common.{◌≡◌, ℕ, zero, suc, ◌+◌, ◌<◌, ◌==◌, Bool, true, false, if◌then◌else◌, Some, List, [], ◌∷◌, ◌++◌, length, map, drop, slice_get, refl, sym, ap, ap₂, ◌∙◌, arith, append_assoc, append-nil}
 use Rattle.std.specs.List.{range_with_len}
 use Rattle.std.proofs.lemmas.List.{drop_at}
@@ -127,11 +128,11 @@ words_one_by_one k outs rows o f = ap (map (λ (r : Report). r.word)) (each_repo
 -- with a report for each stretch: neighbours differ
 -- the first report, if there is one, has another word
 abbrev pub StartsOtherwise : Word → List Report → Type 0
-StartsOtherwise w [] = Unit {0}
+StartsOtherwise w [] = ⊤
 StartsOtherwise w (r ∷ rs) = w ≡ r.word → ⊥
 
 abbrev pub NeighboursDiffer : List Report → Type 0
-NeighboursDiffer [] = Unit {0}
+NeighboursDiffer [] = ⊤
 NeighboursDiffer (r ∷ rs) = StartsOtherwise r.word rs × NeighboursDiffer rs
 
 starts_otherwise : (k t : ℕ) (w v : Word) (vs : List Word) → (w ≡ v → ⊥) → StartsOtherwise w (of_words Runs k t (v ∷ vs))

@@ -1,11 +1,12 @@
 -- The order of knowledge: what is known stays, and what is unknown may become known.
 
+use Rattle.std.specs.Prelude.{⊤}
 use Rattle.std.proofs.Common.{◌≡◌, ℕ, zero, suc, ◌<◌, Bool, true, false, not, ◌&&◌, ◌||◌, Option, Some, None, refl, ap, ◌∙◌, arith}
 use Rattle.mltl_base.specs.Kleene.{some_below, every_below, k_not, k_and, k_or, k_implies, k_some_below, k_every_below}
 
 -- what x knows, y knows too
 abbrev pub Below : {X : Type 0} → Option X → Option X → Type 0
-Below None y = Unit {0}
+Below None y = ⊤
 Below (Some v) y = y ≡ Some v
 
 pub below_self : {X : Type 0} (x : Option X) → Below x x
@@ -113,7 +114,7 @@ right_every n f g h = rw (every_truth n g) at (below_every n f (λ k. Some (g k)
 -- a value that is known
 abbrev pub Found : {X : Type 0} → Option X → Type 0
 Found None = ⊥
-Found (Some v) = Unit {0}
+Found (Some v) = ⊤
 
 pub found_not : (x : Option Bool) → Found x → Found (k_not x)
 unfolding k_not
@@ -151,8 +152,8 @@ unknown_some (suc n) f h = ap (λ x. k_or x (f (suc n))) (unknown_some n f (λ k
 
 -- unknown and a value that isn't false is unknown
 abbrev pub NotFalse : Option Bool → Type 0
-NotFalse None = Unit {0}
-NotFalse (Some true) = Unit {0}
+NotFalse None = ⊤
+NotFalse (Some true) = ⊤
 NotFalse (Some false) = ⊥
 
 pub unknown_and : (x : Option Bool) → NotFalse x → k_and None x ≡ None

@@ -4,7 +4,7 @@ use Rattle.std.proofs.Common.{◌≡◌, ℕ, zero, suc, ◌+◌, ◌-◌, ◌<�
 use Rattle.std.proofs.lemmas.List.{replicate_more, drop_at, nil_from_length, drop_all}
 use Rattle.std.proofs.lemmas.Bool.{eq-eqb, ne_eqb}
 use Rattle.mltl_base.specs.declared.report.Word.{Word}
-use Rattle.mltl_base.specs.declared.report.Word.TheVariants.{True, False, Inactive, Invalid, Verified}
+use Rattle.mltl_base.specs.declared.report.Word.TheVariants.{T, F, Inactive, Invalid, Verified}
 use Rattle.mltl_base.specs.declared.report.Style.{Style}
 use Rattle.mltl_base.specs.declared.report.Style.TheVariants.{Each, Runs}
 use Rattle.mltl_base.specs.declared.report.Report.{Report}
@@ -101,35 +101,35 @@ tells_nothing Runs k s j t (w ∷ ws) n = go (goes_on w ws) (tells_nothing Runs 
     go false h = tells_other k s j t w (of_words Runs j (suc t) ws) s [] n h
 
 pub same_word_true : (v w : Word) → same_word v w ≡ true → v ≡ w
-same_word_true True True e = refl
-same_word_true False False e = refl
+same_word_true T T e = refl
+same_word_true F F e = refl
 same_word_true Inactive Inactive e = refl
 same_word_true Invalid Invalid e = refl
 same_word_true Verified Verified e = refl
-same_word_true True False e = cc
-same_word_true True Inactive e = cc
-same_word_true True Invalid e = cc
-same_word_true True Verified e = cc
-same_word_true False True e = cc
-same_word_true False Inactive e = cc
-same_word_true False Invalid e = cc
-same_word_true False Verified e = cc
-same_word_true Inactive True e = cc
-same_word_true Inactive False e = cc
+same_word_true T F e = cc
+same_word_true T Inactive e = cc
+same_word_true T Invalid e = cc
+same_word_true T Verified e = cc
+same_word_true F T e = cc
+same_word_true F Inactive e = cc
+same_word_true F Invalid e = cc
+same_word_true F Verified e = cc
+same_word_true Inactive T e = cc
+same_word_true Inactive F e = cc
 same_word_true Inactive Invalid e = cc
 same_word_true Inactive Verified e = cc
-same_word_true Invalid True e = cc
-same_word_true Invalid False e = cc
+same_word_true Invalid T e = cc
+same_word_true Invalid F e = cc
 same_word_true Invalid Inactive e = cc
 same_word_true Invalid Verified e = cc
-same_word_true Verified True e = cc
-same_word_true Verified False e = cc
+same_word_true Verified T e = cc
+same_word_true Verified F e = cc
 same_word_true Verified Inactive e = cc
 same_word_true Verified Invalid e = cc
 
 pub same_word_self : (w : Word) → same_word w w ≡ true
-same_word_self True = refl
-same_word_self False = refl
+same_word_self T = refl
+same_word_self F = refl
 same_word_self Inactive = refl
 same_word_self Invalid = refl
 same_word_self Verified = refl

@@ -1,5 +1,6 @@
 -- Core formulas keep the tense and the order of intervals of their formulas, and have the comparisons of instructions.
 
+use Rattle.std.specs.Prelude.{⊤}
 use Rattle.mltl_base.specs.Atoms.{Atom, is_true, equal, less, at_most, different, greater, at_least}
 use Rattle.mltl_base.specs.Formula.{Formula, truth, falsity, atom, negation, conjunction, disjunction, implication, equivalence, finally, globally, until, release, once, historically, since, Core, ctrue, catom, cnot, cand, cuntil, csince, plain, neg, core, core_atom, IsCoreAtom}
 use Rattle.mltl_base.specs.Settled.{IsFuture, IsPast, IsOrdered}
@@ -8,11 +9,11 @@ use Rattle.mltl_base.proofs.Booleans.{HasCoreAtom}
 
 abbrev pub NotSince : Core → Type 0
 NotSince (csince i p q) = ⊥
-NotSince _ = Unit {0}
+NotSince _ = ⊤
 
 abbrev pub NotUntil : Core → Type 0
 NotUntil (cuntil i p q) = ⊥
-NotUntil _ = Unit {0}
+NotUntil _ = ⊤
 
 neg_deep : (H : Core → Type 0) (p : Core) → ((q : Core) → H (cnot q)) → Deep H p → Deep H (neg p)
 unfolding neg

@@ -1,5 +1,6 @@
 -- The instructions of a specification unfold to its subformulas and expressions.
 
+use Rattle.std.specs.Prelude.{⊤}
 use Rattle.std.proofs.Common.{◌≡◌, suc, Bool, true, false, if◌then◌else◌, List, [], ◌∷◌, ◌++◌, map, fold, All, slice_index_or, refl, sym, ap, ap₂, ◌∙◌, append_assoc, append-nil, arith}
 use Rattle.std.proofs.lemmas.Option.{get_or_from_slice_get}
 use Rattle.mltl_base.specs.Atoms.{Atom, is_true}
@@ -18,7 +19,7 @@ HasExpression es e = listed same_expression e es ≡ true
 
 -- each member of a list has P
 abbrev pub Each : {X : Type 0} → (X → Type 0) → List X → Type 0
-Each P [] = Unit {0}
+Each P [] = ⊤
 Each P (x ∷ xs) = P x × Each P xs
 
 pub each_from_all : {X : Type 0} (P : X → Type 0) (xs : List X) → All P xs → Each P xs
@@ -27,8 +28,8 @@ each_from_all P (x ∷ xs) h = (h 0 x (omega arith), each_from_all P xs (λ k d 
 
 -- the operands of a formula are listed, those of an atom too
 abbrev pub HasOperands : List Core → Core → Type 0
-HasOperands ps ctrue = Unit {0}
-HasOperands ps (catom a) = Unit {0}
+HasOperands ps ctrue = ⊤
+HasOperands ps (catom a) = ⊤
 HasOperands ps (cnot p) = Has ps p
 HasOperands ps (cand p q) = Has ps p × Has ps q
 HasOperands ps (cuntil i p q) = Has ps p × Has ps q
@@ -36,7 +37,7 @@ HasOperands ps (csince i p q) = Has ps p × Has ps q
 
 -- each formula of the second list has its operands before it
 abbrev pub IsClosedAfter : List Core → List Core → Type 0
-IsClosedAfter before [] = Unit {0}
+IsClosedAfter before [] = ⊤
 IsClosedAfter before (p ∷ ps) = HasOperands before p × IsClosedAfter (before ++ p ∷ []) ps
 
 closed_append : (before ps qs : List Core) → IsClosedAfter before ps → IsClosedAfter (before ++ ps) qs → IsClosedAfter before (ps ++ qs)
@@ -96,12 +97,12 @@ core_at_place p before rest h =
 abbrev pub IsFtHead : List Atom → List Expression → Core → Type 0
 IsFtHead loaded es (catom a) = slice_index_or loaded (place_of same_expression (truth a) es) (is_true 0) ≡ a
 IsFtHead loaded es (csince i p q) = ⊥
-IsFtHead loaded es _ = Unit {0}
+IsFtHead loaded es _ = ⊤
 
 abbrev pub IsPtHead : List Atom → List Expression → Core → Type 0
 IsPtHead loaded es (catom a) = slice_index_or loaded (place_of same_expression (truth a) es) (is_true 0) ≡ a
 IsPtHead loaded es (cuntil i p q) = ⊥
-IsPtHead loaded es _ = Unit {0}
+IsPtHead loaded es _ = ⊤
 
 ft_unfolds : (loaded : List Atom) (es : List Expression) (before rest : List Core) (p : Core) → HasOperands before p → IsFtHead loaded es p →
     formula_of loaded before (ft_instruction es (before ++ rest) p) ≡ p

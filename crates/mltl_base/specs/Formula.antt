@@ -3,7 +3,7 @@
 -- operators are this product's own.
 -- A reader of the contracts needs this file.
 
-use Rattle.std.specs.Prelude.{ℕ, ◌+◌, min, max, List}
+use Rattle.std.specs.Prelude.{ℕ, ◌+◌, min, max, List, ⊤}
 use Rattle.mltl_base.specs.declared.interval.Interval.{Interval}
 use Rattle.mltl_base.specs.Atoms.{Atom, is_true, equal, less, at_most, different, greater, at_least, atom_over}
 
@@ -81,16 +81,16 @@ abbrev pub IsCoreAtom : Atom → Type 0
 IsCoreAtom (different a b) = ⊥
 IsCoreAtom (greater a b) = ⊥
 IsCoreAtom (at_least a b) = ⊥
-IsCoreAtom _ = Unit {0}
+IsCoreAtom _ = ⊤
 
 -- a core formula that is no negation
 abbrev pub IsNoNegation : Core → Type 0
 IsNoNegation (cnot p) = ⊥
-IsNoNegation _ = Unit {0}
+IsNoNegation _ = ⊤
 
 -- a core formula without a negation of a negation, and without comparisons that instructions don't have
 unfoldable pub IsReduced : Core → Type 0
-IsReduced ctrue = Unit {0}
+IsReduced ctrue = ⊤
 IsReduced (catom a) = IsCoreAtom a
 IsReduced (cnot p) = IsNoNegation p × IsReduced p
 IsReduced (cand p q) = IsReduced p × IsReduced q

@@ -1,7 +1,7 @@
 -- Which formulas read each signal by its kind, and which signals are told apart by their names.
 -- A reader of the contracts needs this file.
 
-use Rattle.std.specs.Prelude.{◌≡◌, ◌≢◌, ◌<◌, ℕ, Bool, true, false, Some, List, map, slice_get, All}
+use Rattle.std.specs.Prelude.{◌≡◌, ◌≢◌, ◌<◌, ℕ, Bool, true, false, Some, List, map, slice_get, All, ⊤}
 use Rattle.mltl_base.specs.Atoms.{Term, column, constant, negative, plus, minus, times, quotient, remainder, Atom, is_true, equal, different, less, at_most, greater, at_least}
 use Rattle.mltl_base.specs.Formula.{Formula, truth, falsity, atom, negation, conjunction, disjunction, implication, equivalence, finally, globally, until, release, once, historically, since}
 use Rattle.mltl_base.specs.Subformulas.{Asked, formulas_of}
@@ -14,7 +14,7 @@ kinds_of signals = map (λ signal. signal.truth) signals
 -- each signal that the expression reads is a whole number
 abbrev pub ReadsWholes : List Bool → Term → Type 0
 ReadsWholes kinds (column s) = slice_get kinds s ≡ Some false
-ReadsWholes kinds (constant n) = Unit {0}
+ReadsWholes kinds (constant n) = ⊤
 ReadsWholes kinds (negative a) = ReadsWholes kinds a
 ReadsWholes kinds (plus a b) = ReadsWholes kinds a × ReadsWholes kinds b
 ReadsWholes kinds (minus a b) = ReadsWholes kinds a × ReadsWholes kinds b
@@ -34,8 +34,8 @@ AtomReadsKinds kinds (at_least a b) = ReadsWholes kinds a × ReadsWholes kinds b
 
 -- the formula reads signals that exist, each by its kind
 abbrev pub ReadsKinds : List Bool → Formula → Type 0
-ReadsKinds kinds truth = Unit {0}
-ReadsKinds kinds falsity = Unit {0}
+ReadsKinds kinds truth = ⊤
+ReadsKinds kinds falsity = ⊤
 ReadsKinds kinds (atom a) = AtomReadsKinds kinds a
 ReadsKinds kinds (negation p) = ReadsKinds kinds p
 ReadsKinds kinds (conjunction p q) = ReadsKinds kinds p × ReadsKinds kinds q

@@ -4,7 +4,7 @@
 use Rattle.std.specs.Prelude.{ℕ, List, [], ◌++◌, map, codes, decimal, slice_index_or}
 use Rattle.std.specs.List.{concat}
 use Rattle.mltl_base.specs.declared.report.Word.{Word}
-use Rattle.mltl_base.specs.declared.report.Word.TheVariants.{True, False, Inactive, Invalid, Verified}
+use Rattle.mltl_base.specs.declared.report.Word.TheVariants.{T, F, Inactive, Invalid, Verified}
 use Rattle.mltl_base.specs.declared.report.Style.{Style}
 use Rattle.mltl_base.specs.declared.report.Report.{Report}
 use Rattle.mltl_base.specs.Atoms.{Row}
@@ -12,8 +12,8 @@ use Rattle.mltl_base.specs.Reports.{Output, reports}
 
 -- how a word is written
 abbrev pub word_text : Word → List ℕ
-word_text True = codes "T"
-word_text False = codes "F"
+word_text T = codes "T"
+word_text F = codes "F"
 word_text Inactive = codes "inactive"
 word_text Invalid = codes "invalid"
 word_text Verified = codes "verified"

@@ -3,7 +3,7 @@
 -- no such operand, which `well_formed_programs_are_sound` and `well_formed_programs_run` of `obs_verify` say.
 -- A reader of the contracts needs this file.
 
-use Rattle.std.specs.Prelude.{ℕ, ◌≡◌, ◌⊎◌, pos, Option, Some, None, List, [], ◌∷◌, ◌++◌, length, map, slice_get, slice_index_or, All, FitsSigned}
+use Rattle.std.specs.Prelude.{ℕ, ◌≡◌, ◌⊎◌, pos, Option, Some, None, List, [], ◌∷◌, ◌++◌, length, map, slice_get, slice_index_or, All, FitsSigned, ⊤}
 use Rattle.std.specs.Int.{w32}
 use Rattle.mltl_base.specs.declared.interval.Engine.{Engine}
 use Rattle.mltl_base.specs.declared.interval.Engine.TheVariants.{Ft, Pt}
@@ -135,7 +135,7 @@ output_names program = map name_of program.outs
 abbrev pub FitsRow : Row → bz.BzOp → Type 0
 FitsRow row (bz.TheVariants.Column c) = FitsSigned w32 (in_column row c)
 FitsRow row (bz.TheVariants.IsTrue c) = (in_column row c ≡ pos 0) ⊎ (in_column row c ≡ pos 1)
-FitsRow row op = Unit {0}
+FitsRow row op = ⊤
 
 -- the row has a value of its kind in each column that the program reads
 pub record IsFit (program : Program) (row : Row) : Type 0 where

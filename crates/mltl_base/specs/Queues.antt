@@ -3,7 +3,7 @@
 -- and the boxes of the past, are this product's own.
 -- A reader of the contracts needs this file.
 
-use Rattle.std.specs.Prelude.{ℕ, ◌+◌, ◌-◌, ◌/◌, ◌≤◌, ◌<◌, ◌==◌, List, [], ◌∷◌, ◌++◌, min, max, map, sum, length, slice_index, slice_index_or, if◌then◌else◌}
+use Rattle.std.specs.Prelude.{ℕ, ◌+◌, ◌-◌, ◌/◌, ◌≤◌, ◌<◌, ◌==◌, List, [], ◌∷◌, ◌++◌, min, max, map, sum, length, slice_index, slice_index_or, if◌then◌else◌, ⊤}
 use Rattle.std.specs.List.{list_any, range_with_len}
 use Rattle.mltl_base.specs.declared.interval.Engine.TheVariants.{Ft, Pt}
 use Rattle.mltl_base.specs.declared.interval.Interval.{Interval}
@@ -29,7 +29,7 @@ worst_of worsts (Not g) = slice_index worsts g
 worst_of worsts (And l r) = max (slice_index worsts l) (slice_index worsts r)
 worst_of worsts (Until l r i) = max (slice_index worsts l) (slice_index worsts r) + i.hi
 
--- the numbers of further instructions behind those before, each of which the function finds from all before it
+-- the numbers of further instructions after those before, each of which the function finds from all before it
 unfoldable pub numbered_after : (List ℕ → FtOp → ℕ) → List ℕ → List FtOp → List ℕ
 numbered_after number before [] = before
 numbered_after number before (op ∷ ops) = numbered_after number (before ++ number before op ∷ []) ops
@@ -114,13 +114,13 @@ slot_count ft pt outs = sum (queue_lengths ft outs) + sum (box_counts pt)
 
 -- times from `low` to `top`, each at least `gap` after the one before
 unfoldable pub AreApart : ℕ → ℕ → ℕ → List ℕ → Type 0
-AreApart gap low top [] = Unit {0}
+AreApart gap low top [] = ⊤
 AreApart gap low top (t ∷ ts) = (low ≤ t) × (t ≤ top) × AreApart gap (t + gap) top ts
 
 -- the operands of instruction i stand before it
 abbrev pub IsAfterOperands : ℕ → FtOp → Type 0
-IsAfterOperands i True = Unit {0}
-IsAfterOperands i (Load a) = Unit {0}
+IsAfterOperands i True = ⊤
+IsAfterOperands i (Load a) = ⊤
 IsAfterOperands i (Not g) = g < i
 IsAfterOperands i (And l r) = (l < i) × (r < i)
 IsAfterOperands i (Until l r window) = (l < i) × (r < i)
@@ -131,18 +131,18 @@ AreInOrder ops = (i : ℕ) (op : FtOp) → i < length ops → IsAfterOperands i 
 
 -- the interval of an instruction, if it has one, runs upward and ends within the limit
 abbrev pub HasBounds : ℕ → FtOp → Type 0
-HasBounds limit True = Unit {0}
-HasBounds limit (Load a) = Unit {0}
-HasBounds limit (Not g) = Unit {0}
-HasBounds limit (And l r) = Unit {0}
+HasBounds limit True = ⊤
+HasBounds limit (Load a) = ⊤
+HasBounds limit (Not g) = ⊤
+HasBounds limit (And l r) = ⊤
 HasBounds limit (Until l r i) = (i.lo ≤ i.hi) × (i.hi ≤ limit)
 
 -- the interval of a pt instruction, if it has one, runs upward and ends within the limit
 abbrev pub HasPastBounds : ℕ → pt.PtOp → Type 0
-HasPastBounds limit pt.TheVariants.True = Unit {0}
-HasPastBounds limit (pt.TheVariants.Load a) = Unit {0}
-HasPastBounds limit (pt.TheVariants.Not g) = Unit {0}
-HasPastBounds limit (pt.TheVariants.And l r) = Unit {0}
+HasPastBounds limit pt.TheVariants.True = ⊤
+HasPastBounds limit (pt.TheVariants.Load a) = ⊤
+HasPastBounds limit (pt.TheVariants.Not g) = ⊤
+HasPastBounds limit (pt.TheVariants.And l r) = ⊤
 HasPastBounds limit (pt.TheVariants.Since l r i) = (i.lo ≤ i.hi) × (i.hi ≤ limit)
 
 -- an output names instructions that exist, of so many ft and pt instructions
@@ -156,5 +156,5 @@ NamesInstructions fts pts (Contract Pt l r name) = (l < pts) × (r < pts)
 abbrev pub ReportsInstructions : ℕ → Out → Type 0
 ReportsInstructions fts (Formula Ft g name) = g < fts
 ReportsInstructions fts (Contract Ft l r name) = (l < fts) × (r < fts)
-ReportsInstructions fts (Formula Pt g name) = Unit {0}
-ReportsInstructions fts (Contract Pt l r name) = Unit {0}
+ReportsInstructions fts (Formula Pt g name) = ⊤
+ReportsInstructions fts (Contract Pt l r name) = ⊤

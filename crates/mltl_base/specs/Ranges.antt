@@ -2,7 +2,7 @@
 -- of its operands.
 -- A reader of the contracts needs this file.
 
-use Rattle.std.specs.Prelude.{◌-◌, ℤ, pos, negsuc, neg_ℤ, ◌+ℤ◌, ◌-ℤ◌, ◌*ℤ◌, ◌≤ℤ◌, int_div, int_le, unsigned_abs, Bool, not, ◌&&◌, if◌then◌else◌, FitsSigned, Result, Ok, Err}
+use Rattle.std.specs.Prelude.{◌-◌, ℤ, pos, negsuc, neg_ℤ, ◌+ℤ◌, ◌-ℤ◌, ◌*ℤ◌, ◌≤ℤ◌, int_div, int_le, unsigned_abs, Bool, not, ◌&&◌, if◌then◌else◌, FitsSigned, Result, Ok, Err, ⊤}
 use Rattle.std.specs.Ordering.{int_eq}
 use Rattle.std.specs.Int.{int_min, int_max, w32}
 use Rattle.mltl_base.specs.Atoms.{Row, Term, column, constant, negative, plus, minus, times, quotient, remainder, in_column}
@@ -110,7 +110,7 @@ range (remainder a b) = over_divisor left_over (range a) (range b)
 -- each signal of the expression has 32 bits on the row
 unfoldable pub FitsTerm : Row → Term → Type 0
 FitsTerm row (column c) = FitsSigned w32 (in_column row c)
-FitsTerm row (constant n) = Unit {0}
+FitsTerm row (constant n) = ⊤
 FitsTerm row (negative a) = FitsTerm row a
 FitsTerm row (plus a b) = FitsTerm row a × FitsTerm row b
 FitsTerm row (minus a b) = FitsTerm row a × FitsTerm row b

@@ -1,10 +1,10 @@
 -- The words of an output that are known, and the reports that a monitor makes of them.
 -- A reader of the contracts needs this file.
 
-use Rattle.std.specs.Prelude.{ℕ, suc, ◌+◌, ◌-◌, ◌<◌, ◌≤◌, ◌≡◌, ◌==◌, Bool, true, false, if◌then◌else◌, MatchBool, max, Option, Some, None, List, [], ◌∷◌, ◌++◌, length, map, drop, replicate, slice_get}
+use Rattle.std.specs.Prelude.{ℕ, suc, ◌+◌, ◌-◌, ◌<◌, ◌≤◌, ◌≡◌, ◌==◌, Bool, true, false, if◌then◌else◌, MatchBool, max, Option, Some, None, List, [], ◌∷◌, ◌++◌, length, map, drop, replicate, slice_get, ⊤}
 use Rattle.std.specs.List.{filter, AllAdjacentBelow}
 use Rattle.mltl_base.specs.declared.report.Word.{Word}
-use Rattle.mltl_base.specs.declared.report.Word.TheVariants.{True, False, Inactive, Invalid, Verified}
+use Rattle.mltl_base.specs.declared.report.Word.TheVariants.{T, F, Inactive, Invalid, Verified}
 use Rattle.mltl_base.specs.declared.report.Style.{Style}
 use Rattle.mltl_base.specs.declared.report.Style.TheVariants.{Each, Runs}
 use Rattle.mltl_base.specs.declared.report.Report.{Report}
@@ -20,8 +20,8 @@ pub data Output : Type 0 where
 
 -- the word of a formula's verdict
 abbrev pub word_of : Bool → Word
-word_of true = True
-word_of false = False
+word_of true = T
+word_of false = F
 
 -- the status of a contract, from what is known of its two formulas
 abbrev pub status : Option Bool → Option Bool → Option Word
@@ -41,8 +41,8 @@ words rows (contract p q) = known_front (known_status rows p q) (length rows)
 
 -- the two words are one
 abbrev pub same_word : Word → Word → Bool
-same_word True True = true
-same_word False False = true
+same_word T T = true
+same_word F F = true
 same_word Inactive Inactive = true
 same_word Invalid Invalid = true
 same_word Verified Verified = true
@@ -117,5 +117,5 @@ AreDistinctBeside rs = AllAdjacentBelow (λ r s. r.word ≡ s.word → ⊥) rs (
 
 -- the reports of output k speak of later and later times, from t on
 unfoldable pub IsRising : ℕ → ℕ → List Report → Type 0
-IsRising k t [] = Unit {0}
+IsRising k t [] = ⊤
 IsRising k t (r ∷ rs) = MatchBool (r.out == k) ((t ≤ r.time) × IsRising k (suc r.time) rs) (IsRising k t rs)

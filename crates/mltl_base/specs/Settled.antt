@@ -1,7 +1,7 @@
 -- What of the verdicts holds whatever rows follow.
 -- A reader of the contracts needs this file.
 
-use Rattle.std.specs.Prelude.{ℕ, ◌+◌, ◌<◌, ◌≤◌, ◌≡◌, Bool, List, ◌++◌, length}
+use Rattle.std.specs.Prelude.{ℕ, ◌+◌, ◌<◌, ◌≤◌, ◌≡◌, Bool, List, ◌++◌, length, ⊤}
 use Rattle.mltl_base.specs.Atoms.{Row}
 use Rattle.mltl_base.specs.Formula.{Formula, truth, falsity, atom, negation, conjunction, disjunction, implication, equivalence, finally, globally, until, release, once, historically, since, wpd}
 use Rattle.mltl_base.specs.Meaning.{sat}
@@ -21,9 +21,9 @@ SettledAmong IsIn rows p t v =
 
 -- each interval runs upward
 abbrev pub IsOrdered : Formula → Type 0
-IsOrdered truth = Unit {0}
-IsOrdered falsity = Unit {0}
-IsOrdered (atom a) = Unit {0}
+IsOrdered truth = ⊤
+IsOrdered falsity = ⊤
+IsOrdered (atom a) = ⊤
 IsOrdered (negation p) = IsOrdered p
 IsOrdered (conjunction p q) = IsOrdered p × IsOrdered q
 IsOrdered (disjunction p q) = IsOrdered p × IsOrdered q
@@ -39,9 +39,9 @@ IsOrdered (since i p q) = (i.lo ≤ i.hi) × (IsOrdered p × IsOrdered q)
 
 -- no operator of the future
 abbrev pub IsPast : Formula → Type 0
-IsPast truth = Unit {0}
-IsPast falsity = Unit {0}
-IsPast (atom a) = Unit {0}
+IsPast truth = ⊤
+IsPast falsity = ⊤
+IsPast (atom a) = ⊤
 IsPast (negation p) = IsPast p
 IsPast (conjunction p q) = IsPast p × IsPast q
 IsPast (disjunction p q) = IsPast p × IsPast q
@@ -54,9 +54,9 @@ IsPast _ = ⊥
 
 -- no operator of the past
 abbrev pub IsFuture : Formula → Type 0
-IsFuture truth = Unit {0}
-IsFuture falsity = Unit {0}
-IsFuture (atom a) = Unit {0}
+IsFuture truth = ⊤
+IsFuture falsity = ⊤
+IsFuture (atom a) = ⊤
 IsFuture (negation p) = IsFuture p
 IsFuture (conjunction p q) = IsFuture p × IsFuture q
 IsFuture (disjunction p q) = IsFuture p × IsFuture q

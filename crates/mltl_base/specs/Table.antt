@@ -1,7 +1,7 @@
 -- The table of the operators, in words: what a formula says of the rows at a time.
 -- A reader of the contracts needs this file: it is the meaning to be read, and a law says that the function is the same.
 
-use Rattle.std.specs.Prelude.{ℕ, ◌+◌, ◌-◌, ◌<◌, ◌≤◌, ◌⊎◌, IsTrue, List, [], slice_index_or}
+use Rattle.std.specs.Prelude.{ℕ, ◌+◌, ◌-◌, ◌<◌, ◌≤◌, ◌⊎◌, IsTrue, List, [], slice_index_or, ⊤}
 use Rattle.mltl_base.specs.declared.interval.Interval.{Interval}
 use Rattle.mltl_base.specs.Atoms.{Row, holds}
 use Rattle.mltl_base.specs.Formula.{Formula, truth, falsity, atom, negation, conjunction, disjunction, implication, equivalence, finally, globally, until, release, once, historically, since}
@@ -16,7 +16,7 @@ SinceAt i P Q t = (m : ℕ) × (m ≤ t) × (i.lo ≤ t - m) × (t - m ≤ i.hi)
 
 -- the formula holds on the rows at time t
 unfoldable pub Holds : List Row → Formula → ℕ → Type 0
-Holds rows truth t = Unit {0}
+Holds rows truth t = ⊤
 Holds rows falsity t = ⊥
 Holds rows (atom a) t = IsTrue (holds a (slice_index_or rows t []))
 Holds rows (negation p) t = Holds rows p t → ⊥

@@ -30,7 +30,7 @@ impl<T> List<T> {
         }
     }
 
-    /// Puts an item behind the last member. Where memory is wanting, the item is handed back.
+    /// Puts an item after the last member. When out of memory, the item is handed back.
     pub fn push(&mut self, item: T) -> Result<(), AllocFailed<T>>
         ensures pushed { OnOk result (self.new ≡ self.old ++ item ∷ []) }
         ensures kept { OnErr result (self.new ≡ self.old) }

@@ -6,8 +6,8 @@ ghost use Rattle.mltl_base.specs.Lines.{word_text};
 /// The verdict of a formula, or the status of an assume-guarantee contract.
 #[derive(Clone, Copy, PartialEq, Eq, Debug)]
 pub enum Word {
-    True,
-    False,
+    T,
+    F,
     /// The assumption is false.
     Inactive,
     /// The assumption is true and the guarantee is false.
@@ -23,8 +23,8 @@ impl Word {
         ensures short { length result.now ≤ 8 }
     {
         match self {
-            Word::True => "T",
-            Word::False => "F",
+            Word::T => "T",
+            Word::F => "F",
             Word::Inactive => "inactive",
             Word::Invalid => "invalid",
             Word::Verified => "verified",
@@ -43,6 +43,6 @@ pub enum Style {
 #[derive(Clone, Copy, PartialEq, Eq, Debug)]
 pub struct Report {
     pub out: u32,
-    pub word: Word,
     pub time: u64,
+    pub word: Word,
 }

@@ -9,7 +9,7 @@ use Rattle.mltl_base.specs.declared.program.Out as out
 use Rattle.mltl_base.specs.declared.program.Program.{Program}
 use Rattle.mltl_base.specs.declared.report.Style.{Style}
 use Rattle.mltl_base.specs.declared.report.Word.{Word}
-use Rattle.mltl_base.specs.declared.report.Word.TheVariants.{True}
+use Rattle.mltl_base.specs.declared.report.Word.TheVariants.{T}
 use Rattle.mltl_base.specs.Atoms.{Row}
 use Rattle.mltl_base.specs.Formula.{plain}
 use Rattle.mltl_base.specs.Programs.{formula_at, output_of}
@@ -96,7 +96,7 @@ no_more running rows other k (out.TheVariants.Contract engine.TheVariants.Ft i j
     ]
   where
     known_once : (x y : Option Word) (ws : List Word) (c : ℕ) → x ≡ None → x ≡ y → y ≡ slice_get ws c → c < length ws → ⊥
-    known_once x y ws c none same value inside = let some : slice_get ws c ≡ Some (slice_index_or ws c True) = slice_get-get_or ws c True inside in cc
+    known_once x y ws c none same value inside = let some : slice_get ws c ≡ Some (slice_index_or ws c T) = slice_get-get_or ws c T inside in cc
 
 -- so nothing is open after others either
 pub drained_alike : (running : Running) (style : Style) (rows : List Row) → HasTaken running rows → open_of style running rows ≡ [] → IsDrained running

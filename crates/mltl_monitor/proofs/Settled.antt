@@ -82,7 +82,7 @@ open_head style rows k (o ∷ outs) (next_time ∷ next_times) report more is = 
         let number : k ≡ k + 0 = omega arith in
         (0, o, refl, subst (λ (n : ℕ). IsHead n next_time (drop next_time (words rows o)) report) number (words_head style k next_time (drop next_time (words rows o)) report reports (e ∙ ap (λ (x : Report). x ∷ reports) first)))
 
--- a member behind an index
+-- a member after an index
 behind : (ws : List Word) (next_time d : ℕ) (w : Word) → slice_get (drop next_time ws) d ≡ Some w → slice_get ws (next_time + d) ≡ Some w
 behind ws next_time d w there =
     let within : d < length (drop next_time ws) = slice_get_within (drop next_time ws) d w there in

@@ -3,7 +3,7 @@
 use Rattle.std.proofs.Common.{◌≡◌, ℕ, suc, ◌+◌, ◌<◌, ◌≤◌, All, Bool, true, false, not, if◌then◌else◌, List, [], ◌∷◌, ◌++◌, map, take, drop, length, get_or, slice_get, refl, sym, ap, ap₂, ◌∙◌, arith, append_assoc, append-nil}
 use Rattle.std.proofs.lemmas.List.{take_more, take_all, drop_more, drop_all, get_or_default}
 use Rattle.mltl_base.specs.declared.report.Word.{Word}
-use Rattle.mltl_base.specs.declared.report.Word.TheVariants.{True}
+use Rattle.mltl_base.specs.declared.report.Word.TheVariants.{T}
 use Rattle.mltl_base.specs.declared.report.Style.{Style}
 use Rattle.mltl_base.specs.declared.report.Style.TheVariants.{Each, Runs}
 use Rattle.mltl_base.specs.declared.report.Report.{Report}
@@ -136,10 +136,10 @@ pub contract_words : (p q : Tree) (rows : List Row) (ps qs : List Bool) → ps �
 unfolding words
 contract_words p q rows ps qs e f = rw (e, f) refl
 
-pub goes_read : (ws : List Word) (t : ℕ) (w : Word) (b : Bool) → t + 1 < length ws → b ≡ same_word (get_or ws t True) (get_or ws (t + 1) True) → b ≡ goes_on (get_or ws t w) (drop (suc t) ws)
+pub goes_read : (ws : List Word) (t : ℕ) (w : Word) (b : Bool) → t + 1 < length ws → b ≡ same_word (get_or ws t T) (get_or ws (t + 1) T) → b ≡ goes_on (get_or ws t w) (drop (suc t) ws)
 goes_read ws t w b l g =
-    goes_next ws t (get_or ws t True) (get_or ws (t + 1) True) w b l
-    (get_or_default ws t True (get_or ws t True) (omega arith)) (get_or_default ws (t + 1) True (get_or ws (t + 1) True) l) g
+    goes_next ws t (get_or ws t T) (get_or ws (t + 1) T) w b l
+    (get_or_default ws t T (get_or ws t T) (omega arith)) (get_or_default ws (t + 1) T (get_or ws (t + 1) T) l) g
 
 -- an output that can be computed on all rows can be on the first of them
 pub output_first : (n : ℕ) (rows : List Row) (o : Output) → ComputesOutput rows o → ComputesOutput (take n rows) o

@@ -1,7 +1,7 @@
 -- What the program may say of expressions, and Kleene values over lists of known verdicts.
 -- A reader of the contracts needs this file.
 
-use Rattle.std.specs.Prelude.{◌≡◌, Bool, true, false, List, ℤ, pos, neg_ℤ, ◌+ℤ◌, ◌-ℤ◌, ◌*ℤ◌, int_div, int_rem, int_lt, int_le, not, FitsSigned, slice_get, All}
+use Rattle.std.specs.Prelude.{◌≡◌, Bool, true, false, List, ℤ, pos, neg_ℤ, ◌+ℤ◌, ◌-ℤ◌, ◌*ℤ◌, int_div, int_rem, int_lt, int_le, not, FitsSigned, slice_get, All, ⊤}
 use Rattle.std.specs.Ordering.{int_eq}
 use Rattle.std.specs.Int.{w64}
 use Rattle.mltl_base.specs.declared.interval.Interval.{Interval}
@@ -44,8 +44,8 @@ compares compare_op.TheVariants.Ge x y = int_le y x
 
 -- each part of the expression can be computed on the row
 abbrev pub Computes : Row → Term → Type 0
-Computes row (column c) = Unit {0}
-Computes row (constant n) = Unit {0}
+Computes row (column c) = ⊤
+Computes row (constant n) = ⊤
 Computes row (negative a) = Computes row a × FitsSigned w64 (neg_ℤ (value a row))
 Computes row (plus a b) = Computes row a × Computes row b × CanCompute arith_op.TheVariants.Add (value a row) (value b row)
 Computes row (minus a b) = Computes row a × Computes row b × CanCompute arith_op.TheVariants.Sub (value a row) (value b row)
@@ -55,7 +55,7 @@ Computes row (remainder a b) = Computes row a × Computes row b × CanCompute ar
 
 -- each part of the two sides of a comparison can be computed on the row
 abbrev pub ComputesAtom : Row → Atom → Type 0
-ComputesAtom row (is_true c) = Unit {0}
+ComputesAtom row (is_true c) = ⊤
 ComputesAtom row (equal a b) = Computes row a × Computes row b
 ComputesAtom row (less a b) = Computes row a × Computes row b
 ComputesAtom row (at_most a b) = Computes row a × Computes row b
@@ -97,8 +97,8 @@ k_operator (operator.TheVariants.Between op i) p q = k_between op i p q
 
 -- each atom of the formula can be computed on each row
 abbrev pub ComputesAll : List Row → Formula → Type 0
-ComputesAll rows truth = Unit {0}
-ComputesAll rows falsity = Unit {0}
+ComputesAll rows truth = ⊤
+ComputesAll rows falsity = ⊤
 ComputesAll rows (atom a) = All (λ row. ComputesAtom row a) rows
 ComputesAll rows (negation p) = ComputesAll rows p
 ComputesAll rows (conjunction p q) = ComputesAll rows p × ComputesAll rows q

@@ -53,7 +53,7 @@ pub fn reports(
     Ok(told)
 }
 
-/// Puts the reports of the words that are known now and weren't before behind those told.
+/// Puts the reports of the words that are known now and weren't before after those told.
 fn report_row(
     alloc: Global,
     style: Style,
@@ -78,7 +78,7 @@ fn report_row(
     Ok(())
 }
 
-/// Puts the reports of the words from a time on behind those told.
+/// Puts the reports of the words from a time on after those told.
 fn tell(
     style: Style,
     out: u32,
@@ -118,7 +118,7 @@ fn tell_slice(
     Ok(())
 }
 
-/// Puts a report that is due behind those told.
+/// Puts a report that is due after those told.
 fn put_if(due: bool, report: Report, told: &mut List<Report>) -> Result<(), Fault>
     ensures told { OnOk result (told.new ≡ (if due then told.old ++ report ∷ [] else told.old)) }
     ensures cause { IfErr result (λ why. why ≡ NoMemory) }
@@ -160,8 +160,8 @@ fn same(v: Word, w: Word) -> bool
     ensures { result ≡ same_word v w }
 {
     match (v, w) {
-        (Word::True, Word::True) => true,
-        (Word::False, Word::False) => true,
+        (Word::T, Word::T) => true,
+        (Word::F, Word::F) => true,
         (Word::Inactive, Word::Inactive) => true,
         (Word::Invalid, Word::Invalid) => true,
         (Word::Verified, Word::Verified) => true,
@@ -184,7 +184,7 @@ fn named_slice(alloc: Global, vs: &[bool]) -> Result<List<Word>, Fault>
 {
     let mut ws = List::new(alloc);
     for v in vs {
-        let word = if *v { Word::True } else { Word::False };
+        let word = if *v { Word::T } else { Word::F };
         ws.push(word)?;
     }
     Ok(ws)

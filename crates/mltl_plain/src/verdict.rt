@@ -19,7 +19,7 @@ use std::alloc::{AllocFailed, Global};
 /// Why there is no answer.
 #[derive(Clone, Copy)]
 pub enum Fault {
-    /// Memory is wanting.
+    /// Out of memory.
     Memory,
     /// A whole number leaves 64 bits, or a divisor is 0.
     Number,

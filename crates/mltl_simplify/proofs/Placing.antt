@@ -85,7 +85,7 @@ module _ (nodes simple : List Plain) (parts : List Part) (i : ℕ) (l : i < leng
 
 -- ---- one more node
 
--- a node that is put behind the others is placed
+-- a node that is put after the others is placed
 pub place_put : {E : Type 0} (result : Result ℕ E) (nodes old new : List Plain) (n : Plain) (tree : Tree) → OnOk result (new ≡ old ++ n ∷ []) → IfOk result (λ k. k ≡ length old) →
     ((k : ℕ) → Has new k (tree_of (trees old) n) → IsPlaced new k tree) → ((signals : ℕ) → AreSound signals nodes → IsFormed signals (trees old) n) → IfOk result (λ k. Places nodes old new k tree)
 place_put (Err e) nodes old new n tree pushed place placed formed = tt

@@ -1,4 +1,4 @@
--- Nodes that are put behind others, or found among them.
+-- Nodes that are put after others, or found among them.
 
 use Rattle.std.proofs.Common.{◌≡◌, ℕ, Bool, List, [], ◌∷◌, ◌++◌, length, sym, subst, ap, ap₂, ◌∙◌}
 use Rattle.std.specs.Prelude.{Result, Ok, Err, IfOk, OnOk}
@@ -21,7 +21,7 @@ stays old n p r h e = record {
   sound = λ signals s. s;
 }
 
--- a node that is put behind the others stands for what it unfolds to
+-- a node that is put after the others stands for what it unfolds to
 pub put : {E : Type 0} (result : Result ℕ E) (old new : List Plain) (node : Plain) (r : plain.Formula) → OnOk result (new ≡ old ++ node ∷ []) → IfOk result (λ n. n ≡ length old) →
     tree_of (trees old) node ≡ formula r → ((signals : ℕ) → IsFormed signals (trees old) node) → IfOk result (λ n. Puts old new n r)
 put (Err e) old new node r pushed place is formed = tt

@@ -1,7 +1,7 @@
 -- What stands in a formula.
 -- A reader of the contracts needs this file.
 
-use Rattle.std.specs.Prelude.{ℕ, ◌≡◌, ◌⊎◌}
+use Rattle.std.specs.Prelude.{ℕ, ◌≡◌, ◌⊎◌, ⊤}
 use Rattle.mltl_base.specs.declared.interval.Interval.{Interval}
 use Rattle.mltl_base.specs.Atoms.{Atom, is_true}
 use Rattle.mltl_base.specs.Formula.{Formula, truth, falsity, atom, negation, conjunction, disjunction, implication, equivalence, finally, globally, until, release, once, historically, since}
@@ -17,9 +17,9 @@ signal s = atom (is_true s)
 
 -- each interval of the formula runs upward, and no further than the limit
 abbrev pub AreBounded : Formula → Type 0
-AreBounded truth = Unit {0}
-AreBounded falsity = Unit {0}
-AreBounded (atom a) = Unit {0}
+AreBounded truth = ⊤
+AreBounded falsity = ⊤
+AreBounded (atom a) = ⊤
 AreBounded (negation p) = AreBounded p
 AreBounded (conjunction p q) = AreBounded p × AreBounded q
 AreBounded (disjunction p q) = AreBounded p × AreBounded q

@@ -1,7 +1,7 @@
 -- Nodes that stand for the simplified formulas of other nodes.
 -- It is the proof's own: `simplify` promises the simplified outputs, and only inner functions speak of nodes.
 
-use Rattle.std.specs.Prelude.{◌≡◌, ◌<◌, ℕ, ℤ, Bool, true, false, not, Option, Some, None, List, length, slice_get}
+use Rattle.std.specs.Prelude.{◌≡◌, ◌<◌, ℕ, ℤ, Bool, true, false, not, Option, Some, None, List, length, slice_get, ⊤}
 use Rattle.mltl_base.specs.declared.interval.Interval.{Interval}
 use Rattle.mltl_base.specs.declared.operators.LogicOp as logic
 use Rattle.mltl_base.specs.declared.operators.WindowOp as window
@@ -46,7 +46,7 @@ keeps_truth window.TheVariants.H v = v
 
 -- there is no truth that it leaves as it is
 abbrev pub KeepsNone : window.WindowOp → Option Bool → Type 0
-KeepsNone op None = Unit {0}
+KeepsNone op None = ⊤
 KeepsNone op (Some v) = keeps_truth op v ≡ false
 
 -- the operator is the truth on its right
@@ -92,7 +92,7 @@ pub record Places (nodes old new : List Plain) (n : ℕ) (tree : Tree) : Type 0 
 -- the number is that of the whole number, if it is one and has no fault
 abbrev pub IsNumbered : Option ℤ → Tree → Type 0
 IsNumbered known (number a) = term_fault a ≡ None → known ≡ number_of a
-IsNumbered known (formula p) = Unit {0}
+IsNumbered known (formula p) = ⊤
 
 -- the parts of the first nodes have the numbers of these
 pub record AreNumbered (nodes : List Plain) (parts : List Part) : Type 0 where

@@ -1,7 +1,7 @@
 -- Numbers that whole-number expressions without signals are.
 -- A reader of the contracts needs this file.
 
-use Rattle.std.specs.Prelude.{◌≡◌, ◌≢◌, ℤ, pos, neg_ℤ, ◌+ℤ◌, ◌-ℤ◌, ◌*ℤ◌, int_div, int_rem, int_lt, int_le, Bool, not, FitsSigned, if◌then◌else◌, Option, Some, None, []}
+use Rattle.std.specs.Prelude.{◌≡◌, ◌≢◌, ℤ, pos, neg_ℤ, ◌+ℤ◌, ◌-ℤ◌, ◌*ℤ◌, int_div, int_rem, int_lt, int_le, Bool, not, FitsSigned, if◌then◌else◌, Option, Some, None, [], ⊤}
 use Rattle.std.specs.Int.{w64}
 use Rattle.std.specs.Ordering.{int_eq}
 use Rattle.mltl_base.specs.declared.operators.ArithOp as arith
@@ -25,7 +25,7 @@ computed arith.TheVariants.Rem x y = int_rem x y
 abbrev pub CanDivideBy : arith.ArithOp → ℤ → Type 0
 CanDivideBy arith.TheVariants.Div y = y ≢ pos 0
 CanDivideBy arith.TheVariants.Rem y = y ≢ pos 0
-CanDivideBy _ y = Unit {0}
+CanDivideBy _ y = ⊤
 
 -- the operator can be computed in 64 bits
 abbrev pub CanCompute : arith.ArithOp → ℤ → ℤ → Type 0

@@ -50,7 +50,7 @@ fn outs_of(alloc: Global, parts: &[Part], outs: &[PlainOut]) -> Result<List<Plai
 /// The outputs of a specification over the simplified forms of their formulas, under the same names and numbers. Each
 /// node is simplified once, so that the time is linear in the nodes, the shared ones among them.
 ///
-/// Errors: memory is wanting.
+/// Errors: out of memory.
 pub fn simplify(alloc: Global, spec: &Expanded) -> Result<Expanded, AllocError>
     requires sound { (signals : ℕ) × IsSound spec.now signals }
     requires ranged { All HasRanges (asked spec.now) }

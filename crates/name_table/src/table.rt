@@ -66,7 +66,7 @@ impl<V: Copy> NameTable<V> {
 }
 
 impl<V: Drop> NameTable<V> {
-    /// Puts a name behind the others, where it isn't among them.
+    /// Puts a name after the others, where it isn't among them.
     pub fn add(&mut self, alloc: Global, name: &Name, value: V) -> Result<(), AllocError>
         requires { entry_of name.now self.old ≡ None }
         ensures added { OnOk result (self.new ≡ self.old ++ (name.now, value) ∷ []) }

@@ -1,4 +1,5 @@
 -- Entries of each part: what is read from the entry of a value is that value, and its numbers fit their fields.
+use Rattle.std.specs.Prelude.{⊤}
 use Rattle.std.proofs.Common.{◌≡◌, ℕ, ◌^◌, ◌<◌, Bool, true, false, List, length, Option, Some, None, refl, ap}
 use Rattle.std.proofs.lemmas.Nat.{from_le_bytes-to_le_bytes_4}
 use Rattle.std.proofs.lemmas.Option.{same_Some}
@@ -172,7 +173,7 @@ unfolding out_entry u32_bytes
 out_len o = refl
 
 abbrev pub HoldsRight : Option ℕ → Type 0
-HoldsRight None = Unit {0}
+HoldsRight None = ⊤
 HoldsRight (Some right) = right < 2 ^ 32
 
 pub record HoldsOut (o : OutHead) : Type 0 where

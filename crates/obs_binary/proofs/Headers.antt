@@ -119,7 +119,7 @@ u16-back bytes k fits room =
     let same : to_le_bytes w16 (short_at bytes k) ≡ take 2 (drop k bytes) = le_bytes_2 (take 2 (drop k bytes)) (short_at bytes k) len front refl in
     sym (ap (λ x. x ++ drop (k + 2) bytes) same ∙ ap (λ x. take 2 (drop k bytes) ++ x) (seam 2 k bytes) ∙ take-append-drop 2 (drop k bytes))
 
--- the letters, the version and the two bytes behind it
+-- the letters, the version and the two bytes after it
 front-is : (bytes : List ℕ) (h : Header) → IsBytes bytes → Found bytes h → bytes ≡ codes "MLTL" ++ (u16_bytes (short_at bytes 4) ++ (0 ∷ 0 ∷ drop 8 bytes))
 front-is bytes h fits f =
     let long : 32 ≤ length bytes = f.long in
@@ -129,7 +129,7 @@ front-is bytes h fits f =
     let seventh : drop 7 bytes ≡ 0 ∷ drop 8 bytes = drop-cons bytes 7 0 (omega arith) ∙ ap (λ b. b ∷ drop 8 bytes) f.seventh in
     letters ∙ ap (λ x. codes "MLTL" ++ x) (version ∙ ap (λ x. u16_bytes (short_at bytes 4) ++ x) (sixth ∙ ap (λ x. 0 ∷ x) seventh))
 
--- the bytes of a header with others behind it
+-- the bytes of a header with others after it
 regroup-header : (h : Header) (rest : List ℕ) → header_bytes h ++ rest ≡ codes "MLTL" ++ (u16_bytes h.version ++ (0 ∷ 0 ∷ (flat_map u32_bytes (h.width ∷ h.bz ∷ h.ft ∷ h.pt ∷ h.outs ∷ h.name_bytes ∷ []) ++ (signal_counts h ++ rest))))
 unfolding header_bytes
 regroup-header h rest =

@@ -8,7 +8,7 @@ use Rattle.obs_binary.specs.Reading.{first_other}
 eqb-same : (a b : ℕ) → a ≡ b → eqb a b ≡ true
 eqb-same a b e = grind arith
 
--- at a byte that is as it must be, the offset is behind it
+-- at a byte that is as it must be, the offset is after it
 pub first_other-same : (offset i : ℕ) (musts bytes : List ℕ) → i < length musts → i < length bytes → get_or bytes i 0 ≡ get_or musts i 0 → first_other (offset + (i + 1)) (drop (i + 1) musts) (drop (i + 1) bytes) ≡ first_other (offset + i) (drop i musts) (drop i bytes)
 unfolding first_other
 first_other-same offset i musts bytes im ib same =
@@ -22,7 +22,7 @@ first_other-here offset i musts bytes im ib other =
     let test = ne_eqb _ _ other in
     rw (drop-cons musts i 0, drop-cons bytes i 0, test) refl
 
--- behind the last byte there is none
+-- after the last byte there is none
 pub first_other-end : (offset i : ℕ) (musts bytes : List ℕ) → length musts ≤ i → first_other (offset + i) (drop i musts) (drop i bytes) ≡ None
 unfolding first_other
 first_other-end offset i musts bytes e = rw (drop_all i musts e) refl

@@ -66,7 +66,7 @@ pub flat_map-of_map : {A B : Type 0} (f : A → B) (g : B → List ℕ) (xs : Li
 flat_map-of_map f g [] = refl
 flat_map-of_map f g (x ∷ xs) = ap (λ r. g (f x) ++ r) (flat_map-of_map f g xs)
 
--- ---- the steps of reading what stands behind a header
+-- ---- the steps of reading what stands after a header
 
 abbrev made : Header → List BzOp → List (FtOp × ℕ) → List (PtOp × ℕ) → List Out → List StoredSignal → Program
 made h bz ft pt outs signals = record {
@@ -98,7 +98,7 @@ after_ft h size bz ft = each_at (entry_at 24 pt_entry pt_content size) h.pt ft.1
 abbrev after_bz : Header → ℕ → List BzOp × List ℕ → Result Program ReadFault
 after_bz h size bz = each_at (entry_at 24 ft_entry ft_content size) h.ft bz.1 >>= λ ft. after_ft h size bz.0 ft
 
--- the bytes behind the header of a program
+-- the bytes after the header of a program
 abbrev body_of : Program → List ℕ
 body_of p =
     flat_map bz_entry p.bz

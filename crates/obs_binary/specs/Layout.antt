@@ -1,5 +1,5 @@
 -- The bytes of observer programs: each program has one spelling. Numbers are little-endian.
-use Rattle.std.specs.Prelude.{◌≡◌, ◌≤◌, ◌<◌, ◌^◌, ◌+◌, ◌*◌, ◌||◌, ◌==◌, ℕ, ℤ, Bool, if◌then◌else◌, IsTrue, List, [], ◌∷◌, ◌++◌, length, Option, Some, None, FitsSigned, unwrap_or, codes, ◌⊎◌}
+use Rattle.std.specs.Prelude.{◌≡◌, ◌≤◌, ◌<◌, ◌^◌, ◌+◌, ◌*◌, ◌||◌, ◌==◌, ℕ, ℤ, Bool, if◌then◌else◌, IsTrue, List, [], ◌∷◌, ◌++◌, length, Option, Some, None, FitsSigned, unwrap_or, codes, ◌⊎◌, ⊤}
 use Rattle.std.specs.Int.{w16, w32, w64, to_le_bytes, cast_unsigned, is_in_range}
 use Rattle.std.specs.List.{flat_map, zip, list_all, AllByRecursion}
 use Rattle.mltl_base.specs.declared.interval.Engine.{Engine}
@@ -33,7 +33,7 @@ u32_bytes n = to_le_bytes w32 n
 unfoldable pub i64_bytes : ℤ → List ℕ
 i64_bytes z = to_le_bytes w64 (cast_unsigned w64 z)
 
--- the 24 bytes of an instruction or an output: its opcode, the byte behind it, two bytes 0 and five numbers. What an
+-- the 24 bytes of an instruction or an output: its opcode, the byte after it, two bytes 0 and five numbers. What an
 -- opcode gives no content is 0.
 abbrev pub entry : ℕ → ℕ → List ℕ → List ℕ
 entry opcode second numbers = (opcode ∷ second ∷ 0 ∷ 0 ∷ []) ++ flat_map u32_bytes numbers
@@ -105,7 +105,7 @@ signal_entry s = u32_bytes s.column ++ ((if s.truth then 1 else 0) ∷ s.name_le
 abbrev pub header_len : ℕ → ℕ
 header_len version = if version == 2 then 40 else 32
 
--- in version 2 the numbers of signals and of their name bytes stand behind the header of version 1
+-- in version 2 the numbers of signals and of their name bytes stand after the header of version 1
 abbrev pub signal_counts : Header → List ℕ
 signal_counts h = if h.version == 2 then flat_map u32_bytes (h.signals ∷ h.signal_bytes ∷ []) else []
 
@@ -115,7 +115,7 @@ header_bytes h =
     codes "MLTL" ++ (u16_bytes h.version ++ ((0 ∷ 0 ∷ [])
     ++ (flat_map u32_bytes (h.width ∷ h.bz ∷ h.ft ∷ h.pt ∷ h.outs ∷ h.name_bytes ∷ []) ++ signal_counts h)))
 
--- the number of bytes behind a header
+-- the number of bytes after a header
 abbrev pub body_len : Header → ℕ
 body_len h = 24 * h.bz + 24 * h.ft + 24 * h.pt + 24 * h.outs + 8 * h.signals + h.name_bytes + h.signal_bytes
 
@@ -210,7 +210,7 @@ FitsBz (bz.Le a b) = (a < 2 ^ 32) × (b < 2 ^ 32)
 
 -- a future-time instruction fits the fields of its entry
 abbrev pub FitsFt : FtOp → Type 0
-FitsFt ft.True = Unit {0}
+FitsFt ft.True = ⊤
 FitsFt (ft.Load a) = a < 2 ^ 32
 FitsFt (ft.Not a) = a < 2 ^ 32
 FitsFt (ft.And a b) = (a < 2 ^ 32) × (b < 2 ^ 32)
@@ -218,7 +218,7 @@ FitsFt (ft.Until a b i) = (a < 2 ^ 32) × (b < 2 ^ 32) × (i.lo < 2 ^ 32) × (i.
 
 -- a past-time instruction fits the fields of its entry
 abbrev pub FitsPt : PtOp → Type 0
-FitsPt pt.True = Unit {0}
+FitsPt pt.True = ⊤
 FitsPt (pt.Load a) = a < 2 ^ 32
 FitsPt (pt.Not a) = a < 2 ^ 32
 FitsPt (pt.And a b) = (a < 2 ^ 32) × (b < 2 ^ 32)

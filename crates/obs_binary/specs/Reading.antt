@@ -1,5 +1,5 @@
 -- Reading the bytes of an observer program, with the first fault in the order in which faults are looked for.
-use Rattle.std.specs.Prelude.{◌≡◌, ◌+◌, ◌-◌, ◌&&◌, ◌||◌, ◌==◌, not, ℕ, ℤ, suc, zero, Bool, if◌then◌else◌, List, [], ◌∷◌, length, take, drop, map, slice_index, Option, Some, None, Result, Ok, Err, nat_lt, nat_le, nat_eq, codes}
+use Rattle.std.specs.Prelude.{◌≡◌, ◌+◌, ◌-◌, ◌&&◌, ◌||◌, ◌==◌, not, ℕ, ℤ, suc, zero, Bool, if◌then◌else◌, List, [], ◌∷◌, length, take, drop, map, slice_index, Option, Some, None, Result, Ok, Err, nat_lt, nat_le, nat_eq, codes, ⊤}
 use Rattle.std.specs.Int.{w16, w32, w64, from_le_bytes, cast_signed, is_in_range}
 use Rattle.std.specs.List.{list_all, starts_with}
 use Rattle.std.specs.Option.{option_map_or}
@@ -41,7 +41,7 @@ signed_at bytes k = cast_signed w64 (from_le_bytes w64 (take 8 (drop k bytes)))
 
 -- reading gives this fault; want of memory says nothing of the bytes
 abbrev pub Fails : {Y : Type 0} → ReadFault → Result Y ReadFault → Type 0
-Fails Memory read = Unit {0}
+Fails Memory read = ⊤
 Fails fault read = read ≡ Err fault
 
 -- what a call answered, seen by `view`, is what reading gives, unless memory ran out
@@ -66,7 +66,7 @@ abbrev pub unless_other : {A : Type 0} → Option ℕ → A → Result A ReadFau
 unless_other None x = Ok x
 unless_other (Some offset) x = Err (Reserved offset)
 
--- an entry that holds x, with the bytes behind it; without x its opcode is at fault
+-- an entry that holds x, with the bytes after it; without x its opcode is at fault
 abbrev pub as_spelled : {X : Type 0} → ℕ → (X → List ℕ) → ℕ → List ℕ → Option X → Result (X × List ℕ) ReadFault
 as_spelled len spelled offset bytes None = Err (Opcode offset)
 as_spelled len spelled offset bytes (Some x) = unless_other (first_other offset (spelled x) (take len bytes)) (x, drop len bytes)
@@ -226,7 +226,7 @@ header_at bytes =
     else if nat_lt (said_len header) (length bytes) then Err Trailing
     else Ok header
 
--- what stands behind the header of a file of `size` bytes
+-- what stands after the header of a file of `size` bytes
 unfoldable pub body_at : Header → ℕ → List ℕ → Result Program ReadFault
 body_at header size bytes = do
   bz ← each_at (entry_at 24 bz_entry bz_content size) header.bz bytes

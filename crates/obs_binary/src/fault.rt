@@ -25,7 +25,7 @@ pub enum ReadFault {
     NameBytes(u32),
     /// The same for the name of a signal.
     SignalBytes(u32),
-    /// Memory is wanting.
+    /// Out of memory.
     Memory,
 }
 

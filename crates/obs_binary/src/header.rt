@@ -103,7 +103,7 @@ impl Header {
         Ok(header)
     }
 
-    /// Writes the header behind `out`.
+    /// Writes the header after `out`.
     #[tactic(auto, unfolding(crate::specs::Layout::header_bytes, crate::specs::Layout::u16_bytes, crate::specs::Layout::u32_bytes))]
     pub(crate) fn put(&self, out: &mut Vec<u8>) -> Result<(), AllocError>
         requires { self.now.version < 2 ^ 16 }

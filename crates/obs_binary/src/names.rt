@@ -1,4 +1,4 @@
-//! The names of outputs and signals, which stand behind all entries.
+//! The names of outputs and signals, which stand after all entries.
 
 ghost use Rattle.std.specs.Prelude.{◌≡◌, ◌<◌, ◌^◌, ℕ, List as Items, length, MatchOption, false, true, take, drop};
 ghost use Rattle.std.specs.List.{list_all};
@@ -49,7 +49,7 @@ fn all_letters(bytes: &[u8]) -> bool
     bytes.iter().all(|byte| is_letter(*byte))
 }
 
-/// The name of `len` bytes at the front, and the bytes behind it; `None` where no name of that length stands there.
+/// The name of `len` bytes at the front, and the bytes after it; `None` where no name of that length stands there.
 fn name_in_front(len: usize, bytes: &[u8]) -> Option<(Name, &[u8])>
     ensures { MatchOption result (is_name_in_front len bytes.now ≡ false)
         (λ found. (is_name_in_front len bytes.now ≡ true)

@@ -27,7 +27,7 @@ fn split<O: Copy>(alloc: Global, sized: &[(O, u32)]) -> Result<(List<O>, List<u3
     Ok((ops, sizes))
 }
 
-/// The program whose header and whose bytes behind it are these, in a file of `size` bytes.
+/// The program whose header and whose bytes after it are these, in a file of `size` bytes.
 #[tactic(auto, unfolding(crate::specs::Reading::body_at))]
 fn read_body(
     alloc: Global,

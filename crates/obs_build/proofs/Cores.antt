@@ -1,5 +1,6 @@
 -- What the atoms and the intervals of a formula have, those of its core form have.
 
+use Rattle.std.specs.Prelude.{⊤}
 use Rattle.std.proofs.Common.{List, [], ◌∷◌}
 use Rattle.mltl_base.specs.declared.interval.Interval.{Interval}
 use Rattle.mltl_base.specs.Atoms.{Atom}
@@ -8,8 +9,8 @@ use Rattle.mltl_base.proofs.Unfolding.{Deep, Each}
 
 -- A holds of all atoms of a formula, and B of all its intervals
 abbrev pub Throughout : (Atom → Type 0) → (Interval → Type 0) → Formula → Type 0
-Throughout A B truth = Unit {0}
-Throughout A B falsity = Unit {0}
+Throughout A B truth = ⊤
+Throughout A B falsity = ⊤
 Throughout A B (atom a) = A a
 Throughout A B (negation p) = Throughout A B p
 Throughout A B (conjunction p q) = Throughout A B p × Throughout A B q
@@ -29,7 +30,7 @@ abbrev pub AtHead : (Atom → Type 0) → (Interval → Type 0) → Core → Typ
 AtHead A B (catom a) = A a
 AtHead A B (cuntil i p q) = B i
 AtHead A B (csince i p q) = B i
-AtHead A B _ = Unit {0}
+AtHead A B _ = ⊤
 
 module _ (A : Atom → Type 0) (B : Interval → Type 0) where
   neg_deep : (p : Core) → Deep (AtHead A B) p → Deep (AtHead A B) (neg p)

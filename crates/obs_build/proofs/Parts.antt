@@ -1,5 +1,6 @@
 -- What all parts of the atoms of formulas have, all listed expressions have.
 
+use Rattle.std.specs.Prelude.{⊤}
 use Rattle.std.proofs.Common.{Bool, true, false, if◌then◌else◌, List, [], ◌∷◌, ◌++◌, fold}
 use Rattle.mltl_base.specs.Atoms.{Term, column, constant, negative, plus, minus, times, quotient, remainder, Atom, is_true, equal, less, at_most, different, greater, at_least}
 use Rattle.mltl_base.specs.Formula.{Core, ctrue, catom, cnot, cand, cuntil, csince}
@@ -20,7 +21,7 @@ InTerm P (remainder a b) = P (whole (remainder a b)) × InTerm P a × InTerm P b
 
 -- of the whole numbers that an atom compares
 abbrev pub InOperands : (Expression → Type 0) → Atom → Type 0
-InOperands P (is_true c) = Unit {0}
+InOperands P (is_true c) = ⊤
 InOperands P (equal a b) = InTerm P a × InTerm P b
 InOperands P (less a b) = InTerm P a × InTerm P b
 InOperands P (at_most a b) = InTerm P a × InTerm P b
@@ -34,7 +35,7 @@ InAtom P a = P (truth a) × InOperands P a
 
 abbrev pub AtCore : (Expression → Type 0) → Core → Type 0
 AtCore P (catom a) = InAtom P a
-AtCore P _ = Unit {0}
+AtCore P _ = ⊤
 
 each_new : (P : Expression → Type 0) (e : Expression) (es : List Expression) → Each P es → P e → Each P (add_new same_expression e es)
 each_new P e es h g = go (listed same_expression e es)

@@ -1,7 +1,7 @@
 -- Formulas without faults over signals of their kinds, once they stand over columns.
 
 use Rattle.std.proofs.Common.{◌≡◌, ℕ, Bool, true, false, Some, None, Ok, Err, List, slice_get, slice_index, refl, ap, ap₂, ◌∙◌}
-use Rattle.std.specs.Prelude.{ℤ}
+use Rattle.std.specs.Prelude.{ℤ, ⊤}
 use Rattle.mltl_base.specs.declared.interval.Interval.{Interval}
 use Rattle.mltl_base.specs.declared.program.Program.{Program}
 use Rattle.mltl_base.specs.Atoms.{Term, column, constant, negative, plus, minus, times, quotient, remainder, Atom, is_true, equal, less, at_most, different, greater, at_least, term_over, atom_over}
@@ -19,11 +19,11 @@ use Rattle.obs_build.proofs.Cores.{Throughout, AtHead}
 -- a program can compute an expression: its columns are of the kinds that it asks for, and a whole number has a range
 abbrev pub ReadsColumn : Program → Term → Type 0
 ReadsColumn program (column c) = is_column_of program c false ≡ true
-ReadsColumn program _ = Unit {0}
+ReadsColumn program _ = ⊤
 
 abbrev pub ReadsTruth : Program → Atom → Type 0
 ReadsTruth program (is_true c) = is_column_of program c true ≡ true
-ReadsTruth program _ = Unit {0}
+ReadsTruth program _ = ⊤
 
 abbrev pub IsReadable : Program → Expression → Type 0
 IsReadable program (whole a) = (term_fault a ≡ None) × ReadsColumn program a
@@ -87,7 +87,7 @@ module _ (program : Program) (kinds : List Bool) (columns : List ℕ) (fits : Ar
   atom_reads (at_least a b) k h = (tt, both_read a b k h)
 
   -- a formula without a fault over signals of their kinds, with intervals that have B
-  pub formula_reads : (B : Interval → Type 0) (p : Formula) → ReadsKinds kinds p → formula_fault p ≡ None → Throughout (λ a. Unit {0}) B p
+  pub formula_reads : (B : Interval → Type 0) (p : Formula) → ReadsKinds kinds p → formula_fault p ≡ None → Throughout (λ a. ⊤) B p
       → Throughout (InAtom (IsReadable program)) B (formula_over columns p)
   unfolding formula_over formula_fault
   formula_reads B always k h w = tt

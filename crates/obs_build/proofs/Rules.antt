@@ -19,7 +19,7 @@ use Rattle.mltl_base.specs.Programs.{Expression, whole, truth, term_of, term_at,
 use Rattle.mltl_base.specs.Ranges.{Ranged, divisor, wide, range}
 use Rattle.mltl_base.specs.Reports.{Output, formula, contract}
 use Rattle.mltl_base.specs.Subformulas.{Asked, cores_of_output, subformulas, same_expression, same, place_of, instruction_of, bz_instruction, ft_instruction, pt_instruction, out_by}
-use Rattle.mltl_base.proofs.Members.{get_behind}
+use Rattle.mltl_base.proofs.Members.{get_after}
 use Rattle.mltl_base.proofs.Sameness.{same_sound, same_self, same_expression_sound, same_expression_self}
 use Rattle.mltl_base.proofs.Listing.{place_append, place_get}
 use Rattle.mltl_base.proofs.Unfolding.{Each, Has, HasExpression, IsClosedAfter}
@@ -125,7 +125,7 @@ module _ (program : Program) (all : List Expression) (kept : program.bz ≡ map 
   bz_here : (before rest : List Expression) (e : Expression) → all ≡ before ++ e ∷ rest → HasParts before e → IsReadable program e → bz_fault program (length before) (bz_instruction all e) ≡ None
   bz_here before rest e cut h r =
       let stands : term_at (expressions program.bz) (length before) ≡ term_of (Some e) =
-      ap (λ (es : List Expression). term_at es (length before)) (unfolds ∙ cut) ∙ ap term_of (get_behind before rest e) in
+      ap (λ (es : List Expression). term_at es (length before)) (unfolds ∙ cut) ∙ ap term_of (get_after before rest e) in
       both_none _ _
       (passes _ (Operand Bz (length before)) (operands_hold program all kept before (e ∷ rest) cut e h r))
       (ap (λ (a : Term). range_fault (length before) (range a)) stands ∙ range_holds program (length before) e r)

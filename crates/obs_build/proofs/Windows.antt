@@ -1,5 +1,6 @@
 -- The intervals of what sound nodes unfold to are in bounds.
 
+use Rattle.std.specs.Prelude.{⊤}
 use Rattle.std.proofs.Common.{◌≡◌, ℕ, zero, suc, ◌≤◌, true, false, Some, List, [], ◌∷◌, ◌++◌, length, take, get_or, slice_get, sym, subst, arith, add-one}
 use Rattle.std.proofs.lemmas.List.{take_all}
 use Rattle.std.proofs.lemmas.Option.{slice_get-get_or}
@@ -16,10 +17,10 @@ use Rattle.obs_build.proofs.Cores.{Throughout}
 
 -- all intervals of a formula are in bounds
 abbrev pub IsWindowed : Formula → Type 0
-IsWindowed p = Throughout (λ a. Unit {0}) IsBounded p
+IsWindowed p = Throughout (λ a. ⊤) IsBounded p
 
 abbrev TreeWindowed : Tree → Type 0
-TreeWindowed (number a) = Unit {0}
+TreeWindowed (number a) = ⊤
 TreeWindowed (formula p) = IsWindowed p
 
 pub AreWindowed : List Tree → Type 0

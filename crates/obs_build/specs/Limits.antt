@@ -1,6 +1,6 @@
 -- The limits that a specification keeps, and the first one that it exceeds.
 
-use Rattle.std.specs.Prelude.{ℕ, ◌<◌, ◌≤◌, List, All, Any}
+use Rattle.std.specs.Prelude.{ℕ, ◌<◌, ◌≤◌, List, All, Any, ⊤}
 use Rattle.mltl_base.specs.declared.limits.TheConstants.{MAX_DELAY, MAX_SLOTS}
 use Rattle.mltl_base.specs.declared.program.Graph.{Graph}
 use Rattle.mltl_base.specs.Queues.{worst_delays, slot_count}
@@ -36,7 +36,7 @@ abbrev pub IsReason : List Asked → BuildFault → Type 0
 IsReason outs TooManyNodes = AreMany outs
 IsReason outs TooLate = AreFew outs × IsLate outs
 IsReason outs TooManySlots = AreFew outs × AreInTime outs × (MAX_SLOTS < slots_of outs)
-IsReason outs Memory = Unit {0}
+IsReason outs Memory = ⊤
 
 -- why a graph has no sizes: an instruction is later than the limit, or none is and the slots exceed theirs
 abbrev pub IsSizeReason : Graph → BuildFault → Type 0
@@ -44,4 +44,4 @@ IsSizeReason graph TooManyNodes = ⊥
 IsSizeReason graph TooLate = Any (λ rows. MAX_DELAY < rows) (worst_delays graph.ft)
 IsSizeReason graph TooManySlots =
     All (λ rows. rows ≤ MAX_DELAY) (worst_delays graph.ft) × (MAX_SLOTS < slot_count graph.ft graph.pt graph.outs)
-IsSizeReason graph Memory = Unit {0}
+IsSizeReason graph Memory = ⊤

@@ -1,6 +1,6 @@
 -- The first fault of a program file: that of its bytes, else that of the program which they spell.
 
-use Rattle.std.specs.Prelude.{ℕ, ◌≡◌, List, Option, Some, None, Result, Ok, Err}
+use Rattle.std.specs.Prelude.{ℕ, ◌≡◌, List, Option, Some, None, Result, Ok, Err, ⊤}
 use Rattle.mltl_base.specs.declared.program.Program.{Program}
 use Rattle.obs_binary.specs.declared.fault.ReadFault.{ReadFault}
 use Rattle.obs_binary.specs.declared.fault.ReadFault.TheVariants as read
@@ -52,8 +52,8 @@ verified (Err fault) = Err (of_reading fault)
 abbrev pub opened : List ℕ → Result Program FileFault
 opened bytes = verified (program_at bytes)
 
--- a call answers what was found, unless memory is wanting
+-- a call answers what was found, unless out of memory
 abbrev pub Tells : Result Program FileFault → Result Program FileFault → Type 0
 Tells (Ok program) found = found ≡ Ok program
-Tells (Err file.Memory) found = Unit {0}
+Tells (Err file.Memory) found = ⊤
 Tells (Err (file.Program fault)) found = found ≡ Err (file.Program fault)

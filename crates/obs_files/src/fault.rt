@@ -53,7 +53,7 @@ pub enum ProgramFault {
 pub enum FileFault {
     /// This is wrong with the program.
     Program(ProgramFault),
-    /// Memory is wanting.
+    /// Out of memory.
     Memory,
 }
 

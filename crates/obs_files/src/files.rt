@@ -14,7 +14,7 @@ use std::alloc::{AllocError, Global};
 /// The checked program that these bytes spell.
 ///
 /// Errors: the first fault of the bytes, in the order of `read_program`, else the first of the program, in the order of
-/// `verify`; `Memory` where memory is wanting.
+/// `verify`; `Memory` when out of memory.
 pub fn open(alloc: Global, bytes: &[u8]) -> Result<Checked, FileFault>
     // Which program it is, or which fault.
     ensures answer { Tells result (opened bytes.now) }

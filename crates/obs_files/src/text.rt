@@ -80,7 +80,7 @@ fn name_of_part(part: Part) -> &'static str
     }
 }
 
-/// Puts a number behind a text that has room for it.
+/// Puts a number after a text that has room for it.
 fn add_number(text: &mut Text, n: u64)
     requires { array_vec_len text.old + 20 ≤ 40 }
     ensures { text.new.items ≡ text.old.items ++ decimal n }
@@ -89,7 +89,7 @@ fn add_number(text: &mut Text, n: u64)
     add(text, buffer.format(n).as_bytes());
 }
 
-/// Puts a piece behind a text that has room for it.
+/// Puts a piece after a text that has room for it.
 fn add(text: &mut Text, piece: &[u8])
     requires { array_vec_len text.old + length piece.now ≤ 40 }
     ensures items { text.new.items ≡ text.old.items ++ piece.now }

@@ -1,6 +1,6 @@
 -- How the code adds the lines of a program, part by part, up to the limit of a text.
 
-use Rattle.std.specs.Prelude.{◌≡◌, ℕ, ◌+◌, ◌<◌, ◌≤◌, List, [], ◌∷◌, ◌++◌, length, Result, Ok, Err}
+use Rattle.std.specs.Prelude.{◌≡◌, ℕ, ◌+◌, ◌<◌, ◌≤◌, List, [], ◌∷◌, ◌++◌, length, Result, Ok, Err, ⊤}
 use Rattle.mltl_base.specs.declared.limits.TheConstants.{MAX_SHOWN_BYTES}
 use Rattle.mltl_base.specs.declared.operators.BzOp.{BzOp}
 use Rattle.mltl_base.specs.declared.operators.FtOp.{FtOp}
@@ -43,4 +43,4 @@ abbrev pub Adds : {T : Type 0} → List ℕ → Result T ShowFault → List ℕ 
 Adds old (Ok _) new more = (new ≡ old ++ more) × (length new ≤ MAX_SHOWN_BYTES)
 Adds old (Err TooLong) new more = MAX_SHOWN_BYTES < length (old ++ more)
 Adds old (Err Wide) new more = ⊥
-Adds old (Err Memory) new more = Unit {0}
+Adds old (Err Memory) new more = ⊤

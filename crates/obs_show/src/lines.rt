@@ -38,7 +38,7 @@ fn begin_define(text: &mut Vec<u8>, naming: &Naming, k: usize) -> Result<(), All
     text.extend_from_slice(b" := ")
 }
 
-/// Adds a sign and the reference behind it.
+/// Adds a sign and the reference after it.
 fn add_prefixed(
     text: &mut Vec<u8>,
     program: &Program,

@@ -16,7 +16,7 @@ use std::alloc::Global;
 ///
 /// # Errors
 ///
-/// The text has more than 1,048,576 bytes, or else the outputs together weigh more than 65,536, or memory is wanting.
+/// The text has more than 1,048,576 bytes, or else the outputs together weigh more than 65,536, or out of memory.
 pub fn show(alloc: Global, checked: &Checked) -> Result<Vec<u8>, ShowFault>
     requires version { checked.now.version ≡ 2 }
     ensures text { IfOk result (λ bytes. bytes.items ≡ text_of checked.now) }

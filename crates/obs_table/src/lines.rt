@@ -11,7 +11,7 @@ use csv::{ByteRecord, Writer};
 use itoa::{Buffer, Integer};
 use std::alloc::{AllocError, Global};
 
-/// Puts a number behind the fields of a row; an empty field where there is none.
+/// Puts a number after the fields of a row; an empty field where there is none.
 fn push_number<I: Integer>(row: &mut ByteRecord, number: Option<I>) -> Result<(), AllocError>
     requires { partial_of row.old ≡ [] }
     ensures fields { OnOk result

@@ -14,7 +14,7 @@ use std::alloc::{AllocError, Global};
 ///
 /// # Errors
 ///
-/// Memory is wanting.
+/// Out of memory.
 pub fn instruction_table(alloc: Global, checked: &Checked) -> Result<Vec<u8>, AllocError>
     ensures written { IfOk result (λ bytes. bytes.items ≡ table checked.now) }
 {

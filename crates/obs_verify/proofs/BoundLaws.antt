@@ -1,7 +1,7 @@
 -- Signals in other columns.
 use Rattle.std.proofs.Common.{◌≡◌, ℕ, ◌+◌, ◌<◌, ◌≤◌, suc, Some, List, [], ◌∷◌, ◌++◌, length, take, drop, map, slice_get, slice_set, slice_index, slice_index_or, refl, ap, sym, ◌∙◌, arith, append_assoc}
 use Rattle.std.proofs.lemmas.List.{append-nil, take_all, drop_more, drop_all, take_more, map_more, set_at, length-append, length-drop, length-map, length-take-le}
-use Rattle.mltl_base.proofs.Members.{get_behind}
+use Rattle.mltl_base.proofs.Members.{get_after}
 use Rattle.mltl_base.specs.declared.program.StoredSignal.{StoredSignal}
 use Rattle.obs_verify.specs.Bound.{bound_signals}
 
@@ -14,7 +14,7 @@ pub mapped_more : {X : Type 0} (f : X → X) (xs ys : List X) (i : ℕ) (x : X) 
 mapped_more f xs ys i x inside done got =
     let front : length (map f (take i xs)) ≡ i = length-map (take i xs) f ∙ length-take-le i xs (omega arith) in
     let split : ys ≡ map f (take i xs) ++ slice_index_or xs i x ∷ drop (i + 1) xs = done ∙ ap (λ zs. map f (take i xs) ++ zs) (drop_more xs i x inside) in
-    let there : slice_get ys i ≡ Some (slice_index_or xs i x) = ap (λ zs. slice_get zs i) split ∙ ap (slice_get (map f (take i xs) ++ slice_index_or xs i x ∷ drop (i + 1) xs)) (sym front) ∙ get_behind (map f (take i xs)) (drop (i + 1) xs) (slice_index_or xs i x) in
+    let there : slice_get ys i ≡ Some (slice_index_or xs i x) = ap (λ zs. slice_get zs i) split ∙ ap (slice_get (map f (take i xs) ++ slice_index_or xs i x ∷ drop (i + 1) xs)) (sym front) ∙ get_after (map f (take i xs)) (drop (i + 1) xs) (slice_index_or xs i x) in
     let same : x ≡ slice_index_or xs i x = cc in
     change_at (map f (take i xs)) (drop (i + 1) xs) ys (slice_index_or xs i x) (f x) i front split
     ∙ ap (λ z. map f (take i xs) ++ f z ∷ drop (i + 1) xs) same
@@ -26,7 +26,7 @@ pub still_there : {X : Type 0} (f : X → X) (xs ys : List X) (i : ℕ) (x d : X
 still_there f xs ys i x d inside done got =
     let front : length (map f (take i xs)) ≡ i = length-map (take i xs) f ∙ length-take-le i xs (omega arith) in
     let split : ys ≡ map f (take i xs) ++ slice_index_or xs i d ∷ drop (i + 1) xs = done ∙ ap (λ zs. map f (take i xs) ++ zs) (drop_more xs i d inside) in
-    let there : slice_get ys i ≡ Some (slice_index_or xs i d) = ap (λ zs. slice_get zs i) split ∙ ap (slice_get (map f (take i xs) ++ slice_index_or xs i d ∷ drop (i + 1) xs)) (sym front) ∙ get_behind (map f (take i xs)) (drop (i + 1) xs) (slice_index_or xs i d) in
+    let there : slice_get ys i ≡ Some (slice_index_or xs i d) = ap (λ zs. slice_get zs i) split ∙ ap (slice_get (map f (take i xs) ++ slice_index_or xs i d ∷ drop (i + 1) xs)) (sym front) ∙ get_after (map f (take i xs)) (drop (i + 1) xs) (slice_index_or xs i d) in
     cc
 
 -- one member more, where the change leaves it as it is
@@ -68,7 +68,7 @@ bound_more signals now columns k n s moved_signal inside same done got new made 
     let old : StoredSignal = slice_index_or signals k s in
     let split : now ≡ bound_signals (take k signals) (take k columns) ++ old ∷ drop (k + 1) signals = done ∙ ap (λ zs. bound_signals (take k signals) (take k columns) ++ zs) (drop_more signals k s within) in
     let there : slice_get now k ≡ Some old = ap (λ zs. slice_get zs k) split ∙ ap (slice_get (bound_signals (take k signals) (take k columns) ++ old ∷ drop (k + 1) signals)) (sym front)
-    ∙ get_behind (bound_signals (take k signals) (take k columns)) (drop (k + 1) signals) old in
+    ∙ get_after (bound_signals (take k signals) (take k columns)) (drop (k + 1) signals) old in
     let is : s ≡ old = cc in
     let grown : bound_signals (take (k + 1) signals) (take (k + 1) columns) ≡ bound_signals (take k signals) (take k columns) ++ (record old { column = slice_index columns k }) ∷ [] =
     ap (λ ss. bound_signals ss (take (k + 1) columns)) (take_more signals k s within) ∙ ap (bound_signals (take k signals ++ old ∷ [])) (take_more columns k 0 inside)

@@ -3,7 +3,7 @@ use Rattle.std.proofs.Common.{◌≡◌, ℕ, ◌+◌, ◌<◌, ◌≤◌, zero,
 use Rattle.std.proofs.lemmas.Bool.{cases_lt}
 use Rattle.std.proofs.lemmas.List.{take_at, take-take, length_push, take_all, length-take, get_or_append_left, get_or_push}
 use Rattle.std.proofs.lemmas.Option.{slice_get_past}
-use Rattle.mltl_base.proofs.Members.{get_behind}
+use Rattle.mltl_base.proofs.Members.{get_after}
 use Rattle.mltl_base.specs.declared.interval.Part.TheVariants.{Bz}
 use Rattle.mltl_base.specs.declared.operators.BzOp.{BzOp}
 use Rattle.mltl_base.specs.declared.operators.BzOp.TheVariants.{Column, IsTrue, Const, Neg, Add, Sub, Mul, Div, Rem, Eq, Lt, Le}
@@ -43,7 +43,7 @@ expression_after before (o ∷ ops) zero op h =
     let same : o ≡ op = cc in
     let longer : length before < length more = omega (arith, length_push before (expression_of before o)) in
     let here : slice_get all (length before) ≡ Some (expression_of before o) =
-    sym (slice_get-take (length more) all (length before) longer) ∙ ap (λ es. slice_get es (length before)) (front more ops) ∙ get_behind before [] (expression_of before o) in
+    sym (slice_get-take (length more) all (length before) longer) ∙ ap (λ es. slice_get es (length before)) (front more ops) ∙ get_after before [] (expression_of before o) in
     let P : ℕ → Type 0 = λ n. slice_get all n ≡ Some (expression_of (take n all) op) in
     subst P (sym (add-zero (length before)))
     (here ∙ ap (λ es. Some (expression_of es o)) (sym (front before (o ∷ ops))) ∙ ap (λ p. Some (expression_of (take (length before) all) p)) same)

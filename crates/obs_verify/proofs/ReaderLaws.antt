@@ -19,9 +19,9 @@ number_here : (s : StoredSignal) (signals : List StoredSignal) (c : ℕ) → s.c
 unfolding number_in
 number_here s signals c at = rw (eq-eqb s.column c at) refl
 
-number_behind : (s : StoredSignal) (signals : List StoredSignal) (c : ℕ) → (s.column ≡ c → ⊥) → number_in (s ∷ signals) c ≡ option_map suc (number_in signals c)
+number_after : (s : StoredSignal) (signals : List StoredSignal) (c : ℕ) → (s.column ≡ c → ⊥) → number_in (s ∷ signals) c ≡ option_map suc (number_in signals c)
 unfolding number_in
-number_behind s signals c other = elim (eqb_tells s.column c) [ inl p ↦ absurd (other p.1) | inr p ↦ rw p.0 refl ]
+number_after s signals c other = elim (eqb_tells s.column c) [ inl p ↦ absurd (other p.1) | inr p ↦ rw p.0 refl ]
 
 pub nowhere : (c : ℕ) → number_in [] c ≡ None
 unfolding number_in
@@ -46,7 +46,7 @@ number_inside [] c k h = absurd (not_none k (sym h ∙ nowhere c))
 number_inside (s ∷ signals) c k h = elim (eqb_tells s.column c) [
   | inl p ↦ let first : k ≡ 0 = same_number k 0 (sym h ∙ number_here s signals c p.1) in omega arith
   | inr p ↦
-      let less = one_less (number_in signals c) k (sym (number_behind s signals c p.1) ∙ h) in
+      let less = one_less (number_in signals c) k (sym (number_after s signals c p.1) ∙ h) in
       let inside : less.0 < length signals = number_inside signals c less.0 less.1 in
       let next : k ≡ suc less.0 = less.2 in
       omega arith
@@ -59,23 +59,23 @@ number_known [] more c k h = absurd (not_none k (sym h ∙ nowhere c))
 number_known (s ∷ signals) more c k h = elim (eqb_tells s.column c) [
   | inl p ↦ number_here s (signals ++ more) c p.1 ∙ sym (number_here s signals c p.1) ∙ h
   | inr p ↦
-      let less = one_less (number_in signals c) k (sym (number_behind s signals c p.1) ∙ h) in
-      number_behind s (signals ++ more) c p.1 ∙ ap (option_map suc) (number_known signals more c less.0 less.1) ∙ ap Some (sym less.2)
+      let less = one_less (number_in signals c) k (sym (number_after s signals c p.1) ∙ h) in
+      number_after s (signals ++ more) c p.1 ∙ ap (option_map suc) (number_known signals more c less.0 less.1) ∙ ap Some (sym less.2)
 ]
 
 pub number_new : (signals : List StoredSignal) (s : StoredSignal) (c : ℕ) → number_in signals c ≡ None → s.column ≡ c → number_in (signals ++ s ∷ []) c ≡ Some (length signals)
 number_new [] s c none at = number_here s [] c at
 number_new (t ∷ signals) s c none at = elim (eqb_tells t.column c) [
   | inl p ↦ absurd (not_none 0 (sym (number_here t signals c p.1) ∙ none))
-  | inr p ↦ number_behind t (signals ++ s ∷ []) c p.1
-      ∙ ap (option_map suc) (number_new signals s c (none_less (number_in signals c) (sym (number_behind t signals c p.1) ∙ none)) at)
+  | inr p ↦ number_after t (signals ++ s ∷ []) c p.1
+      ∙ ap (option_map suc) (number_new signals s c (none_less (number_in signals c) (sym (number_after t signals c p.1) ∙ none)) at)
 ]
 
 pub number_other : (signals : List StoredSignal) (s : StoredSignal) (c : ℕ) → (s.column ≡ c → ⊥) → number_in (signals ++ s ∷ []) c ≡ number_in signals c
-number_other [] s c other = number_behind s [] c other ∙ ap (option_map suc) (nowhere c) ∙ sym (nowhere c)
+number_other [] s c other = number_after s [] c other ∙ ap (option_map suc) (nowhere c) ∙ sym (nowhere c)
 number_other (t ∷ signals) s c other = elim (eqb_tells t.column c) [
   | inl p ↦ number_here t (signals ++ s ∷ []) c p.1 ∙ sym (number_here t signals c p.1)
-  | inr p ↦ number_behind t (signals ++ s ∷ []) c p.1 ∙ ap (option_map suc) (number_other signals s c other) ∙ sym (number_behind t signals c p.1)
+  | inr p ↦ number_after t (signals ++ s ∷ []) c p.1 ∙ ap (option_map suc) (number_other signals s c other) ∙ sym (number_after t signals c p.1)
 ]
 
 -- a column that has no signal yet gets this one
@@ -110,7 +110,7 @@ moved_read (s ∷ signals) (n ∷ columns) c k same h = elim (eqb_tells s.column
       let first : k ≡ 0 = same_number k 0 (sym h ∙ number_here s signals c p.1) in
       rw p.0 (ap (slice_index (n ∷ columns)) (sym first))
   | inr p ↦
-      let less = one_less (number_in signals c) k (sym (number_behind s signals c p.1) ∙ h) in
+      let less = one_less (number_in signals c) k (sym (number_after s signals c p.1) ∙ h) in
       rw p.0 (moved_read signals columns c less.0 (omega arith) less.1 ∙ ap (slice_index (n ∷ columns)) (sym less.2))
 ]
 
@@ -120,7 +120,7 @@ moved_unread [] columns c none = refl
 moved_unread (s ∷ signals) [] c none = refl
 moved_unread (s ∷ signals) (n ∷ columns) c none = elim (eqb_tells s.column c) [
   | inl p ↦ absurd (not_none 0 (sym (number_here s signals c p.1) ∙ none))
-  | inr p ↦ rw p.0 (moved_unread signals columns c (none_less (number_in signals c) (sym (number_behind s signals c p.1) ∙ none)))
+  | inr p ↦ rw p.0 (moved_unread signals columns c (none_less (number_in signals c) (sym (number_after s signals c p.1) ∙ none)))
 ]
 
 -- an instruction that reads no signal stays
@@ -179,8 +179,8 @@ reader_at program readers i op is inside =
     ap (λ rs. slice_index_or rs i None) is
     ∙ get_or-map (signal_read program.signals) program.bz i op None (omega (arith, readers_long program readers is))
 
-different_behind : (n : ℕ) (columns : List ℕ) → AreDifferent (n ∷ columns) → AreDifferent columns
-different_behind n columns different i j before inside = different (suc i) (suc j) (omega arith) (omega arith)
+different_after : (n : ℕ) (columns : List ℕ) → AreDifferent (n ∷ columns) → AreDifferent columns
+different_after n columns different i j before inside = different (suc i) (suc j) (omega arith) (omega arith)
 
 -- a signal keeps its number where it stands now
 number_stays : (signals : List StoredSignal) (columns : List ℕ) (k : ℕ) → length columns ≡ length signals → AreDifferent columns → k < length signals → number_in (bound_signals signals columns) (slice_index columns k) ≡ Some k
@@ -189,8 +189,8 @@ number_stays [] columns k same different inside = absurd (omega arith)
 number_stays (s ∷ signals) [] k same different inside = absurd (omega arith)
 number_stays (s ∷ signals) (n ∷ columns) zero same different inside = number_here (record s { column = n }) (bound_signals signals columns) n refl
 number_stays (s ∷ signals) (n ∷ columns) (suc k) same different inside =
-    number_behind (record s { column = n }) (bound_signals signals columns) (slice_index columns k) (different 0 (suc k) (omega arith) (omega arith))
-    ∙ ap (option_map suc) (number_stays signals columns k (omega arith) (different_behind n columns different) (omega arith))
+    number_after (record s { column = n }) (bound_signals signals columns) (slice_index columns k) (different 0 (suc k) (omega arith) (omega arith))
+    ∙ ap (option_map suc) (number_stays signals columns k (omega arith) (different_after n columns different) (omega arith))
 
 -- a column that has a signal of some kind has a first one
 pub or_first : (a b : Bool) → a ≡ false → (a || b) ≡ true → b ≡ true
@@ -207,7 +207,7 @@ has_number (s ∷ signals) c t h = elim (eqb_tells s.column c) [
   | inl p ↦ (0, number_here s signals c p.1)
   | inr p ↦
       let rest = has_number signals c t (or_first _ _ (and_first _ _ p.0) h) in
-      (suc rest.0, number_behind s signals c p.1 ∙ ap (option_map suc) rest.1)
+      (suc rest.0, number_after s signals c p.1 ∙ ap (option_map suc) rest.1)
 ]
 
 stored_number : (program : Program) (c : ℕ) (t : Bool) → program.version ≡ 2 → is_column_of program c t ≡ true → (k : ℕ) × (number_in program.signals c ≡ Some k)

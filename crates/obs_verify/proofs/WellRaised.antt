@@ -1,6 +1,6 @@
 -- A well-formed program of version 1 whose columns are read in one way stays so with the signals that it reads.
 use Rattle.std.proofs.Common.{◌≡◌, ℕ, ◌+◌, ◌<◌, ◌≤◌, ◌==◌, zero, suc, Bool, true, false, Option, Some, None, List, [], ◌∷◌, ◌++◌, All, length, take, slice_index_or, refl, ap, sym, ◌∙◌, arith, subst, inl, inr, eq-eqb, append_assoc}
-use Rattle.std.specs.Prelude.{◌&&◌, ◌||◌, not, decimal, if◌then◌else◌}
+use Rattle.std.specs.Prelude.{◌&&◌, ◌||◌, not, decimal, if◌then◌else◌, ⊤}
 use Rattle.std.specs.List.{cons_option, filter_map, list_any, range_with_len}
 use Rattle.std.specs.Str.{bytes_eq}
 use Rattle.std.proofs.lemmas.Bool.{leb-true, lt-ltb, ltb-true, and_from, or_right}
@@ -99,7 +99,7 @@ all_one_way ops none = rest_one_way [] ops (λ c h k. cc) none
 
 -- signals from column a on and below top, rising, each named by its column
 Listed : ℕ → ℕ → List StoredSignal → Type 0
-Listed a top [] = Unit {0}
+Listed a top [] = ⊤
 Listed a top (s ∷ ss) = (a ≤ s.column) × (s.column < top) × (s.name ≡ column_name s.column) × Listed (s.column + 1) top ss
 
 listed_later : (a b top : ℕ) (ss : List StoredSignal) → a ≤ b → Listed b top ss → Listed a top ss

@@ -1,6 +1,6 @@
 -- The range of an instruction of the Booleanizer, from the ranges of those before it.
 
-use Rattle.std.specs.Prelude.{ℕ, ◌≡◌, ◌<◌, pos, Ok, List, length, slice_index_or}
+use Rattle.std.specs.Prelude.{ℕ, ◌≡◌, ◌<◌, pos, Ok, List, length, slice_index_or, ⊤}
 use Rattle.mltl_base.specs.declared.operators.BzOp as bz
 use Rattle.mltl_base.specs.Programs.{expressions, term_at}
 use Rattle.mltl_base.specs.Ranges.{Range, Ranged, divided, in_word, left_over, lessened, multiplied, negated, over, over_both, over_divisor, range, range_from, signal_range, summed}
@@ -30,9 +30,9 @@ pub record AreRanges (bz : List bz.BzOp) (ranges : List Range) : Type 0 where
 
 -- the whole numbers that an instruction reads stand before number n
 abbrev pub ReadsBefore : ℕ → bz.BzOp → Type 0
-ReadsBefore n (bz.TheVariants.Column c) = Unit {0}
-ReadsBefore n (bz.TheVariants.IsTrue c) = Unit {0}
-ReadsBefore n (bz.TheVariants.Const k) = Unit {0}
+ReadsBefore n (bz.TheVariants.Column c) = ⊤
+ReadsBefore n (bz.TheVariants.IsTrue c) = ⊤
+ReadsBefore n (bz.TheVariants.Const k) = ⊤
 ReadsBefore n (bz.TheVariants.Neg a) = a < n
 ReadsBefore n (bz.TheVariants.Add a b) = (a < n) × (b < n)
 ReadsBefore n (bz.TheVariants.Sub a b) = (a < n) × (b < n)

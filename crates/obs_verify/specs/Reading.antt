@@ -1,10 +1,10 @@
 -- Columns that instructions read lie in a row.
 
-use Rattle.std.specs.Prelude.{ℕ, ◌<◌}
+use Rattle.std.specs.Prelude.{ℕ, ◌<◌, ⊤}
 use Rattle.mltl_base.specs.declared.operators.BzOp as bz
 
 -- the column that an instruction reads, if it reads one, is below the width
 abbrev pub ReadsWithin : ℕ → bz.BzOp → Type 0
 ReadsWithin width (bz.TheVariants.Column c) = c < width
 ReadsWithin width (bz.TheVariants.IsTrue c) = c < width
-ReadsWithin width op = Unit {0}
+ReadsWithin width op = ⊤

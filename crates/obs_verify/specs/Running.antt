@@ -1,6 +1,6 @@
 -- What the engines rely on in a program.
 
-use Rattle.std.specs.Prelude.{◌≡◌, ℕ, ◌≤◌, ◌<◌, Option, Some, None, List, length, sum, slice_get, slice_index_or, All}
+use Rattle.std.specs.Prelude.{◌≡◌, ℕ, ◌≤◌, ◌<◌, Option, Some, None, List, length, sum, slice_get, slice_index_or, All, ⊤}
 use Rattle.mltl_base.specs.declared.limits.TheConstants.{MAX_BOUND, MAX_SLOTS}
 use Rattle.mltl_base.specs.declared.operators.FtOp.TheVariants as ft
 use Rattle.mltl_base.specs.declared.operators.PtOp as pt
@@ -10,7 +10,7 @@ use Rattle.mltl_base.specs.Queues.{AreInOrder, HasBounds, HasPastBounds, box_cou
 
 -- an instruction of the Booleanizer that gives a truth
 abbrev pub IsTruthExpression : Option Expression → Type 0
-IsTruthExpression (Some (truth a)) = Unit {0}
+IsTruthExpression (Some (truth a)) = ⊤
 IsTruthExpression (Some (whole e)) = ⊥
 IsTruthExpression None = ⊥
 
@@ -24,8 +24,8 @@ pub record RunsFuture (program : Program) : Type 0 where
 
 -- the operands of pt instruction i stand before it
 abbrev pub IsAfterPastOperands : ℕ → pt.PtOp → Type 0
-IsAfterPastOperands i pt.TheVariants.True = Unit {0}
-IsAfterPastOperands i (pt.TheVariants.Load k) = Unit {0}
+IsAfterPastOperands i pt.TheVariants.True = ⊤
+IsAfterPastOperands i (pt.TheVariants.Load k) = ⊤
 IsAfterPastOperands i (pt.TheVariants.Not g) = g < i
 IsAfterPastOperands i (pt.TheVariants.And l r) = (l < i) × (r < i)
 IsAfterPastOperands i (pt.TheVariants.Since l r window) = (l < i) × (r < i)

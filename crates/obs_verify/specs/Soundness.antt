@@ -1,6 +1,6 @@
 -- Instructions of the Booleanizer that can be computed in 64 bits on every row that fits them.
 
-use Rattle.std.specs.Prelude.{◌<◌, ℕ, Option, Some, None, List, [], ◌∷◌, ◌++◌, IsOk, slice_get}
+use Rattle.std.specs.Prelude.{◌<◌, ℕ, Option, Some, None, List, [], ◌∷◌, ◌++◌, IsOk, slice_get, ⊤}
 use Rattle.mltl_base.specs.declared.operators.BzOp.{BzOp}
 use Rattle.mltl_base.specs.declared.operators.BzOp.TheVariants.{Column, IsTrue, Const, Neg, Add, Sub, Mul, Div, Rem, Eq, Lt, Le}
 use Rattle.mltl_base.specs.Atoms.{negative, plus, minus, times, quotient, remainder}
@@ -9,7 +9,7 @@ use Rattle.mltl_base.specs.Ranges.{range}
 
 -- there is an expression, and it gives a whole number
 abbrev pub IsWholeExpression : Option Expression → Type 0
-IsWholeExpression (Some (whole e)) = Unit {0}
+IsWholeExpression (Some (whole e)) = ⊤
 IsWholeExpression (Some (truth a)) = ⊥
 IsWholeExpression None = ⊥
 
@@ -26,7 +26,7 @@ AreWhole before a b = IsWhole before a × IsWhole before b
 abbrev pub IsSound : ℕ → List Expression → BzOp → Type 0
 IsSound width before (Column c) = c < width
 IsSound width before (IsTrue c) = c < width
-IsSound width before (Const n) = Unit {0}
+IsSound width before (Const n) = ⊤
 IsSound width before (Neg a) = IsWhole before a × IsOk (range (negative (term_at before a)))
 IsSound width before (Add a b) = AreWhole before a b × IsOk (range (plus (term_at before a) (term_at before b)))
 IsSound width before (Sub a b) = AreWhole before a b × IsOk (range (minus (term_at before a) (term_at before b)))
@@ -39,5 +39,5 @@ IsSound width before (Le a b) = AreWhole before a b
 
 -- each instruction, over the expressions of those before it
 unfoldable pub AreSound : ℕ → List Expression → List BzOp → Type 0
-AreSound width before [] = Unit {0}
+AreSound width before [] = ⊤
 AreSound width before (op ∷ ops) = IsSound width before op × AreSound width (before ++ expression_of before op ∷ []) ops

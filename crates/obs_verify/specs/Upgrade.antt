@@ -1,6 +1,6 @@
 -- A program of version 1 with a stored signal for each column that its instructions read.
 
-use Rattle.std.specs.Prelude.{ℕ, ◌≡◌, ◌==◌, Bool, true, false, ◌++◌, if◌then◌else◌, Option, Some, None, List, [], ◌∷◌, length, codes, decimal}
+use Rattle.std.specs.Prelude.{ℕ, ◌≡◌, ◌==◌, Bool, true, false, ◌++◌, if◌then◌else◌, Option, Some, None, List, [], ◌∷◌, length, codes, decimal, ⊤}
 use Rattle.std.specs.List.{filter_map, range_with_len}
 use Rattle.mltl_base.specs.declared.operators.BzOp as bz
 use Rattle.mltl_base.specs.declared.program.Program.{Program}
@@ -61,7 +61,7 @@ first_clash earlier (op ∷ ops) = if clashes earlier op then Some (length earli
 abbrev pub clash_of : Program → Option ℕ
 clash_of program = if program.version == 2 then None else first_clash [] program.bz
 
--- the fault names that instruction, unless memory is wanting
+-- the fault names that instruction, unless out of memory
 abbrev pub NamesClash : UpgradeFault → Option ℕ → Type 0
 NamesClash (Both i) clash = clash ≡ Some i
-NamesClash Memory clash = Unit {0}
+NamesClash Memory clash = ⊤

@@ -202,6 +202,6 @@ first_fault program =
 abbrev pub IsWellFormed : Program → Type 0
 IsWellFormed program = first_fault program ≡ None
 
--- an answer tells whether a fault was found: which one, unless memory is wanting
+-- an answer tells whether a fault was found: which one, unless out of memory
 abbrev pub IsAnswer : {T : Type 0} → Result T VerifyFault → Option VerifyFault → Type 0
 IsAnswer result found = MatchResult result (λ _. found ≡ None) (λ fault. fault ≢ Memory → found ≡ Some fault)

@@ -1,7 +1,7 @@
 -- Nodes of plain formulas: what they unfold to, and which are sound.
 -- A reader of the contracts needs this file.
 
-use Rattle.std.specs.Prelude.{◌≡◌, ℕ, ◌<◌, ◌≤◌, pos, Bool, true, false, Option, Some, None, List, [], ◌∷◌, ◌++◌, take, fold, slice_get}
+use Rattle.std.specs.Prelude.{◌≡◌, ℕ, ◌<◌, ◌≤◌, pos, Bool, true, false, Option, Some, None, List, [], ◌∷◌, ◌++◌, take, fold, slice_get, ⊤}
 use Rattle.mltl_base.specs.declared.limits.TheConstants.{MAX_BOUND}
 use Rattle.mltl_base.specs.declared.interval.Interval.{Interval}
 use Rattle.mltl_base.specs.declared.operators.ArithOp as arith
@@ -109,13 +109,13 @@ pub record Grows (old new : List Plain) : Type 0 where
 
 -- there is a whole number
 abbrev pub IsNumber : Option Tree → Type 0
-IsNumber (Some (number a)) = Unit {0}
+IsNumber (Some (number a)) = ⊤
 IsNumber (Some (formula p)) = ⊥
 IsNumber None = ⊥
 
 -- there is a formula
 abbrev pub IsFormula : Option Tree → Type 0
-IsFormula (Some (formula p)) = Unit {0}
+IsFormula (Some (formula p)) = ⊤
 IsFormula (Some (number a)) = ⊥
 IsFormula None = ⊥
 
@@ -125,9 +125,9 @@ IsBounded i = (i.lo ≤ i.hi) × (i.hi ≤ MAX_BOUND)
 
 -- the node's operands are earlier nodes of the kinds that it asks for, its interval is in bounds, its signal is one
 abbrev pub IsFormed : ℕ → List Tree → Plain → Type 0
-IsFormed signals earlier (Truth v) = Unit {0}
+IsFormed signals earlier (Truth v) = ⊤
 IsFormed signals earlier (Flag s) = s < signals
-IsFormed signals earlier (Number n) = Unit {0}
+IsFormed signals earlier (Number n) = ⊤
 IsFormed signals earlier (Signal s) = s < signals
 IsFormed signals earlier (Minus a) = IsNumber (slice_get earlier a)
 IsFormed signals earlier (Arith op a b) = IsNumber (slice_get earlier a) × IsNumber (slice_get earlier b)

@@ -46,7 +46,7 @@ impl Nodes {
         }
     }
 
-    /// Puts a node behind the others, and gives its place. At 2^32 nodes memory is wanting.
+    /// Puts a node after the others, and gives its place. At 2^32 nodes it is out of memory.
     pub fn push(&mut self, node: Plain) -> Result<u32, AllocError>
         ensures pushed { OnOk result (self.new ≡ self.old ++ node ∷ []) }
         ensures place { IfOk result (λ n. n ≡ length self.old) }

@@ -6,7 +6,7 @@ ghost use Rattle.plain_nodes.specs.Nodes.{AreSound, Grows, Has, IsFormed, IsForm
 ghost use Rattle.plain_nodes.specs.declared.nodes.Plain.{Plain as Node};
 ghost use Rattle.std.specs.Prelude.{◌≡◌, ℕ, List as Seq, [], ◌∷◌, ◌++◌, length, slice_get};
 
-/// A node that comes behind the others unfolds over them, and the others stay as they are.
+/// A node that comes after the others unfolds over them, and the others stay as they are.
 #[tactic(auto, using(crate::proofs::Pushing::has_new, crate::proofs::Pushing::grows_append, crate::proofs::Pushing::sound_nil, crate::proofs::Pushing::sound_push))]
 pub fn nodes_grow()
     ensures new { (nodes : Seq Node) (node : Node)

@@ -43,7 +43,7 @@ module _ (i : Interval) where
   apart_prolonged n low last (s ∷ []) e from a = (a.0, omega (arith, a.1, a.3), from, omega arith, tt)
   apart_prolonged n low last (s ∷ s' ∷ ss) e from a = (a.0, a.1, a.2, a.3, apart_prolonged n (s.last + 2) last (s' ∷ ss) e from a.4)
 
-  -- with one more behind
+  -- with one more after
   apart_push : (n low : ℕ) (new s : Span) (ss : List Span) → new.first + (i.hi - i.lo) ≤ new.last → n ≤ new.last + 1 → new.last < n + i.hi → meets new.first (s ∷ ss) ≡ false
       → AreApart i n low (s ∷ ss) → AreApart i n low ((s ∷ ss) ++ new ∷ [])
   unfolding AreApart meets
@@ -52,11 +52,11 @@ module _ (i : Interval) where
       (a.0, a.1, a.2, a.3, (gap, long, from, to, tt))
   apart_push n low new s (s' ∷ ss) long from to apart a = (a.0, a.1, a.2, a.3, apart_push n (s.last + 2) new s' ss long from to apart a.4)
 
-  apart_behind : (n : ℕ) (new : Span) (boxes : List Span) → new.first + (i.hi - i.lo) ≤ new.last → n ≤ new.last + 1 → new.last < n + i.hi → meets new.first boxes ≡ false
+  apart_after : (n : ℕ) (new : Span) (boxes : List Span) → new.first + (i.hi - i.lo) ≤ new.last → n ≤ new.last + 1 → new.last < n + i.hi → meets new.first boxes ≡ false
       → AreApart i n 0 boxes → AreApart i n 0 (boxes ++ new ∷ [])
   unfolding AreApart
-  apart_behind n new [] long from to apart a = (omega arith, long, from, to, tt)
-  apart_behind n new (s ∷ ss) long from to apart a = apart_push n 0 new s ss long from to apart a
+  apart_after n new [] long from to apart a = (omega arith, long, from, to, tt)
+  apart_after n new (s ∷ ss) long from to apart a = apart_push n 0 new s ss long from to apart a
 
   -- with the stretch of a row
   pub apart_with_stretch : (n : ℕ) (boxes : List Span) → i.lo ≤ i.hi → AreApart i (n + 1) 0 boxes → AreApart i (n + 1) 0 (with_stretch (stretch_at i n) boxes)
@@ -65,7 +65,7 @@ module _ (i : Interval) where
       let P : Bool → Type 0 = λ b. AreApart i (n + 1) 0 (if b then prolonged new.last boxes else boxes ++ new ∷ []) in
       elim (cases_Bool (meets new.first boxes)) [
         | inl met ↦ subst P (sym met) (apart_prolonged (n + 1) 0 new.last boxes (omega arith) (omega arith) a)
-        | inr apart ↦ subst P (sym apart) (apart_behind (n + 1) new boxes (omega arith) (omega arith) (omega arith) apart a)
+        | inr apart ↦ subst P (sym apart) (apart_after (n + 1) new boxes (omega arith) (omega arith) (omega arith) apart a)
       ]
 
   -- their ends are apart

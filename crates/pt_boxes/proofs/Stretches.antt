@@ -1,4 +1,4 @@
--- Stretches of times, one behind another.
+-- Stretches of times, one after another.
 use Rattle.std.proofs.Common.{◌≡◌, ℕ, ◌+◌, ◌-◌, ◌<◌, ◌≤◌, true, nat_le, List, [], ◌∷◌, ◌++◌, length, arith, refl, ap}
 use Rattle.std.proofs.lemmas.Bool.Decides.{nat_tests}
 use Rattle.pt_boxes.specs.declared.boxes.Span.{Span}
@@ -45,6 +45,6 @@ pub without_ended-none : (now : ℕ) → without_ended now [] ≡ []
 unfolding without_ended
 without_ended-none now = refl
 
--- to start right behind a time at the latest
+-- to start right after a time at the latest
 pub starts_by : (first last : ℕ) → nat_le (first - 1) last ≡ nat_le first (last + 1)
 starts_by first last = grind (arith, nat_tests)

@@ -1,6 +1,6 @@
 -- Past-time instructions, their truths and their parts of the slab of boxes.
 
-use Rattle.std.specs.Prelude.{◌≡◌, ℕ, ◌<◌, false, List, length, take, drop, slice_index_or}
+use Rattle.std.specs.Prelude.{◌≡◌, ℕ, ◌<◌, false, List, length, take, drop, slice_index_or, ⊤}
 use Rattle.mltl_base.specs.declared.interval.Interval.{Interval}
 use Rattle.mltl_base.specs.declared.operators.PtOp.{PtOp}
 use Rattle.mltl_base.specs.declared.operators.PtOp.TheVariants.{True, Since}
@@ -39,7 +39,7 @@ AreLaid nodes slab = AreSeated no_node (λ node. node.start) (λ node. node.size
 -- the boxes of a Since lie apart after n rows; of another instruction nothing is asked
 abbrev pub HasBoxes : PtOp → ℕ → List Span → Type 0
 HasBoxes (Since l r i) n boxes = AreApart i n 0 boxes
-HasBoxes op n boxes = Unit {0}
+HasBoxes op n boxes = ⊤
 
 -- after n rows, the boxes of a Since with this interval have their room, and lie apart
 pub record KeepsSince (i : Interval) (n : ℕ) (boxes : Boxes) (own : List Span) : Type 0 where

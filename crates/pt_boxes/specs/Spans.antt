@@ -1,6 +1,6 @@
 -- Boxes: stretches of times at which a Since will hold if its left operand stays true.
 
-use Rattle.std.specs.Prelude.{◌≡◌, ℕ, suc, ◌+◌, ◌-◌, ◌<◌, ◌≤◌, nat_le, nat_lt, Bool, false, ◌&&◌, if◌then◌else◌, List, [], ◌∷◌, ◌++◌}
+use Rattle.std.specs.Prelude.{◌≡◌, ℕ, suc, ◌+◌, ◌-◌, ◌<◌, ◌≤◌, nat_le, nat_lt, Bool, false, ◌&&◌, if◌then◌else◌, List, [], ◌∷◌, ◌++◌, ⊤}
 use Rattle.std.specs.List.{list_any}
 use Rattle.mltl_base.specs.declared.interval.Interval.{Interval}
 use Rattle.mltl_base.specs.Kleene.{some_below, every_in}
@@ -27,7 +27,7 @@ pub record Tells (i : Interval) (p q : ℕ → Bool) (n : ℕ) (boxes : List Spa
 -- After n rows, each box covers more times than the interval's ends lie apart, and ends from n - 1 to n - 1 + hi; the
 -- first starts at or past `low`, and each later one at least 2 after the end of the one before.
 unfoldable pub AreApart : Interval → ℕ → ℕ → List Span → Type 0
-AreApart i n low [] = Unit {0}
+AreApart i n low [] = ⊤
 AreApart i n low (s ∷ ss) = (low ≤ s.first) × (s.first + (i.hi - i.lo) ≤ s.last) × (n ≤ s.last + 1) × (s.last < n + i.hi) × AreApart i n (s.last + 2) ss
 
 -- the boxes without the first one where it ended before this time

@@ -1,6 +1,6 @@
 -- The truths of past-time instructions by time, and the nodes that hold them.
 
-use Rattle.std.specs.Prelude.{◌≡◌, ℕ, ◌+◌, ◌-◌, ◌<◌, Bool, true, not, ◌&&◌, List, length, ℤ, slice_get, Some}
+use Rattle.std.specs.Prelude.{◌≡◌, ℕ, ◌+◌, ◌-◌, ◌<◌, Bool, true, not, ◌&&◌, List, length, ℤ, slice_get, Some, ⊤}
 use Rattle.mltl_base.specs.declared.operators.BzOp.{BzOp}
 use Rattle.mltl_base.specs.declared.operators.PtOp.{PtOp}
 use Rattle.mltl_base.specs.declared.operators.PtOp.TheVariants.{True, Load, Not, And, Since}
@@ -32,7 +32,7 @@ IsTable ops loaded n table = (i t : ℕ) → i < length ops → t < n → table 
 -- the boxes of a Since tell what the table says of it after n rows
 abbrev pub IsTold : PtOp → Table → ℕ → List Span → Type 0
 IsTold (Since l r i) table n boxes = Tells i (table l) (table r) n boxes
-IsTold op table n boxes = Unit {0}
+IsTold op table n boxes = ⊤
 
 -- after n rows the nodes hold the truths of the last row, and boxes that tell the table
 pub record HasTable (ops : List PtOp) (table : Table) (n : ℕ) (nodes : List Node) (slab : List Span) : Type 0 where

@@ -98,7 +98,7 @@ impl Boxes {
         spans[newest].last = last;
     }
 
-    /// Adds a box behind the newest one, where there is room.
+    /// Adds a box after the newest one, where there is room.
     fn push(&mut self, spans: &mut [Span], stretch: Span)
         requires belongs { Belongs self.old spans.old }
         requires room { self.old.used < length spans.old }

@@ -1,5 +1,6 @@
 -- What the calls of C tell, from what their parts do.
 
+use Rattle.std.specs.Prelude.{⊤}
 use Rattle.std.proofs.Common.{◌≡◌, ℕ, true, false, Option, Some, Result, Ok, Err, IfOk, IfErr, IsSomeAnd, Contains, [], ◌∷◌, sym, ap, subst, lit<, arith, ◌∙◌}
 use Rattle.mltl_base.specs.declared.report.Style.{Style}
 use Rattle.mltl_base.specs.Atoms.{Row}
@@ -12,7 +13,7 @@ use Rattle.r2u2_c.specs.declared.rows.RowFault.TheVariants.{ReportsLeft, NotARow
 use Rattle.r2u2_c.specs.Exports.{HoldsBack, TellsFirst, Tells, row_code}
 use Rattle.r2u2_c.specs.Rows.{IsRowCause}
 
--- the monitor behind a box is the one that was open
+-- the monitor after a box is the one that was open
 pub is_open_as : (m box : State) (before : Option State) → before ≡ Some box → m ≡ box → before ≡ Some m
 is_open_as m box before is same = is ∙ ap (λ (x : State). Some x) (sym same)
 
@@ -29,7 +30,7 @@ undrained m before is gone = (
 )
 
 -- the code of a row that isn't taken before the reports are given
-pub left_first : (taken : Result (Unit {0}) RowFault) (code : ℕ) (row : Row) (m : State) (before : Option State) → before ≡ Some m
+pub left_first : (taken : Result ⊤ RowFault) (code : ℕ) (row : Row) (m : State) (before : Option State) → before ≡ Some m
     → IfErr taken (λ why. IsRowCause why m row) → IfOk taken (λ _. code ≡ DONE) → IfErr taken (λ why. code ≡ row_code why) → code ≡ REPORTS_LEFT → HoldsBack ReportsLeft row before
 left_first (Ok t) code row m before is cause done fault e = absurd (let d : code ≡ 0 = done in let f : code ≡ 5 = e in omega (arith, d, f))
 left_first (Err ReportsLeft) code row m before is cause done fault e = subst (λ (o : Option State). HoldsBack ReportsLeft row o) (sym is) cause
@@ -37,7 +38,7 @@ left_first (Err NotARow) code row m before is cause done fault e = absurd (let d
 left_first (Err TooMany) code row m before is cause done fault e = absurd (let d : code ≡ 7 = fault in let f : code ≡ 5 = e in omega (arith, d, f))
 
 -- the codes of rows
-pub row_codes : (taken : Result (Unit {0}) RowFault) (code : ℕ) → IfOk taken (λ _. code ≡ DONE) → IfErr taken (λ why. code ≡ row_code why)
+pub row_codes : (taken : Result ⊤ RowFault) (code : ℕ) → IfOk taken (λ _. code ≡ DONE) → IfErr taken (λ why. code ≡ row_code why)
     → Contains (DONE ∷ NOT_OPEN ∷ REPORTS_LEFT ∷ NOT_A_ROW ∷ TOO_MANY_ROWS ∷ []) code
 row_codes (Ok t) code done fault = (0, lit< tt, sym done)
 row_codes (Err ReportsLeft) code done fault = (2, lit< tt, sym fault)

@@ -88,7 +88,7 @@ abbrev pub place_of : Refusal → ℕ
 place_of (Program f) = fault_place f
 place_of why = 0
 
--- a text at the front of 96 bytes, with zeros behind it
+-- a text at the front of 96 bytes, with zeros after it
 abbrev pub padded : List ℕ → List ℕ
 padded text = text ++ drop (length text) (replicate 96 0)
 

@@ -5,13 +5,13 @@ use Rattle.mltl_base.specs.declared.report.Report.{Report}
 use Rattle.mltl_base.specs.declared.report.Style.{Style}
 use Rattle.mltl_base.specs.declared.report.Style.TheVariants.{Each, Runs}
 use Rattle.mltl_base.specs.declared.report.Word.{Word}
-use Rattle.mltl_base.specs.declared.report.Word.TheVariants.{True, False, Inactive, Invalid, Verified}
+use Rattle.mltl_base.specs.declared.report.Word.TheVariants.{T, F, Inactive, Invalid, Verified}
 use Rattle.r2u2_c.specs.declared.report.Told.{Told}
 
 -- each word has a number of its own
 abbrev pub word_number : Word → ℕ
-word_number False = 0
-word_number True = 1
+word_number F = 0
+word_number T = 1
 word_number Inactive = 2
 word_number Invalid = 3
 word_number Verified = 4

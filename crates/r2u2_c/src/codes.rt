@@ -8,7 +8,7 @@ pub const NOT_OPEN: u32 = 1;
 pub const ALREADY_OPEN: u32 = 2;
 /// The bytes are no program, or the header doesn't name its signals: the fault tells which and where.
 pub const REFUSED: u32 = 3;
-/// Memory is wanting.
+/// Out of memory.
 pub const NO_MEMORY: u32 = 4;
 /// Reports of the last row are still to be asked for.
 pub const REPORTS_LEFT: u32 = 5;

@@ -18,7 +18,7 @@ pub struct Fault {
     pub part: u32,
     /// The byte, instruction, output or signal where it is, counted from 0.
     pub place: u64,
-    /// What is wrong, with zeros behind it.
+    /// What is wrong, with zeros after it.
     pub text: [u8; 96],
 }
 

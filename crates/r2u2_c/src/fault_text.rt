@@ -35,7 +35,7 @@ pub(crate) fn text_of_refusal(why: &Refusal) -> ArrayVec<u8, 95>
     text
 }
 
-/// Puts a piece behind a text that has room for it.
+/// Puts a piece after a text that has room for it.
 fn add(text: &mut Text, piece: &[u8])
     requires { array_vec_len text.old + length piece.now ≤ 95 }
     ensures items { text.new.items ≡ text.old.items ++ piece.now }

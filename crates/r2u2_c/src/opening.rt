@@ -27,7 +27,7 @@ pub enum Refusal {
     Missing(Name),
     /// The first signal that doesn't stand exactly once in the header stands more than once.
     Twice(Name),
-    /// Memory is wanting.
+    /// Out of memory.
     Memory,
 }
 

@@ -35,8 +35,8 @@ fn number_of(word: Word) -> u32
     ensures { result ≡ word_number word }
 {
     match word {
-        Word::False => 0,
-        Word::True => 1,
+        Word::F => 0,
+        Word::T => 1,
         Word::Inactive => 2,
         Word::Invalid => 3,
         Word::Verified => 4,

@@ -1,4 +1,4 @@
--- Runs by what the words ask for: help, a demo, nothing, or a file for which memory is wanting before it is read.
+-- Runs by what the words ask for: help, a demo, nothing, or a file for which it is out of memory before it is read.
 
 use Rattle.std.proofs.Common.{◌≡◌, ◌≢◌, ◌↔◌, ℕ, ◌<◌, ◌⊎◌, Bool, false, Option, None, List, [], ◌∷◌, ◌++◌, refl, sym, ◌∙◌, subst, arith, inl, inr}
 use Rattle.std.proofs.lemmas.List.{append-nil}
@@ -20,7 +20,7 @@ use Rattle.r2u2_runs.specs.Asking.{asked_names}
 use Rattle.demo_runs.specs.Summary.{demo_summary}
 use Rattle.r2u2_runs.specs.Demo.{DemoLog, DemoOutcome, KeepsDemo, SummaryLog}
 use Rattle.r2u2_runs.specs.Outcome.{due_by}
-use Rattle.r2u2_runs.specs.Run.{found_in, FileOutcome, HelpOutcome, NothingOutcome, OutcomeOf, RefusesBehind, TriesSecond, IsPrompt, Ran}
+use Rattle.r2u2_runs.specs.Run.{found_in, FileOutcome, HelpOutcome, NothingOutcome, OutcomeOf, RefusesAfter, TriesSecond, IsPrompt, Ran}
 
 -- help, or a front of it, went out
 help_ran : (answer : status.Status) (sent : List ℕ) (events : List Event) → Writes Out sent events → OutcomeOf answer help events None → OpensAsTold answer events → (answer ≡ status.TheVariants.Memory → ⊥) → Ran help answer None events
@@ -63,13 +63,13 @@ memory_none (run asked) = (omega arith, record { no_lines = refl; no_monitor = r
 memory_none (demo seed rows) = record { no_lines = refl; no_monitor = refl }
 memory_none nothing = record { no_lines = refl; no_monitor = refl }
 
-memory_begun : (asked : Asked) → RefusesBehind asked status.TheVariants.Memory []
+memory_begun : (asked : Asked) → RefusesAfter asked status.TheVariants.Memory []
 memory_begun help = tt
 memory_begun (run asked) = λ unrefused. tt
 memory_begun (demo seed rows) = tt
 memory_begun nothing = tt
 
-run_none : (asked : Asked) (answer : status.Status) → OutcomeOf answer asked [] None → OpensAsTold answer [] → RefusesBehind asked answer [] → Ran asked answer None []
+run_none : (asked : Asked) (answer : status.Status) → OutcomeOf answer asked [] None → OpensAsTold answer [] → RefusesAfter asked answer [] → Ran asked answer None []
 run_none asked answer outcome opened begun = record {
   names = record { rest = asked_names asked; split = refl };
   second = second_none asked;

@@ -23,7 +23,7 @@ use Rattle.tool_runs.proofs.AttachLaws.{ReadsAttached-append, file_attached, fil
 use Rattle.tool_runs.specs.FirstLine.{begins_long}
 use Rattle.r2u2_runs.specs.ProgramBy.{file_refusal, unless_long, unless_refused, header_in, program_by, program_over}
 use Rattle.r2u2_runs.specs.Outcome.{due_by, Silent}
-use Rattle.r2u2_runs.specs.Run.{file_ended, trace_of, trace_ended, lines_in, found_in, IsReadable, ReadsFirstLine, FileOutcome, BegunFor, RefusesBehind, Ran}
+use Rattle.r2u2_runs.specs.Run.{file_ended, trace_of, trace_ended, lines_in, found_in, IsReadable, ReadsFirstLine, FileOutcome, BegunFor, RefusesAfter, Ran}
 use Rattle.r2u2_runs.specs.Phases.{IsOpened, RanFile, TraceOutcome}
 use Rattle.r2u2_runs.proofs.Refusing.{Refuses, file_refuses}
 use Rattle.r2u2_runs.proofs.TraceRuns.{trace_elsewhere}
@@ -89,7 +89,7 @@ one_tried : (names : List (place.Place × List ℕ)) (one : place.Place × List 
 one_tried names one is two = let less : 1 < 1 = subst (λ ns. 1 < length ns) is two in omega (arith, less)
 
 -- a run whose file was read, and nothing more: the log is that of the file
-run_read : (asked : RunAsked) (bytes : List ℕ) (ended : Bool) (answer : status.Status) (events : List Event) (read : HasRead asked.kind asked.file bytes ended events) → FileOutcome answer asked bytes ended [] false [] None → OpensAsTold answer events → RefusesBehind (run asked) answer events → Ran (run asked) answer None events
+run_read : (asked : RunAsked) (bytes : List ℕ) (ended : Bool) (answer : status.Status) (events : List Event) (read : HasRead asked.kind asked.file bytes ended events) → FileOutcome answer asked bytes ended [] false [] None → OpensAsTold answer events → RefusesAfter (run asked) answer events → Ran (run asked) answer None events
 run_read asked bytes ended answer events read outcome opened begun =
     let due_of = due_by asked (found_in asked events) false in
     record {
@@ -184,7 +184,7 @@ run_opened (status.TheVariants.ReadFault Trace) asked bytes kept first second un
 run_opened (status.TheVariants.ReadFault p) asked bytes kept first second unopened is opened = absurd is
 run_opened answer asked bytes kept first second unopened is opened = tt
 
--- the first line's reads behind the file's
+-- the first line's reads after the file's
 early_both : (first second : List Event) → ReadsFirstLine first → taken Trace first ≡ [] → ReadsFirstLine second → ReadsFirstLine (first ++ second)
 early_both first second a none b before after piece is =
     elim (split_at first second before after (Took Trace piece) is) [

@@ -240,7 +240,7 @@ module _ (asked : RunAsked) (bytes : List ℕ) (start : Cutting) (answer : statu
     early = λ memory. absurd (never_memory ran.ended_so (sym ran.is ∙ memory));
   }
 
--- nothing came behind the first line
+-- nothing came after the first line
 lines_alone : (asked : RunAsked) (bytes : List ℕ) (answer : status.Status) (kept : Option State) (first second : List Event) → kept ≡ None → second ≡ [] → RanLines asked bytes answer None first → RanLines asked bytes answer kept (first ++ second)
 lines_alone asked bytes answer kept first second no_monitor no_events ran =
     subst (λ k. RanLines asked bytes answer k (first ++ second)) (sym no_monitor) (subst (λ e. RanLines asked bytes answer None (first ++ e)) (sym no_events) (subst (RanLines asked bytes answer None) (sym (append-nil first)) ran))

@@ -1,4 +1,4 @@
--- The message behind a run, and what follows from a run without a fault.
+-- The message after a run, and what follows from a run without a fault.
 
 use Rattle.std.proofs.Common.{◌≡◌, ◌≢◌, ℕ, ◌≤◌, ◌<◌, ◌⊎◌, Bool, false, Option, Result, Ok, Err, List, [], ◌++◌, length, refl, sym, ◌∙◌, ap, subst, inl, inr, arith}
 use Rattle.std.proofs.lemmas.List.{append-nil}
@@ -28,7 +28,7 @@ use Rattle.tool_runs.proofs.MessageLaws.{Leaves, message_leaves, unattached}
 use Rattle.r2u2_runs.specs.Demo.{DemoOutcome}
 use Rattle.r2u2_runs.specs.ProgramBy.{file_refusal, program_over}
 use Rattle.r2u2_runs.specs.Outcome.{due_by, StopsBy, LinesOutcome}
-use Rattle.r2u2_runs.specs.Run.{BegunFor, RefusesBehind, file_of, file_ended, trace_of, trace_ended, lines_in, found_in, IsReadable, FileOutcome, HelpOutcome, NothingOutcome, OutcomeOf, TriesSecond, IsPrompt, TellsFormulas, Ran, CompletesBy, IsRun}
+use Rattle.r2u2_runs.specs.Run.{BegunFor, RefusesAfter, file_of, file_ended, trace_of, trace_ended, lines_in, found_in, IsReadable, FileOutcome, HelpOutcome, NothingOutcome, OutcomeOf, TriesSecond, IsPrompt, TellsFormulas, Ran, CompletesBy, IsRun}
 use Rattle.r2u2_runs.proofs.Telling.{settled_by}
 
 -- rows that end cleanly, and a program, where another end is told, or no program
@@ -40,7 +40,7 @@ no_program : (answer : status.Status) (asked : RunAsked) (found : Result Program
 no_program answer asked (Ok program) ended bytes is clean = absurd (cc)
 no_program answer asked (Err other) ended bytes is clean = clean
 
--- a program, and a trace without an end of its own, give Done, unless memory is wanting
+-- a program, and a trace without an end of its own, give Done, unless out of memory
 lines_complete : (answer : status.Status) (asked : RunAsked) (found : Result Program status.Status) (bytes : List ℕ) (ended : Bool) (out : List ℕ) (kept : Option State) (before between now : place.Place → ℕ) → RunCause answer before between → ((q : place.Place) → q ≢ at.Err → now q ≡ between q) → NoOtherRose before now → StopsBy Clean asked found ended bytes → LinesOutcome answer asked found ended bytes out kept → (answer ≡ status.TheVariants.Done) ⊎ (answer ≡ status.TheVariants.Memory)
 lines_complete status.TheVariants.Done asked found bytes ended out kept before between now cause same none clean is = inl refl
 lines_complete status.TheVariants.Memory asked found bytes ended out kept before between now cause same none clean is = inr refl
@@ -93,7 +93,7 @@ complete_run help answer kept before between now events cause same is = λ none.
 complete_run (demo seed rows) answer kept before between now events cause same is = λ none. demo_complete answer seed rows (given Out events) kept before between now cause same none is
 complete_run (run asked) answer kept before between now events cause same is = λ none fits clean. file_complete answer asked (file_of asked events) (file_ended asked events) (trace_of events) (trace_ended events) (given Out events) kept before between now cause same none fits clean is
 
--- a message behind a run changes nothing but what Err was given
+-- a message after a run changes nothing but what Err was given
 module _ (first all : List Event) (leaves : Leaves first all) where
   all_lines : lines_in all ≡ lines_in first
   all_lines = ap (λ v. lines_of v (trace_of all)) (leaves.ends Trace) ∙ ap (lines_of (trace_ended first)) (leaves.bytes Trace)
@@ -120,7 +120,7 @@ module _ (first all : List Event) (leaves : Leaves first all) where
       (subst (λ v. FileOutcome answer asked (file_of asked first) (file_ended asked first) (trace_of first) v (given Out all) kept) (sym (leaves.ends Trace))
       (subst (λ b. FileOutcome answer asked (file_of asked first) (file_ended asked first) (trace_of first) (trace_ended first) b kept) (sym leaves.out) is))))
 
-  pub begun_still : (asked : Asked) (answer : status.Status) → RefusesBehind asked answer first → RefusesBehind asked answer all
+  pub begun_still : (asked : Asked) (answer : status.Status) → RefusesAfter asked answer first → RefusesAfter asked answer all
   begun_still help answer is = tt
   begun_still (demo seed rows) answer is = tt
   begun_still nothing answer is = tt
@@ -128,7 +128,7 @@ module _ (first all : List Event) (leaves : Leaves first all) where
       subst (λ v. BegunFor answer v (lines_in all)) (sym (leaves.ends Trace))
       (subst (BegunFor answer (trace_ended first)) (sym all_lines) (is (ap (file_refusal asked.kind) (sym (leaves.bytes (file_place asked.kind))) ∙ unrefused)))
 
--- nor are lines due behind it
+-- nor are lines due after it
 module _ (first second : List Event) (sent : List ℕ) (writes : Writes at.Err sent second) where
   still_prompt : (due_of : List ℕ → List ℕ) → Prompt due_of [] first → Prompt due_of [] (first ++ second)
   still_prompt due_of is = Prompt-from_by due_of [] (first ++ second) (PromptBy-append due_of [] [] first second (PromptBy-from due_of [] first is) (Writes-prompt due_of (taken Trace first) (given Out first) at.Err sent second writes))

@@ -1,7 +1,7 @@
 -- Which statuses a file, a header and the limits of a program give.
 
 use Rattle.std.proofs.Common.{◌≡◌, ℕ, ◌==◌, true, false, if◌then◌else◌, Option, Some, None, Result, Ok, Err, List, [], ◌∷◌, length, map, sym, subst}
-use Rattle.std.specs.Prelude.{option_map}
+use Rattle.std.specs.Prelude.{option_map, ⊤}
 use Rattle.std.specs.Option.{option_or}
 use Rattle.mltl_base.specs.declared.program.Columns.{Columns}
 use Rattle.mltl_base.specs.declared.program.Program.{Program}
@@ -40,31 +40,31 @@ use Rattle.r2u2_runs.specs.ProgramBy.{compile_status, with_status, refusal_of, f
 
 -- a status by which there is no program
 abbrev pub Refuses : Status → Type 0
-Refuses (Refused line refusal) = Unit {0}
-Refuses (BadProgram fault) = Unit {0}
-Refuses (BadTrace number why) = Unit {0}
-Refuses Memory = Unit {0}
+Refuses (Refused line refusal) = ⊤
+Refuses (BadProgram fault) = ⊤
+Refuses (BadTrace number why) = ⊤
+Refuses Memory = ⊤
 Refuses status = ⊥
 
 -- the same of what was found, and of a refusal that may be
 abbrev pub IsFound : Result Program Status → Type 0
-IsFound (Ok program) = Unit {0}
+IsFound (Ok program) = ⊤
 IsFound (Err status) = Refuses status
 
 abbrev pub MayRefuse : Option Status → Type 0
-MayRefuse None = Unit {0}
+MayRefuse None = ⊤
 MayRefuse (Some status) = Refuses status
 
 -- the header, if there is one, begins with `#`
 abbrev pub IsMarked : Option (List ℕ) → Type 0
-IsMarked None = Unit {0}
+IsMarked None = ⊤
 IsMarked (Some line) = begins_header line ≡ true
 
 -- a fault that names a signal
 abbrev Names : {T : Type 0} → Result T HeaderFault → Type 0
-Names (Ok value) = Unit {0}
+Names (Ok value) = ⊤
 Names (Err header_fault.NoHeader) = ⊥
-Names (Err fault) = Unit {0}
+Names (Err fault) = ⊤
 
 column_names : (names : List (List ℕ)) (signal : List ℕ) → Names (column_of names signal)
 column_names names signal =
@@ -109,7 +109,7 @@ abbrev Speaks : CompileFault → Type 0
 Speaks fault = Refuses (compile_status fault)
 
 abbrev MaySpeak : Option CompileFault → Type 0
-MaySpeak None = Unit {0}
+MaySpeak None = ⊤
 MaySpeak (Some fault) = Speaks fault
 
 token_speaks : (fault : LexFault) → Speaks (token_refusal fault)

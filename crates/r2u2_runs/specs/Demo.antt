@@ -19,7 +19,7 @@ pub record KeepsDemo (seed rows : ℕ) (kept : Option State) : Type 0 where
   pub stands : Stands monitor (demo_rows seed rows)
   pub drained : IsDrained monitor
 
--- the summary is out whole, or a front of it that misses some; where memory is wanting nothing is
+-- the summary is out whole, or a front of it that misses some; when out of memory nothing is
 abbrev pub DemoOutcome : status.Status → ℕ → ℕ → List ℕ → Option State → Type 0
 DemoOutcome status.TheVariants.Done seed rows out kept = (out ≡ demo_summary seed rows) × KeepsDemo seed rows kept
 DemoOutcome (status.TheVariants.WriteFault place.TheVariants.Out) seed rows out kept = IsProperFront out (demo_summary seed rows) × KeepsDemo seed rows kept

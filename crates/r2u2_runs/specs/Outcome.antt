@@ -1,6 +1,6 @@
 -- How the answer of a run follows from the lines of its trace, with what is out and the monitor that is kept.
 
-use Rattle.std.specs.Prelude.{◌≡◌, ℕ, ◌⊎◌, Bool, true, false, if◌then◌else◌, IsSome, Option, Some, None, Result, Ok, Err, List, []}
+use Rattle.std.specs.Prelude.{◌≡◌, ℕ, ◌⊎◌, Bool, true, false, if◌then◌else◌, IsSome, Option, Some, None, Result, Ok, Err, List, [], ⊤}
 use Rattle.mltl_base.specs.declared.program.Program.{Program}
 use Rattle.tool_io.specs.declared.host.Place.TheVariants.{Trace, Out}
 use Rattle.tool_io.specs.Log.{IsProperFront}
@@ -34,7 +34,7 @@ pub record Silent (out : List ℕ) (kept : Option State) : Type 0 where
 
 -- a kept monitor is one of the program, has the rows and has told them
 abbrev pub KeepsTold : Option State → RunAsked → Result Program Status → Bool → List ℕ → Type 0
-KeepsTold None asked found ended bytes = Unit {0}
+KeepsTold None asked found ended bytes = ⊤
 KeepsTold (Some monitor) asked (Ok program) ended bytes = HasTold program monitor (rows_over asked program ended bytes).rows
 KeepsTold (Some monitor) asked (Err status) ended bytes = ⊥
 

@@ -74,7 +74,7 @@ status_of watched.TheVariants.TooLong = status.TheVariants.TooLong
 status_of watched.TheVariants.ReadFault = status.TheVariants.ReadFault place.TheVariants.Trace
 status_of watched.TheVariants.WriteFault = status.TheVariants.WriteFault place.TheVariants.Out
 
--- the loop ran over what the cut had and what was read, with a monitor that is kept; or memory was wanting before
+-- the loop ran over what the cut had and what was read, with a monitor that is kept; or it was out of memory before
 pub record RanLoop (program : Program) (asked : RunAsked) (start : Cutting) (answer : status.Status) (kept : Option State) (events : List Event) : Type 0 where
   pub cut : Cutting
   pub monitor : State
@@ -83,7 +83,7 @@ pub record RanLoop (program : Program) (asked : RunAsked) (start : Cutting) (ans
   pub watch : IsWatch program asked.style (rows_by asked program (first_of start)) start cut monitor ended_so events
   pub kept_is : kept ≡ Some monitor
 
--- memory was wanting, and nothing was done
+-- out of memory, and nothing was done
 pub record NoMemory (answer : status.Status) (kept : Option State) (events : List Event) : Type 0 where
   pub is : answer ≡ status.TheVariants.Memory
   pub no_monitor : kept ≡ None
@@ -93,7 +93,7 @@ pub record NoMemory (answer : status.Status) (kept : Option State) (events : Lis
 abbrev pub LoopLog : Program → RunAsked → Cutting → status.Status → Option State → List Event → Type 0
 LoopLog program asked start answer kept events = NoMemory answer kept events ⊎ RanLoop program asked start answer kept events
 
--- the header or a limit refused the program, or memory was wanting for it
+-- the header or a limit refused the program, or it was out of memory
 pub record NoProgram (asked : RunAsked) (bytes : List ℕ) (start : Cutting) (answer : status.Status) (kept : Option State) (events : List Event) : Type 0 where
   pub why : (answer ≡ status.TheVariants.Memory) ⊎ (program_by asked.kind bytes (header_at start) ≡ Err answer)
   pub no_monitor : kept ≡ None
@@ -136,7 +136,7 @@ pub record RanTrace (asked : RunAsked) (bytes : List ℕ) (answer : status.Statu
   pub early : answer ≡ status.TheVariants.Memory → ReadsFirstLine events
   pub quiet : given place.TheVariants.Err events ≡ []
 
--- the file is refused by itself, or memory was wanting for it
+-- the file is refused by itself, or it was out of memory
 pub record NotOpened (asked : RunAsked) (bytes : List ℕ) (answer : status.Status) (kept : Option State) (events : List Event) : Type 0 where
   pub why : (answer ≡ status.TheVariants.Memory) ⊎ (file_refusal asked.kind bytes ≡ Some answer)
   pub no_monitor : kept ≡ None
@@ -147,6 +147,6 @@ pub record IsOpened (asked : RunAsked) (bytes : List ℕ) (answer : status.Statu
   pub unrefused : file_refusal asked.kind bytes ≡ None
   pub ran : RanTrace asked bytes answer kept events
 
--- the log of a run behind the reading of its file
+-- the log of a run after the reading of its file
 abbrev pub RanFile : RunAsked → List ℕ → status.Status → Option State → List Event → Type 0
 RanFile asked bytes answer kept events = NotOpened asked bytes answer kept events ⊎ IsOpened asked bytes answer kept events

@@ -1,6 +1,6 @@
 -- What a whole run of r2u2 tells: from its words to its message.
 
-use Rattle.std.specs.Prelude.{◌≡◌, ◌≢◌, ℕ, ◌<◌, ◌≤◌, ◌⊎◌, Bool, true, false, Option, None, Result, List, [], ◌∷◌, ◌++◌, length}
+use Rattle.std.specs.Prelude.{◌≡◌, ◌≢◌, ℕ, ◌<◌, ◌≤◌, ◌⊎◌, Bool, true, false, Option, None, Result, List, [], ◌∷◌, ◌++◌, length, ⊤}
 use Rattle.mltl_base.specs.declared.program.Program.{Program}
 use Rattle.tool_io.specs.declared.host.Place as place
 use Rattle.tool_io.specs.Log.{Event, Took, taken, given, ended_from, names_of, IsFront, IsProperFront, Prompt}
@@ -51,10 +51,10 @@ pub record IsReadable (asked : RunAsked) (file : List ℕ) (ended : Bool) : Type
   pub within : length file ≤ file_limit asked.kind
   pub unrefused : file_refusal asked.kind file ≡ None
 
--- the trace, which comes second, is tried only behind a file that is readable
+-- the trace, which comes second, is tried only after a file that is readable
 abbrev pub TriesSecond : Asked → List Event → Type 0
 TriesSecond (run asked) events = 1 < length (names_of events) → IsReadable asked (file_of asked events) (file_ended asked events)
-TriesSecond other events = Unit {0}
+TriesSecond other events = ⊤
 
 -- before each read of the trace no newline was taken
 abbrev pub ReadsFirstLine : List Event → Type 0
@@ -69,7 +69,7 @@ IsPrompt other events = Prompt (λ bytes. []) [] events
 abbrev pub TellsFormulas : Asked → List Event → Type 0
 TellsFormulas (run asked) events =
     IsSettledBy asked (file_of asked events) (header_in (lines_in events)) (found_in asked events) (trace_ended events) (trace_of events)
-TellsFormulas other events = Unit {0}
+TellsFormulas other events = ⊤
 
 -- the file was read to its end, and the answer follows from the lines of the trace
 pub record ByLines (answer : status.Status) (asked : RunAsked) (file : List ℕ) (file_end : Bool) (bytes : List ℕ) (ended : Bool) (out : List ℕ) (kept : Option State) : Type 0 where
@@ -118,13 +118,13 @@ HasBegun ended lines = (ended ≡ true) ⊎ (lines ≢ [])
 -- the limits of a program refuse it only where the trace has begun
 abbrev pub BegunFor : status.Status → Bool → List (List ℕ) → Type 0
 BegunFor (status.TheVariants.Refused line why) ended lines = HasBegun ended lines
-BegunFor answer ended lines = Unit {0}
+BegunFor answer ended lines = ⊤
 
 -- so they do where the file isn't refused by itself
-abbrev pub RefusesBehind : Asked → status.Status → List Event → Type 0
-RefusesBehind (run asked) answer events =
+abbrev pub RefusesAfter : Asked → status.Status → List Event → Type 0
+RefusesAfter (run asked) answer events =
     file_refusal asked.kind (file_of asked events) ≡ None → BegunFor answer (trace_ended events) (lines_in events)
-RefusesBehind other answer events = Unit {0}
+RefusesAfter other answer events = ⊤
 
 -- the log of a run before its message
 pub record Ran (asked : Asked) (answer : status.Status) (kept : Option State) (events : List Event) : Type 0 where
@@ -134,12 +134,12 @@ pub record Ran (asked : Asked) (answer : status.Status) (kept : Option State) (e
   pub prompt : IsPrompt asked events
   pub outcome : OutcomeOf answer asked events kept
   pub opened : OpensAsTold answer events
-  pub begun : RefusesBehind asked answer events
+  pub begun : RefusesAfter asked answer events
   pub early : answer ≡ status.TheVariants.Memory → ReadsFirstLine events
   pub quiet : given place.TheVariants.Err events ≡ []
 
 -- A file and a header that give a program, and a trace without a faulty line and within the mission time, give Done,
--- unless memory is wanting, and so does a demo; help is given where it is asked for.
+-- unless out of memory, and so does a demo; help is given where it is asked for.
 abbrev pub CompletesBy : Asked → status.Status → List Event → Type 0
 CompletesBy (run asked) answer events =
     length (file_of asked events) ≤ file_limit asked.kind
@@ -147,7 +147,7 @@ CompletesBy (run asked) answer events =
     → (answer ≡ status.TheVariants.Done) ⊎ (answer ≡ status.TheVariants.Memory)
 CompletesBy help answer events = (answer ≡ status.TheVariants.Helped) ⊎ (answer ≡ status.TheVariants.Memory)
 CompletesBy (demo seed rows) answer events = (answer ≡ status.TheVariants.Done) ⊎ (answer ≡ status.TheVariants.Memory)
-CompletesBy nothing answer events = Unit {0}
+CompletesBy nothing answer events = ⊤
 
 -- The log of a whole run: the message is out, or a front of it, and the run completes where no call failed but those at
 -- Err.
@@ -159,7 +159,7 @@ pub record IsRun (asked : Asked) (answer : status.Status) (kept : Option State) 
   pub settled : TellsFormulas asked events
   pub outcome : OutcomeOf answer asked events kept
   pub opened : OpensAsTold answer events
-  pub begun : RefusesBehind asked answer events
+  pub begun : RefusesAfter asked answer events
   pub early : answer ≡ status.TheVariants.Memory → ReadsFirstLine events
   pub told_user : IsFront (given place.TheVariants.Err events) (told_to_user R2u2 answer)
   pub told_whole : ToldWhole R2u2 answer (before place.TheVariants.Err) (now place.TheVariants.Err) events

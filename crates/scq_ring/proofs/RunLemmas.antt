@@ -37,7 +37,7 @@ value_in_after low (r ∷ rs) more end t s from =
 pub value_in_one : (r : Slot) (t : ℕ) → t ≤ r.upto → value_in (r ∷ []) t ≡ r.value
 value_in_one r t h = grind (arith, nat_tests)
 
--- what a run behind the others leaves
+-- what a run after the others leaves
 pub record Pushed (low : ℕ) (old new : List Slot) (end : ℕ) (r : Slot) : Type 0 where
   pub spans : Spans low new (r.upto + 1)
   pub kept : (t : ℕ) → low ≤ t → t < end → value_in new t ≡ value_in old t

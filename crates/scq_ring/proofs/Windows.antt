@@ -1,4 +1,4 @@
--- The window of a ring's list, when a member is added behind it or taken off its front.
+-- The window of a ring's list, when a member is added after it or taken off its front.
 use Rattle.std.proofs.Common.{◌≡◌, ℕ, ◌+◌, ◌-◌, ◌<◌, ◌≤◌, ◌⊎◌, List, [], ◌∷◌, ◌++◌, length, get_or, set, ap, ◌∙◌, ap₂, inl, inr, arith, length-append, length-drop, length-set, length-take-le, get_or-drop, get_or-take, sym}
 use Rattle.std.proofs.lemmas.List.{set-get_or, same_lists, drop_more, get_or_append_left, get_or-append_right}
 use Rattle.std.proofs.lemmas.Grind.{common_steps}
@@ -32,7 +32,7 @@ module _ {X : Type 0} (o n : ℕ) (xs : List X) (o_in : o < length xs) (n_in : n
 
 -- A second block, since these use the lemmas above at other windows.
 module _ {X : Type 0} (o n : ℕ) (xs : List X) (o_in : o < length xs) (n_in : n ≤ length xs) where
-  -- a write behind the last member adds it at the end
+  -- a write after the last member adds it at the end
   pub window_after_push : (x : X) → n < length xs → window o (n + 1) (set xs (ring_index_of o n (length xs)) x) ≡ window o n xs ++ x ∷ []
   window_after_push x has_room =
       let j : ℕ = ring_index_of o n (length xs) in

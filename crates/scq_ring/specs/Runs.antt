@@ -47,7 +47,7 @@ low_of ring = ring.low
 unfoldable pub verdict_at : Ring → List Slot → ℕ → Bool
 verdict_at ring slots t = if nat_le ring.since t then ring.value else value_in (runs_of ring slots) t
 
--- the slots are those of the ring: they hold the runs before the newest one, which has some time behind the first write
+-- the slots are those of the ring: they hold the runs before the newest one, which has some time after the first write
 pub record Belongs (ring : Ring) (slots : List Slot) : Type 0 where
   pub oldest_in : ring.oldest < length slots
   pub used_in : ring.used ≤ length slots

@@ -166,7 +166,7 @@ impl Ring {
         self.frontier = upto + 1;
     }
 
-    /// Puts the newest run behind those in the slots, if it has some time.
+    /// Puts the newest run after those in the slots, if it has some time.
     fn close(&mut self, slots: &mut [Slot])
         requires belongs { Belongs self.old slots.old }
         requires in_time { self.old.frontier < 2 ^ 41 }

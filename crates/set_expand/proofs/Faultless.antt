@@ -25,7 +25,7 @@ use Rattle.c2po_types.specs.FirstFault.{State, start, when_ranged, one_tense, wi
 use Rattle.c2po_types.specs.Signals.{body_signals, signals_of}
 use Rattle.c2po_types.proofs.Parts.{bind-ok, unless-ok, when-ok, when_ranged-ok, ok-inj}
 use Rattle.c2po_types.proofs.SignalLaws.{checked-signals}
-use Rattle.set_expand.specs.Outputs.{Place, before, name_of, values_behind, asked_at, behind, asked_from, outputs_of}
+use Rattle.set_expand.specs.Outputs.{Place, before, name_of, values_after, asked_at, behind, asked_from, outputs_of}
 use Rattle.set_expand.specs.Weights.{IsLight, AreLight}
 use Rattle.set_expand.proofs.Tensing.{of_tense}
 
@@ -82,7 +82,7 @@ turn-push step (y ∷ xs) x s t u h k =
     let p = bind-ok (step y s) (in_turn step xs) t h in
     ap (λ r. r >>= in_turn step (xs ++ x ∷ [])) p.1 ∙ turn-push step xs x p.0 t u p.2 k
 
--- The check stands at a place: behind the items before it.
+-- The check stands at a place: after the items before it.
 record Agrees (front : List ItemShape) (s : State) (p : Place) : Type 0 where
   reached : checked front ≡ Ok s
   values : s.values ≡ p.values
@@ -134,9 +134,9 @@ body-right line (contract engine label left right) s t p h e =
           (All-nil _));
     }
 
--- what names stand for behind an item
+-- what names stand for after an item
 body-values : (line : ℕ) (body : BodyShape) (s t : State) (p : Place) → body_step line body s ≡ Ok t → s.values ≡ p.values
-    → p.signals ≡ length s.declared.signals → t.declared.signals ≡ s.declared.signals ++ body_signals body → t.values ≡ values_behind body p
+    → p.signals ≡ length s.declared.signals → t.declared.signals ≡ s.declared.signals ++ body_signals body → t.values ≡ values_after body p
 body-values line (structure x fs) s t p h e n more =
     let q = bind-ok (with_struct line x fs s.declared) _ t h in
     sym (ap (λ (u : State). u.values) (ok-inj _ t q.2)) ∙ ap (λ env. declare x (fields (map (λ f. f.name) fs)) env) e

@@ -1,7 +1,7 @@
 -- Values of expressions read signals by their kinds, where what names stand for does.
 
 use Rattle.std.proofs.Common.{ℕ, zero, suc, Bool, true, false, Option, Some, None, List, [], ◌∷◌, map, fold, if◌then◌else◌}
-use Rattle.std.specs.Prelude.{slice_index_or, position, length}
+use Rattle.std.specs.Prelude.{slice_index_or, position, length, ⊤}
 use Rattle.std.specs.Str.{bytes_eq}
 use Rattle.mltl_base.specs.declared.operators.ArithOp.{ArithOp}
 use Rattle.mltl_base.specs.declared.operators.ArithOp.TheVariants as arith_op
@@ -38,20 +38,20 @@ module _ (kinds : List Bool) where
     ValueReads (set vs w) = ValuesRead vs
 
     pub ValuesRead : Values → Type 0
-    ValuesRead none = Unit {0}
+    ValuesRead none = ⊤
     ValuesRead (more v vs) = ValueReads v × ValuesRead vs
 
   abbrev pub AllRead : List Value → Type 0
-  AllRead [] = Unit {0}
+  AllRead [] = ⊤
   AllRead (v ∷ vs) = ValueReads v × AllRead vs
 
   abbrev pub FormulasRead : List Formula → Type 0
-  FormulasRead [] = Unit {0}
+  FormulasRead [] = ⊤
   FormulasRead (p ∷ ps) = ReadsKinds kinds p × FormulasRead ps
 
   abbrev pub KnownReads : Known → Type 0
-  KnownReads nothing = Unit {0}
-  KnownReads (fields xs) = Unit {0}
+  KnownReads nothing = ⊤
+  KnownReads (fields xs) = ⊤
   KnownReads (value v) = ValueReads v
 
   pub record EnvReads (env : Env) : Type 0 where

@@ -11,10 +11,10 @@ use Rattle.c2po_types.specs.Signals.{body_signals, signals_of}
 use Rattle.unfold.specs.Values.{formula_of}
 use Rattle.unfold.specs.Environment.{Env, declare, fields, value, signal_value, value_of}
 use Rattle.mltl_base.specs.Kinds.{ReadsKinds, ReadsSignals, kinds_of}
-use Rattle.set_expand.specs.Outputs.{Place, before, values_behind, asked_at, behind, asked_from, outputs_of}
+use Rattle.set_expand.specs.Outputs.{Place, before, values_after, asked_at, behind, asked_from, outputs_of}
 use Rattle.set_expand.proofs.ReadValues.{ValueReads, EnvReads, formula_reads, nothing_reads, declare_reads, value_reads}
 
--- the first member behind a front
+-- the first member after a front
 front_get : {X : Type 0} (front : List X) (x : X) (rest : List X) → slice_get (front ++ x ∷ rest) (length front) ≡ Some x
 front_get [] x rest = refl
 front_get (y ∷ front) x rest = front_get front x rest
@@ -23,7 +23,7 @@ signal_reads : (kinds : List Bool) (truth : Bool) (n : ℕ) → slice_get kinds 
 signal_reads kinds true n h = h
 signal_reads kinds false n h = h
 
--- signals behind a front
+-- signals after a front
 signals_read : (front : List Bool) (ss : List Signal) (rest : List Bool) (n : ℕ) (env : Env) → n ≡ length front
     → EnvReads (front ++ (kinds_of ss ++ rest)) env → EnvReads (front ++ (kinds_of ss ++ rest)) (with_signals n ss env)
 signals_read front [] rest n env e h = h
@@ -40,7 +40,7 @@ signals_read front (s ∷ ss) rest n env e h =
 -- what an item makes known
 values_read : (front : List Bool) (body : BodyShape) (rest : List Bool) (p : Place) → p.signals ≡ length front
     → EnvReads (front ++ (kinds_of (body_signals body) ++ rest)) p.values
-    → EnvReads (front ++ (kinds_of (body_signals body) ++ rest)) (values_behind body p)
+    → EnvReads (front ++ (kinds_of (body_signals body) ++ rest)) (values_after body p)
 values_read front (structure x fs) rest p e h = declare_reads (front ++ rest) x (fields (map (λ f. f.name) fs)) p.values tt h
 values_read front (input xs t) rest p e h = signals_read front (body_signals (input xs t)) rest p.signals p.values e h
 values_read front (define x e) rest p n h = declare_reads (front ++ rest) x (value (value_of e p.values)) p.values (value_reads (front ++ rest) e p.values h) h
@@ -60,7 +60,7 @@ asked_reads kinds (contract engine label e f) p h =
     let right = formula_reads kinds (value_of f p.values) (value_reads kinds f p.values h) in
     All-cons (ReadsSignals kinds) _ [] (All-cons (ReadsKinds kinds) (formula_of (value_of e p.values)) (formula_of (value_of f p.values) ∷ []) left (All-cons (ReadsKinds kinds) (formula_of (value_of f p.values)) [] right (All-nil (ReadsKinds kinds)))) (All-nil (ReadsSignals kinds))
 
--- what items ask for, behind a front of signals
+-- what items ask for, after a front of signals
 outputs_read : (front : List Bool) (items : List ItemShape) (p : Place) → p.signals ≡ length front
     → EnvReads (front ++ kinds_of (signals_of items)) p.values → All (ReadsSignals (front ++ kinds_of (signals_of items))) (asked_from items p)
 unfolding asked_from
@@ -75,7 +75,7 @@ outputs_read front (i ∷ items) p e h =
     (asked_reads (front ++ kinds_of (signals_of (i ∷ items))) i.body p h)
     (subst (λ ks. All (ReadsSignals ks) (asked_from items (behind i.body p))) same
     (outputs_read (front ++ kinds_of ss) items (behind i.body p) (omega (arith, length-append front (kinds_of ss), length-map ss (λ (s : Signal). s.truth)))
-    (subst (λ ks. EnvReads ks (values_behind i.body p)) (sym (append_assoc front (kinds_of ss) (kinds_of (signals_of items)))) now)))
+    (subst (λ ks. EnvReads ks (values_after i.body p)) (sym (append_assoc front (kinds_of ss) (kinds_of (signals_of items)))) now)))
 
 -- the outputs of a specification read signals by their kinds
 pub outputs-read : (items : List ItemShape) → All (ReadsSignals (kinds_of (signals_of items))) (outputs_of items)

@@ -1,4 +1,4 @@
--- One more item: what stands behind it, and what is left.
+-- One more item: what stands after it, and what is left.
 
 use Rattle.std.proofs.Common.{◌≡◌, ℕ, ◌+◌, Bool, Option, ◌<◌, ◌≤◌, List, [], ◌∷◌, ◌++◌, map, length, drop, get_or, refl, sym, ap, subst, ◌∙◌, append_assoc, arith}
 use Rattle.std.proofs.Math.ListN.{drop_of_length-le}
@@ -24,7 +24,7 @@ use Rattle.unfold.specs.Environment.{Env, no_names, declare, value, signal_value
 use Rattle.unfold.specs.Values.{formula_of}
 use Rattle.unfold.specs.Holding.{StandsFor, nodes_of}
 use Rattle.set_expand.specs.declared.progress.Progress.{Progress}
-use Rattle.set_expand.specs.Outputs.{Place, before, name_of, values_behind, asked_at, behind, asked_from, outputs_of}
+use Rattle.set_expand.specs.Outputs.{Place, before, name_of, values_after, asked_at, behind, asked_from, outputs_of}
 use Rattle.set_expand.specs.Weights.{IsLight, AreLight}
 use Rattle.set_expand.specs.Reached.{signals_named, AskFor, HasReached, Leaves}
 use Rattle.set_expand.proofs.Asking.{asks-none, asks-later, asks-formula, asks-contract}
@@ -48,7 +48,7 @@ sound-more m n nodes le h = record { formed = λ i node at. formed-more m n _ no
 
 -- an item without outputs
 pub stands-behind : (u v : Unfolding) (n m : ℕ) (outs : List PlainOut) (body : BodyShape) (place : Place) (told : List Asked) → asked_at body place ≡ []
-    → HasReached (record { values = u; signals = n; outs = outs }) place told → StandsFor v (values_behind body place) → m ≡ n + length (body_signals body)
+    → HasReached (record { values = u; signals = n; outs = outs }) place told → StandsFor v (values_after body place) → m ≡ n + length (body_signals body)
     → AreSound m (nodes_of v) → Grows (nodes_of u) (nodes_of v)
     → HasReached (record { values = v; signals = m; outs = outs }) (behind body place) (told ++ asked_at body place)
 stands-behind u v n m outs body place told none h values signals sound grows = record {

@@ -22,12 +22,12 @@ abbrev pub before : Place
 before = record { values = no_names; signals = 0; outputs = 0 }
 
 -- a name stands for its definition's value, and signals are numbered in the order of declaration
-abbrev pub values_behind : BodyShape → Place → Env
-values_behind (item.structure x fs) p = declare x (fields (map (λ f. f.name) fs)) p.values
-values_behind (item.input xs t) p = with_signals p.signals (body_signals (item.input xs t)) p.values
-values_behind (item.define x e) p = declare x (value (value_of e p.values)) p.values
-values_behind (item.formula engine label e) p = p.values
-values_behind (item.contract engine label e f) p = p.values
+abbrev pub values_after : BodyShape → Place → Env
+values_after (item.structure x fs) p = declare x (fields (map (λ f. f.name) fs)) p.values
+values_after (item.input xs t) p = with_signals p.signals (body_signals (item.input xs t)) p.values
+values_after (item.define x e) p = declare x (value (value_of e p.values)) p.values
+values_after (item.formula engine label e) p = p.values
+values_after (item.contract engine label e f) p = p.values
 
 -- the name of an output: its label, or the decimal text of its number
 abbrev pub name_of : ℕ → Option (List ℕ) → List ℕ
@@ -50,10 +50,10 @@ asked_at (item.contract engine label e f) p = record {
   output = contract (formula_of (value_of e p.values)) (formula_of (value_of f p.values));
 } ∷ []
 
--- what is known behind an item
+-- what is known after an item
 abbrev pub behind : BodyShape → Place → Place
 behind body p = record {
-  values = values_behind body p;
+  values = values_after body p;
   signals = p.signals + length (body_signals body);
   outputs = p.outputs + length (asked_at body p);
 }

@@ -33,13 +33,13 @@ pub record HasReached (p : Progress) (place : Place) (told : List Asked) : Type 
   pub sound : AreSound p.signals (nodes_of p.values)
   pub asked : AskFor (nodes_of p.values) p.outs told
 
--- where an item is put behind what stands for a place, the result stands for what is known behind the item, and its
+-- where an item is put after what stands for a place, the result stands for what is known after the item, and its
 -- outputs are those of before and the item's
 abbrev pub Puts : {E : Type 0} → BodyShape → Progress → Result Progress E → Type 0
 Puts body old result = (place : Place) (told : List Asked) → HasReached old place told
     → IfOk result (λ p. HasReached p (behind body place) (told ++ asked_at body place))
 
--- where the item's values are within the limit, only memory is ever wanting
+-- where the item's values are within the limit, it can only be out of memory
 abbrev pub WantsMemory : BodyShape → Progress → Result Progress UnfoldFault → Type 0
 WantsMemory body old result = (place : Place) (told : List Asked) → HasReached old place told → IsLight body place → IfErr result (λ why. why ≡ Memory)
 

@@ -27,7 +27,7 @@ use std::alloc::{AllocError, Global};
 use unfold::laws::quantifiers_count;
 use unfold::{UnfoldFault, Unfolding};
 
-/// What is unfolded behind all items.
+/// What is unfolded after all items.
 fn run(alloc: Global, items: &[Item]) -> Result<Progress, UnfoldFault>
     requires { AreLight (map item_shape items.now) before }
     ensures done { IfOk result (λ p. Leaves p [] (map item_shape items.now)) }
@@ -48,7 +48,7 @@ fn run(alloc: Global, items: &[Item]) -> Result<Progress, UnfoldFault>
 /// once, however often the name is used. Signals are numbered in the order of declaration, and an output without a
 /// label has the decimal text of its number as its name, counted from 0.
 ///
-/// Errors: memory is wanting, as it also is at 4,194,304 nodes and at 2^32 outputs.
+/// Errors: out of memory, as it also is at 4,194,304 nodes and at 2^32 outputs.
 pub fn expand(alloc: Global, spec: &TypedSpec) -> Result<Expanded, AllocError>
     // Each output unfolds to its plain formula.
     ensures unfolds { IfOk result (λ expanded. asked expanded ≡ outputs_of (spec_shape spec.now)) }

@@ -19,7 +19,7 @@ use plain_nodes::PlainOut;
 use std::alloc::{AllocError, Global};
 use unfold::{UnfoldFault, Unfolding};
 
-/// What is unfolded behind a struct.
+/// What is unfolded after a struct.
 fn put_struct(
     alloc: Global,
     progress: Progress,
@@ -47,7 +47,7 @@ fn is_truth(tree: &TypeTree) -> bool
     }
 }
 
-/// Signals of one kind, numbered from a number on, and the number behind them. At 2^32 memory is wanting.
+/// Signals of one kind, numbered from a number on, and the number after them. At 2^32 it is out of memory.
 fn add_signals(
     alloc: Global,
     values: Unfolding,
@@ -75,7 +75,7 @@ fn add_signals(
     Ok((values, number))
 }
 
-/// What is unfolded behind signals.
+/// What is unfolded after signals.
 fn put_input(
     alloc: Global,
     progress: Progress,
@@ -98,7 +98,7 @@ fn put_input(
     })
 }
 
-/// What is unfolded behind a definition.
+/// What is unfolded after a definition.
 fn put_define(
     alloc: Global,
     progress: Progress,
@@ -113,7 +113,7 @@ fn put_define(
     Ok(progress)
 }
 
-/// What is unfolded behind an output with a formula.
+/// What is unfolded after an output with a formula.
 fn put_formula(
     alloc: Global,
     progress: Progress,
@@ -132,7 +132,7 @@ fn put_formula(
     Ok(progress)
 }
 
-/// What is unfolded behind an output with a contract.
+/// What is unfolded after an output with a contract.
 fn put_contract(
     alloc: Global,
     progress: Progress,
@@ -155,7 +155,7 @@ fn put_contract(
     Ok(progress)
 }
 
-/// What is unfolded behind one more item.
+/// What is unfolded after one more item.
 pub fn step(alloc: Global, progress: Progress, body: &Body) -> Result<Progress, UnfoldFault>
     ensures puts { Puts (body_shape body.now) progress result }
     ensures only { WantsMemory (body_shape body.now) progress result }

@@ -1,5 +1,6 @@
 -- The constants of a program that is the image of natural outputs are numbers of the language.
 
+use Rattle.std.specs.Prelude.{⊤}
 use Rattle.std.proofs.Common.{ℕ, Bool, true, false, List, [], ◌∷◌, ◌++◌, map, fold, All, if◌then◌else◌}
 use Rattle.std.proofs.lemmas.List.Elements.{All-map, All-weaker}
 use Rattle.mltl_base.specs.declared.program.Columns.{Columns}
@@ -25,7 +26,7 @@ use Rattle.show_trips.proofs.Naturals.{TermNatural, AtomNatural, Natural, IsNatu
 -- ---- core forms
 
 abbrev CoreNatural : Core → Type 0
-CoreNatural ctrue = Unit {0}
+CoreNatural ctrue = ⊤
 CoreNatural (catom a) = AtomNatural a
 CoreNatural (cnot p) = CoreNatural p
 CoreNatural (cand p q) = CoreNatural p × CoreNatural q

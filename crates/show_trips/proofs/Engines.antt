@@ -1,7 +1,7 @@
 -- Going on through the lines of the engines' instructions.
 
 use Rattle.std.proofs.Common.{◌≡◌, ◌∙◌, ℕ, ◌+◌, ◌<◌, ◌≤◌, zero, suc, true, List, [], ◌∷◌, ◌++◌, length, map, Option, Some, None, refl, ap, sym, subst, arith, append_assoc, inl, inr, nat_lt}
-use Rattle.std.specs.Prelude.{slice_get, slice_index_or, nat_le, ◌⊎◌}
+use Rattle.std.specs.Prelude.{slice_get, slice_index_or, nat_le, ◌⊎◌, ⊤}
 use Rattle.std.proofs.lemmas.Option.{slice_get_within, slice_get-get_or, same_Some}
 use Rattle.std.proofs.lemmas.List.{length-append}
 use Rattle.std.proofs.lemmas.Bool.{and_parts}
@@ -163,7 +163,7 @@ ft_means program count es p i before (ft.TheVariants.Until l r window) le all le
     )
 
 abbrev pub HaveFutureOperands : Program → ℕ → List ft.FtOp → Type 0
-HaveFutureOperands program i [] = Unit {0}
+HaveFutureOperands program i [] = ⊤
 HaveFutureOperands program i (op ∷ ops) = (has_future_operands program i op ≡ true) × (has_future_window op ≡ true) × HaveFutureOperands program (i + 1) ops
 
 -- the formulas of earlier instructions stay, so an instruction has its own among those of all
@@ -228,7 +228,7 @@ pt_means program count es fts p i before (pt.TheVariants.Since l r window) le al
     )
 
 abbrev pub HavePastOperands : Program → ℕ → List pt.PtOp → Type 0
-HavePastOperands program i [] = Unit {0}
+HavePastOperands program i [] = ⊤
 HavePastOperands program i (op ∷ ops) = (has_past_operands program i op ≡ true) × (has_past_window op ≡ true) × HavePastOperands program (i + 1) ops
 
 past_kept : (loaded : List Atom) (ops : List pt.PtOp) (before : List Core) (i : ℕ) (c : Core) → slice_get before i ≡ Some c → slice_get (past_formulas_after loaded before ops) i ≡ Some c

@@ -1,7 +1,7 @@
 -- A well-formed program of version 2 can be said by its lines.
 
 use Rattle.std.proofs.Common.{◌≡◌, ◌∙◌, ℕ, ◌+◌, suc, Bool, true, false, not, List, [], ◌∷◌, ◌++◌, length, take, Option, Some, None, refl, ap, sym, subst, arith, append_assoc}
-use Rattle.std.specs.Prelude.{◌&&◌, ◌||◌, ◌==◌, nat_lt}
+use Rattle.std.specs.Prelude.{◌&&◌, ◌||◌, ◌==◌, nat_lt, ⊤}
 use Rattle.std.specs.List.{list_any}
 use Rattle.std.specs.Str.{bytes_eq}
 use Rattle.std.proofs.Math.Seq.{take-append_seam}
@@ -73,16 +73,16 @@ reports_formed program k [] e = tt
 reports_formed program k (o ∷ outs) e =
     (passed (reports_within (length program.ft) (length program.pt) o) _ (first_none (output_fault program) k o outs e), reports_formed program (k + 1) outs (others_none (output_fault program) k o outs e))
 
--- columns of signals, each looked at behind those before it
-abbrev AreNewBehind : List StoredSignal → List StoredSignal → Type 0
-AreNewBehind front [] = Unit {0}
-AreNewBehind front (s ∷ ss) = (list_any (λ t. t.column == s.column) front ≡ false) × AreNewBehind (front ++ s ∷ []) ss
+-- columns of signals, each looked at after those before it
+abbrev AreNewAfter : List StoredSignal → List StoredSignal → Type 0
+AreNewAfter front [] = ⊤
+AreNewAfter front (s ∷ ss) = (list_any (λ t. t.column == s.column) front ≡ false) × AreNewAfter (front ++ s ∷ []) ss
 
 pub not_passes : (b : Bool) → not b ≡ true → b ≡ false
 not_passes true e = absurd (cc)
 not_passes false e = refl
 
-signals_formed : (program : Program) (front ss : List StoredSignal) (k : ℕ) → program.signals ≡ front ++ ss → length front ≡ k → first_in (signal_fault program) k ss ≡ None → AreNewBehind front ss
+signals_formed : (program : Program) (front ss : List StoredSignal) (k : ℕ) → program.signals ≡ front ++ ss → length front ≡ k → first_in (signal_fault program) k ss ≡ None → AreNewAfter front ss
 signals_formed program front [] k all len e = tt
 signals_formed program front (s ∷ ss) k all len e =
     let test : is_new_signal program.width (take k program.signals) s ≡ true = passed (is_new_signal program.width (take k program.signals) s) _ (first_none (signal_fault program) k s ss e) in
@@ -109,13 +109,13 @@ none_at (t ∷ front) s back c e = go (t.column == c) (none_at front s back c) e
 turned : (a b : ℕ) → (a == b) ≡ false → (b == a) ≡ false
 turned a b e = grind (arith, nat_tests)
 
-own_before : (front : List StoredSignal) (s : StoredSignal) (back ss : List StoredSignal) → AreNewBehind (front ++ s ∷ back) ss → list_any (λ t. t.column == s.column) ss ≡ false
+own_before : (front : List StoredSignal) (s : StoredSignal) (back ss : List StoredSignal) → AreNewAfter (front ++ s ∷ back) ss → list_any (λ t. t.column == s.column) ss ≡ false
 own_before front s back [] h = refl
 own_before front s back (t ∷ ss) h =
     let here : (t.column == s.column) ≡ false = turned s.column t.column (none_at front s back t.column h.0) in
-    rw here (own_before front s (back ++ t ∷ []) ss (subst (λ (xs : List StoredSignal). AreNewBehind xs ss) (append_assoc front (s ∷ back) (t ∷ [])) h.1))
+    rw here (own_before front s (back ++ t ∷ []) ss (subst (λ (xs : List StoredSignal). AreNewAfter xs ss) (append_assoc front (s ∷ back) (t ∷ [])) h.1))
 
-columns_formed : (front ss : List StoredSignal) → AreNewBehind front ss → HaveOwnColumns ss
+columns_formed : (front ss : List StoredSignal) → AreNewAfter front ss → HaveOwnColumns ss
 columns_formed front [] h = tt
 columns_formed front (s ∷ ss) h = (own_before front s [] ss h.1, columns_formed (front ++ s ∷ []) ss h.1)
 

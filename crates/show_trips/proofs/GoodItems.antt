@@ -1,5 +1,5 @@
 use Rattle.std.proofs.Common.{◌≡◌, ℕ, zero, suc, ◌+◌, Bool, true, false, List, [], ◌∷◌, ◌++◌, length, take, drop, refl, subst, Option, Some, None, Result, Ok, Err, nat_lt, inl, inr}
-use Rattle.std.specs.Prelude.{codes, is_some}
+use Rattle.std.specs.Prelude.{codes, is_some, ⊤}
 use Rattle.std.proofs.lemmas.Option.{same_Some, some_pair_parts}
 use Rattle.mltl_base.specs.declared.interval.Engine.{Engine}
 use Rattle.c2po_lexer.specs.declared.token.Sign.{Sign}
@@ -32,14 +32,14 @@ use Rattle.c2po_parse.proofs.ItemNames.{set_done, typed_done, label_done}
 
 -- what is known of the names and numbers of items; nothing is asked of their types
 abbrev pub GoodType : TypeShape → Type 0
-GoodType k = Unit {0}
+GoodType k = ⊤
 
 abbrev pub GoodFields : List FieldShape → Type 0
-GoodFields [] = Unit {0}
+GoodFields [] = ⊤
 GoodFields (f ∷ fs) = (IsName f.name × GoodType f.kind) × GoodFields fs
 
 abbrev pub AreNames : List (List ℕ) → Type 0
-AreNames [] = Unit {0}
+AreNames [] = ⊤
 AreNames (x ∷ xs) = IsName x × AreNames xs
 
 abbrev pub GoodBody : BodyShape → Type 0
@@ -50,7 +50,7 @@ GoodBody (formula engine label e) = HasName label × HasNumbers e
 GoodBody (contract engine label e f) = HasName label × (HasNumbers e × HasNumbers f)
 
 abbrev pub GoodItems : List ItemShape → Type 0
-GoodItems [] = Unit {0}
+GoodItems [] = ⊤
 GoodItems (i ∷ is) = GoodBody i.body × GoodItems is
 
 past-words : (s : Sign) (ts rest : List Token) → past s ts ≡ Some rest → GoodWords ts → GoodWords rest
@@ -256,7 +256,7 @@ body-names (Output engine) ts b h words = output-names engine ts b h words
 
 -- pieces of plain tokens
 GoodPieces : List Piece → Type 0
-GoodPieces [] = Unit {0}
+GoodPieces [] = ⊤
 GoodPieces (p ∷ ps) = GoodWords p.tokens × GoodPieces ps
 
 left_over-plain : (s : Option Section) (before : List Token) (ps : List Piece) → GoodWords before → GoodPieces ps → GoodPieces (left_over s before ++ ps)

@@ -1,5 +1,6 @@
 -- The numbers of a tree stand among its tokens.
 
+use Rattle.std.specs.Prelude.{⊤}
 use Rattle.std.proofs.Common.{◌≡◌, ◌∙◌, ℕ, ℤ, suc, List, [], ◌∷◌, ◌++◌, Option, Some, None, refl, ap, sym, subst, append-nil}
 use Rattle.mltl_base.specs.declared.operators.WindowOp.{WindowOp}
 use Rattle.c2po_lexer.specs.declared.token.Sign.{Sign}
@@ -38,8 +39,8 @@ use Rattle.c2po_tree.proofs.Agree.{tree-derives}
 abbrev mutual
   pub HasNumbers : Shape → Type 0
   HasNumbers (tree.number line n) = IsNumber n
-  HasNumbers (tree.truth line b) = Unit {0}
-  HasNumbers (tree.named line x) = Unit {0}
+  HasNumbers (tree.truth line b) = ⊤
+  HasNumbers (tree.named line x) = ⊤
   HasNumbers (tree.build line x es) = HaveNumbers es
   HasNumbers (tree.group line es) = HaveNumbers es
   HasNumbers (tree.pick line e x) = HasNumbers e
@@ -55,25 +56,25 @@ abbrev mutual
   HasNumbers (tree.count line op x s n e) = HasNumbers s × HasNumbers e
 
   pub HaveNumbers : Shapes → Type 0
-  HaveNumbers tree.none = Unit {0}
+  HaveNumbers tree.none = ⊤
   HaveNumbers (tree.more e es) = HasNumbers e × HaveNumbers es
 
 -- a start that is no number
 abbrev NotNumber : Option (Start × List Token) → Type 0
-NotNumber None = Unit {0}
+NotNumber None = ⊤
 NotNumber (Some (Leaf line (Number n), ts)) = ⊥
-NotNumber (Some (s, ts)) = Unit {0}
+NotNumber (Some (s, ts)) = ⊤
 
-behind_bind : {A : Type 0} (o : Option A) (f : A → Option (Start × List Token)) → ((a : A) → NotNumber (f a)) → NotNumber (o >>= f)
-behind_bind None f h = tt
-behind_bind (Some a) f h = h a
+after_bind : {A : Type 0} (o : Option A) (f : A → Option (Start × List Token)) → ((a : A) → NotNumber (f a)) → NotNumber (o >>= f)
+after_bind None f h = tt
+after_bind (Some a) f h = h a
 
 bound_no_number : (line : ℕ) (q : Quantifier) (ts : List Token) → NotNumber (bound_start line q ts)
 bound_no_number line q ts =
-    behind_bind (past sign.LeftRound ts) _ (λ us. behind_bind (name_at us) _ (λ x. behind_bind (past sign.Colon x.1) _ (λ vs. tt)))
+    after_bind (past sign.LeftRound ts) _ (λ us. after_bind (name_at us) _ (λ x. after_bind (past sign.Colon x.1) _ (λ vs. tt)))
 
 window_no_number : (line : ℕ) (ts : List Token) (op : WindowOp) → NotNumber (interval_at ts >>= λ i. Some (Before (Window line op i.0 i.1), i.2))
-window_no_number line ts op = behind_bind (interval_at ts) _ (λ i. tt)
+window_no_number line ts op = after_bind (interval_at ts) _ (λ i. tt)
 
 word_no_number : (line : ℕ) (k : Keyword) (ts : List Token) → NotNumber (word_start line k ts (word_quantifier k))
 word_no_number line keyword.Struct ts = tt

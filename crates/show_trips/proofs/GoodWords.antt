@@ -1,5 +1,5 @@
 use Rattle.std.proofs.Common.{ℕ, suc, ◌≡◌, List, [], ◌∷◌, ◌++◌, arith, subst}
-use Rattle.std.specs.Prelude.{All}
+use Rattle.std.specs.Prelude.{All, ⊤}
 use Rattle.c2po_lexer.specs.declared.token.What.{What}
 use Rattle.c2po_lexer.specs.declared.token.What.TheVariants as what
 use Rattle.c2po_lexer.specs.declared.token.Token.{Token}
@@ -7,7 +7,7 @@ use Rattle.show_trips.specs.Written.{IsName, IsToken}
 
 -- Token lists whose tokens are tokens of the language.
 pub GoodWords : List Token → Type 0
-GoodWords [] = Unit {0}
+GoodWords [] = ⊤
 GoodWords (t ∷ ts) = IsToken t.what × GoodWords ts
 
 pub words-all : (ts : List Token) → All (λ t. IsToken t.what) ts → GoodWords ts

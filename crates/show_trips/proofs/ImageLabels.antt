@@ -1,7 +1,7 @@
 -- The labels in the text of an image are new, each to those before it: they are among the labels of its source.
 
 use Rattle.std.proofs.Common.{◌≡◌, ◌∙◌, ℕ, ◌+◌, Bool, true, false, List, [], ◌∷◌, ◌++◌, map, Option, Some, None, Ok, Err, if◌then◌else◌, refl, ap, sym, subst, arith}
-use Rattle.std.specs.Prelude.{is_some, option_map, decimal}
+use Rattle.std.specs.Prelude.{is_some, option_map, decimal, ⊤}
 use Rattle.std.specs.List.{enumerate_from, cons_option}
 use Rattle.std.specs.Str.{bytes_eq}
 use Rattle.std.proofs.lemmas.Slice.Eq.{bytes_eq-Decides}
@@ -46,16 +46,16 @@ use Rattle.show_trips.proofs.Fresh.{entry_push}
 
 -- a label is new to others, and joins them
 abbrev IsNewLabel : Option (List ℕ) → Labels → Type 0
-IsNewLabel None labels = Unit {0}
+IsNewLabel None labels = ⊤
 IsNewLabel (Some x) labels = is_named x labels ≡ false
 
 abbrev joined : Option (List ℕ) → Labels → Labels
 joined None labels = labels
 joined (Some x) labels = labels ++ (x, tt) ∷ []
 
--- each label of a list is new, behind others
+-- each label of a list is new, after others
 abbrev AreNewLabels : Labels → List (Option (List ℕ)) → Type 0
-AreNewLabels labels [] = Unit {0}
+AreNewLabels labels [] = ⊤
 AreNewLabels labels (o ∷ os) = IsNewLabel o labels × AreNewLabels (joined o labels) os
 
 label_ok : (line : ℕ) (o : Option (List ℕ)) (labels later : Labels) → with_label line o labels ≡ Ok later → IsNewLabel o labels × (joined o labels ≡ later)
@@ -194,9 +194,9 @@ one_more x few many h y g = h y (entry_push y x tt many g).0
 both_more : (x : List ℕ) (few many : Labels) → AreFewer few many → AreFewer (few ++ (x, tt) ∷ []) (many ++ (x, tt) ∷ [])
 both_more x few many h y g = let parts = entry_push y x tt many g in still_new y x few (h y parts.0) parts.1
 
--- the labels of names that outputs count from a number on are new, behind others
+-- the labels of names that outputs count from a number on are new, after others
 abbrev AreNewNames : Labels → ℕ → List (List ℕ) → Type 0
-AreNewNames labels k [] = Unit {0}
+AreNewNames labels k [] = ⊤
 AreNewNames labels k (x ∷ xs) = IsNewLabel (label_of k x) labels × AreNewNames (joined (label_of k x) labels) (k + 1) xs
 
 number_unlabelled : (k : ℕ) → label_of k (decimal k) ≡ None
@@ -218,7 +218,7 @@ names_new (Some x ∷ os) k few many h g = go (names_new os (k + 1)) (bytes_eq x
 
 -- lines that have no label
 abbrev AreUnlabelled : List Line → Type 0
-AreUnlabelled [] = Unit {0}
+AreUnlabelled [] = ⊤
 AreUnlabelled (l ∷ ls) = (label_in l ≡ None) × AreUnlabelled ls
 
 pass_by : (ls more : List Line) (n : ℕ) (labels : Labels) → AreUnlabelled ls → ((m : ℕ) → LabelsPass m more labels) → LabelsPass n (ls ++ more) labels

@@ -1,7 +1,7 @@
 -- The images of texts without a fault have words of their own.
 
 use Rattle.std.proofs.Common.{◌≡◌, ◌∙◌, ℕ, ◌+◌, Bool, true, false, List, [], ◌∷◌, ◌++◌, length, map, All, Option, Some, None, Result, Ok, Err, if◌then◌else◌, refl, ap, sym, subst, arith, inl, inr}
-use Rattle.std.specs.Prelude.{◌⊎◌, decimal}
+use Rattle.std.specs.Prelude.{◌⊎◌, decimal, ⊤}
 use Rattle.std.specs.Option.{option_or}
 use Rattle.std.specs.Result.{result_unwrap_or}
 use Rattle.mltl_base.specs.declared.interval.Engine.{Engine}
@@ -66,7 +66,7 @@ items_good source h =
 -- ---- names of signals
 
 abbrev AreNamedSignals : List Signal → Type 0
-AreNamedSignals [] = Unit {0}
+AreNamedSignals [] = ⊤
 AreNamedSignals (s ∷ ss) = IsName s.name × AreNamedSignals ss
 
 more_named : (left right : List Signal) → AreNamedSignals left → AreNamedSignals right → AreNamedSignals (left ++ right)
@@ -99,7 +99,7 @@ abbrev IsLabel : ℕ → List ℕ → Type 0
 IsLabel k name = (name ≡ decimal k) ⊎ IsName name
 
 abbrev AreLabels : ℕ → List Asked → Type 0
-AreLabels k [] = Unit {0}
+AreLabels k [] = ⊤
 AreLabels k (a ∷ outs) = IsLabel k a.name × AreLabels (k + 1) outs
 
 labels_append : (left right : List Asked) (k n : ℕ) → AreLabels k left → k + length left ≡ n → AreLabels n right → AreLabels k (left ++ right)

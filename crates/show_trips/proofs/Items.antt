@@ -1,5 +1,6 @@
 -- The tokens of lines are cut into one item a line.
 
+use Rattle.std.specs.Prelude.{⊤}
 use Rattle.std.proofs.Common.{◌≡◌, ◌∙◌, ℕ, ◌+◌, Bool, true, false, List, [], ◌∷◌, ◌++◌, length, Option, Some, None, Ok, refl, ap, sym, arith, append_assoc, append-nil}
 use Rattle.std.proofs.lemmas.List.{length-append}
 use Rattle.c2po_lexer.specs.declared.token.Sign.TheVariants as sign
@@ -28,7 +29,7 @@ abbrev IsQuietToken : What → Type 0
 IsQuietToken w = (section_of w ≡ None) × (is_sign sign.Semicolon w ≡ false) × (braces_after w 0 ≡ 0)
 
 abbrev AreQuiet : List Mark → Type 0
-AreQuiet [] = Unit {0}
+AreQuiet [] = ⊤
 AreQuiet (token w ∷ ms) = IsQuietToken w × AreQuiet ms
 AreQuiet (space ∷ ms) = AreQuiet ms
 AreQuiet (newline ∷ ms) = ⊥

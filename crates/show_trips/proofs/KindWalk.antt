@@ -38,7 +38,7 @@ Stays J = (names later : Table Meaning) → HasLater names later → J names →
 pub kinds_stay : (called : ℕ → Reference) (gives : ℕ → Kind) (i : ℕ) → Stays (KnowsKinds called gives i)
 kinds_stay called gives i names later g h j below = kind_later names later (called j) (gives j) g (h j below)
 
--- what is known behind the lines of the first instructions of a part
+-- what is known after the lines of the first instructions of a part
 pub record KindsKnown (program : Program) (called : ℕ → Reference) (gives : ℕ → Kind) (J : Table Meaning → Type 0) (i count : ℕ) (names : Table Meaning) : Type 0 where
   pub base : J names
   pub free : AreFree program count names

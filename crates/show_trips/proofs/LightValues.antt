@@ -38,7 +38,7 @@ use Rattle.show_trips.proofs.Passing.{reference_value, added, ValuePasses, Value
 use Rattle.show_trips.proofs.Values.{MeansFormula, formula_by, formula_weighs}
 use Rattle.show_trips.proofs.Definable.{expression_fault, AreDefinable, fault_over, past_over, future_over}
 use Rattle.show_trips.proofs.Walk.{get_seam, columns_in, expressions_kept}
-use Rattle.show_trips.proofs.Whole.{EnginesKnown, Within, HaveReports, CanBeSaid, under, behind_output, expressions_count, formulas_count, past_count, engines_known, lines_reach}
+use Rattle.show_trips.proofs.Whole.{EnginesKnown, Within, HaveReports, CanBeSaid, under, after_output, expressions_count, formulas_count, past_count, engines_known, lines_reach}
 use Rattle.show_trips.proofs.Formed.{well_formed_said}
 
 no_later : (a b : Option NoRange) → a ≡ None → b ≡ None → or_later a b ≡ None
@@ -262,7 +262,7 @@ outputs_pass program (o ∷ outs) n k total p known ranged w light =
     let all = sum_by-cons output_weight (output_of program o) (map (output_of program) outs) in
     let here = output_passes program n total p known ranged k o w.0 (omega (arith, all)) in
     let q : Place = behind (line_body n (output_line program k o)) p in
-    let after = behind_output program n k o p in (
+    let after = after_output program n k o p in (
       here.0,
       outputs_pass program outs (n + 1) (k + 1) (total + added n (output_line program k o) p) q (subst (EnginesKnown program) (sym after.0) known) ranged w.1 (omega (arith, all, here.1)),
     )

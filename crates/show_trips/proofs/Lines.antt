@@ -83,14 +83,14 @@ spaced_written x y ops operator h g e =
 one_written : (s : Sign) → written (token (what.Sign s) ∷ []) ≡ sign_text s
 one_written s = append-nil (sign_text s)
 
-behind_written : (x : Reference) → HasToken x → written (token (reference_token x) ∷ []) ≡ reference_text x
-behind_written x h = append-nil (token_text (reference_token x)) ∙ reference_is x h
+after_written : (x : Reference) → HasToken x → written (token (reference_token x) ∷ []) ≡ reference_text x
+after_written x h = append-nil (token_text (reference_token x)) ∙ reference_is x h
 
 form_written : (f : Form) → HasTokens f → written (form_marks f) ≡ form_text f
-form_written (minus x) h = ap (λ t. 45 ∷ t) (behind_written x h)
+form_written (minus x) h = ap (λ t. 45 ∷ t) (after_written x h)
 form_written (computes op x y) h = spaced_written x y (token (what.Sign (arith_sign op)) ∷ []) (arith_text op) h.0 h.1 (one_written (arith_sign op) ∙ arith_is op)
 form_written (compare op x y) h = spaced_written x y (token (what.Sign (compare_sign op)) ∷ []) (compare_text op) h.0 h.1 (one_written (compare_sign op) ∙ compare_is op)
-form_written (negation x) h = ap (λ t. 33 ∷ t) (behind_written x h)
+form_written (negation x) h = ap (λ t. 33 ∷ t) (after_written x h)
 form_written (logic op x y) h = spaced_written x y (token (what.Sign (logic_sign op)) ∷ []) (logic_text op) h.0 h.1 (one_written (logic_sign op) ∙ logic_is op)
 form_written (between op window x y) h =
     spaced_written x y (token (what.Reserved (between_word op)) ∷ interval_marks window) (between_text op ++ interval_text window) h.2 h.3
@@ -209,10 +209,10 @@ sign_number s n rest h small =
     let fits : n < 2 ^ 64 = omega arith in
     some_bytes s (decimal n) rest h (decimal_nonempty n fits)
 
--- what is readable behind a form, and behind a line
-behind_readable : (x : Reference) (rest : List Mark) → HasToken x → AreReadable rest → AreReadable (token (reference_token x) ∷ token (what.Sign sign.Semicolon) ∷ newline ∷ rest)
+-- what is readable after a form, and after a line
+after_readable : (x : Reference) (rest : List Mark) → HasToken x → AreReadable rest → AreReadable (token (reference_token x) ∷ token (what.Sign sign.Semicolon) ∷ newline ∷ rest)
 unfolding AreReadable
-behind_readable x rest h r = (h, reference_stop x (10 ∷ written rest), (tt, refl, r))
+after_readable x rest h r = (h, reference_stop x (10 ∷ written rest), (tt, refl, r))
 
 -- the end of a line, before more
 abbrev ending : List Mark → List Mark
@@ -221,14 +221,14 @@ ending rest = token (what.Sign sign.Semicolon) ∷ newline ∷ rest
 signed_readable : (x y : Reference) (s : Sign) (rest : List Mark) → HasToken x → HasToken y → ((bytes : List ℕ) → Ends (what.Sign s) (32 ∷ bytes)) → AreReadable rest
     → AreReadable (token (reference_token x) ∷ space ∷ token (what.Sign s) ∷ space ∷ token (reference_token y) ∷ ending rest)
 unfolding AreReadable
-signed_readable x y s rest h g e r = (h, reference_space x (written (token (what.Sign s) ∷ space ∷ token (reference_token y) ∷ ending rest)), (tt, e (written (token (reference_token y) ∷ ending rest)), behind_readable y rest g r))
+signed_readable x y s rest h g e r = (h, reference_space x (written (token (what.Sign s) ∷ space ∷ token (reference_token y) ∷ ending rest)), (tt, e (written (token (reference_token y) ∷ ending rest)), after_readable y rest g r))
 
 form_readable : (f : Form) (rest : List Mark) → HasTokens f → AreReadable rest → AreReadable (form_marks f ++ ending rest)
 unfolding AreReadable
-form_readable (minus x) rest h r = (tt, (before_reference x (written (ending rest)) h).0, behind_readable x rest h r)
+form_readable (minus x) rest h r = (tt, (before_reference x (written (ending rest)) h).0, after_readable x rest h r)
 form_readable (computes op x y) rest h r = signed_readable x y (arith_sign op) rest h.0 h.1 (arith_space op) r
 form_readable (compare op x y) rest h r = signed_readable x y (compare_sign op) rest h.0 h.1 (compare_space op) r
-form_readable (negation x) rest h r = (tt, (before_reference x (written (ending rest)) h).1, behind_readable x rest h r)
+form_readable (negation x) rest h r = (tt, (before_reference x (written (ending rest)) h).1, after_readable x rest h r)
 form_readable (logic op x y) rest h r = signed_readable x y (logic_sign op) rest h.0 h.1 (logic_space op) r
 form_readable (between op window x y) rest h r = (
   h.2,
@@ -245,7 +245,7 @@ form_readable (between op window x y) rest h r = (
         (
           tt,
           sign_number sign.Comma window.hi (written (token (what.Sign sign.RightSquare) ∷ space ∷ token (reference_token y) ∷ ending rest)) (λ b. refl) h.1,
-          (h.1, refl, (tt, refl, behind_readable y rest h.3 r)),
+          (h.1, refl, (tt, refl, after_readable y rest h.3 r)),
         ),
       ),
     ),
@@ -263,7 +263,7 @@ body_readable (input x truth) rest h r = (h, refl, (tt, refl, (tt, refl, (tt, re
 body_readable (define x form) rest h r = (h.0, refl, (tt, refl, form_readable form rest h.1 r))
 body_readable (formula engine label x) rest h r =
     subst AreReadable (sym (append_assoc (label_marks label) (token (reference_token x) ∷ []) (ending rest)))
-    (labelled_readable label (token (reference_token x) ∷ ending rest) h.0 (behind_readable x rest h.1 r))
+    (labelled_readable label (token (reference_token x) ∷ ending rest) h.0 (after_readable x rest h.1 r))
 body_readable (contract engine label x y) rest h r =
     subst AreReadable (sym (append_assoc (label_marks label) (token (reference_token x) ∷ space ∷ token (what.Sign sign.Promises) ∷ space ∷ token (reference_token y) ∷ []) (ending rest)))
     (labelled_readable label (token (reference_token x) ∷ space ∷ token (what.Sign sign.Promises) ∷ space ∷ token (reference_token y) ∷ ending rest) h.0

@@ -1,7 +1,7 @@
 -- Formulas that expressions stand for: their constants are numbers of the language.
 
 use Rattle.std.proofs.Common.{ℕ, zero, suc, Bool, true, false, Option, Some, None, List, [], ◌∷◌, map, fold, if◌then◌else◌, arith}
-use Rattle.std.specs.Prelude.{slice_index_or, position, length, All}
+use Rattle.std.specs.Prelude.{slice_index_or, position, length, All, ⊤}
 use Rattle.std.specs.Str.{bytes_eq}
 use Rattle.std.proofs.lemmas.List.Elements.{All-nil, All-cons, All-append}
 use Rattle.mltl_base.specs.declared.operators.LogicOp.{LogicOp}
@@ -31,13 +31,13 @@ use Rattle.c2po_tree.specs.Shape.{Shape, Shapes}
 use Rattle.c2po_types.specs.FirstFault.{with_signals}
 use Rattle.c2po_types.specs.Signals.{body_signals}
 use Rattle.plain_nodes.specs.Nodes.{Tree, number, formula, constant_formula, arithmetic, comparison, connected, windowed, ranged}
-use Rattle.set_expand.specs.Outputs.{Place, before, values_behind, asked_at, behind, asked_from, outputs_of}
+use Rattle.set_expand.specs.Outputs.{Place, before, values_after, asked_at, behind, asked_from, outputs_of}
 use Rattle.unfold.specs.Values.{Value, Values, leaf, structure, set, none, more, weight, list_of, term_of, formula_of, members, part_or, picked, connected_value, connected_all, body_at, counted_formula, counted, interval}
 use Rattle.unfold.specs.Environment.{Env, Known, nothing, fields, value, signal_value, bind, declare, or_else, fields_in, value_in, value_of, values_of}
 
 -- constants are numbers of the language
 abbrev pub TermNatural : Term → Type 0
-TermNatural (column s) = Unit {0}
+TermNatural (column s) = ⊤
 TermNatural (constant n) = IsNumber n
 TermNatural (negative a) = TermNatural a
 TermNatural (plus a b) = TermNatural a × TermNatural b
@@ -47,7 +47,7 @@ TermNatural (quotient a b) = TermNatural a × TermNatural b
 TermNatural (remainder a b) = TermNatural a × TermNatural b
 
 abbrev pub AtomNatural : Atom → Type 0
-AtomNatural (is_true s) = Unit {0}
+AtomNatural (is_true s) = ⊤
 AtomNatural (equal a b) = TermNatural a × TermNatural b
 AtomNatural (less a b) = TermNatural a × TermNatural b
 AtomNatural (at_most a b) = TermNatural a × TermNatural b
@@ -56,8 +56,8 @@ AtomNatural (greater a b) = TermNatural a × TermNatural b
 AtomNatural (at_least a b) = TermNatural a × TermNatural b
 
 abbrev pub Natural : Formula → Type 0
-Natural full.truth = Unit {0}
-Natural full.falsity = Unit {0}
+Natural full.truth = ⊤
+Natural full.falsity = ⊤
 Natural (full.atom a) = AtomNatural a
 Natural (full.negation p) = Natural p
 Natural (full.conjunction p q) = Natural p × Natural q
@@ -84,20 +84,20 @@ abbrev mutual
   ValueNatural (set vs w) = ValuesNatural vs
 
   ValuesNatural : Values → Type 0
-  ValuesNatural none = Unit {0}
+  ValuesNatural none = ⊤
   ValuesNatural (more v vs) = ValueNatural v × ValuesNatural vs
 
 abbrev AllNatural : List Value → Type 0
-AllNatural [] = Unit {0}
+AllNatural [] = ⊤
 AllNatural (v ∷ vs) = ValueNatural v × AllNatural vs
 
 abbrev FormulasNatural : List Formula → Type 0
-FormulasNatural [] = Unit {0}
+FormulasNatural [] = ⊤
 FormulasNatural (p ∷ ps) = Natural p × FormulasNatural ps
 
 abbrev KnownNatural : Known → Type 0
-KnownNatural nothing = Unit {0}
-KnownNatural (fields xs) = Unit {0}
+KnownNatural nothing = ⊤
+KnownNatural (fields xs) = ⊤
 KnownNatural (value v) = ValueNatural v
 
 record EnvNatural (env : Env) : Type 0 where
@@ -289,12 +289,12 @@ signals_natural [] n env h = h
 signals_natural (s ∷ ss) n env h =
     signals_natural ss (suc n) (declare s.name (value (signal_value s.truth n)) env) (declare_natural s.name (value (signal_value s.truth n)) env (signal_natural s.truth n) h)
 
-behind_natural : (body : BodyShape) (p : Place) → GoodBody body → EnvNatural p.values → EnvNatural (values_behind body p)
-behind_natural (item.structure x fs) p k h = declare_natural x (fields (map (λ f. f.name) fs)) p.values tt h
-behind_natural (item.input xs t) p k h = signals_natural (body_signals (item.input xs t)) p.signals p.values h
-behind_natural (item.define x e) p k h = declare_natural x (value (value_of e p.values)) p.values (value_natural e p.values k.1 h) h
-behind_natural (item.formula engine label e) p k h = h
-behind_natural (item.contract engine label e f) p k h = h
+after_natural : (body : BodyShape) (p : Place) → GoodBody body → EnvNatural p.values → EnvNatural (values_after body p)
+after_natural (item.structure x fs) p k h = declare_natural x (fields (map (λ f. f.name) fs)) p.values tt h
+after_natural (item.input xs t) p k h = signals_natural (body_signals (item.input xs t)) p.signals p.values h
+after_natural (item.define x e) p k h = declare_natural x (value (value_of e p.values)) p.values (value_natural e p.values k.1 h) h
+after_natural (item.formula engine label e) p k h = h
+after_natural (item.contract engine label e f) p k h = h
 
 -- each formula of the output is natural
 abbrev pub IsNaturalOutput : Asked → Type 0
@@ -316,7 +316,7 @@ items_natural : (items : List ItemShape) (p : Place) → GoodItems items → Env
 unfolding asked_from
 items_natural [] p k h = All-nil IsNaturalOutput
 items_natural (i ∷ items) p k h =
-    All-append IsNaturalOutput (asked_at i.body p) (asked_from items (behind i.body p)) (asked_natural i.body p k.0 h) (items_natural items (behind i.body p) k.1 (behind_natural i.body p k.0 h))
+    All-append IsNaturalOutput (asked_at i.body p) (asked_from items (behind i.body p)) (asked_natural i.body p k.0 h) (items_natural items (behind i.body p) k.1 (after_natural i.body p k.0 h))
 
 -- the constants in the outputs of a specification are numbers of the language
 pub outputs_natural : (items : List ItemShape) → GoodItems items → All IsNaturalOutput (outputs_of items)

@@ -23,7 +23,7 @@ record Alongside (d : Declarations) (p : Place) : Type 0 where
   signals : length d.signals ≡ p.signals
   agrees : Agrees d.names p.values
 
--- what a line declares is new, and what is known behind it goes alongside
+-- what a line declares is new, and what is known after it goes alongside
 record Goes (n : ℕ) (l : Line) (p : Place) (later : Declarations) : Type 0 where
   new : IsNew l p.values
   along : Alongside later (behind (line_body n l) p)

@@ -1,4 +1,4 @@
--- Lines that pass have no fault: the check goes on behind each of them.
+-- Lines that pass have no fault: the check goes on after each of them.
 
 use Rattle.std.proofs.Common.{◌≡◌, ◌∙◌, ℕ, ◌+◌, ◌≤◌, Bool, true, false, List, [], ◌∷◌, length, drop, Option, None, Ok, Err, refl, ap, sym, arith}
 use Rattle.std.specs.Prelude.{if◌then◌else◌, ◌||◌, nat_le}
@@ -48,7 +48,7 @@ ok_same x y e = cc
 at_most : (a b : ℕ) → a ≤ b → nat_le a b ≡ true
 at_most a b h = grind (arith, nat_tests)
 
--- a step that goes on, and the numbers of signals behind it
+-- a step that goes on, and the numbers of signals after it
 record Goes (n : ℕ) (l : Line) (p : Place) (s t : State) : Type 0 where
   step : item_step (line_item n l) s ≡ Ok t
   counted : length t.declared.signals ≡ (behind (line_body n l) p).signals

@@ -1,7 +1,7 @@
 -- Lines that no rule refuses: what each line needs of its values, of the kinds of its names and of its label. Lines that
 -- pass all three have no fault.
 
-use Rattle.std.specs.Prelude.{◌≡◌, ◌+◌, ◌≤◌, ℕ, false, Option, Some, None, Ok, List, [], ◌∷◌, length, slice_get, ◌<◌, ◌||◌}
+use Rattle.std.specs.Prelude.{◌≡◌, ◌+◌, ◌≤◌, ℕ, false, Option, Some, None, Ok, List, [], ◌∷◌, length, slice_get, ◌<◌, ◌||◌, ⊤}
 use Rattle.mltl_base.specs.declared.interval.Engine.TheVariants.{Ft, Pt}
 use Rattle.mltl_base.specs.declared.limits.TheConstants.{MAX_WEIGHT}
 use Rattle.mltl_base.specs.declared.program.Program.{Program}
@@ -40,7 +40,7 @@ added n (contract engine label x y) p = weight (reference_value n x p) + weight 
 
 -- a definition's value is light and has ranges; so have outputs, which are of one tense, and light together with those before
 abbrev pub ValuePasses : ℕ → Line → Place → ℕ → Type 0
-ValuePasses n (input x truth) p total = Unit {0}
+ValuePasses n (input x truth) p total = ⊤
 ValuePasses n (define x f) p total = (weight (form_value n f p) ≤ MAX_WEIGHT) × (value_fault (form_value n f p) ≡ None)
 ValuePasses n (formula engine label x) p total =
     (total + weight (reference_value n x p) ≤ MAX_WEIGHT)
@@ -51,14 +51,14 @@ ValuePasses n (contract engine label x y) p total =
     × (or_later (formula_fault (formula_of (reference_value n x p))) (formula_fault (formula_of (reference_value n y p))) ≡ None)
     × ((is_mixed engine (formula_of (reference_value n x p)) || is_mixed engine (formula_of (reference_value n y p))) ≡ false)
 
--- so do lines from a place on, behind outputs of a weight
+-- so do lines from a place on, after outputs of a weight
 unfoldable pub ValuesPass : ℕ → List Line → Place → ℕ → Type 0
-ValuesPass n [] p total = Unit {0}
+ValuesPass n [] p total = ⊤
 ValuesPass n (l ∷ ls) p total = ValuePasses n l p total × ValuesPass (n + 1) ls (behind (line_body n l) p) (total + added n l p)
 
 -- ---- kinds
 
--- a line's names and kinds are right, and behind it these declarations hold
+-- a line's names and kinds are right, and after it these declarations hold
 abbrev pub KindPasses : ℕ → Line → Declarations → Declarations → Type 0
 KindPasses n (input x truth) d later = with_input n (x ∷ []) (type_named (kind_name truth)) d ≡ Ok later
 KindPasses n (define x f) d later = (k : Kind) × (define_kind n x (form_shape n f) d ≡ Ok k) × (with_value x k d ≡ later)
@@ -67,7 +67,7 @@ KindPasses n (contract engine label x y) d later = (k : Kind) × (contract_kind 
 
 -- so are those of lines
 unfoldable pub KindsPass : ℕ → List Line → Declarations → Type 0
-KindsPass n [] d = Unit {0}
+KindsPass n [] d = ⊤
 KindsPass n (l ∷ ls) d = (later : Declarations) × KindPasses n l d later × KindsPass (n + 1) ls later
 
 -- ---- labels
@@ -81,7 +81,7 @@ label_in (contract engine label x y) = label
 
 -- each label is new
 unfoldable pub LabelsPass : ℕ → List Line → Labels → Type 0
-LabelsPass n [] labels = Unit {0}
+LabelsPass n [] labels = ⊤
 LabelsPass n (l ∷ ls) labels = (later : Labels) × (with_label n (label_in l) labels ≡ Ok later) × LabelsPass (n + 1) ls later
 
 -- ---- programs

@@ -293,7 +293,7 @@ outputs_pass program (o ∷ outs) n k d h w = (d, output_passes program n k o d 
 
 -- ---- programs
 
--- what is known behind the lines of the Booleanizer and of future time
+-- what is known after the lines of the Booleanizer and of future time
 abbrev BothKinds : Program → Table Meaning → Type 0
 BothKinds program names = BzKinds program (length program.bz) names × FtKinds program (length program.ft) names
 

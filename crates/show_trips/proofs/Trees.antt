@@ -206,7 +206,7 @@ formula_reads engine (Some x) always line s = ap (said_as engine (Some x)) (refe
 formula_reads engine (Some x) (named y) line s = ap (said_as engine (Some x)) (reference_tree (named y) line _ _)
 formula_reads engine (Some x) (number n) line s = ap (said_as engine (Some x)) (reference_tree (number n) line _ _)
 
--- the tokens of a contract behind its label
+-- the tokens of a contract after its label
 abbrev contract_tokens : (line a b c d e f : ℕ) → Reference → Reference → List Token
 contract_tokens line a b c d e f x y = at_place line a b (reference_token x) ∷ at_place line c d (what.Sign sign.Promises) ∷ at_place line e f (reference_token y) ∷ []
 
@@ -235,9 +235,9 @@ promise_here always y line a b c d e f = refl
 promise_here (named x) y line a b c d e f = refl
 promise_here (number n) y line a b c d e f = refl
 
-behind_label : (engine : Engine) (label : Option (List ℕ)) (x y : Reference) (line a b c d e f : ℕ)
+after_label : (engine : Engine) (label : Option (List ℕ)) (x y : Reference) (line a b c d e f : ℕ)
     → output_at engine label (contract_tokens line a b c d e f x y) (promise_at 0 0 (contract_tokens line a b c d e f x y)) ≡ Some (line_body line (contract engine label x y))
-behind_label engine label x y line a b c d e f =
+after_label engine label x y line a b c d e f =
     ap (output_at engine label (contract_tokens line a b c d e f x y)) (promise_here x y line a b c d e f)
     ∙ ap (λ (o : Option ℕ). if is_some o then None else promise engine label (tree_of (at_place line a b (reference_token x) ∷ [])) (tree_of (at_place line e f (reference_token y) ∷ []))) (no_promise y line e f)
     ∙ ap (λ o. promise engine label o (tree_of (at_place line e f (reference_token y) ∷ []))) (reference_tree x line a b)
@@ -245,10 +245,10 @@ behind_label engine label x y line a b c d e f =
 
 contract_reads : (engine : Engine) (label : Option (List ℕ)) (x y : Reference) (line s : ℕ) → body_of (Output engine) (tokens_by line s (body_marks (contract engine label x y))) ≡ Some (line_body line (contract engine label x y))
 unfolding tokens_by output_of label_at
-contract_reads engine None always y line s = behind_label engine None always y line _ _ _ _ _ _
-contract_reads engine None (named x) y line s = behind_label engine None (named x) y line _ _ _ _ _ _
-contract_reads engine None (number n) y line s = behind_label engine None (number n) y line _ _ _ _ _ _
-contract_reads engine (Some z) x y line s = behind_label engine (Some z) x y line _ _ _ _ _ _
+contract_reads engine None always y line s = after_label engine None always y line _ _ _ _ _ _
+contract_reads engine None (named x) y line s = after_label engine None (named x) y line _ _ _ _ _ _
+contract_reads engine None (number n) y line s = after_label engine None (number n) y line _ _ _ _ _ _
+contract_reads engine (Some z) x y line s = after_label engine (Some z) x y line _ _ _ _ _ _
 
 body_reads : (l : Line) (line s : ℕ) → body_of (section_in l) (tokens_by line s (body_marks l)) ≡ Some (line_body line l)
 body_reads (input x truth) line s = input_reads x truth line s

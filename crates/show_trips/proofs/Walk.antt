@@ -1,7 +1,7 @@
--- Going through the lines of a program: what is known behind the lines of its signals and of its instructions.
+-- Going through the lines of a program: what is known after the lines of its signals and of its instructions.
 
 use Rattle.std.proofs.Common.{◌≡◌, ◌∙◌, ℕ, ◌+◌, zero, suc, Bool, true, false, not, List, [], ◌∷◌, ◌++◌, length, map, Option, Some, None, refl, ap, sym, subst, arith, append_assoc, inl, inr, nat_lt}
-use Rattle.std.specs.Prelude.{slice_get, slice_index, if◌then◌else◌, ◌⊎◌, ◌==◌, ◌&&◌, ◌||◌, option_map}
+use Rattle.std.specs.Prelude.{slice_get, slice_index, if◌then◌else◌, ◌⊎◌, ◌==◌, ◌&&◌, ◌||◌, option_map, ⊤}
 use Rattle.std.specs.List.{list_any, enumerate_from, filter_map, cons_option}
 use Rattle.std.proofs.lemmas.Option.{same_Some}
 use Rattle.std.specs.Cmp.{unsigned_Decides}
@@ -35,7 +35,7 @@ use Rattle.show_trips.proofs.Passing.{form_value, ValuesPass}
 use Rattle.show_trips.proofs.Values.{IsLater, declare_later, declared_here, Means, means_later, FormSays, minus_says, arith_says, compare_says}
 use Rattle.show_trips.proofs.Definable.{IsDefinable, AreDefinable, IsValueDefinable, value_definable}
 
--- lines behind some others, and what holds where they begin; where the instructions of the program may be defined, no
+-- lines after some others, and what holds where they begin; where the instructions of the program may be defined, no
 -- value of the lines before them is refused
 pub record Reaches (program : Program) (n : ℕ) (lines : List Line) (p : Place) (more : List Line) (I : Place → Type 0) : Type 0 where
   pub line : ℕ
@@ -83,7 +83,7 @@ signals_later signals env later g h k s e = g s.name (signal_value s.truth k) (h
 -- what is known of the first instructions of the Booleanizer: what each is called says its expression, and one that gives a
 -- truth has a truth
 abbrev pub IsTruthExpression : Expression → Type 0
-IsTruthExpression (truth a) = Unit {0}
+IsTruthExpression (truth a) = ⊤
 IsTruthExpression (whole t) = ⊥
 
 pub record KnowsOne (program : Program) (env : Env) (j : ℕ) (e : Expression) : Type 0 where
@@ -114,7 +114,7 @@ operand program env before a h is = go (slice_get before a) refl is
 
 -- what a form says, where there is one
 abbrev pub OptionSays : List ℕ → Env → Option Form → Expression → Type 0
-OptionSays columns env None e = Unit {0}
+OptionSays columns env None e = ⊤
 OptionSays columns env (Some f) e = FormSays columns env f e
 
 arith_operands : (program : Program) (env : Env) (before : List Expression) (op : arith_op.ArithOp) (a b : ℕ) → Knows program env before → AreWhole before a b
@@ -161,7 +161,7 @@ kind_of_op before (bz.TheVariants.Le a b) h = tt
 
 -- signals by their columns
 abbrev pub HaveOwnColumns : List StoredSignal → Type 0
-HaveOwnColumns [] = Unit {0}
+HaveOwnColumns [] = ⊤
 HaveOwnColumns (s ∷ ss) = (list_any (λ t. t.column == s.column) ss ≡ false) × HaveOwnColumns ss
 
 -- the signal in a column, by its number
@@ -211,7 +211,7 @@ column_by (t ∷ ss) (suc k) s e = column_by ss k s e
 abbrev pub HasKindFor : Program → bz.BzOp → Type 0
 HasKindFor program (bz.TheVariants.Column c) = has_kind program.signals c false ≡ true
 HasKindFor program (bz.TheVariants.IsTrue c) = has_kind program.signals c true ≡ true
-HasKindFor program op = Unit {0}
+HasKindFor program op = ⊤
 
 right_and : (a b : Bool) → (a && b) ≡ true → b ≡ true
 right_and a b h = (and_parts a b h).1
@@ -287,13 +287,13 @@ pub put_is : (x : List ℕ) (o : Option Form) (ls more : List Line) → cons_opt
 put_is x None ls more = refl
 put_is x (Some f) ls more = refl
 
--- what is known behind the Booleanizer's lines
+-- what is known after the Booleanizer's lines
 pub record BzKnown (program : Program) (count : ℕ) (es : List Expression) (p : Place) : Type 0 where
   pub knows : Knows program p.values es
   pub signals : KnowsSignals program.signals p.values
   pub outputs : p.outputs ≡ count
 
--- behind a definition, names keep their meanings, and its own name has its value
+-- after a definition, names keep their meanings, and its own name has its value
 pub defined_later : (n : ℕ) (x : List ℕ) (f : Form) (p : Place) → IsLater p.values (behind (line_body n (define x f)) p).values
 defined_later n x f p = declare_later x (value (value_of (form_shape n f) p.values)) p.values
 
@@ -301,7 +301,7 @@ defined_later n x f p = declare_later x (value (value_of (form_shape n f) p.valu
 pub nothing_added : (total : ℕ) → total ≡ total + 0
 nothing_added total = omega arith
 
--- one more line: what was reached behind it is reached from it
+-- one more line: what was reached after it is reached from it
 pub reaches_define : (program : Program) (n : ℕ) (x : List ℕ) (f : Form) (ls more : List Line) (p : Place) (I : Place → Type 0) → (AreDefinable program → IsValueDefinable (form_value n f p))
     → Reaches program (n + 1) ls (behind (line_body n (define x f)) p) more I → Reaches program n (define x f ∷ ls) p more I
 unfolding asked_from line_items ValuesPass
@@ -356,7 +356,7 @@ step_bz program i n outputs op before es ls more p (Some f) some at len ok versi
 
 -- each instruction from a number on has its operands
 abbrev pub HaveOperands : Program → ℕ → List bz.BzOp → Type 0
-HaveOperands program i [] = Unit {0}
+HaveOperands program i [] = ⊤
 HaveOperands program i (op ∷ ops) = (has_operands program i op ≡ true) × HaveOperands program (i + 1) ops
 
 -- the expressions of earlier instructions stay

@@ -1,7 +1,7 @@
 -- What the lines of a whole program ask for: what its outputs unfold to.
 
 use Rattle.std.proofs.Common.{◌≡◌, ◌∙◌, ℕ, ◌+◌, ◌<◌, Bool, true, false, List, [], ◌∷◌, ◌++◌, length, map, Some, None, refl, ap, ap₂, sym, subst, arith, append_assoc, append-nil, inl, inr, nat_lt}
-use Rattle.std.specs.Prelude.{slice_get, if◌then◌else◌, ◌⊎◌, decimal}
+use Rattle.std.specs.Prelude.{slice_get, if◌then◌else◌, ◌⊎◌, decimal, ⊤}
 use Rattle.std.specs.List.{enumerate_from}
 use Rattle.std.specs.Str.{bytes_eq}
 use Rattle.std.proofs.lemmas.Slice.Eq.{bytes_eq-Decides}
@@ -38,7 +38,7 @@ use Rattle.show_trips.proofs.Values.{IsLater, declare_later, declared_here, Mean
 use Rattle.show_trips.proofs.Walk.{Reaches, reaches_at_once, reaches_on, nothing_added, get_push, columns_in, KnowsSignals, Knows, BzKnown, HaveOwnColumns, HaveOperands, walk_bz}
 use Rattle.show_trips.proofs.Engines.{KnowsCores, CoresKnown, core_operand, HaveFutureOperands, walk_ft, HavePastOperands, walk_pt}
 
--- behind the lines of signals
+-- after the lines of signals
 record SignalsKnown (program : Program) (count : ℕ) (p : Place) : Type 0 where
   signals : KnowsSignals program.signals p.values
   outputs : p.outputs ≡ count
@@ -140,13 +140,13 @@ output_asks program n k p (out.TheVariants.Contract Pt i j name) e h w =
     (formula_by (columns_in program) p.values n (pt_reference program i) (plain (formula_at program Pt i)) (h.pt i (under i (length program.pt) parts.0)))
     (formula_by (columns_in program) p.values n (pt_reference program j) (plain (formula_at program Pt j)) (h.pt j (under j (length program.pt) parts.1)))
 
--- behind an output nothing but its number is new
-pub behind_output : (program : Program) (n k : ℕ) (o : out.Out) (p : Place) → ((behind (line_body n (output_line program k o)) p).values ≡ p.values) × ((behind (line_body n (output_line program k o)) p).outputs ≡ p.outputs + 1)
-behind_output program n k (out.TheVariants.Formula engine i name) p = (refl, refl)
-behind_output program n k (out.TheVariants.Contract engine i j name) p = (refl, refl)
+-- after an output nothing but its number is new
+pub after_output : (program : Program) (n k : ℕ) (o : out.Out) (p : Place) → ((behind (line_body n (output_line program k o)) p).values ≡ p.values) × ((behind (line_body n (output_line program k o)) p).outputs ≡ p.outputs + 1)
+after_output program n k (out.TheVariants.Formula engine i name) p = (refl, refl)
+after_output program n k (out.TheVariants.Contract engine i j name) p = (refl, refl)
 
 abbrev pub HaveReports : Program → List out.Out → Type 0
-HaveReports program [] = Unit {0}
+HaveReports program [] = ⊤
 HaveReports program (o ∷ outs) = Within program o × HaveReports program outs
 
 outputs_ask : (program : Program) (outs : List out.Out) (n k : ℕ) (p : Place) → p.outputs ≡ k → EnginesKnown program p.values → HaveReports program outs
@@ -155,7 +155,7 @@ unfolding asked_from line_items
 outputs_ask program [] n k p e h w = refl
 outputs_ask program (o ∷ outs) n k p e h w =
     let q : Place = behind (line_body n (output_line program k o)) p in
-    let after = behind_output program n k o p in
+    let after = after_output program n k o p in
     let next : q.outputs ≡ k + 1 = after.1 ∙ ap (λ (m : ℕ). m + 1) e in
     map-append (asked_over (columns_in program)) (asked_at (line_body n (output_line program k o)) p) (asked_from (line_items (n + 1) (map (λ x. output_line program x.0 x.1) (enumerate_from (k + 1) outs))) q)
     ∙ ap₂ (λ (a b : List Asked). a ++ b) (output_asks program n k p o e h w.0)
@@ -186,7 +186,7 @@ unfolding past_formulas_after
 past_count loaded [] before = omega arith
 past_count loaded (op ∷ ops) before = omega (arith, past_count loaded ops (before ++ past_formula_of loaded before op ∷ []), length-append before (past_formula_of loaded before op ∷ []))
 
--- everything that is known behind the lines of instructions
+-- everything that is known after the lines of instructions
 abbrev pub AllKnown : Program → Place → Type 0
 AllKnown program p =
     CoresKnown (pt_reference program) (columns_in program)

@@ -1,7 +1,7 @@
 -- The lines of a well-formed program whose names can be written have words of the language.
 
 use Rattle.std.proofs.Common.{◌≡◌, ℕ, pos, ◌+◌, ◌<◌, ◌≤◌, ◌^◌, zero, suc, Bool, true, false, not, List, [], ◌∷◌, ◌++◌, length, map, Option, Some, None, refl, sym, subst, arith, inl, inr}
-use Rattle.std.specs.Prelude.{slice_get, slice_index, if◌then◌else◌, nat_le, ◌⊎◌, decimal, filter}
+use Rattle.std.specs.Prelude.{slice_get, slice_index, if◌then◌else◌, nat_le, ◌⊎◌, decimal, filter, ⊤}
 use Rattle.std.specs.List.{range_with_len, enumerate_from, list_all}
 use Rattle.std.specs.Str.{bytes_eq}
 use Rattle.std.proofs.lemmas.Slice.Eq.{bytes_eq-Decides}
@@ -42,7 +42,7 @@ words_append (l ∷ ls) ms h g = (h.0, words_append ls ms h.1 g)
 
 -- numbers of defined names
 abbrev AllUpTo : ℕ → List ℕ → Type 0
-AllUpTo m [] = Unit {0}
+AllUpTo m [] = ⊤
 AllUpTo m (x ∷ xs) = (x ≤ m) × AllUpTo m xs
 
 range_up_to : (n a m : ℕ) → a + n ≤ m → AllUpTo m (range_with_len a n)
@@ -154,7 +154,7 @@ pt_token program g h = go (slice_get program.pt g)
 
 -- forms
 abbrev OptionTokens : Option Form → Type 0
-OptionTokens None = Unit {0}
+OptionTokens None = ⊤
 OptionTokens (Some f) = HasTokens f
 
 bz_tokens : (program : Program) (op : bz.BzOp) → HasAll program → OptionTokens (bz_form program op)

@@ -1,6 +1,6 @@
 -- Lines of a specification in its plainest form: the tokens by which each is written, and the item that it says.
 
-use Rattle.std.specs.Prelude.{◌+◌, ℕ, pos, Bool, true, false, List, [], ◌∷◌, ◌++◌, codes, Option, Some, None}
+use Rattle.std.specs.Prelude.{◌+◌, ℕ, pos, Bool, true, false, List, [], ◌∷◌, ◌++◌, codes, Option, Some, None, ⊤}
 use Rattle.std.specs.List.{flat_map}
 use Rattle.mltl_base.specs.declared.interval.Engine.TheVariants.{Ft, Pt}
 use Rattle.mltl_base.specs.declared.interval.Interval.{Interval}
@@ -57,7 +57,7 @@ between_word between_op.TheVariants.U = keyword.U
 between_word between_op.TheVariants.R = keyword.R
 between_word between_op.TheVariants.S = keyword.S
 
--- the tokens of an interval behind its operator
+-- the tokens of an interval after its operator
 abbrev pub interval_marks : Interval → List Mark
 interval_marks window =
     token (what.Sign sign.LeftSquare) ∷ token (what.Number (pos window.lo)) ∷ token (what.Sign sign.Comma)
@@ -127,7 +127,7 @@ HasTokens (between op window x y) = IsNumber (pos window.lo) × IsNumber (pos wi
 
 -- a label, where there is one, is a name of the language
 abbrev pub HasName : Option (List ℕ) → Type 0
-HasName None = Unit {0}
+HasName None = ⊤
 HasName (Some x) = IsName x
 
 -- a line of such names, forms and references
@@ -139,7 +139,7 @@ HasWords (contract engine label x y) = HasName label × HasToken x × HasToken y
 
 -- each line is so
 abbrev pub HaveWords : List Line → Type 0
-HaveWords [] = Unit {0}
+HaveWords [] = ⊤
 HaveWords (line ∷ lines) = HasWords line × HaveWords lines
 
 -- the tree of a reference on a line of the text

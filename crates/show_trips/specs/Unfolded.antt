@@ -1,6 +1,6 @@
 -- Lines whose declared names are new, and the programs that say what their lines do.
 
-use Rattle.std.specs.Prelude.{◌≡◌, ◌+◌, ℕ, List, [], ◌∷◌}
+use Rattle.std.specs.Prelude.{◌≡◌, ◌+◌, ℕ, List, [], ◌∷◌, ⊤}
 use Rattle.mltl_base.specs.declared.program.StoredSignal.{StoredSignal}
 use Rattle.mltl_base.specs.declared.signal.Signal.{Signal}
 use Rattle.unfold.specs.Environment.{Env, nothing}
@@ -12,12 +12,12 @@ use Rattle.show_trips.specs.Said.{line_body}
 abbrev pub IsNew : Line → Env → Type 0
 IsNew (input x truth) env = env x ≡ nothing
 IsNew (define x form) env = env x ≡ nothing
-IsNew (formula engine label x) env = Unit {0}
-IsNew (contract engine label x y) env = Unit {0}
+IsNew (formula engine label x) env = ⊤
+IsNew (contract engine label x y) env = ⊤
 
 -- from a place on, each line declares a name that isn't known before it
 unfoldable pub AreNew : ℕ → List Line → Place → Type 0
-AreNew n [] p = Unit {0}
+AreNew n [] p = ⊤
 AreNew n (line ∷ lines) p = IsNew line p.values × AreNew (n + 1) lines (behind (line_body n line) p)
 
 -- a stored signal as a specification declares it

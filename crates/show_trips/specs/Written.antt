@@ -1,6 +1,6 @@
 -- Written texts: tokens, with spaces and ends of lines between them.
 
-use Rattle.std.specs.Prelude.{◌≡◌, ◌≤◌, ◌+◌, ℕ, ℤ, pos, negsuc, Bool, true, not, ◌==◌, ◌||◌, List, [], ◌∷◌, length, slice_index, flat_map, decimal, None}
+use Rattle.std.specs.Prelude.{◌≡◌, ◌≤◌, ◌+◌, ℕ, ℤ, pos, negsuc, Bool, true, not, ◌==◌, ◌||◌, List, [], ◌∷◌, length, slice_index, flat_map, decimal, None, ⊤}
 use Rattle.std.specs.List.{AllPass}
 use Rattle.std.specs.Char.{is_ascii_digit}
 use Rattle.c2po_lexer.specs.Spelling.{keyword_text, keyword_of, sign_text}
@@ -59,9 +59,9 @@ IsNumber (negsuc n) = ⊥
 -- a token that a text can have
 abbrev pub IsToken : What → Type 0
 IsToken (what.Word x) = IsName x
-IsToken (what.Reserved k) = Unit {0}
+IsToken (what.Reserved k) = ⊤
 IsToken (what.Number n) = IsNumber n
-IsToken (what.Sign s) = Unit {0}
+IsToken (what.Sign s) = ⊤
 
 -- whether a sign ends before a byte, so that no longer sign and no comment begins with it
 abbrev pub ends_before : Sign → ℕ → Bool
@@ -86,7 +86,7 @@ Ends w (b ∷ bytes) = token_ends w b ≡ true
 
 -- each token is one that a text can have, and ends before what follows it
 unfoldable pub AreReadable : List Mark → Type 0
-AreReadable [] = Unit {0}
+AreReadable [] = ⊤
 AreReadable (token w ∷ marks) = IsToken w × Ends w (written marks) × AreReadable marks
 AreReadable (space ∷ marks) = AreReadable marks
 AreReadable (newline ∷ marks) = AreReadable marks

@@ -1,6 +1,6 @@
 -- The time that a line of a stamped trace begins with.
 
-use Rattle.std.specs.Prelude.{ℕ, ◌-◌, ◌+◌, ◌==◌, min, Bool, true, ◌&&◌, if◌then◌else◌, nat_lt, nat_le, Option, Some, None, List, [], ◌∷◌, length, take, drop, slice_index}
+use Rattle.std.specs.Prelude.{ℕ, ◌-◌, ◌+◌, ◌==◌, min, Bool, true, ◌&&◌, if◌then◌else◌, nat_lt, nat_le, Option, Some, None, List, [], ◌∷◌, length, take, drop, slice_index, ⊤}
 use Rattle.std.specs.Char.{is_ascii_digit}
 use Rattle.std.specs.List.{prefix_len}
 use Rattle.std.specs.Str.Parse.{digits_value}
@@ -12,9 +12,9 @@ use Rattle.sparse_feed.specs.declared.stamp.Stamp.TheVariants.{At, Blank, Bad, O
 abbrev pub digits_at_front : List ℕ → List ℕ
 digits_at_front text = take (prefix_len is_ascii_digit text) text
 
--- what is behind the digits at the front of a text
-abbrev pub behind_digits : List ℕ → List ℕ
-behind_digits text = drop (prefix_len is_ascii_digit text) text
+-- what is after the digits at the front of a text
+abbrev pub after_digits : List ℕ → List ℕ
+after_digits text = drop (prefix_len is_ascii_digit text) text
 
 -- a stamp ends at a comma or with its line
 abbrev pub ends_stamp : List ℕ → Bool
@@ -23,7 +23,7 @@ ends_stamp (byte ∷ bytes) = byte == 44
 
 -- a line begins with a stamp: the sign `@`, one or more digits, and then a comma or the line's end
 abbrev pub has_stamp : List ℕ → Bool
-has_stamp line = (slice_index line 0 == 64) && (nat_lt 0 (prefix_len is_ascii_digit (drop 1 line)) && ends_stamp (behind_digits (drop 1 line)))
+has_stamp line = (slice_index line 0 == 64) && (nat_lt 0 (prefix_len is_ascii_digit (drop 1 line)) && ends_stamp (after_digits (drop 1 line)))
 
 -- the digits of a stamp
 unfoldable pub stamp_digits : List ℕ → List ℕ
@@ -33,9 +33,9 @@ stamp_digits line = digits_at_front (drop 1 line)
 abbrev pub time_of : List ℕ → ℕ
 time_of line = digits_value 10 (stamp_digits line)
 
--- the place behind the stamp and its comma, or the line's length where it has none
-abbrev pub place_behind : List ℕ → ℕ
-place_behind line = min (length line) (length (stamp_digits line) + 2)
+-- the place after the stamp and its comma, or the line's length where it has none
+abbrev pub place_after : List ℕ → ℕ
+place_after line = min (length line) (length (stamp_digits line) + 2)
 
 -- the first time is 0, and times rise
 abbrev pub may_follow : Option ℕ → ℕ → Bool
@@ -47,20 +47,20 @@ abbrev pub timed : Option ℕ → ℕ → ℕ → ℕ → Stamp
 timed last mission place time =
     if may_follow last time then (if nat_le mission time then Late else At time place) else Order
 
--- what a line says: nothing, a fault in the order of faults, or its time and the place behind its stamp
+-- what a line says: nothing, a fault in the order of faults, or its time and the place after its stamp
 abbrev pub stamp_meaning : List ℕ → Option ℕ → ℕ → Stamp
 stamp_meaning line last mission =
     if is_blank_line line then Blank
-    else if has_stamp line then timed last mission (place_behind line) (time_of line)
+    else if has_stamp line then timed last mission (place_after line) (time_of line)
     else Bad
 
 -- a fact of a time and a place, where a line has them
 abbrev pub IfAt : Stamp → (ℕ → ℕ → Type 0) → Type 0
 IfAt (At time place) P = P time place
-IfAt Blank P = Unit {0}
-IfAt Bad P = Unit {0}
-IfAt Order P = Unit {0}
-IfAt Late P = Unit {0}
+IfAt Blank P = ⊤
+IfAt Bad P = ⊤
+IfAt Order P = ⊤
+IfAt Late P = ⊤
 
 -- how many times lie between a time and the one before it, none before the first
 abbrev pub times_between : Option ℕ → ℕ → ℕ

@@ -12,7 +12,7 @@ use std::str;
 /// What a line says of its time.
 #[derive(Clone, Copy)]
 pub enum Stamp {
-    /// The time, and the place of the first byte behind the comma, or the line's length where it has no comma.
+    /// The time, and the place of the first byte after the comma, or the line's length where it has no comma.
     At(u64, usize),
     /// Nothing but spaces and tabs.
     Blank,

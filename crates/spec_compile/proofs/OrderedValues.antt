@@ -1,7 +1,7 @@
 -- Formulas that expressions stand for: their intervals run upward.
 
 use Rattle.std.proofs.Common.{ℕ, zero, suc, Bool, true, false, Option, Some, None, List, [], ◌∷◌, map, fold, if◌then◌else◌, arith}
-use Rattle.std.specs.Prelude.{slice_index_or, position, length, All}
+use Rattle.std.specs.Prelude.{slice_index_or, position, length, All, ⊤}
 use Rattle.std.specs.Str.{bytes_eq}
 use Rattle.std.proofs.lemmas.List.Elements.{All-nil, All-cons, All-append}
 use Rattle.mltl_base.specs.declared.operators.LogicOp.{LogicOp}
@@ -23,13 +23,13 @@ use Rattle.c2po_tree.specs.Shape.{Shape, Shapes}
 use Rattle.c2po_types.specs.FirstFault.{with_signals}
 use Rattle.c2po_types.specs.Signals.{body_signals}
 use Rattle.plain_nodes.specs.Nodes.{Tree, number, formula, constant_formula, connected, windowed, ranged}
-use Rattle.set_expand.specs.Outputs.{Place, before, values_behind, asked_at, behind, asked_from, outputs_of}
+use Rattle.set_expand.specs.Outputs.{Place, before, values_after, asked_at, behind, asked_from, outputs_of}
 use Rattle.unfold.specs.Values.{Value, Values, leaf, structure, set, none, more, weight, list_of, formula_of, members, part_or, picked, connected_value, connected_all, body_at, counted_formula, counted, interval}
 use Rattle.unfold.specs.Environment.{Env, Known, nothing, fields, value, signal_value, bind, declare, or_else, fields_in, value_in, value_of, values_of}
 
 -- the formulas of a value, of its parts, and of what a name stands for, are ordered
 abbrev TreeOrdered : Tree → Type 0
-TreeOrdered (number a) = Unit {0}
+TreeOrdered (number a) = ⊤
 TreeOrdered (formula p) = IsOrdered p
 
 abbrev mutual
@@ -39,20 +39,20 @@ abbrev mutual
   ValueOrdered (set vs w) = ValuesOrdered vs
 
   ValuesOrdered : Values → Type 0
-  ValuesOrdered none = Unit {0}
+  ValuesOrdered none = ⊤
   ValuesOrdered (more v vs) = ValueOrdered v × ValuesOrdered vs
 
 abbrev AllOrdered : List Value → Type 0
-AllOrdered [] = Unit {0}
+AllOrdered [] = ⊤
 AllOrdered (v ∷ vs) = ValueOrdered v × AllOrdered vs
 
 abbrev FormulasOrdered : List Formula → Type 0
-FormulasOrdered [] = Unit {0}
+FormulasOrdered [] = ⊤
 FormulasOrdered (p ∷ ps) = IsOrdered p × FormulasOrdered ps
 
 abbrev KnownOrdered : Known → Type 0
-KnownOrdered nothing = Unit {0}
-KnownOrdered (fields xs) = Unit {0}
+KnownOrdered nothing = ⊤
+KnownOrdered (fields xs) = ⊤
 KnownOrdered (value v) = ValueOrdered v
 
 record EnvOrdered (env : Env) : Type 0 where
@@ -221,12 +221,12 @@ signals_ordered [] n env h = h
 signals_ordered (s ∷ ss) n env h =
     signals_ordered ss (suc n) (declare s.name (value (signal_value s.truth n)) env) (declare_ordered s.name (value (signal_value s.truth n)) env (signal_ordered s.truth n) h)
 
-behind_ordered : (body : BodyShape) (p : Place) → EnvOrdered p.values → EnvOrdered (values_behind body p)
-behind_ordered (item.structure x fs) p h = declare_ordered x (fields (map (λ f. f.name) fs)) p.values tt h
-behind_ordered (item.input xs t) p h = signals_ordered (body_signals (item.input xs t)) p.signals p.values h
-behind_ordered (item.define x e) p h = declare_ordered x (value (value_of e p.values)) p.values (value_ordered e p.values h) h
-behind_ordered (item.formula engine label e) p h = h
-behind_ordered (item.contract engine label e f) p h = h
+after_ordered : (body : BodyShape) (p : Place) → EnvOrdered p.values → EnvOrdered (values_after body p)
+after_ordered (item.structure x fs) p h = declare_ordered x (fields (map (λ f. f.name) fs)) p.values tt h
+after_ordered (item.input xs t) p h = signals_ordered (body_signals (item.input xs t)) p.signals p.values h
+after_ordered (item.define x e) p h = declare_ordered x (value (value_of e p.values)) p.values (value_ordered e p.values h) h
+after_ordered (item.formula engine label e) p h = h
+after_ordered (item.contract engine label e f) p h = h
 
 -- each formula of the output is ordered
 abbrev pub IsOrderedOutput : Asked → Type 0
@@ -248,7 +248,7 @@ items_ordered : (items : List ItemShape) (p : Place) → EnvOrdered p.values →
 unfolding asked_from
 items_ordered [] p h = All-nil IsOrderedOutput
 items_ordered (i ∷ items) p h =
-    All-append IsOrderedOutput (asked_at i.body p) (asked_from items (behind i.body p)) (asked_ordered i.body p h) (items_ordered items (behind i.body p) (behind_ordered i.body p h))
+    All-append IsOrderedOutput (asked_at i.body p) (asked_from items (behind i.body p)) (asked_ordered i.body p h) (items_ordered items (behind i.body p) (after_ordered i.body p h))
 
 -- intervals in the outputs of a specification run upward
 pub outputs_ordered : (items : List ItemShape) → All IsOrderedOutput (outputs_of items)

@@ -1,6 +1,6 @@
 -- Refusals of a specification, and the answers that tell them.
 
-use Rattle.std.specs.Prelude.{◌≡◌, Option, Some}
+use Rattle.std.specs.Prelude.{◌≡◌, Option, Some, ⊤}
 use Rattle.c2po_lexer.specs.declared.fault.LexFault.{LexFault}
 use Rattle.c2po_lexer.specs.declared.fault.LexFault.TheVariants as lexed
 use Rattle.c2po_parse.specs.declared.fault.ParseFault.{ParseFault}
@@ -62,4 +62,4 @@ header_refusal header.Memory = Memory
 abbrev pub IsFirstRefusal : Option CompileFault → CompileFault → Type 0
 IsFirstRefusal first (Refused line why) = first ≡ Some (Refused line why)
 IsFirstRefusal first (BadHeader why) = ⊥
-IsFirstRefusal first Memory = Unit {0}
+IsFirstRefusal first Memory = ⊤

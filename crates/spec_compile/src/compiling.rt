@@ -23,7 +23,7 @@ use trace_feed::{header, in_order};
 /// 1,048,576 bytes, a line of at most 65,535. Without a header line each signal stands in the column of its number.
 ///
 /// Errors, the first of these: `Refused` with the first fault of the text; `BadHeader` where the line doesn't name each
-/// signal once; `Refused` with line 0 where a limit is exceeded. `Memory` where memory is wanting.
+/// signal once; `Refused` with line 0 where a limit is exceeded. `Memory` when out of memory.
 pub fn compile(
     alloc: Global,
     text: &[u8],
@@ -45,7 +45,7 @@ pub fn compile(
 /// The columns of a specification's signals: those that a header line of at most 65,535 bytes names; without one each
 /// signal stands in the column of its number.
 ///
-/// Errors: `BadHeader` where the line doesn't name each signal once; `Memory` where memory is wanting.
+/// Errors: `BadHeader` where the line doesn't name each signal once; `Memory` when out of memory.
 pub fn columns_of(
     alloc: Global,
     spec: &TypedSpec,

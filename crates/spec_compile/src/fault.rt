@@ -72,7 +72,7 @@ pub enum CompileFault {
     Refused(u32, Refusal),
     /// The header line doesn't name the signals.
     BadHeader(HeaderWhy),
-    /// Memory is wanting.
+    /// Out of memory.
     Memory,
 }
 

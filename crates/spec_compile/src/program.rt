@@ -26,7 +26,7 @@ use std::alloc::Global;
 /// The image of a specification over the columns of its signals, one column for each.
 ///
 /// Errors: `Refused` with line 0 and the first limit that is exceeded: instructions, then delays, then slots; `Memory`
-/// where memory is wanting, and at 2^32 bytes of names, which no text reaches. `BadHeader` never comes.
+/// when out of memory, and at 2^32 bytes of names, which no text reaches. `BadHeader` never comes.
 pub fn back(alloc: Global, spec: &TypedSpec, columns: &Columns) -> Result<Checked, CompileFault>
     requires columns { AreColumnsFor (length (declared (spec_shape spec.now))) columns.now }
     ensures image { IfOk result (λ checked. checked

@@ -21,7 +21,7 @@ use obs_verify::Checked;
 use set_expand::expand;
 use std::alloc::Global;
 
-/// Whether a limit is exceeded; else memory is wanting.
+/// Whether a limit is exceeded; else out of memory.
 fn is_limit(fault: BuildFault) -> bool
     ensures { result ≡ limits fault }
 {

@@ -15,7 +15,7 @@ use std::alloc::Global;
 /// The specification that a text of at most 1,048,576 bytes says.
 ///
 /// Errors: `Refused` with the first fault of the text: one of its tokens, else one of the trees of its items, else one
-/// of names, kinds, weights, ranges or tenses; `Memory` where memory is wanting. `BadHeader` never comes.
+/// of names, kinds, weights, ranges or tenses; `Memory` when out of memory. `BadHeader` never comes.
 pub fn front(alloc: Global, text: &[u8]) -> Result<TypedSpec, CompileFault>
     requires { length text.now ≤ MAX_SPEC_BYTES }
     ensures faultless { OnOk result (first_refusal text.now ≡ None) }

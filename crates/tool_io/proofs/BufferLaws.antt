@@ -1,4 +1,4 @@
--- Laws of a LineCut's buffer: a cut of its first bytes, and a read behind them.
+-- Laws of a LineCut's buffer: a cut of its first bytes, and a read after them.
 use Rattle.std.proofs.Common.{◌≡◌, ℕ, ◌+◌, ◌-◌, ◌^◌, ◌≤◌, ◌<◌, min, true, false, if◌then◌else◌, Option, Some, List, [], ◌++◌, length, take, drop, refl, sym, ◌∙◌, ap, arith}
 use Rattle.std.specs.List.{slice_range}
 use Rattle.std.proofs.lemmas.List.{length-take, length-drop, length-append, length-take-le, take-take, take-append-le, drop-take, drop-drop}
@@ -19,13 +19,13 @@ part_front items next end len within =
     let size : next + len - next ≡ len = omega arith in
     ap (λ n. take n (drop next items)) size ∙ sym (take-take len (end - next) (drop next items) within)
 
--- the bytes behind those
+-- the bytes after those
 pub part_rest : (items : List ℕ) (next end len : ℕ) → len ≤ end - next → slice_range items (next + len) end ≡ drop len (slice_range items next end)
 part_rest items next end len within =
     let size : end - next ≡ len + (end - (next + len)) = omega arith in
     sym (ap (λ n. drop len (take n (drop next items))) size ∙ drop-take len (end - (next + len)) (drop next items) ∙ ap (λ rest. take (end - (next + len)) rest) (drop-drop len next items))
 
--- without a kept line, the bytes behind the row are pending
+-- without a kept line, the bytes after the row are pending
 pub pending-plain : (cut : Inside) → cut.kept ≡ false → (cut_of cut).pending ≡ rest_bytes cut
 pending-plain cut plain = ap (λ kept. (if kept then row_bytes cut else []) ++ rest_bytes cut) plain
 
@@ -33,7 +33,7 @@ pub length-rest_bytes : (cut : Inside) → HoldsRows cut → length (rest_bytes 
 length-rest_bytes cut holds =
     omega (arith, length-take (cut.end - cut.next) (drop cut.next cut.buffer.items), length-drop cut.next cut.buffer.items, holds.room, holds.to, holds.within)
 
--- the bytes behind those that were seen
+-- the bytes after those that were seen
 pub unseen-is : (cut : Inside) (now : Cutting) (seen : ℕ) (bytes : List ℕ) → HoldsRows cut → cut_of cut ≡ now → now.kept ≡ false → seen ≤ length now.pending → bytes ≡ cut.buffer.items → slice_range bytes (cut.next + seen) cut.end ≡ drop seen now.pending
 unseen-is cut now seen bytes holds view plain within is =
     let kept : cut.kept ≡ false = ap (λ (v : Cutting). v.kept) view ∙ plain in
@@ -56,7 +56,7 @@ CutsFront-of cut len number holds plain within is =
       ended = refl;
     }
 
--- a read into the part behind the first bytes
+-- a read into the part after the first bytes
 pub Fills-behind : (result : got.Got) (len : ℕ) (buffer into : List ℕ) (before now : Option (List Event)) (place : Place) → len < length buffer → length into ≡ length buffer - len → ReadRange result into → ReadLog result before now place into → Fills result (take len buffer) (put_mid len (length buffer - len) buffer into) before now place
 Fills-behind (got.TheVariants.Bytes n) len buffer into before now place room size range log =
     let kept : length (take len buffer) ≡ len = length-take-le len buffer (omega arith) in

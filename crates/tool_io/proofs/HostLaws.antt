@@ -12,7 +12,7 @@ NoFault-none counts place = refl
 pub NoFault-then : (before between now : Place → ℕ) → NoFault before between → NoFault between now → NoFault before now
 NoFault-then before between now first second place = second place ∙ first place
 
--- a fault behind calls without one
+-- a fault after calls without one
 pub RoseAt-after : (before between now : Place → ℕ) (place : Place) → NoFault before between → RoseAt between now place → RoseAt before now place
 RoseAt-after before between now place first second =
     record {

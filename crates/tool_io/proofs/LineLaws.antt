@@ -40,12 +40,12 @@ no_newline_found xs none =
     let all : length xs ≤ n = grind (arith, nat_tests) in
     subst HasNoNewline (take_all n xs all) (no_newline_front xs)
 
-pub none_behind : (bytes : List ℕ) (seen : ℕ) → HasNoNewline (take seen bytes) → position (λ byte. byte == 10) (drop seen bytes) ≡ None → HasNoNewline bytes
-none_behind bytes seen before none =
+pub none_after : (bytes : List ℕ) (seen : ℕ) → HasNoNewline (take seen bytes) → position (λ byte. byte == 10) (drop seen bytes) ≡ None → HasNoNewline bytes
+none_after bytes seen before none =
     subst HasNoNewline (take-append-drop seen bytes)
     (HasNoNewline-append (take seen bytes) (drop seen bytes) before (no_newline_found (drop seen bytes) none))
 
--- the first newline behind bytes that hold none ends the first line
+-- the first newline after bytes that hold none ends the first line
 pub EndsLine-found : (bytes : List ℕ) (seen at : ℕ) → seen ≤ length bytes → HasNoNewline (take seen bytes) → position (λ byte. byte == 10) (drop seen bytes) ≡ Some at → (seen + at + 1 ≤ length bytes) × EndsLine (take (seen + at + 1) bytes)
 EndsLine-found bytes seen at within before found =
     let rest = drop seen bytes in

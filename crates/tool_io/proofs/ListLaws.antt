@@ -14,7 +14,7 @@ pub is_empty-some : (xs : List ℕ) → 0 < length xs → is_empty xs ≡ false
 is_empty-some [] some = absurd (omega arith)
 is_empty-some (x ∷ xs) some = refl
 
--- with more behind it, it still holds something
+-- with more after it, it still holds something
 pub some-append : (xs more : List ℕ) → xs ≢ [] → xs ++ more ≢ []
 some-append [] more some none = some refl
 some-append (x ∷ xs) more some none = cc

@@ -12,7 +12,7 @@ pub Appends-none : (before : Option (List Event)) → Appends before before []
 Appends-none None = tt
 Appends-none (Some before) = ap Some (sym (append-nil before))
 
--- events behind events
+-- events after events
 pub Appends-then : (before between now : Option (List Event)) (first second : List Event) → Appends before between first → Appends between now second → Appends before now (first ++ second)
 Appends-then None between now first second a b = tt
 Appends-then (Some before) None now first second a b = cc
@@ -86,7 +86,7 @@ pub meets_end-append : (ended : Bool) (first second : List (List ℕ)) → meets
 meets_end-append ended [] second = refl
 meets_end-append ended (piece ∷ pieces) second = meets_end-append (is_empty piece) pieces second
 
--- reads behind reads
+-- reads after reads
 pub Reads-then : (place : Place) (first second : List (List ℕ)) (a b : List Event) → Reads place first a → Reads place second b → Reads place (first ++ second) (a ++ b)
 Reads-then place first second a b one two = ap (λ events. events ++ b) one ∙ ap (λ events. map (Took place) first ++ events) two ∙ sym (map-append (Took place) first second)
 
@@ -98,7 +98,7 @@ Writes-none place = record { pieces = []; are = refl; joined = refl }
 pub Writes-one : (place : Place) (bytes : List ℕ) → Writes place bytes (Gave place bytes ∷ [])
 Writes-one place bytes = record { pieces = bytes ∷ []; are = refl; joined = sym (append-nil bytes) }
 
--- writes behind writes
+-- writes after writes
 pub Writes-then : (place : Place) (x y : List ℕ) (a b : List Event) → Writes place x a → Writes place y b → Writes place (x ++ y) (a ++ b)
 Writes-then place x y a b one two =
     record {
@@ -107,7 +107,7 @@ Writes-then place x y a b one two =
       joined = ap (λ bytes. bytes ++ y) one.joined ∙ ap (λ bytes. concat one.pieces ++ bytes) two.joined ∙ sym (concat-append one.pieces two.pieces);
     }
 
--- a front behind whole bytes
+-- a front after whole bytes
 pub WritesFront-then : (place : Place) (x y : List ℕ) (a b : List Event) → Writes place x a → WritesFront place y b → WritesFront place (x ++ y) (a ++ b)
 WritesFront-then place x y a b one two =
     record {

@@ -1,6 +1,6 @@
 -- Files by name, and what cursors read of them, as files come and cursors move.
 use Rattle.std.proofs.Common.{◌≡◌, ◌≢◌, ℕ, ◌+◌, ◌-◌, ◌<◌, ◌≤◌, Bool, true, false, Option, Some, None, List, [], ◌∷◌, ◌++◌, length, set, IfSome, position, refl, sym, ap, ◌∙◌, inl, inr, arith, length-append, length-drop}
-use Rattle.std.specs.Prelude.{find, nat_lt, cond}
+use Rattle.std.specs.Prelude.{find, nat_lt, cond, ⊤}
 use Rattle.std.specs.List.{position_or_len}
 use Rattle.std.specs.Option.{option_map, option_or, ForSome, is_some}
 use Rattle.std.proofs.lemmas.Bool.{false_from_ne_true}
@@ -140,7 +140,7 @@ file_absent files cursors stored name seen absent = rw (← seen) (rw absent)
 
 -- a cursor reads the same in both lists of files
 abbrev pub Agrees : List NamedBytes → List NamedBytes → Option Cursor → Type 0
-Agrees files more None = Unit {0}
+Agrees files more None = ⊤
 Agrees files more (Some cursor) = (length files ≤ length more) × (file_at more cursor.file ≡ file_at files cursor.file)
 
 fits-more : (files more : List NamedBytes) (cursor : Option Cursor) → Agrees files more cursor → FitsIn files cursor → FitsIn more cursor

@@ -1,18 +1,19 @@
 -- Promptness as a fold over the events, which calls one after another keep.
+use Rattle.std.specs.Prelude.{⊤}
 use Rattle.std.proofs.Common.{◌≡◌, ℕ, List, [], ◌∷◌, ◌++◌, map, refl, sym, ◌∙◌, ap, subst}
 use Rattle.std.proofs.lemmas.List.{append_assoc, append-nil}
 use Rattle.tool_io.specs.declared.host.Place.{Place}
 use Rattle.tool_io.specs.declared.host.Place.TheVariants.{Trace, Out}
 use Rattle.tool_io.specs.Log.{Event, Took, Gave, taken, given, Prompt, Writes}
 
--- the same as Prompt, behind events that took and gave these bytes
+-- the same as Prompt, after events that took and gave these bytes
 abbrev pub PromptBy : (List ℕ → List ℕ) → List ℕ → List ℕ → List Event → Type 0
-PromptBy due_of read sent [] = Unit {0}
+PromptBy due_of read sent [] = ⊤
 PromptBy due_of read sent (Took Trace piece ∷ events) = (sent ≡ due_of read) × PromptBy due_of (read ++ piece) sent events
 PromptBy due_of read sent (Gave Out piece ∷ events) = PromptBy due_of read (sent ++ piece) events
 PromptBy due_of read sent (event ∷ events) = PromptBy due_of read sent events
 
--- events behind events
+-- events after events
 pub PromptBy-append : (due_of : List ℕ → List ℕ) (read sent : List ℕ) (first second : List Event) → PromptBy due_of read sent first → PromptBy due_of (read ++ taken Trace first) (sent ++ given Out first) second → PromptBy due_of read sent (first ++ second)
 PromptBy-append due_of read sent [] second a b =
     subst (λ bytes. PromptBy due_of bytes sent second) (append-nil read) (subst (λ bytes. PromptBy due_of (read ++ []) bytes second) (append-nil sent) b)

@@ -21,7 +21,7 @@ Writes-more before between now place piece sent n log more =
           (Writes-then place (take sent piece) (take n (drop sent piece)) log.events (Gave place (take n (drop sent piece)) ∷ []) log.holds (Writes-one place (take n (drop sent piece))));
     }
 
--- bytes are left behind a front that ends before the piece does
+-- bytes are left after a front that ends before the piece does
 drop-some : (piece : List ℕ) (sent : ℕ) → sent < length piece → drop sent piece ≢ []
 drop-some piece sent more none =
     let size : length (drop sent piece) ≡ 0 = ap (λ (bytes : List ℕ). length bytes) none in

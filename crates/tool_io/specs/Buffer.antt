@@ -11,7 +11,7 @@ use Rattle.tool_io.specs.Cutting.{Cutting, IsRow, next_number}
 abbrev pub row_bytes : Inside → List ℕ
 row_bytes cut = slice_range cut.buffer.items cut.start cut.next
 
--- the bytes behind that line
+-- the bytes after that line
 abbrev pub rest_bytes : Inside → List ℕ
 rest_bytes cut = slice_range cut.buffer.items cut.next cut.end
 

@@ -1,5 +1,5 @@
 -- How a stream of bytes is cut into lines, and what a LineCut stands for.
-use Rattle.std.specs.Prelude.{◌≡◌, ℕ, ◌+◌, ◌-◌, ◌^◌, ◌<◌, ◌≤◌, ◌⊎◌, ◌==◌, ◌&&◌, ◌||◌, not, nat_lt, nat_le, min, Bool, true, false, if◌then◌else◌, Option, Some, None, IsSome, unwrap_or, List, [], ◌∷◌, ◌++◌, length, take, slice_index}
+use Rattle.std.specs.Prelude.{◌≡◌, ℕ, ◌+◌, ◌-◌, ◌^◌, ◌<◌, ◌≤◌, ◌⊎◌, ◌==◌, ◌&&◌, ◌||◌, not, nat_lt, nat_le, min, Bool, true, false, if◌then◌else◌, Option, Some, None, IsSome, unwrap_or, List, [], ◌∷◌, ◌++◌, length, take, slice_index, ⊤}
 use Rattle.std.specs.List.{concat}
 use Rattle.tool_io.specs.declared.host.Place.{Place}
 use Rattle.tool_io.specs.declared.line_cut.Line as line
@@ -17,7 +17,7 @@ pub record Cutting : Type 0 where
 
 -- no byte is a newline; a newline is the byte 10, a carriage return the byte 13
 abbrev pub HasNoNewline : List ℕ → Type 0
-HasNoNewline [] = Unit {0}
+HasNoNewline [] = ⊤
 HasNoNewline (byte ∷ bytes) = ((byte == 10) ≡ false) × HasNoNewline bytes
 
 -- whether one of the bytes is a newline
@@ -53,7 +53,7 @@ abbrev pub whole_lines : List ℕ → List (List ℕ)
 whole_lines [] = []
 whole_lines (byte ∷ bytes) = if byte == 10 then (byte ∷ []) ∷ whole_lines bytes else onto byte (whole_lines bytes)
 
--- the bytes behind the last newline
+-- the bytes after the last newline
 abbrev pub rest_of : List ℕ → List ℕ
 rest_of [] = []
 rest_of (byte ∷ bytes) = if has_newline (byte ∷ bytes) then rest_of bytes else byte ∷ bytes
@@ -89,10 +89,10 @@ next_number cut = if cut.kept then cut.number else min (cut.number + 1) (2 ^ 64 
 
 -- a read is made only where the bytes before it hold no newline, and are fewer than the buffer holds
 abbrev pub OnlyWhereNeeded : List ℕ → List (List ℕ) → Type 0
-OnlyWhereNeeded pending [] = Unit {0}
+OnlyWhereNeeded pending [] = ⊤
 OnlyWhereNeeded pending (piece ∷ pieces) = HasNoNewline pending × (length pending < 65536) × OnlyWhereNeeded (pending ++ piece) pieces
 
--- The last line, without a newline: the bytes behind it are none, and the end was met.
+-- The last line, without a newline: the bytes after it are none, and the end was met.
 pub record IsLastRow (raw rest : List ℕ) (ended : Bool) : Type 0 where
   pub some : 0 < length raw
   pub short : length raw < 65536

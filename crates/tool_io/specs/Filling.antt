@@ -1,10 +1,10 @@
--- What a read behind the first bytes of a buffer does.
+-- What a read after the first bytes of a buffer does.
 use Rattle.std.specs.Prelude.{◌≡◌, ℕ, ◌+◌, ◌<◌, ◌≤◌, Option, List, [], ◌∷◌, ◌++◌, length, take}
 use Rattle.tool_io.specs.declared.host.Place.{Place}
 use Rattle.tool_io.specs.declared.host.Got as got
 use Rattle.tool_io.specs.Log.{Event, Took, Appends}
 
--- a read behind the first bytes of a buffer leaves those, puts its own behind them, and tells them
+-- a read after the first bytes of a buffer leaves those, puts its own after them, and tells them
 abbrev pub Fills : got.Got → List ℕ → List ℕ → Option (List Event) → Option (List Event) → Place → Type 0
 Fills (got.TheVariants.Bytes n) kept buffer before now place =
     (piece : List ℕ) × (length piece ≡ n) × (0 < n) × (length kept + n ≤ length buffer) × (take (length kept + n) buffer ≡ kept ++ piece) × Appends before now (Took place piece ∷ [])

@@ -1,5 +1,5 @@
 -- What the calls of a host do to its counts of faults, to its log and to what is left to be read.
-use Rattle.std.specs.Prelude.{◌≡◌, ◌≢◌, ℕ, ◌+◌, ◌-◌, ◌^◌, ◌<◌, ◌≤◌, ◌⊎◌, min, Option, Some, None, List, [], ◌∷◌, ◌++◌, length, take, drop}
+use Rattle.std.specs.Prelude.{◌≡◌, ◌≢◌, ℕ, ◌+◌, ◌-◌, ◌^◌, ◌<◌, ◌≤◌, ◌⊎◌, min, Option, Some, None, List, [], ◌∷◌, ◌++◌, length, take, drop, ⊤}
 use Rattle.tool_io.specs.declared.host.Place.{Place}
 use Rattle.tool_io.specs.declared.host.Place.TheVariants.{Out, Err}
 use Rattle.tool_io.specs.declared.host.Attached as attached
@@ -9,15 +9,15 @@ use Rattle.tool_io.specs.Log.{Event, Attached, Missed, Took, Gave, Appends}
 
 -- Out and Err are written
 abbrev pub IsSink : Place → Type 0
-IsSink Out = Unit {0}
-IsSink Err = Unit {0}
+IsSink Out = ⊤
+IsSink Err = ⊤
 IsSink p = ⊥
 
 -- the other places are read
 abbrev pub IsSource : Place → Type 0
 IsSource Out = ⊥
 IsSource Err = ⊥
-IsSource p = Unit {0}
+IsSource p = ⊤
 
 -- the count rose, or stands at a counter's last value
 abbrev pub Rose : ℕ → ℕ → Type 0
@@ -67,15 +67,15 @@ ReadLog got.TheVariants.Failed before now place into = Appends before now []
 -- a read gives one byte or more, and no more than the slice holds
 abbrev pub ReadRange : got.Got → List ℕ → Type 0
 ReadRange (got.TheVariants.Bytes n) into = (0 < n) × (n ≤ length into)
-ReadRange got.TheVariants.End into = Unit {0}
-ReadRange got.TheVariants.Failed into = Unit {0}
+ReadRange got.TheVariants.End into = ⊤
+ReadRange got.TheVariants.Failed into = ⊤
 
 -- where what is left is told, a read gives its front, and meets the end exactly where nothing is left
 abbrev pub ReadLeft : got.Got → Option (List ℕ) → Option (List ℕ) → List ℕ → Type 0
 ReadLeft (got.TheVariants.Bytes n) (Some left) now into = (left ≡ take n into ++ drop n left) × (now ≡ Some (drop n left))
 ReadLeft got.TheVariants.End (Some left) now into = (left ≡ []) × (now ≡ Some [])
 ReadLeft got.TheVariants.Failed (Some left) now into = now ≡ Some left
-ReadLeft result None now into = Unit {0}
+ReadLeft result None now into = ⊤
 
 -- nothing changed of what is left at the places other than this one
 abbrev pub LeftElsewhere : (Place → Option (List ℕ)) → (Place → Option (List ℕ)) → Place → Type 0
@@ -93,4 +93,4 @@ WriteLog put.TheVariants.Failed before now place piece = Appends before now []
 -- a write sends one byte or more, and no more than the piece holds
 abbrev pub WriteRange : put.Put → List ℕ → Type 0
 WriteRange (put.TheVariants.Wrote n) piece = (0 < n) × (n ≤ length piece)
-WriteRange put.TheVariants.Failed piece = Unit {0}
+WriteRange put.TheVariants.Failed piece = ⊤

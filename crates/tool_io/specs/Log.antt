@@ -1,5 +1,5 @@
 -- What a host tells of its calls: a list of events, the oldest first, and what follows from it.
-use Rattle.std.specs.Prelude.{◌≡◌, ◌≢◌, ℕ, Bool, true, false, if◌then◌else◌, Option, Some, None, List, [], ◌∷◌, ◌++◌, map}
+use Rattle.std.specs.Prelude.{◌≡◌, ◌≢◌, ℕ, Bool, true, false, if◌then◌else◌, Option, Some, None, List, [], ◌∷◌, ◌++◌, map, ⊤}
 use Rattle.std.specs.List.{concat}
 use Rattle.tool_io.specs.declared.host.Place.{Place}
 use Rattle.tool_io.specs.declared.host.Place.TheVariants.{Spec, Header, Program, Trace, Out, Err}
@@ -72,7 +72,7 @@ pub record IsProperFront {X : Type 0} (front whole : List X) : Type 0 where
 
 -- where the host tells its log, the log has grown by these events
 abbrev pub Appends : Option (List Event) → Option (List Event) → List Event → Type 0
-Appends None now events = Unit {0}
+Appends None now events = ⊤
 Appends (Some before) now events = now ≡ Some (before ++ events)
 
 -- what was appended since has P, where the host tells its log

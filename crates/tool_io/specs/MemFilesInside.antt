@@ -1,5 +1,5 @@
 -- How files in memory keep what each place reads: the file's index, and how many of its bytes are left.
-use Rattle.std.specs.Prelude.{ℕ, ◌-◌, ◌<◌, ◌≤◌, Option, Some, None, List, [], length, drop, slice_index_or}
+use Rattle.std.specs.Prelude.{ℕ, ◌-◌, ◌<◌, ◌≤◌, Option, Some, None, List, [], length, drop, slice_index_or, ⊤}
 use Rattle.std.specs.Option.{option_map}
 use Rattle.tool_io.specs.declared.host.Place.{Place}
 use Rattle.tool_io.specs.declared.mem_files.Cursor.{Cursor}
@@ -37,7 +37,7 @@ pub record IsWithin (files : List NamedBytes) (cursor : Cursor) : Type 0 where
 
 -- so does a cursor, where there is one
 abbrev pub FitsIn : List NamedBytes → Option Cursor → Type 0
-FitsIn files None = Unit {0}
+FitsIn files None = ⊤
 FitsIn files (Some cursor) = IsWithin files cursor
 
 -- the cursor of each place that has one names a file, and has no more bytes left than that file has

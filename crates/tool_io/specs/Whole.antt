@@ -1,5 +1,5 @@
 -- What writing all of a piece tells, and what reading a place to its end tells.
-use Rattle.std.specs.Prelude.{◌≡◌, ℕ, ◌<◌, ◌≤◌, Bool, true, false, Result, Ok, Err, List, length, Vec}
+use Rattle.std.specs.Prelude.{◌≡◌, ℕ, ◌<◌, ◌≤◌, Bool, true, false, Result, Ok, Err, List, length, Vec, ⊤}
 use Rattle.std.specs.List.{concat}
 use Rattle.std.specs.declared.alloc.Global.{Global}
 use Rattle.tool_io.specs.declared.host.Place.{Place}
@@ -12,7 +12,7 @@ use Rattle.tool_io.specs.Host.{NoFault, RoseAt}
 -- a piece that went out did so to its last byte
 abbrev pub PutAllRange : put.Put → List ℕ → Type 0
 PutAllRange (put.TheVariants.Wrote n) piece = n ≡ length piece
-PutAllRange put.TheVariants.Failed piece = Unit {0}
+PutAllRange put.TheVariants.Failed piece = ⊤
 
 -- all of the piece went out, or a front of it
 abbrev pub PutAllLog : put.Put → Place → List ℕ → List Event → Type 0

@@ -35,7 +35,7 @@ pub struct LineCut {
     buffer: Vec<u8>,
     /// Where the line of the last Row begins.
     start: usize,
-    /// Where the bytes behind it begin, which aren't cut yet.
+    /// Where the bytes after it begin, which aren't cut yet.
     next: usize,
     /// Where they end.
     end: usize,
@@ -80,8 +80,8 @@ fn move_to_front(buffer: &mut [u8], next: usize, end: usize)
     }
 }
 
-/// Reads behind the first `len` bytes.
-fn read_behind<H: Host>(host: &mut H, place: Place, buffer: &mut [u8], len: usize) -> Got
+/// Reads after the first `len` bytes.
+fn read_after<H: Host>(host: &mut H, place: Place, buffer: &mut [u8], len: usize) -> Got
     requires source { IsSource place }
     requires room { len < length buffer.old }
     ensures bytes { Fills result (take len buffer.old) buffer.new
@@ -194,7 +194,7 @@ impl LineCut {
         self.number = self.number.saturating_add(1);
     }
 
-    /// Reads once behind the bytes that aren't cut yet, which move to the front before.
+    /// Reads once after the bytes that aren't cut yet, which move to the front before.
     fn fill<H: Host>(&mut self, host: &mut H, place: Place) -> Got
         requires source { IsSource place }
         requires no_row { self.old.row ≡ None }
@@ -206,7 +206,7 @@ impl LineCut {
         let len = self.end - self.next;
         let buffer: &mut [u8] = &mut self.buffer;
         move_to_front(buffer, self.next, self.end);
-        let got = read_behind(host, place, buffer, len);
+        let got = read_after(host, place, buffer, len);
         self.start = 0;
         self.next = 0;
         self.end = len;

@@ -107,7 +107,7 @@ fn write_to(stream: &Stream, rt: HostRuntime, place: Place, piece: &[u8]) -> io:
     }
 }
 
-/// One write, and a flush behind it.
+/// One write, and a flush after it.
 fn send<W: Write + Drop>(mut to: W, piece: &[u8]) -> io::Result<usize>
     ensures { WritesAtMost result piece.now }
 {

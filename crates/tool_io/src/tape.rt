@@ -22,7 +22,7 @@ pub enum Deed {
     Give,
 }
 
-/// One event but for its bytes, which stand in the tape's buffer behind those of the events before.
+/// One event but for its bytes, which stand in the tape's buffer after those of the events before.
 #[derive(Clone, Copy)]
 pub struct Mark {
     pub deed: Deed,

@@ -1,4 +1,4 @@
--- What the counts of faults say behind a run and its message.
+-- What the counts of faults say after a run and its message.
 
 use Rattle.std.proofs.Common.{◌≡◌, ◌≢◌, ℕ, sym, subst}
 use Rattle.tool_io.specs.declared.host.Place as place

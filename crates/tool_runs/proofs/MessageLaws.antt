@@ -1,4 +1,4 @@
--- A message behind a run leaves all that was told as it was, but for what Err was given.
+-- A message after a run leaves all that was told as it was, but for what Err was given.
 
 use Rattle.std.proofs.Common.{◌≡◌, ℕ, false, ◌||◌, List, ◌++◌, refl, ◌∙◌, ap}
 use Rattle.std.proofs.lemmas.List.{append-nil}

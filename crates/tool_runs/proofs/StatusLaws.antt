@@ -9,7 +9,7 @@ abbrev pub told_as : {T E : Type 0} → (E → Status) → Result T E → Result
 told_as status (Ok value) = Ok value
 told_as status (Err fault) = Err (status fault)
 
--- what is Ok behind a call that may put one fault for another was Ok before it, with what holds of one
+-- what is Ok after a call that may put one fault for another was Ok before it, with what holds of one
 pub told_value : {T E D : Type 0} (found : Result T E) (now : Result T D) (P : E → D → Type 0) (value : T) (Q : T → Type 0) → MatchResult found (λ other. now ≡ Ok other) (λ fault. IsErrAnd now (P fault)) → now ≡ Ok value → IfOk found Q → Q value
 told_value (Ok other) now P value Q same is holds =
     let alike : other ≡ value = cc in

@@ -1,6 +1,6 @@
 -- Which places a log attached.
 
-use Rattle.std.specs.Prelude.{◌≡◌, ℕ, Bool, true, false, ◌||◌, List, [], ◌∷◌, ◌++◌}
+use Rattle.std.specs.Prelude.{◌≡◌, ℕ, Bool, true, false, ◌||◌, List, [], ◌∷◌, ◌++◌, ⊤}
 use Rattle.tool_io.specs.declared.host.Place as place
 use Rattle.tool_io.specs.Log.{Event, Attached, Took, same_place}
 use Rattle.tool_runs.specs.declared.status.Status as status
@@ -19,4 +19,4 @@ ReadsAttached first events = (before after : List Event) (p : place.Place) (piec
 abbrev pub OpensAsTold : status.Status → List Event → Type 0
 OpensAsTold (status.TheVariants.OpenFault p) events = is_attached p events ≡ false
 OpensAsTold (status.TheVariants.ReadFault p) events = is_attached p events ≡ true
-OpensAsTold answer events = Unit {0}
+OpensAsTold answer events = ⊤

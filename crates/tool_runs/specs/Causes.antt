@@ -1,6 +1,6 @@
 -- What the status of a run says of the host's counts of faults.
 
-use Rattle.std.specs.Prelude.{◌≡◌, ◌≢◌, ℕ, MatchBool, Result, Ok, Err}
+use Rattle.std.specs.Prelude.{◌≡◌, ◌≢◌, ℕ, MatchBool, Result, Ok, Err, ⊤}
 use Rattle.tool_io.specs.declared.host.Place as place
 use Rattle.tool_io.specs.Log.{same_place}
 use Rattle.tool_io.specs.Host.{Rose, NoFault, RoseAt}
@@ -37,4 +37,4 @@ abbrev pub TellsNoCall : status.Status → Type 0
 TellsNoCall (status.TheVariants.OpenFault p) = ⊥
 TellsNoCall (status.TheVariants.ReadFault p) = ⊥
 TellsNoCall (status.TheVariants.WriteFault p) = ⊥
-TellsNoCall answer = Unit {0}
+TellsNoCall answer = ⊤

@@ -79,7 +79,7 @@ place_name place.TheVariants.Err = codes "error output"
 abbrev pub line_text : ℕ → List ℕ
 line_text n = if n == 0 then [] else codes "line " ++ decimal n ++ codes ": "
 
--- what a status says behind the program's name
+-- what a status says after the program's name
 abbrev pub status_text : status.Status → List ℕ
 status_text status.TheVariants.Done = []
 status_text status.TheVariants.Helped = []

@@ -34,7 +34,7 @@ pub enum Status {
     OpenFault(Place),
     ReadFault(Place),
     WriteFault(Place),
-    /// Memory is wanting.
+    /// Out of memory.
     Memory,
 }
 

@@ -5,7 +5,7 @@ ghost use Rattle.arrayvec.specs.ArrayVec.{array_vec_len};
 
 use arrayvec::ArrayVec;
 
-/// Puts a piece behind a text that has room for it.
+/// Puts a piece after a text that has room for it.
 pub(crate) fn add<const CAP: usize>(text: &mut ArrayVec<u8, CAP>, piece: &[u8])
     requires { array_vec_len text.old + length piece.now ≤ CAP }
     ensures items { text.new.items ≡ text.old.items ++ piece.now }

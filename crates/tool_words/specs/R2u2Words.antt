@@ -1,6 +1,6 @@
 -- What the words of `r2u2` ask for.
 
-use Rattle.std.specs.Prelude.{ℕ, ◌^◌, ◌≤◌, Bool, ◌&&◌, ◌==◌, not, if◌then◌else◌, Option, Some, is_some, unwrap_or, option_map, option_and_then, List, [], ◌∷◌, codes}
+use Rattle.std.specs.Prelude.{ℕ, ◌^◌, ◌≤◌, Bool, ◌&&◌, ◌==◌, not, if◌then◌else◌, Option, Some, is_some, unwrap_or, option_map, option_and_then, List, [], ◌∷◌, codes, ⊤}
 use Rattle.std.specs.List.{before_first, after_first}
 use Rattle.std.specs.Option.{option_map_or}
 use Rattle.clap.specs.Words.{App, Row, Text, first_of}
@@ -105,4 +105,4 @@ asked_of r2u2_ask.TheVariants.Nothing = nothing
 abbrev pub IsInBounds : r2u2_ask.R2u2Ask → Type 0
 IsInBounds (r2u2_ask.TheVariants.Run r) = (1 ≤ r.mission) × (r.mission ≤ 2 ^ 40)
 IsInBounds (r2u2_ask.TheVariants.Demo seed rows) = (1 ≤ rows) × (rows ≤ 10000000)
-IsInBounds other = Unit {0}
+IsInBounds other = ⊤

@@ -4,7 +4,7 @@ use crate::Words;
 use std::alloc::{AllocError, Global};
 use std::env::{Env, FillError};
 
-/// The words behind the program's own name, by their bytes.
+/// The words after the program's own name, by their bytes.
 pub fn words_of<E: Env>(env: &E, alloc: Global) -> Result<Words, AllocError> {
     let mut words = Words::new(alloc);
     for i in 1..usize::MAX {
@@ -16,7 +16,7 @@ pub fn words_of<E: Env>(env: &E, alloc: Global) -> Result<Words, AllocError> {
     Ok(words)
 }
 
-/// Word `i`, or `None` behind the last one. A buffer that is too short is made twice as long.
+/// Word `i`, or `None` after the last one. A buffer that is too short is made twice as long.
 fn word_at<E: Env>(env: &E, alloc: Global, i: usize) -> Result<Option<Vec<u8>>, AllocError> {
     for power in 10u32..40 {
         let mut word = vec![in alloc; 0u8; 1usize << power]?;

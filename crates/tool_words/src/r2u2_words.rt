@@ -55,7 +55,7 @@ const SEEDS: Numbers = Numbers {
     greatest: 4_294_967_295,
 };
 
-/// What stands behind it.
+/// What stands after it.
 const ROW_COUNTS: Numbers = Numbers {
     digits: 10,
     least: 1,

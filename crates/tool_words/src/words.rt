@@ -9,7 +9,7 @@ use std::alloc::{AllocError, Global};
 use std::convert::AsStr;
 use std::marker::Model;
 
-/// The words behind a program's own name, which contracts see as the list of their bytes. A word needn't be UTF-8.
+/// The words after a program's own name, which contracts see as the list of their bytes. A word needn't be UTF-8.
 #[derive(Drop)]
 pub struct Words {
     alloc: Global,
@@ -35,7 +35,7 @@ impl Words {
         }
     }
 
-    /// Puts a word behind the last one; where memory is wanting nothing changed.
+    /// Puts a word after the last one; when out of memory nothing changed.
     pub fn push(&mut self, word: &str) -> Result<(), AllocError>
         ensures pushed { OnOk result (self.new ≡ self.old ++ word.now ∷ []) }
         ensures kept { OnErr result (self.new ≡ self.old) }
@@ -43,7 +43,7 @@ impl Words {
         self.push_bytes(word.as_bytes())
     }
 
-    /// Puts a word behind the last one by its bytes; where memory is wanting nothing changed.
+    /// Puts a word after the last one by its bytes; when out of memory nothing changed.
     pub fn push_bytes(&mut self, word: &[u8]) -> Result<(), AllocError>
         ensures pushed { OnOk result (self.new ≡ self.old ++ word.now ∷ []) }
         ensures kept { OnErr result (self.new ≡ self.old) }

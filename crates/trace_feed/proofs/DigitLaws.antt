@@ -39,7 +39,7 @@ value_more bytes i inside is = digits_value_more 10 bytes i inside ∙ ap (λ d.
 pub value_short : (bytes : List ℕ) (i k : ℕ) → AllDigits 10 (take i bytes) → i ≤ length bytes → i ≤ k → digits_value 10 (take i bytes) < 10 ^ k
 value_short bytes i k all inside few = digits_value_short own (take i bytes) k all (omega (arith, length-take-le i bytes inside, few))
 
--- digits behind a sign, or without one
+-- digits after a sign, or without one
 front_step : (x : ℕ) (xs : List ℕ) (d : ℕ) (minus plus : Bool) → (x == 45) ≡ minus → (x == 43) ≡ plus → 0 < d → d ≤ length (cond minus xs (drop (cond plus 1 0) (x ∷ xs)))
     → without_leading_sign (take (length (x ∷ xs) - length (cond minus xs (drop (cond plus 1 0) (x ∷ xs))) + d) (x ∷ xs)) ≡ take d (cond minus xs (drop (cond plus 1 0) (x ∷ xs)))
 front_step x xs d true plus e f some inside =
@@ -113,7 +113,7 @@ numeral_plain [] is k inside = absurd (omega arith)
 numeral_plain (x ∷ xs) is k inside =
     plain_step x xs (x == 45) (x == 43) refl refl (and_parts (nat_lt 0 (length (without_leading_sign (x ∷ xs)))) (list_all is_ascii_digit (without_leading_sign (x ∷ xs))) is).1 k inside
 
--- so it stands before the first comma, where one stands behind it, or the end
+-- so it stands before the first comma, where one stands after it, or the end
 pub numeral_ends : (line : List ℕ) (n : ℕ) → n ≤ length line → is_numeral (take n line) ≡ true → (n < length line → is_comma (get_or line n 0) ≡ true) → position_or_len is_comma line ≡ n
 numeral_ends line n inside is ends =
     position_or_len_is is_comma line n 0 inside (λ k below. subst (λ (x : ℕ). is_comma x ≡ false) (get_or-take n line k 0 below) (numeral_plain (take n line) is k (omega (arith, below, length-take-le n line inside))).0) ends
@@ -132,9 +132,9 @@ numeral_value Unread field n is value = refl
 numeral_value Whole field n is value = rw (numeral_trimmed field is, is, value) refl
 numeral_value Truth field n is value = rw (numeral_trimmed field is, is, value) refl
 
--- what stands behind the sign
-pub behind_sign : (field : List ℕ) (n : ℕ) → n ≡ sign_length field → take (length field - n) (drop n field) ≡ without_leading_sign field
-behind_sign field n is =
+-- what stands after the sign
+pub after_sign : (field : List ℕ) (n : ℕ) → n ≡ sign_length field → take (length field - n) (drop n field) ≡ without_leading_sign field
+after_sign field n is =
     take_all (length field - n) (drop n field) (omega (arith, length-drop n field))
     ∙ ap (λ k. drop k field) is
     ∙ go (starts_with_minus field) (slice_index field 0 == 43)

@@ -1,4 +1,4 @@
--- Fields that are passed over, by the commas behind them.
+-- Fields that are passed over, by the commas after them.
 use Rattle.std.proofs.Common.{◌≡◌, ◌<◌, ◌≤◌, ◌+◌, ◌-◌, ℕ, pos, suc, zero, Bool, true, false, cond, List, [], ◌∷◌, ◌++◌, length, take, drop, get_or, refl, arith, sym, ◌∙◌, ap}
 use Rattle.std.specs.Prelude.{count_by, replicate}
 use Rattle.std.specs.List.{onto_first}
@@ -15,9 +15,9 @@ use Rattle.trace_feed.specs.Readings.{AreReadings, PassesOver, fields_meaning}
 use Rattle.trace_feed.specs.Rows.{LineMeaning}
 use Rattle.trace_feed.proofs.RowLaws.{Says, no_field, onto, says_passed, some_fields}
 
--- behind so many fields from one place on stands what stands behind those that are left from another one on
-abbrev pub AreBehind : List ℕ → ℕ → ℕ → ℕ → ℕ → Type 0
-AreBehind line from count at left = drop left (fields_of (drop at line)) ≡ drop count (fields_of (drop from line))
+-- after so many fields from one place on stands what stands after those that are left from another one on
+abbrev pub AreAfter : List ℕ → ℕ → ℕ → ℕ → ℕ → Type 0
+AreAfter line from count at left = drop left (fields_of (drop at line)) ≡ drop count (fields_of (drop from line))
 
 -- a byte belongs to the first field, or is a comma that ends an empty one
 onto_drops : (x n : ℕ) (fields : List (List ℕ)) → 0 < length fields → drop (suc n) (onto_first x fields) ≡ drop (suc n) fields
@@ -63,7 +63,7 @@ block_from line at size n fewer =
     ∙ ap (λ (bytes : List ℕ). drop (n - count_by is_comma here) (fields_of bytes)) (drop-drop size at line)
 
 -- the place that was looked for
-pub found : (line : List ℕ) (from count at left : ℕ) → from ≤ length line → at ≤ length line → left ≡ 0 → AreBehind line from count at left → fields_from line at ≡ drop count (fields_from line from)
+pub found : (line : List ℕ) (from count at left : ℕ) → from ≤ length line → at ≤ length line → left ≡ 0 → AreAfter line from count at left → fields_from line at ≡ drop count (fields_from line from)
 found line from count at left first inside none behind =
     some_fields line at inside
     ∙ ap (λ n. drop n (fields_of (drop at line))) (sym none)
@@ -74,7 +74,7 @@ found line from count at left first inside none behind =
 nothing_left : (n : ℕ) → 0 < n → drop n (fields_of []) ≡ []
 nothing_left n some = drop_all n (fields_of []) (omega arith)
 
-pub wanting : (line : List ℕ) (from count at left : ℕ) → from ≤ length line → length line ≤ at → 0 < left → AreBehind line from count at left → fields_from line (length line + 1) ≡ drop count (fields_from line from)
+pub wanting : (line : List ℕ) (from count at left : ℕ) → from ≤ length line → length line ≤ at → 0 < left → AreAfter line from count at left → fields_from line (length line + 1) ≡ drop count (fields_from line from)
 wanting line from count at left first past some behind =
     no_field line (length line + 1) (omega arith)
     ∙ sym (nothing_left left some)
@@ -88,7 +88,7 @@ past_end line from count past =
     let none : fields_from line from ≡ [] = no_field line from past in
     none ∙ sym (drop_all count [] (omega arith)) ∙ ap (drop count) (sym none)
 
--- what is said of the line is said of it behind the columns that were passed over
+-- what is said of the line is said of it after the columns that were passed over
 pub says_over : (reading : ℕ → Reading) (readings : List Reading) (width : ℕ) (line : List ℕ) (old new : Row) (from to : Spot) (m : LineMeaning) → AreReadings reading readings → length readings ≡ width
     → PassesOver readings line old new from to → Says reading from.column (width - from.column) (take from.column old) line from.at m → Says reading to.column (width - to.column) (take to.column new) line to.at m
 says_over reading readings width line old new from to m known wide passes so_far =

@@ -1,4 +1,4 @@
--- Where names stand, when one more is put behind them.
+-- Where names stand, when one more is put after them.
 use Rattle.std.proofs.Common.{◌≡◌, ◌≤◌, ◌+◌, inl, inr, ℕ, suc, Bool, true, false, cond, List, [], ◌∷◌, ◌++◌, length, Option, None, Some, is_some, refl, arith, sym, ◌∙◌, ap, ◌==◌}
 use Rattle.std.specs.Prelude.{nat_lt, not, ◌||◌}
 use Rattle.std.specs.Str.{bytes_eq}
@@ -94,7 +94,7 @@ place_more names n x =
           ]
     ]
 
--- whether a name stands again, when the names behind are counted
+-- whether a name stands again, when the names after are counted
 again_other : (names : List (List ℕ)) (n x : List ℕ) → bytes_eq x n ≡ false → nat_lt 1 (times names x) ≡ nat_lt 1 (times (names ++ n ∷ []) x)
 again_other names n x other =
     let count : times (names ++ n ∷ []) x ≡ times names x + 0 = times_push names n x ∙ ap (λ b. times names x + cond b 1 0) other in

@@ -29,7 +29,7 @@ unfolding onto
 onto_push [] n m = refl
 onto_push (k ∷ ns) n m = ap (put_in_front k) (onto_push ns n m)
 
--- a row behind numbers, and each fault
+-- a row after numbers, and each fault
 pub onto_row : (ns : List ℤ) → onto ns (row []) ≡ row ns
 unfolding onto
 onto_row [] = refl
@@ -61,7 +61,7 @@ no_field line at past = let is : nat_lt (length line) at ≡ true = lt-ltb (leng
 pub some_fields : (line : List ℕ) (at : ℕ) → at ≤ length line → fields_from line at ≡ fields_of (drop at line)
 some_fields line at inside = let is : nat_lt (length line) at ≡ false = le-ltb (length line) at inside in rw is refl
 
--- the first field of a list, and those behind its comma
+-- the first field of a list, and those after its comma
 first_of_fields : (rest : List ℕ) → fields_of rest ≡ before_first is_comma rest ∷ fields_from rest (position_or_len is_comma rest + 1)
 first_of_fields rest =
     elim (cases_lt (position_or_len is_comma rest) (length rest)) [
@@ -84,7 +84,7 @@ next_field line at size inside is =
       | inr within ↦ some_fields (drop at line) (size + 1) (omega (arith, many)) ∙ ap (λ (bytes : List ℕ). fields_of bytes) (drop-drop (size + 1) at line) ∙ sym (some_fields line (at + (size + 1)) within)
     ])
 
--- one field, and those behind it
+-- one field, and those after it
 field_step : (reading : ℕ → Reading) (c n : ℕ) (field : List ℕ) (fields : List (List ℕ)) (v : ℤ) → value_of (reading c) field ≡ Ok v
     → fields_meaning reading c (suc n) (field ∷ fields) ≡ put_in_front v (fields_meaning reading (suc c) n fields)
 unfolding row_from
@@ -205,7 +205,7 @@ says_too_few reading c width at line ns m more past so_far =
     wanting : (n : ℕ) → 0 < n → fields_meaning reading c n [] ≡ too_few
     wanting n some = let is : nat_lt 0 n ≡ true = lt-ltb 0 n some in rw is refl
 
--- a faulty field, with enough behind it
+-- a faulty field, with enough after it
 enough_is : (reading : ℕ → Reading) (c left : ℕ) (rest : List ℕ) → 0 < left → left ≤ length (fields_of rest)
     → (more : LineMeaning) × (fields_meaning reading c left (fields_of rest) ≡ field_before c (value_of (reading c) (before_first is_comma rest)) more)
 unfolding row_from

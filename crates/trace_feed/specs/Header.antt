@@ -24,7 +24,7 @@ fields_in (Some read) = read.0
 unfoldable pub first_record : List ℕ → List (List ℕ)
 first_record text = fields_in (next_record default_config state.StartRecord [] [] (strip_bom text))
 
--- the names of the columns: the fields of the record behind the number sign, without the blanks around them
+-- the names of the columns: the fields of the record after the number sign, without the blanks around them
 abbrev pub names_of : List ℕ → List (List ℕ)
 names_of line = map trimmed (first_record (drop 1 line))
 

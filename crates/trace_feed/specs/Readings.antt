@@ -37,7 +37,7 @@ value_at Unread n = Ok (pos 0)
 value_at Whole n = in_range has_32_bits n
 value_at Truth n = in_range is_bit n
 
--- what the fields say of column c and those behind it, of which there are n: too few, or the row or its first fault
+-- what the fields say of column c and those after it, of which there are n: too few, or the row or its first fault
 abbrev pub fields_meaning : (ℕ → Reading) → ℕ → ℕ → List (List ℕ) → LineMeaning
 fields_meaning reading c n fields = if nat_lt (length fields) n then too_few else row_from reading c (take n fields)
 

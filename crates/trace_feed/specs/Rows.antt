@@ -88,13 +88,13 @@ put_in_front n too_few = too_few
 put_in_front n (not_whole c) = not_whole c
 put_in_front n (out_of_range c) = out_of_range c
 
--- what the field of column c says, with those behind it
+-- what the field of column c says, with those after it
 abbrev pub field_before : ℕ → Result ℤ FieldFault → LineMeaning → LineMeaning
 field_before c (Ok n) others = put_in_front n others
 field_before c (Err NotWhole) others = not_whole c
 field_before c (Err OutOfRange) others = out_of_range c
 
--- the row of the fields of column c and those behind it, or the first fault
+-- the row of the fields of column c and those after it, or the first fault
 unfoldable pub row_from : (ℕ → Reading) → ℕ → List (List ℕ) → LineMeaning
 row_from reading c [] = row []
 row_from reading c (field ∷ fields) = field_before c (value_of (reading c) field) (row_from reading (suc c) fields)

@@ -118,11 +118,11 @@ fn columns_of_stored(
     })
 }
 
-/// The columns of signals by the names of a header, which stand behind `#` as one record of CSV. Spaces and tabs around a
+/// The columns of signals by the names of a header, which stand after `#` as one record of CSV. Spaces and tabs around a
 /// name don't count.
 ///
 /// Errors: `NoHeader` where the line doesn't begin with `#`; of the first signal whose name doesn't stand exactly once
-/// `Missing` where it stands nowhere, `Twice` where it stands more than once; `Memory` where memory is wanting.
+/// `Missing` where it stands nowhere, `Twice` where it stands more than once; `Memory` when out of memory.
 pub fn header(alloc: Global, line: &[u8], signals: &List<Signal>) -> Result<Columns, HeaderFault>
     requires { length line.now ≤ 65535 }
     ensures columns { IfOk result (λ columns.

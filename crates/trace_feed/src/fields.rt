@@ -39,7 +39,7 @@ fn sign_size(field: &[u8]) -> usize
     }
 }
 
-/// The bytes behind the sign of a field, if it has one.
+/// The bytes after the sign of a field, if it has one.
 fn without_sign(field: &[u8]) -> &[u8]
     ensures { result.now ≡ without_leading_sign field.now }
 {

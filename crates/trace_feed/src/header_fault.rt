@@ -12,7 +12,7 @@ pub enum HeaderFault {
     Missing(Name),
     /// The first signal that doesn't stand exactly once stands more than once.
     Twice(Name),
-    /// Memory is wanting.
+    /// Out of memory.
     Memory,
 }
 

@@ -58,8 +58,8 @@ fn commas_in(block: &[u8]) -> u8
     count
 }
 
-/// The place behind so many fields from a place on, and one past the end where there are fewer.
-fn behind_fields(line: &[u8], from: usize, count: usize) -> usize
+/// The place after so many fields from a place on, and one past the end where there are fewer.
+fn after_fields(line: &[u8], from: usize, count: usize) -> usize
     requires within { from ≤ length line.now + 1 }
     ensures within { result ≤ length line.now + 1 }
     ensures behind { fields_from line.now result ≡ drop count (fields_from line.now from) }
@@ -102,6 +102,6 @@ pub fn pass_unread(line: &[u8], readings: &[Reading], fields: &mut [i64], spot: 
     clear(fields, c, count);
     Spot {
         column: (c + count) as u32,
-        at: behind_fields(line, spot.at, count),
+        at: after_fields(line, spot.at, count),
     }
 }

@@ -40,7 +40,7 @@ fn commas(line: &[u8]) -> usize
     count
 }
 
-/// What a fault of the field at column c makes of a line, where this field and those behind it should be so many.
+/// What a fault of the field at column c makes of a line, where this field and those after it should be so many.
 fn fault_at(c: u32, fault: FieldFault, rest: &[u8], left: u32) -> RowAnswer
     requires some { 0 < left }
     ensures { (reading : ℕ → Way) (values : Row) →
@@ -57,7 +57,7 @@ fn fault_at(c: u32, fault: FieldFault, rest: &[u8], left: u32) -> RowAnswer
 }
 
 /// Reads the fields of a line from left to right, once, and passes over those that aren't read. Commas are counted only
-/// behind a fault.
+/// after a fault.
 fn read_fields(line: &[u8], width: u32, readings: &[Reading], fields: &mut [i64]) -> RowAnswer
     requires wide { length fields.old ≡ width }
     requires one_each { length readings.now ≡ width }

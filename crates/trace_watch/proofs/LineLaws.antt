@@ -1,4 +1,4 @@
--- How lines stand behind a header, what they are, and which bytes and reads they come from.
+-- How lines stand after a header, what they are, and which bytes and reads they come from.
 
 use Rattle.std.proofs.Common.{◌≡◌, ℕ, ◌+◌, ◌-◌, ◌<◌, ◌≤◌, min, ◌^◌, ◌&&◌, not, nat_lt, Bool, true, false, cond, if◌then◌else◌, List, [], ◌∷◌, ◌++◌, length, map, refl, sym, ◌∙◌, ap, subst, arith, append_assoc, inl, inr}
 use Rattle.std.specs.List.{concat}
@@ -13,15 +13,15 @@ use Rattle.tool_io.proofs.CutLaws.{lines_of-row, lines_of-last}
 use Rattle.tool_io.proofs.Prompting.{PromptBy}
 use Rattle.trace_feed.specs.Rows.{line_meaning}
 use Rattle.trace_watch.specs.declared.status.TraceWhy.TheVariants.{LongLine}
-use Rattle.trace_watch.specs.Trace.{Meaning, IsPast, IsFaulty, meaning_of_text, meaning, is_marked, is_header, behind_header}
+use Rattle.trace_watch.specs.Trace.{Meaning, IsPast, IsFaulty, meaning_of_text, meaning, is_marked, is_header, after_header}
 use Rattle.trace_watch.specs.Watch.{OnlyRun, first_of}
 
 -- a header, and another line, in front of lines
-pub behind_header-header : (number : ℕ) (raw : List ℕ) (raws : List (List ℕ)) → is_header number raw ≡ true → behind_header number (raw ∷ raws) ≡ behind_header (number + 1) raws
-behind_header-header number raw raws is = ap (λ b. cond (not b) ((number, raw) ∷ behind_header (number + 1) raws) (behind_header (number + 1) raws)) is
+pub after_header-header : (number : ℕ) (raw : List ℕ) (raws : List (List ℕ)) → is_header number raw ≡ true → after_header number (raw ∷ raws) ≡ after_header (number + 1) raws
+after_header-header number raw raws is = ap (λ b. cond (not b) ((number, raw) ∷ after_header (number + 1) raws) (after_header (number + 1) raws)) is
 
-pub behind_header-line : (number : ℕ) (raw : List ℕ) (raws : List (List ℕ)) → is_header number raw ≡ false → behind_header number (raw ∷ raws) ≡ (number, raw) ∷ behind_header (number + 1) raws
-behind_header-line number raw raws is = ap (λ b. cond (not b) ((number, raw) ∷ behind_header (number + 1) raws) (behind_header (number + 1) raws)) is
+pub after_header-line : (number : ℕ) (raw : List ℕ) (raws : List (List ℕ)) → is_header number raw ≡ false → after_header number (raw ∷ raws) ≡ (number, raw) ∷ after_header (number + 1) raws
+after_header-line number raw raws is = ap (λ b. cond (not b) ((number, raw) ∷ after_header (number + 1) raws) (after_header (number + 1) raws)) is
 
 -- a line that is too long is no header
 pub is_header-long : (number : ℕ) (raw : List ℕ) → is_long raw ≡ true → is_header number raw ≡ false
@@ -102,7 +102,7 @@ true_false is = cc
 pub no_reads : (due_of : List ℕ → List ℕ) (read sent : List ℕ) (pieces : List (List ℕ)) → pieces ≡ [] → PromptBy due_of read sent (map (Took Trace) pieces)
 no_reads due_of read sent pieces none = subst (λ ps. PromptBy due_of read sent (map (Took Trace) ps)) (sym none) tt
 
--- so does what stands behind a row
+-- so does what stands after a row
 pub row_follows : (cut new : Cutting) (raw : List ℕ) (reads : List Event) (cuts : CutsLine Trace cut new line_answer.TheVariants.Row reads) → cut.pending ++ concat cuts.pieces ≡ raw ++ new.pending → (ended : Bool) (more : List ℕ) → Follows new ended more → Follows cut ended (raw ++ more)
 row_follows cut new raw reads cuts split ended more follows met =
     let none = cuts.no_more met in

@@ -14,14 +14,14 @@ use Rattle.mltl_monitor.specs.declared.state.State.{State}
 use Rattle.trace_feed.specs.Rows.{line_meaning}
 use Rattle.trace_watch.specs.declared.status.TraceWhy.TheVariants.{LongLine}
 use Rattle.trace_watch.specs.declared.status.Watched as watched
-use Rattle.trace_watch.specs.Trace.{TraceRows, Meaning, IsRow, IsBlank, IsPast, IsFaulty, Past, Bad, meaning_of_text, meaning, is_marked, is_header, behind_header, put_in_front, rows_of, trace_rows}
+use Rattle.trace_watch.specs.Trace.{TraceRows, Meaning, IsRow, IsBlank, IsPast, IsFaulty, Past, Bad, meaning_of_text, meaning, is_marked, is_header, after_header, put_in_front, rows_of, trace_rows}
 use Rattle.trace_watch.specs.Telling.{Turns, RowSteps, TakesIt, WritesNone, Counts, text_of}
 use Rattle.trace_watch.specs.Watch.{HasTold, IsWatch, first_of}
-use Rattle.trace_watch.proofs.LineLaws.{behind_header-header, behind_header-line, is_header-long, marked_first, meaning-text, meaning-long, meaning-past}
+use Rattle.trace_watch.proofs.LineLaws.{after_header-header, after_header-line, is_header-long, marked_first, meaning-text, meaning-long, meaning-past}
 use Rattle.trace_watch.proofs.WatchLaws.{IsLedBy-same, HasWatched, HasWatched-none, HasWatched-line, HasWatched-quiet, line_short, line_is, line_marked, line_next}
 use Rattle.trace_watch.proofs.WatchEnds.{done_is, read_fault_is, long_starts, long_ends, line_ends, write_ends, ends_quiet}
 
--- after some lines, with no more rows than lines behind the header
+-- after some lines, with no more rows than lines after the header
 abbrev pub HasRows : Program → Style → ℕ → Cutting → Cutting → State → ℕ → List Event → Type 0
 HasRows program style mission start cut monitor before events =
     HasWatched program style (trace_rows program mission (first_of start)) start cut monitor (rows_of program mission before) before (λ rows. length rows ≤ before) events
@@ -30,9 +30,9 @@ pub HasRows-none : (program : Program) (style : Style) (mission : ℕ) (start : 
 HasRows-none program style mission start monitor low told = HasWatched-none program style start monitor (rows_of program mission 0) (λ rows. length rows ≤ 0) low told refl (omega arith)
 
 -- the rows of lines, by the first
-rows_of-line : (program : Program) (mission before number : ℕ) (raw : List ℕ) (raws : List (List ℕ)) (what : Meaning) → is_header number raw ≡ false → meaning program mission before raw ≡ what → rows_of program mission before (behind_header number (raw ∷ raws)) ≡ put_in_front what number (rows_of program mission (before + 1) (behind_header (number + 1) raws))
+rows_of-line : (program : Program) (mission before number : ℕ) (raw : List ℕ) (raws : List (List ℕ)) (what : Meaning) → is_header number raw ≡ false → meaning program mission before raw ≡ what → rows_of program mission before (after_header number (raw ∷ raws)) ≡ put_in_front what number (rows_of program mission (before + 1) (after_header (number + 1) raws))
 rows_of-line program mission before number raw raws what plain is =
-    ap (rows_of program mission before) (behind_header-line number raw raws plain) ∙ ap (λ m. put_in_front m number (rows_of program mission (before + 1) (behind_header (number + 1) raws))) is
+    ap (rows_of program mission before) (after_header-line number raw raws plain) ∙ ap (λ m. put_in_front m number (rows_of program mission (before + 1) (after_header (number + 1) raws))) is
 
 module _ (program : Program) (style : Style) (mission : ℕ) (start cut new : Cutting) (monitor after : State) (before : ℕ) (events : List Event) (has : HasRows program style mission start cut monitor before events) where
   -- all rows, those that follow, and how many rows there are
@@ -52,7 +52,7 @@ module _ (program : Program) (style : Style) (mission : ℕ) (start cut new : Cu
   NextKeeps rows = length rows ≤ before + 1
 
   -- the rows of a line that was cut and of those that follow
-  starts : (reads : List Event) (cuts : CutsLine Trace cut new line_answer.TheVariants.Row reads) (what : Meaning) (raws : List (List ℕ)) → is_marked new.number (text_of new) ≡ false → meaning program mission before cuts.answer.0 ≡ what → rest (behind_header (next_number cut) (cuts.answer.0 ∷ raws)) ≡ put_in_front what (next_number cut) (next_rest (behind_header (next_number cut + 1) raws))
+  starts : (reads : List Event) (cuts : CutsLine Trace cut new line_answer.TheVariants.Row reads) (what : Meaning) (raws : List (List ℕ)) → is_marked new.number (text_of new) ≡ false → meaning program mission before cuts.answer.0 ≡ what → rest (after_header (next_number cut) (cuts.answer.0 ∷ raws)) ≡ put_in_front what (next_number cut) (next_rest (after_header (next_number cut + 1) raws))
   starts reads cuts what raws plain is = rows_of-line program mission before (next_number cut) cuts.answer.0 raws what (line_marked program style rows_in start cut new monitor rest before Keeps events reads has cuts false plain) is
 
   -- what its fields are
@@ -66,7 +66,7 @@ module _ (program : Program) (style : Style) (mission : ℕ) (start cut new : Cu
       let next = line_next program style rows_in start cut new monitor rest before Keeps events reads has cuts (omega (arith, within, far)) in
       let is_first : next_number cut ≡ 1 = sym cuts.answer.1.number ∙ marked_first new.number (text_of new) marked in
       HasWatched-quiet program style rows_in start cut new monitor rest before Keeps events reads has after rest before Keeps wrote cuts
-      (λ raws. ap rest (behind_header-header (next_number cut) cuts.answer.0 raws (line_marked program style rows_in start cut new monitor rest before Keeps events reads has cuts true marked)) ∙ ap (λ n. rest (behind_header n raws)) (sym next))
+      (λ raws. ap rest (after_header-header (next_number cut) cuts.answer.0 raws (line_marked program style rows_in start cut new monitor rest before Keeps events reads has cuts true marked)) ∙ ap (λ n. rest (after_header n raws)) (sym next))
       refl none has.keeps (omega (arith, next, is_first))
 
   -- a row, and a blank line
@@ -75,13 +75,13 @@ module _ (program : Program) (style : Style) (mission : ℕ) (start cut new : Cu
       let next = line_next program style rows_in start cut new monitor rest before Keeps events reads has cuts (omega (arith, counts.within, far)) in
       let is = fields_are reads cuts (IsRow brings.row) counts.within brings.is in
       HasWatched-line program style rows_in start cut new monitor rest before Keeps events reads has after next_rest (before + 1) NextKeeps (brings.row ∷ []) wrote cuts
-      (λ raws. IsLedBy-same _ _ _ _ (starts reads cuts (IsRow brings.row) raws counts.no_header is ∙ ap (λ n. put_in_front (IsRow brings.row) (next_number cut) (next_rest (behind_header n raws))) (sym next)) (record { rows = refl; stop = refl }))
+      (λ raws. IsLedBy-same _ _ _ _ (starts reads cuts (IsRow brings.row) raws counts.no_header is ∙ ap (λ n. put_in_front (IsRow brings.row) (next_number cut) (next_rest (after_header n raws))) (sym next)) (record { rows = refl; stop = refl }))
       refl brings.tells (omega (arith, length-append has.rows (brings.row ∷ []), has.keeps)) (omega (arith, next, has.early))
   taken_goes reads wrote far cuts counts (inr none) =
       let next = line_next program style rows_in start cut new monitor rest before Keeps events reads has cuts (omega (arith, counts.within, far)) in
       let is = fields_are reads cuts IsBlank counts.within none.is in
       HasWatched-quiet program style rows_in start cut new monitor rest before Keeps events reads has after next_rest (before + 1) NextKeeps wrote cuts
-      (λ raws. starts reads cuts IsBlank raws counts.no_header is ∙ ap (λ n. next_rest (behind_header n raws)) (sym next))
+      (λ raws. starts reads cuts IsBlank raws counts.no_header is ∙ ap (λ n. next_rest (after_header n raws)) (sym next))
       refl none.writes (omega (arith, has.keeps)) (omega (arith, next, has.early))
 
   -- what a turn that goes on leaves: of the lines that are left, one of which may be the header, there are fewer
@@ -154,7 +154,7 @@ module _ (program : Program) (style : Style) (mission : ℕ) (start cut new : Cu
       let brings = line.next.1 in
       let cuts = line.cuts in
       let others = lines_of new.ended new.pending in
-      let tail = next_rest (behind_header (next_number cut + 1) others) in
+      let tail = next_rest (after_header (next_number cut + 1) others) in
       subst (IsWatch program style rows_in start new after watched.TheVariants.WriteFault) (append_assoc events line.first line.second ∙ ap (λ rest. events ++ rest) (sym line.split))
       (write_ends program style rows_in start cut new monitor after rest before Keeps events line.first has (brings.row ∷ []) tail.rows tail.stop line.second cuts
       (IsLedBy-same _ _ _ _ (starts line.first cuts (IsRow brings.row) others counts.no_header (fields_are line.first cuts (IsRow brings.row) counts.within brings.is)) (record { rows = refl; stop = refl })) brings.tells)

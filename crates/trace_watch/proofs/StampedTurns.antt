@@ -1,5 +1,6 @@
 -- The turns of the loop over a trace of stamped rows.
 
+use Rattle.std.specs.Prelude.{⊤}
 use Rattle.std.proofs.Common.{◌≡◌, ℕ, ◌+◌, ◌-◌, ◌<◌, ◌≤◌, ◌^◌, nat_le, nat_lt, true, false, if◌then◌else◌, IsTrue, Option, Some, None, List, [], ◌∷◌, ◌++◌, length, drop, replicate, refl, sym, ◌∙◌, ap, subst, arith, append_assoc, inl, inr}
 use Rattle.std.proofs.lemmas.List.{append-nil, length-append, length-replicate}
 use Rattle.std.proofs.lemmas.Bool.Decides.{nat_tests}
@@ -15,7 +16,7 @@ use Rattle.tool_io.specs.Cutting.{Cutting, is_long, line_text, lines_of, next_nu
 use Rattle.mltl_monitor.specs.declared.state.State.{State}
 use Rattle.mltl_monitor.specs.Monitoring.{Stands, last_of}
 use Rattle.mltl_base.specs.Blanks.{is_blank_line}
-use Rattle.sparse_feed.specs.Stamps.{has_stamp, may_follow, place_behind, stamp_meaning, timed, times_between}
+use Rattle.sparse_feed.specs.Stamps.{has_stamp, may_follow, place_after, stamp_meaning, timed, times_between}
 use Rattle.sparse_feed.specs.Stamps.{time_of as stamp_time}
 use Rattle.sparse_feed.specs.declared.stamp.Stamp.{Stamp}
 use Rattle.sparse_feed.specs.declared.stamp.Stamp.TheVariants.{At, Blank, Bad, Order, Late}
@@ -24,13 +25,13 @@ use Rattle.trace_feed.specs.Rows as feed
 use Rattle.trace_watch.specs.declared.status.TraceWhy.TheVariants.{LongLine}
 use Rattle.trace_watch.specs.declared.status.Watched as watched
 use Rattle.trace_watch.specs.declared.timed_loop.Clock.{Clock}
-use Rattle.trace_watch.specs.Trace.{TraceRows, Past, Bad as BadLine, is_marked, is_header, behind_header}
+use Rattle.trace_watch.specs.Trace.{TraceRows, Past, Bad as BadLine, is_marked, is_header, after_header}
 use Rattle.trace_watch.specs.Telling.{Turns, WritesNone, Counts, text_of}
 use Rattle.trace_watch.specs.Watch.{HasTold, IsWatch, first_of}
-use Rattle.trace_watch.specs.Stamped.{StampedLine, fields_at, line_at, HoldsFrom, Empty, Faulty, OverTime, stamped_text, stamped_meaning, time_of, held, last_behind, stamped_in_front, stamped_rows_of, stamped_rows}
-use Rattle.trace_watch.specs.StampedTelling.{Brings, IsLast, StampedSteps, line_of, time_behind, times_until}
-use Rattle.trace_watch.proofs.LineLaws.{behind_header-header, behind_header-line, is_header-long, marked_first}
-use Rattle.trace_watch.proofs.TellLaws.{Brings-copies, fields_at-time, time_behind-fields}
+use Rattle.trace_watch.specs.Stamped.{StampedLine, fields_at, line_at, HoldsFrom, Empty, Faulty, OverTime, stamped_text, stamped_meaning, time_of, held, last_after, stamped_in_front, stamped_rows_of, stamped_rows}
+use Rattle.trace_watch.specs.StampedTelling.{Brings, IsLast, StampedSteps, line_of, time_after, times_until}
+use Rattle.trace_watch.proofs.LineLaws.{after_header-header, after_header-line, is_header-long, marked_first}
+use Rattle.trace_watch.proofs.TellLaws.{Brings-copies, fields_at-time, time_after-fields}
 use Rattle.trace_watch.proofs.WatchLaws.{IsLedBy-same, HasWatched, HasWatched-none, HasWatched-line, HasWatched-quiet, line_short, line_is, line_marked, line_next}
 use Rattle.trace_watch.proofs.WatchEnds.{done_is, read_fault_is, long_starts, long_ends, line_ends, write_ends}
 
@@ -52,8 +53,8 @@ held_is (Some before) rows monitor last times time is stands same between =
 stamped_is : (program : Program) (mission : ℕ) (last : Option ℕ) (line : List ℕ) (time place : ℕ) → At time place ≡ stamp_meaning line last mission → stamped_text program mission last line ≡ fields_at time (line_meaning program (drop place line))
 stamped_is program mission last line time place is = ap (line_at program line) (sym is)
 
--- what such a line brought, behind the copies that the monitor took
-pub Brings-stamped : (result : ControlFlow watched.Watched (Unit {0})) (program : Program) (style : Style) (rows : List Row) (before : Option (ℕ × Row)) (monitor after : State) (last : Option ℕ) (mission times time place : ℕ) (line : List ℕ) (number : ℕ) (events : List Event) → At time place ≡ stamp_meaning line last mission → times ≡ times_between last time → IsLast before rows → Stands monitor rows → time_of before ≡ last
+-- what such a line brought, after the copies that the monitor took
+pub Brings-stamped : (result : ControlFlow watched.Watched ⊤) (program : Program) (style : Style) (rows : List Row) (before : Option (ℕ × Row)) (monitor after : State) (last : Option ℕ) (mission times time place : ℕ) (line : List ℕ) (number : ℕ) (events : List Event) → At time place ≡ stamp_meaning line last mission → times ≡ times_between last time → IsLast before rows → Stands monitor rows → time_of before ≡ last
     → Brings result (fields_at time (line_meaning program (drop place line))) program style rows (λ then_. replicate times (last_of monitor)) number after events → Brings result (stamped_text program mission last line) program style rows (held before) number after events
 Brings-stamped result program style rows before monitor after last mission times time place line number events is between is_last stands same brings =
     let meaning = line_meaning program (drop place line) in
@@ -61,17 +62,17 @@ Brings-stamped result program style rows before monitor after last mission times
     (Brings-copies result (fields_at time meaning) program style rows (λ then_. replicate times (last_of monitor)) (held before) number after events
     (λ then_ values holds. held_is before rows monitor last times then_ is_last stands same (between ∙ ap (times_between last) (sym (fields_at-time time then_ meaning values holds)))) brings)
 
--- its time is that of the last row behind it
-pub stamped_time : (program : Program) (style : Style) (rows : List Row) (copies : ℕ → List Row) (last : Option ℕ) (mission time place : ℕ) (line : List ℕ) (number : ℕ) (after : State) (events : List Event) → At time place ≡ stamp_meaning line last mission → Brings (Continue tt) (fields_at time (line_meaning program (drop place line))) program style rows copies number after events → Some time ≡ time_behind last (stamped_text program mission last line)
+-- its time is that of the last row after it
+pub stamped_time : (program : Program) (style : Style) (rows : List Row) (copies : ℕ → List Row) (last : Option ℕ) (mission time place : ℕ) (line : List ℕ) (number : ℕ) (after : State) (events : List Event) → At time place ≡ stamp_meaning line last mission → Brings (Continue tt) (fields_at time (line_meaning program (drop place line))) program style rows copies number after events → Some time ≡ time_after last (stamped_text program mission last line)
 stamped_time program style rows copies last mission time place line number after events is brings =
-    time_behind-fields last time (line_meaning program (drop place line)) program style rows copies number after events brings ∙ ap (time_behind last) (sym (stamped_is program mission last line time place is))
+    time_after-fields last time (line_meaning program (drop place line)) program style rows copies number after events brings ∙ ap (time_after last) (sym (stamped_is program mission last line time place is))
 
 -- a row holds from a time that may follow the last one
 abbrev pub IsTimely : Option ℕ → StampedLine → Type 0
 IsTimely last (HoldsFrom time values) = IsTrue (may_follow last time)
-IsTimely last (Faulty why) = Unit {0}
-IsTimely last Empty = Unit {0}
-IsTimely last OverTime = Unit {0}
+IsTimely last (Faulty why) = ⊤
+IsTimely last Empty = ⊤
+IsTimely last OverTime = ⊤
 
 timely_fields : (last : Option ℕ) (time : ℕ) (meaning : LineMeaning) → IsTrue (may_follow last time) → IsTimely last (fields_at time meaning)
 timely_fields last time (feed.row values) follows = follows
@@ -93,11 +94,11 @@ timely_time program text last mission place time =
 
 timely_is : (program : Program) (mission : ℕ) (last : Option ℕ) (text : List ℕ) → IsTimely last (stamped_text program mission last text)
 timely_is program mission last text =
-    elim (is_blank_line text) as (λ v. IsTimely last (line_at program text (if v then Blank else if has_stamp text then timed last mission (place_behind text) (stamp_time text) else Bad))) [
+    elim (is_blank_line text) as (λ v. IsTimely last (line_at program text (if v then Blank else if has_stamp text then timed last mission (place_after text) (stamp_time text) else Bad))) [
       | true ↦ tt
       | false ↦
-          elim (has_stamp text) as (λ w. IsTimely last (line_at program text (if w then timed last mission (place_behind text) (stamp_time text) else Bad))) [
-            | true ↦ timely_time program text last mission (place_behind text) (stamp_time text)
+          elim (has_stamp text) as (λ w. IsTimely last (line_at program text (if w then timed last mission (place_after text) (stamp_time text) else Bad))) [
+            | true ↦ timely_time program text last mission (place_after text) (stamp_time text)
             | false ↦ tt
           ]
     ]
@@ -106,7 +107,7 @@ timely_is program mission last text =
 pub stamped_as : (program : Program) (mission : ℕ) (last : Option ℕ) (line text : List ℕ) (said : Stamp) → line ≡ text → said ≡ stamp_meaning line last mission → stamped_text program mission last text ≡ line_at program text said
 stamped_as program mission last line text said same is = ap (line_at program text) (sym (is ∙ ap (λ l. stamp_meaning l last mission) same))
 
--- a gap leaves room for its row within the mission time, and only stands behind a row
+-- a gap leaves room for its row within the mission time, and only stands after a row
 pub record GapFits (taken times : ℕ) : Type 0 where
   pub begun : 0 < times → 0 < taken
   pub early : taken + times < 2 ^ 40
@@ -122,7 +123,7 @@ pub times_taken : (last : Option (ℕ × Row)) (rows : List Row) → IsLast last
 times_taken None rows is = ap length is
 times_taken (Some last) rows is = is.2
 
--- the last row is one behind the copies of the one before
+-- the last row is one after the copies of the one before
 IsLast-held : (last : Option (ℕ × Row)) (rows : List Row) (time : ℕ) (values : Row) → IsTrue (may_follow (time_of last) time) → IsLast last rows → IsLast (Some (time, values)) (rows ++ (held last time ++ values ∷ []))
 IsLast-held None rows time values follows is =
     let first : time ≡ 0 = grind (arith, nat_tests, follows) in
@@ -132,8 +133,8 @@ IsLast-held (Some last) rows time values follows is =
     let copies = held (Some last) time in
     (rows ++ copies, sym (append_assoc rows copies (values ∷ [])), omega (arith, length-append rows (copies ++ values ∷ []), length-append copies (values ∷ []), length-replicate (times_between (Some last.0) time) last.1, is.2, after))
 
--- the time of the last row behind a line
-pub time_of-behind : (last : Option (ℕ × Row)) (what : StampedLine) → time_of (last_behind last what) ≡ time_behind (time_of last) what
+-- the time of the last row after a line
+pub time_of-behind : (last : Option (ℕ × Row)) (what : StampedLine) → time_of (last_after last what) ≡ time_after (time_of last) what
 time_of-behind last (HoldsFrom time values) = refl
 time_of-behind last (Faulty why) = refl
 time_of-behind last Empty = refl
@@ -158,10 +159,10 @@ stamped_meaning-past program mission before last raw at_end =
     ap (λ v. if v then (if is_long raw then Faulty LongLine else stamped_text program mission last (line_text raw)) else OverTime) late
 
 -- the rows of lines, by the first
-stamped_rows_of-line : (program : Program) (mission before number : ℕ) (last : Option (ℕ × Row)) (raw : List ℕ) (raws : List (List ℕ)) (what : StampedLine) → is_header number raw ≡ false → stamped_meaning program mission before (time_of last) raw ≡ what → stamped_rows_of program mission before last (behind_header number (raw ∷ raws)) ≡ stamped_in_front what last number (stamped_rows_of program mission (before + 1) (last_behind last what) (behind_header (number + 1) raws))
+stamped_rows_of-line : (program : Program) (mission before number : ℕ) (last : Option (ℕ × Row)) (raw : List ℕ) (raws : List (List ℕ)) (what : StampedLine) → is_header number raw ≡ false → stamped_meaning program mission before (time_of last) raw ≡ what → stamped_rows_of program mission before last (after_header number (raw ∷ raws)) ≡ stamped_in_front what last number (stamped_rows_of program mission (before + 1) (last_after last what) (after_header (number + 1) raws))
 stamped_rows_of-line program mission before number last raw raws what plain is =
-    ap (stamped_rows_of program mission before last) (behind_header-line number raw raws plain)
-    ∙ ap (λ m. stamped_in_front m last number (stamped_rows_of program mission (before + 1) (last_behind last m) (behind_header (number + 1) raws))) is
+    ap (stamped_rows_of program mission before last) (after_header-line number raw raws plain)
+    ∙ ap (λ m. stamped_in_front m last number (stamped_rows_of program mission (before + 1) (last_after last m) (after_header (number + 1) raws))) is
 
 module _ (program : Program) (style : Style) (mission : ℕ) (start cut new : Cutting) (monitor after : State) (clock : Clock) (last : Option (ℕ × Row)) (same : time_of last ≡ clock.last) (events : List Event) (has : HasStamped program style mission start cut monitor clock.lines last events) where
   -- all rows, and those that follow
@@ -171,14 +172,14 @@ module _ (program : Program) (style : Style) (mission : ℕ) (start cut new : Cu
   abbrev rest : List (ℕ × List ℕ) → TraceRows
   rest = stamped_rows_of program mission clock.lines last
 
-  abbrev rest_behind : StampedLine → List (ℕ × List ℕ) → TraceRows
-  rest_behind what = stamped_rows_of program mission (clock.lines + 1) (last_behind last what)
+  abbrev rest_after : StampedLine → List (ℕ × List ℕ) → TraceRows
+  rest_after what = stamped_rows_of program mission (clock.lines + 1) (last_after last what)
 
   -- the line that was cut
   abbrev here : StampedLine
   here = line_of program mission clock.last new
 
-  starts : (reads : List Event) (cuts : CutsLine Trace cut new line_answer.TheVariants.Row reads) (what : StampedLine) (raws : List (List ℕ)) → is_marked new.number (text_of new) ≡ false → stamped_meaning program mission clock.lines (time_of last) cuts.answer.0 ≡ what → rest (behind_header (next_number cut) (cuts.answer.0 ∷ raws)) ≡ stamped_in_front what last (next_number cut) (rest_behind what (behind_header (next_number cut + 1) raws))
+  starts : (reads : List Event) (cuts : CutsLine Trace cut new line_answer.TheVariants.Row reads) (what : StampedLine) (raws : List (List ℕ)) → is_marked new.number (text_of new) ≡ false → stamped_meaning program mission clock.lines (time_of last) cuts.answer.0 ≡ what → rest (after_header (next_number cut) (cuts.answer.0 ∷ raws)) ≡ stamped_in_front what last (next_number cut) (rest_after what (after_header (next_number cut + 1) raws))
   starts reads cuts what raws plain is = stamped_rows_of-line program mission clock.lines (next_number cut) last cuts.answer.0 raws what (line_marked program style rows_in start cut new monitor rest clock.lines (IsLast last) events reads has cuts false plain) is
 
   here_is : (reads : List Event) (cuts : CutsLine Trace cut new line_answer.TheVariants.Row reads) → clock.lines < mission → stamped_meaning program mission clock.lines (time_of last) cuts.answer.0 ≡ here
@@ -193,21 +194,21 @@ module _ (program : Program) (style : Style) (mission : ℕ) (start cut new : Cu
       let next = line_next program style rows_in start cut new monitor rest clock.lines (IsLast last) events reads has cuts (omega (arith, within, far)) in
       let is_first : next_number cut ≡ 1 = sym cuts.answer.1.number ∙ marked_first new.number (text_of new) marked in
       HasWatched-quiet program style rows_in start cut new monitor rest clock.lines (IsLast last) events reads has after rest clock.lines (IsLast last) wrote cuts
-      (λ raws. ap rest (behind_header-header (next_number cut) cuts.answer.0 raws (line_marked program style rows_in start cut new monitor rest clock.lines (IsLast last) events reads has cuts true marked)) ∙ ap (λ n. rest (behind_header n raws)) (sym next))
+      (λ raws. ap rest (after_header-header (next_number cut) cuts.answer.0 raws (line_marked program style rows_in start cut new monitor rest clock.lines (IsLast last) events reads has cuts true marked)) ∙ ap (λ n. rest (after_header n raws)) (sym next))
       refl none has.keeps (omega (arith, next, is_first))
 
   -- another line
-  line_goes : (what : StampedLine) (reads wrote : List Event) → clock.lines ≤ mission → mission ≤ 2 ^ 40 → (cuts : CutsLine Trace cut new line_answer.TheVariants.Row reads) → is_marked new.number (text_of new) ≡ false → stamped_meaning program mission clock.lines (time_of last) cuts.answer.0 ≡ what → IsTimely (time_of last) what → Brings (Continue tt) what program style has.rows (held last) new.number after wrote → HasStamped program style mission start new after (clock.lines + 1) (last_behind last what) ((events ++ reads) ++ wrote)
+  line_goes : (what : StampedLine) (reads wrote : List Event) → clock.lines ≤ mission → mission ≤ 2 ^ 40 → (cuts : CutsLine Trace cut new line_answer.TheVariants.Row reads) → is_marked new.number (text_of new) ≡ false → stamped_meaning program mission clock.lines (time_of last) cuts.answer.0 ≡ what → IsTimely (time_of last) what → Brings (Continue tt) what program style has.rows (held last) new.number after wrote → HasStamped program style mission start new after (clock.lines + 1) (last_after last what) ((events ++ reads) ++ wrote)
   line_goes (HoldsFrom time values) reads wrote within far cuts plain is timely tells =
       let next = line_next program style rows_in start cut new monitor rest clock.lines (IsLast last) events reads has cuts (omega (arith, within, far)) in
       let what = HoldsFrom time values in
-      HasWatched-line program style rows_in start cut new monitor rest clock.lines (IsLast last) events reads has after (rest_behind what) (clock.lines + 1) (IsLast (Some (time, values))) (held last time ++ values ∷ []) wrote cuts
-      (λ raws. IsLedBy-same _ _ _ _ (starts reads cuts what raws plain is ∙ ap (λ n. stamped_in_front what last (next_number cut) (rest_behind what (behind_header n raws))) (sym next)) (record { rows = refl; stop = refl }))
+      HasWatched-line program style rows_in start cut new monitor rest clock.lines (IsLast last) events reads has after (rest_after what) (clock.lines + 1) (IsLast (Some (time, values))) (held last time ++ values ∷ []) wrote cuts
+      (λ raws. IsLedBy-same _ _ _ _ (starts reads cuts what raws plain is ∙ ap (λ n. stamped_in_front what last (next_number cut) (rest_after what (after_header n raws))) (sym next)) (record { rows = refl; stop = refl }))
       refl tells (IsLast-held last has.rows time values timely has.keeps) (omega (arith, next, has.early))
   line_goes Empty reads wrote within far cuts plain is timely none =
       let next = line_next program style rows_in start cut new monitor rest clock.lines (IsLast last) events reads has cuts (omega (arith, within, far)) in
-      HasWatched-quiet program style rows_in start cut new monitor rest clock.lines (IsLast last) events reads has after (rest_behind Empty) (clock.lines + 1) (IsLast last) wrote cuts
-      (λ raws. starts reads cuts Empty raws plain is ∙ ap (λ n. rest_behind Empty (behind_header n raws)) (sym next))
+      HasWatched-quiet program style rows_in start cut new monitor rest clock.lines (IsLast last) events reads has after (rest_after Empty) (clock.lines + 1) (IsLast last) wrote cuts
+      (λ raws. starts reads cuts Empty raws plain is ∙ ap (λ n. rest_after Empty (after_header n raws)) (sym next))
       refl none has.keeps (omega (arith, next, has.early))
   line_goes (Faulty why) reads wrote within far cuts plain is timely none = absurd none
   line_goes OverTime reads wrote within far cuts plain is timely none = absurd none
@@ -238,8 +239,8 @@ module _ (program : Program) (style : Style) (mission : ℕ) (start cut new : Cu
       let next = line_next program style rows_in start cut new monitor rest clock.lines (IsLast last) events reads has cuts (omega (arith, within, far)) in
       let counts = line.1 in
       GoesOn-same now _ _ line.0 (record {
-        behind = last_behind last here;
-        timed = time_of-behind last here ∙ ap (λ l. time_behind l here) same;
+        behind = last_after last here;
+        timed = time_of-behind last here ∙ ap (λ l. time_after l here) same;
         within = omega (arith, counts.within);
         has_rows = line_goes here reads wrote within far cuts counts.no_header (here_is reads cuts counts.within) (subst (λ l. IsTimely l here) (sym same) (timely_is program mission clock.last (text_of new))) line.2;
         fewer = omega (arith, counts.within, next);
@@ -250,7 +251,7 @@ module _ (program : Program) (style : Style) (mission : ℕ) (start cut new : Cu
   turn_goes now second within far (inr line) =
       subst (GoesOn now) (append_assoc events line.first line.second ∙ ap (λ rest. events ++ rest) (sym line.split)) (step_goes now line.first line.second within far line.cuts line.next)
 
-  -- nothing was written behind a line
+  -- nothing was written after a line
   unwritten : (answer : watched.Watched) (reads wrote : List Event) → wrote ≡ [] → IsWatch program style rows_in start new after answer (events ++ reads) → IsWatch program style rows_in start new after answer ((events ++ reads) ++ wrote)
   unwritten answer reads wrote none is = subst (IsWatch program style rows_in start new after answer) (sym (ap (λ w. (events ++ reads) ++ w) none ∙ append-nil (events ++ reads))) is
 
@@ -258,7 +259,7 @@ module _ (program : Program) (style : Style) (mission : ℕ) (start cut new : Cu
   cut_ends : (answer : watched.Watched) (what : StampedLine) (reads wrote : List Event) (cuts : CutsLine Trace cut new line_answer.TheVariants.Row reads) → is_marked new.number (text_of new) ≡ false → stamped_meaning program mission clock.lines (time_of last) cuts.answer.0 ≡ what → Brings (Break answer) what program style has.rows (held last) new.number after wrote → IsWatch program style rows_in start new after answer ((events ++ reads) ++ wrote)
   cut_ends watched.TheVariants.WriteFault (HoldsFrom time values) reads wrote cuts plain is tells =
       let what = HoldsFrom time values in
-      let tail = rest_behind what (behind_header (next_number cut + 1) (lines_of new.ended new.pending)) in
+      let tail = rest_after what (after_header (next_number cut + 1) (lines_of new.ended new.pending)) in
       write_ends program style rows_in start cut new monitor after rest clock.lines (IsLast last) events reads has (held last time ++ values ∷ []) tail.rows tail.stop wrote cuts
       (IsLedBy-same _ _ _ _ (starts reads cuts what (lines_of new.ended new.pending) plain is) (record { rows = refl; stop = refl })) tells
   cut_ends (watched.TheVariants.BadTrace number why) (Faulty cause) reads wrote cuts plain is bad =

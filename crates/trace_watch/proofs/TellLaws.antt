@@ -1,5 +1,6 @@
 -- The lines of reports, told one after another.
 
+use Rattle.std.specs.Prelude.{⊤}
 use Rattle.std.proofs.Common.{◌≡◌, ℕ, ◌+◌, ◌-◌, ◌≤◌, arith, replicate, List, [], ◌∷◌, ◌++◌, Bool, true, false, map, Option, Some, refl, sym, ◌∙◌, ap, subst, append_assoc, inr}
 use Rattle.std.specs.List.{concat}
 use Rattle.std.proofs.lemmas.List.{append-nil, map-append, replicate-append-replicate}
@@ -29,7 +30,7 @@ use Rattle.trace_watch.specs.declared.timed_loop.Clock.{Clock}
 use Rattle.trace_feed.specs.Rows.{LineMeaning}
 use Rattle.trace_feed.specs.Rows as feed
 use Rattle.trace_watch.specs.Stamped.{StampedLine, HoldsFrom, Empty, Faulty, OverTime, fields_at, held}
-use Rattle.trace_watch.specs.StampedTelling.{Brings, StampedSteps, TellsRows, line_of, time_behind}
+use Rattle.trace_watch.specs.StampedTelling.{Brings, StampedSteps, TellsRows, line_of, time_after}
 
 -- of the lines that were due, these bytes went out and those are left
 pub record HasSent (due left : List ℕ) (events : List Event) : Type 0 where
@@ -76,7 +77,7 @@ next_line names now all rest report text piece first same written sent =
 abbrev pub IsStep : {T : Type 0} → ControlFlow watched.Watched T → Type 0
 IsStep (Break watched.TheVariants.Done) = ⊥
 IsStep (Break watched.TheVariants.ReadFault) = ⊥
-IsStep answer = Unit {0}
+IsStep answer = ⊤
 
 -- a line was cut, and then its step
 pub Turns-step : {T : Type 0} (result : ControlFlow watched.Watched T) (before between now : Option (List Event)) (program : Program) (mission lines : ℕ) (rows : List Row) (start cut : Cutting) (monitor : State) (Step : List Event → Type 0) → IsStep result → OnLog before between (CutsLine Trace start cut line_answer.TheVariants.Row) → OnLog between now Step → OnLog before now (Turns result program mission lines rows start cut monitor Step)
@@ -189,7 +190,7 @@ TellsFront-held program style rows row done times monitor events within a =
     subst (λ all. TellsFront program style rows all monitor events) (replicate-append-replicate done (times - done) row ∙ ap (λ n. replicate n row) sum) (TellsFront-more program style rows (replicate done row) (replicate (times - done) row) monitor events a)
 
 -- copies that are the same bring the same
-pub Brings-copies : (result : ControlFlow watched.Watched (Unit {0})) (what : StampedLine) (program : Program) (style : Style) (rows : List Row) (copies others : ℕ → List Row) (number : ℕ) (monitor : State) (events : List Event) → ((time : ℕ) (values : Row) → what ≡ HoldsFrom time values → copies time ≡ others time) → Brings result what program style rows copies number monitor events → Brings result what program style rows others number monitor events
+pub Brings-copies : (result : ControlFlow watched.Watched ⊤) (what : StampedLine) (program : Program) (style : Style) (rows : List Row) (copies others : ℕ → List Row) (number : ℕ) (monitor : State) (events : List Event) → ((time : ℕ) (values : Row) → what ≡ HoldsFrom time values → copies time ≡ others time) → Brings result what program style rows copies number monitor events → Brings result what program style rows others number monitor events
 Brings-copies (Continue u) (HoldsFrom time values) program style rows copies others number monitor events same brings = subst (λ held. TellsAll program style rows (held ++ values ∷ []) monitor events) (same time values refl) brings
 Brings-copies (Continue u) Empty program style rows copies others number monitor events same brings = brings
 Brings-copies (Break watched.TheVariants.WriteFault) (HoldsFrom time values) program style rows copies others number monitor events same brings = subst (λ held. TellsFront program style rows (held ++ values ∷ []) monitor events) (same time values refl) brings
@@ -197,7 +198,7 @@ Brings-copies (Break (watched.TheVariants.BadTrace line why)) (Faulty cause) pro
 Brings-copies (Break watched.TheVariants.TooLong) OverTime program style rows copies others number monitor events same brings = brings
 Brings-copies result what program style rows copies others number monitor events same brings = absurd brings
 
--- fields behind a stamp hold from its time, or from none
+-- fields after a stamp hold from its time, or from none
 pub fields_at-time : (time then_ : ℕ) (meaning : LineMeaning) (values : Row) → fields_at time meaning ≡ HoldsFrom then_ values → then_ ≡ time
 fields_at-time time then_ (feed.row row) values is = cc
 fields_at-time time then_ feed.blank values is = cc
@@ -206,9 +207,9 @@ fields_at-time time then_ (feed.not_whole column) values is = cc
 fields_at-time time then_ (feed.out_of_range column) values is = cc
 
 -- fields that were taken hold from their time
-pub time_behind-fields : (last : Option ℕ) (time : ℕ) (meaning : LineMeaning) (program : Program) (style : Style) (rows : List Row) (copies : ℕ → List Row) (number : ℕ) (monitor : State) (events : List Event) → Brings (Continue tt) (fields_at time meaning) program style rows copies number monitor events → Some time ≡ time_behind last (fields_at time meaning)
-time_behind-fields last time (feed.row row) program style rows copies number monitor events brings = refl
-time_behind-fields last time feed.blank program style rows copies number monitor events brings = absurd brings
-time_behind-fields last time feed.too_few program style rows copies number monitor events brings = absurd brings
-time_behind-fields last time (feed.not_whole column) program style rows copies number monitor events brings = absurd brings
-time_behind-fields last time (feed.out_of_range column) program style rows copies number monitor events brings = absurd brings
+pub time_after-fields : (last : Option ℕ) (time : ℕ) (meaning : LineMeaning) (program : Program) (style : Style) (rows : List Row) (copies : ℕ → List Row) (number : ℕ) (monitor : State) (events : List Event) → Brings (Continue tt) (fields_at time meaning) program style rows copies number monitor events → Some time ≡ time_after last (fields_at time meaning)
+time_after-fields last time (feed.row row) program style rows copies number monitor events brings = refl
+time_after-fields last time feed.blank program style rows copies number monitor events brings = absurd brings
+time_after-fields last time feed.too_few program style rows copies number monitor events brings = absurd brings
+time_after-fields last time (feed.not_whole column) program style rows copies number monitor events brings = absurd brings
+time_after-fields last time (feed.out_of_range column) program style rows copies number monitor events brings = absurd brings

@@ -19,7 +19,7 @@ use Rattle.tool_io.proofs.CutLaws.{StartsLong, lines_of-none, lines_of-long}
 use Rattle.tool_io.proofs.Prompting.{PromptBy-append, Prompt-from_by, Writes-prompt}
 use Rattle.mltl_monitor.specs.declared.state.State.{State}
 use Rattle.trace_watch.specs.declared.status.Watched as watched
-use Rattle.trace_watch.specs.Trace.{TraceRows, Stop, Clean, ends_by, behind_header, due}
+use Rattle.trace_watch.specs.Trace.{TraceRows, Stop, Clean, ends_by, after_header, due}
 use Rattle.trace_watch.specs.Telling.{CutsNone, TellsFront}
 use Rattle.trace_watch.specs.Watch.{OnlyRun, HasTold, IsTold, Outcome, IsWatch}
 use Rattle.trace_watch.proofs.LineLaws.{row_line, OnlyRun-append, OnlyRun-writes}
@@ -46,7 +46,7 @@ module _ (program : Program) (style : Style) (rows_in : List (List ℕ) → Trac
   lines_are answer cuts = ap (lines_of new.ended) (line_bytes program style rows_in start cut new monitor rest before Keeps events reads has answer cuts) ∙ has.cuts new.ended (cut.pending ++ concat cuts.pieces) (line_follows program style rows_in start cut new monitor rest before Keeps events reads has answer cuts)
 
   -- so are the rows
-  rows_are : (answer : line_answer.Line) (cuts : CutsLine Trace cut new answer reads) (follow : List (List ℕ)) → lines_of new.ended (cut.pending ++ concat cuts.pieces) ≡ follow → IsLedBy all_rows has.rows (rest (behind_header (next_number cut) follow))
+  rows_are : (answer : line_answer.Line) (cuts : CutsLine Trace cut new answer reads) (follow : List (List ℕ)) → lines_of new.ended (cut.pending ++ concat cuts.pieces) ≡ follow → IsLedBy all_rows has.rows (rest (after_header (next_number cut) follow))
   rows_are answer cuts follow is = IsLedBy-same _ _ _ _ (ap rows_in (lines_are answer cuts ∙ ap (λ ls. has.raws ++ ls) is)) (has.leads follow)
 
   -- all is told where no further row comes, and the rows end so
@@ -54,7 +54,7 @@ module _ (program : Program) (style : Style) (rows_in : List (List ℕ) → Trac
     pub stop_is : all_rows.stop ≡ stop
     pub told : IsTold program style rows_in new.ended all_bytes (given Out (events ++ reads)) after
 
-  all_told : (answer : line_answer.Line) (cuts : CutsLine Trace cut new answer reads) (follow : List (List ℕ)) (stop : Stop) → lines_of new.ended (cut.pending ++ concat cuts.pieces) ≡ follow → rest (behind_header (next_number cut) follow) ≡ ends_by stop → HasTold program after has.rows → AllTold stop
+  all_told : (answer : line_answer.Line) (cuts : CutsLine Trace cut new answer reads) (follow : List (List ℕ)) (stop : Stop) → lines_of new.ended (cut.pending ++ concat cuts.pieces) ≡ follow → rest (after_header (next_number cut) follow) ≡ ends_by stop → HasTold program after has.rows → AllTold stop
   all_told answer cuts follow stop is end told =
       let leads = rows_are answer cuts follow is in
       let rows : all_rows.rows ≡ has.rows = leads.rows ∙ ap (λ (t : TraceRows). has.rows ++ t.rows) end ∙ append-nil has.rows in
@@ -102,14 +102,14 @@ module _ (program : Program) (style : Style) (rows_in : List (List ℕ) → Trac
   row_starts cuts = ap (lines_of new.ended) cuts.answer.1.split ∙ row_line cuts.answer.0 new new.ended new.pending cuts.answer.1.line (λ met. (met, refl))
 
   -- the rows end at a line that is too long, or at another
-  pub long_ends : (stop : Stop) (end : watched.Watched) (none : CutsNone program has.rows cut new line_answer.TheVariants.LongLine after reads) → rest (behind_header (next_number cut) ((long_starts none.cuts).raw ∷ (long_starts none.cuts).others)) ≡ ends_by stop
+  pub long_ends : (stop : Stop) (end : watched.Watched) (none : CutsNone program has.rows cut new line_answer.TheVariants.LongLine after reads) → rest (after_header (next_number cut) ((long_starts none.cuts).raw ∷ (long_starts none.cuts).others)) ≡ ends_by stop
       → (AllTold stop → Outcome end program style rows_in new.ended all_bytes (given Out (events ++ reads)) after)
       → IsWatch program style rows_in start new after end (events ++ reads)
   long_ends stop end none is outcome =
       let long = long_starts none.cuts in
       watch_is line_answer.TheVariants.LongLine none.cuts end (outcome (all_told line_answer.TheVariants.LongLine none.cuts (long.raw ∷ long.others) stop long.split is none.told))
 
-  pub line_ends : (stop : Stop) (end : watched.Watched) (cuts : CutsLine Trace cut new line_answer.TheVariants.Row reads) → ((others : List (List ℕ)) → rest (behind_header (next_number cut) (cuts.answer.0 ∷ others)) ≡ ends_by stop)
+  pub line_ends : (stop : Stop) (end : watched.Watched) (cuts : CutsLine Trace cut new line_answer.TheVariants.Row reads) → ((others : List (List ℕ)) → rest (after_header (next_number cut) (cuts.answer.0 ∷ others)) ≡ ends_by stop)
       → (AllTold stop → Outcome end program style rows_in new.ended all_bytes (given Out (events ++ reads)) after) → HasTold program after has.rows
       → IsWatch program style rows_in start new after end (events ++ reads)
   line_ends stop end cuts is outcome told =
@@ -117,7 +117,7 @@ module _ (program : Program) (style : Style) (rows_in : List (List ℕ) → Trac
       watch_is line_answer.TheVariants.Row cuts end (outcome (all_told line_answer.TheVariants.Row cuts (cuts.answer.0 ∷ others) stop (row_starts cuts) (is others) told))
 
   -- a write of the lines of a line's rows failed
-  pub write_ends : (more tail : List Row) (stop : Stop) (wrote : List Event) (cuts : CutsLine Trace cut new line_answer.TheVariants.Row reads) → IsLedBy (rest (behind_header (next_number cut) (cuts.answer.0 ∷ lines_of new.ended new.pending))) more (record { rows = tail; stop = stop }) → TellsFront program style has.rows more after wrote → IsWatch program style rows_in start new after watched.TheVariants.WriteFault ((events ++ reads) ++ wrote)
+  pub write_ends : (more tail : List Row) (stop : Stop) (wrote : List Event) (cuts : CutsLine Trace cut new line_answer.TheVariants.Row reads) → IsLedBy (rest (after_header (next_number cut) (cuts.answer.0 ∷ lines_of new.ended new.pending))) more (record { rows = tail; stop = stop }) → TellsFront program style has.rows more after wrote → IsWatch program style rows_in start new after watched.TheVariants.WriteFault ((events ++ reads) ++ wrote)
   write_ends more tail stop wrote cuts leads tells =
       let names = output_names program in
       let outs = outputs program in
@@ -140,7 +140,7 @@ module _ (program : Program) (style : Style) (rows_in : List (List ℕ) → Trac
         only = OnlyRun-append (events ++ reads) wrote (line_only program style rows_in start cut new monitor rest before Keeps events reads has line_answer.TheVariants.Row cuts) (subst OnlyRun (sym sends.writes.are) (OnlyRun-writes sends.writes.pieces));
       }
 
--- nothing was written behind a line
+-- nothing was written after a line
 pub ends_quiet : (program : Program) (style : Style) (rows_in : List (List ℕ) → TraceRows) (start new : Cutting) (after : State) (answer : watched.Watched) (events second first wrote : List Event) → second ≡ first ++ wrote → wrote ≡ [] → IsWatch program style rows_in start new after answer (events ++ first) → IsWatch program style rows_in start new after answer (events ++ second)
 ends_quiet program style rows_in start new after answer events second first wrote split none is =
     subst (λ all. IsWatch program style rows_in start new after answer (events ++ all)) (sym (split ∙ ap (λ rest. first ++ rest) none ∙ append-nil first)) is

@@ -20,7 +20,7 @@ use Rattle.tool_io.proofs.LogLaws.{taken-append, given-append, ended_from-append
 use Rattle.tool_io.proofs.CutLaws.{lines_of-none, is_long-row}
 use Rattle.tool_io.proofs.Prompting.{PromptBy, PromptBy-append, Writes-prompt}
 use Rattle.mltl_monitor.specs.declared.state.State.{State}
-use Rattle.trace_watch.specs.Trace.{TraceRows, Clean, ends_by, is_marked, is_header, behind_header, due}
+use Rattle.trace_watch.specs.Trace.{TraceRows, Clean, ends_by, is_marked, is_header, after_header, due}
 use Rattle.trace_watch.specs.Telling.{TellsAll, WritesNone, text_of}
 use Rattle.trace_watch.specs.Watch.{OnlyRun, ReadsNoMore, HasTold, first_of}
 use Rattle.trace_watch.proofs.LineLaws.{is_header-short, first_early, OnlyRun-reads, OnlyRun-writes, OnlyRun-append, Follows, reads_prompt, no_reads, true_false, row_follows, row_line}
@@ -49,15 +49,15 @@ IsLedBy-same all same rest first is a = subst (λ t. IsLedBy t first rest) (sym 
 pub IsLedBy-rest : (all rest same : TraceRows) (first : List Row) → rest ≡ same → IsLedBy all first rest → IsLedBy all first same
 IsLedBy-rest all rest same first is a = subst (IsLedBy all first) is a
 
--- After some lines, of which so many stand behind the header, each with its lines told. `rows_in` are the rows of all
--- lines, `rest` of those behind the header that follow.
+-- After some lines, of which so many stand after the header, each with its lines told. `rows_in` are the rows of all
+-- lines, `rest` of those after the header that follow.
 pub record HasWatched (program : Program) (style : Style) (rows_in : List (List ℕ) → TraceRows) (start cut : Cutting) (monitor : State) (rest : List (ℕ × List ℕ) → TraceRows) (before : ℕ) (Keeps : List Row → Type 0) (events : List Event) : Type 0 where
   pub raws : List (List ℕ)
   pub rows : List Row
   pub bytes : List ℕ
   pub split : start.pending ++ taken Trace events ≡ bytes ++ cut.pending
   pub cuts : (ended : Bool) (more : List ℕ) → Follows cut ended more → lines_of ended (bytes ++ more) ≡ raws ++ lines_of ended more
-  pub leads : (more : List (List ℕ)) → IsLedBy (rows_in (raws ++ more)) rows (rest (behind_header (next_number cut) more))
+  pub leads : (more : List (List ℕ)) → IsLedBy (rows_in (raws ++ more)) rows (rest (after_header (next_number cut) more))
   pub clean : rest [] ≡ ends_by Clean
   pub told : given Out events ≡ lines style (output_names program) (outputs program) rows
   pub kept : HasTold program monitor rows
@@ -69,7 +69,7 @@ pub record HasWatched (program : Program) (style : Style) (rows_in : List (List 
   pub early : next_number cut ≤ before + 2
 
 -- before the first line
-pub HasWatched-none : (program : Program) (style : Style) (start : Cutting) (monitor : State) (rest : List (ℕ × List ℕ) → TraceRows) (Keeps : List Row → Type 0) → start.number ≤ 1 → HasTold program monitor [] → rest [] ≡ ends_by Clean → Keeps [] → HasWatched program style (λ raws. rest (behind_header (first_of start) raws)) start start monitor rest 0 Keeps []
+pub HasWatched-none : (program : Program) (style : Style) (start : Cutting) (monitor : State) (rest : List (ℕ × List ℕ) → TraceRows) (Keeps : List Row → Type 0) → start.number ≤ 1 → HasTold program monitor [] → rest [] ≡ ends_by Clean → Keeps [] → HasWatched program style (λ raws. rest (after_header (first_of start) raws)) start start monitor rest 0 Keeps []
 unfolding reports_after
 HasWatched-none program style start monitor rest Keeps low kept clean keeps = record {
   raws = [];
@@ -106,7 +106,7 @@ module _ (program : Program) (style : Style) (rows_in : List (List ℕ) → Trac
   -- the reads for one more line are prompt
   line_prompt : (answer : line_answer.Line) → CutsLine Trace cut new answer reads → PromptBy due_of (start.pending ++ taken Trace events) (given Out events) reads
   line_prompt answer cuts =
-      let no_rows : (rest (behind_header (next_number cut) [])).rows ≡ [] = ap (λ (t : TraceRows). t.rows) has.clean in
+      let no_rows : (rest (after_header (next_number cut) [])).rows ≡ [] = ap (λ (t : TraceRows). t.rows) has.clean in
       let is : (more : List ℕ) → (cut.ended ≡ false) → HasNoNewline more → length more < 65536 → given Out events ≡ due_of (has.bytes ++ more) = λ more unmet plain short.
       has.told ∙ sym (ap (λ raws. told_of (rows_in raws).rows) (has.cuts false more (λ met. absurd (true_false (sym met ∙ unmet))) ∙ ap (λ ls. has.raws ++ ls) (lines_of-none more plain short)) ∙ ap told_of ((has.leads []).rows ∙ ap (λ rows. has.rows ++ rows) no_rows ∙ append-nil has.rows)) in
       let prompt : PromptBy due_of (has.bytes ++ cut.pending) (given Out events) (map (Took Trace) cuts.pieces) =
@@ -168,7 +168,7 @@ module _ (program : Program) (style : Style) (rows_in : List (List ℕ) → Trac
   line_marked cuts marked is =
       is_header-short (next_number cut) cuts.answer.0 marked (line_short cuts) (ap (λ n. is_marked n (line_text cuts.answer.0)) (sym cuts.answer.1.number) ∙ ap (is_marked new.number) (line_is cuts) ∙ is)
 
-  -- the number behind it is one higher
+  -- the number after it is one higher
   pub line_next : (cuts : CutsLine Trace cut new line_answer.TheVariants.Row reads) → before ≤ 2 ^ 40 → next_number new ≡ next_number cut + 1
   line_next cuts far =
       let gives = cuts.answer.1 in
@@ -178,7 +178,7 @@ module _ (program : Program) (style : Style) (rows_in : List (List ℕ) → Trac
 
   -- one more line, which brought these rows and told them
   pub HasWatched-line : (after : State) (now_rest : List (ℕ × List ℕ) → TraceRows) (now : ℕ) (NowKeeps : List Row → Type 0) (more_rows : List Row) (wrote : List Event) (cuts : CutsLine Trace cut new line_answer.TheVariants.Row reads)
-      → ((raws : List (List ℕ)) → IsLedBy (rest (behind_header (next_number cut) (cuts.answer.0 ∷ raws))) more_rows (now_rest (behind_header (next_number new) raws)))
+      → ((raws : List (List ℕ)) → IsLedBy (rest (after_header (next_number cut) (cuts.answer.0 ∷ raws))) more_rows (now_rest (after_header (next_number new) raws)))
       → now_rest [] ≡ ends_by Clean → TellsAll program style has.rows more_rows after wrote → NowKeeps (has.rows ++ more_rows) → next_number new ≤ now + 2
       → HasWatched program style rows_in start new after now_rest now NowKeeps ((events ++ reads) ++ wrote)
   HasWatched-line after now_rest now NowKeeps more_rows wrote cuts leads clean tells keeps early =
@@ -208,7 +208,7 @@ module _ (program : Program) (style : Style) (rows_in : List (List ℕ) → Trac
 
   -- one that brought nothing
   pub HasWatched-quiet : (after : State) (now_rest : List (ℕ × List ℕ) → TraceRows) (now : ℕ) (NowKeeps : List Row → Type 0) (wrote : List Event) (cuts : CutsLine Trace cut new line_answer.TheVariants.Row reads)
-      → ((raws : List (List ℕ)) → rest (behind_header (next_number cut) (cuts.answer.0 ∷ raws)) ≡ now_rest (behind_header (next_number new) raws))
+      → ((raws : List (List ℕ)) → rest (after_header (next_number cut) (cuts.answer.0 ∷ raws)) ≡ now_rest (after_header (next_number new) raws))
       → now_rest [] ≡ ends_by Clean → WritesNone program has.rows after wrote → NowKeeps has.rows → next_number new ≤ now + 2
       → HasWatched program style rows_in start new after now_rest now NowKeeps ((events ++ reads) ++ wrote)
   HasWatched-quiet after now_rest now NowKeeps wrote cuts same clean none keeps early =

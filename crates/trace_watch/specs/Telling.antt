@@ -1,6 +1,6 @@
 -- What one turn of the loop over a trace tells in its log.
 
-use Rattle.std.specs.Prelude.{◌≡◌, ℕ, ◌+◌, ◌<◌, ◌⊎◌, Bool, true, false, List, [], ◌∷◌, ◌++◌}
+use Rattle.std.specs.Prelude.{◌≡◌, ℕ, ◌+◌, ◌<◌, ◌⊎◌, Bool, true, false, List, [], ◌∷◌, ◌++◌, ⊤}
 use Rattle.std.specs.declared.ops.ControlFlow.{ControlFlow}
 use Rattle.std.specs.declared.ops.ControlFlow.TheVariants.{Continue, Break}
 use Rattle.mltl_base.specs.declared.report.Style.{Style}
@@ -43,7 +43,7 @@ StepCause (Break answer) before now = WatchCause answer before now
 -- a monitor that told all is drained
 abbrev pub IsDrainedIf : Bool → State → Type 0
 IsDrainedIf true monitor = IsDrained monitor
-IsDrainedIf false monitor = Unit {0}
+IsDrainedIf false monitor = ⊤
 
 -- the text of the line that a cut gave
 abbrev pub text_of : Cutting → List ℕ
@@ -76,7 +76,7 @@ pub record BringsRow (program : Program) (cut : Cutting) (Tells : List Row → T
   pub tells : Tells (row ∷ [])
 
 -- what a line that was cut brought: blank, or a row whose lines are out; else how the loop ends
-abbrev pub TakesIt : ControlFlow watched.Watched (Unit {0}) → Program → Style → List Row → Cutting → State → List Event → Type 0
+abbrev pub TakesIt : ControlFlow watched.Watched ⊤ → Program → Style → List Row → Cutting → State → List Event → Type 0
 TakesIt (Continue u) program style rows cut monitor events =
     BringsRow program cut (λ more. TellsAll program style rows more monitor events) ⊎ BringsNone program rows cut IsBlank monitor events
 TakesIt (Break watched.TheVariants.WriteFault) program style rows cut monitor events =
@@ -90,8 +90,8 @@ pub record Counts (mission before : ℕ) (cut : Cutting) : Type 0 where
   pub within : before < mission
   pub no_header : is_marked cut.number (text_of cut) ≡ false
 
--- What a line that was cut is, where so many lines behind the header stand before it. The answer is how many stand
--- behind it, the header not counted; else how the loop ends.
+-- What a line that was cut is, where so many lines after the header stand before it. The answer is how many stand
+-- after it, the header not counted; else how the loop ends.
 abbrev pub RowSteps : ControlFlow watched.Watched ℕ → Program → Style → ℕ → ℕ → List Row → Cutting → State → List Event → Type 0
 RowSteps (Continue now) program style mission before rows cut monitor events =
     (now ≡ before) × (is_marked cut.number (text_of cut) ≡ true) × WritesNone program rows monitor events
@@ -119,7 +119,7 @@ EndsLong (Break watched.TheVariants.TooLong) mission before start = before ≡ m
 EndsLong (Break (watched.TheVariants.BadTrace number why)) mission before start = (before < mission) × (number ≡ next_number start) × (why ≡ LongLine)
 EndsLong answer mission before start = ⊥
 
--- what one more line brought, where so many lines behind the header stand before it, and what a line that was cut is
+-- what one more line brought, where so many lines after the header stand before it, and what a line that was cut is
 abbrev pub Turns : {T : Type 0} → ControlFlow watched.Watched T → Program → ℕ → ℕ → List Row → Cutting → Cutting → State → (List Event → Type 0) → List Event → Type 0
 Turns (Break watched.TheVariants.Done) program mission before rows start cut monitor Step events = CutsNone program rows start cut line.TheVariants.End monitor events
 Turns (Break watched.TheVariants.ReadFault) program mission before rows start cut monitor Step events = CutsNone program rows start cut line.TheVariants.ReadFault monitor events

@@ -22,10 +22,10 @@ abbrev pub is_header : ℕ → List ℕ → Bool
 is_header number raw = is_marked number (line_text raw) && not (is_long raw)
 
 -- the lines without the header, each with its number, where the first of all has the number `first`
-abbrev pub behind_header : ℕ → List (List ℕ) → List (ℕ × List ℕ)
-behind_header first raws = filter (λ line. not (is_header line.0 line.1)) (enumerate_from first raws)
+abbrev pub after_header : ℕ → List (List ℕ) → List (ℕ × List ℕ)
+after_header first raws = filter (λ line. not (is_header line.0 line.1)) (enumerate_from first raws)
 
--- what a line behind the header is: past the mission time, faulty, blank, or a row
+-- what a line after the header is: past the mission time, faulty, blank, or a row
 pub data Meaning : Type 0 where
   IsPast : Meaning
   IsFaulty : TraceWhy → Meaning
@@ -40,7 +40,7 @@ meaning_of_text too_few = IsFaulty Width
 meaning_of_text (not_whole column) = IsFaulty (NotWhole column)
 meaning_of_text (out_of_range column) = IsFaulty (OutOfRange column)
 
--- A line that has so many lines behind the header before it. One that meets several ends is past the mission time
+-- A line that has so many lines after the header before it. One that meets several ends is past the mission time
 -- first, then too long, and its fields come last.
 abbrev pub meaning : Program → ℕ → ℕ → List ℕ → Meaning
 meaning program mission before raw =
@@ -72,14 +72,14 @@ put_in_front IsBlank number rest = rest
 put_in_front (IsFaulty why) number rest = ends_by (Bad number why)
 put_in_front IsPast number rest = ends_by Past
 
--- the rows of lines behind the header up to the first line that ends them, where so many lines stand before them
+-- the rows of lines after the header up to the first line that ends them, where so many lines stand before them
 abbrev pub rows_of : Program → ℕ → ℕ → List (ℕ × List ℕ) → TraceRows
 rows_of program mission before [] = ends_by Clean
 rows_of program mission before (line ∷ rest) = put_in_front (meaning program mission before line.1) line.0 (rows_of program mission (before + 1) rest)
 
 -- the rows of all lines of a trace, of which the first has the number `first`
 abbrev pub trace_rows : Program → ℕ → ℕ → List (List ℕ) → TraceRows
-trace_rows program mission first raws = rows_of program mission 0 (behind_header first raws)
+trace_rows program mission first raws = rows_of program mission 0 (after_header first raws)
 
 -- the lines that are due for the bytes of a trace, by the rows of its lines
 abbrev pub due : Program → Style → (List (List ℕ) → TraceRows) → Bool → List ℕ → List ℕ

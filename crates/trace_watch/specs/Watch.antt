@@ -1,6 +1,6 @@
 -- What the loop over a trace tells in its log, and how it leaves the monitor.
 
-use Rattle.std.specs.Prelude.{◌≡◌, ◌≤◌, ◌^◌, ℕ, Bool, true, false, List, [], ◌∷◌, ◌++◌}
+use Rattle.std.specs.Prelude.{◌≡◌, ◌≤◌, ◌^◌, ℕ, Bool, true, false, List, [], ◌∷◌, ◌++◌, ⊤}
 use Rattle.mltl_base.specs.declared.report.Style.{Style}
 use Rattle.mltl_base.specs.declared.program.Program.{Program}
 use Rattle.mltl_base.specs.Atoms.{Row}
@@ -16,7 +16,7 @@ use Rattle.trace_watch.specs.Trace.{TraceRows, Clean, Past, Bad, due}
 
 -- the events are reads of the trace and writes of verdicts
 abbrev pub OnlyRun : List Event → Type 0
-OnlyRun [] = Unit {0}
+OnlyRun [] = ⊤
 OnlyRun (Took Trace piece ∷ events) = OnlyRun events
 OnlyRun (Gave Out piece ∷ events) = OnlyRun events
 OnlyRun (event ∷ events) = ⊥

@@ -23,7 +23,7 @@ use std::sync::ledger::{Blank, Ledger};
 use tool_io::{Host, Line, LineCut, Place};
 use trace_feed::RowAnswer;
 
-/// How far a trace of stamped rows was taken: the lines behind the header, and the time of the last row.
+/// How far a trace of stamped rows was taken: the lines after the header, and the time of the last row.
 #[derive(Clone, Copy)]
 struct Clock {
     lines: u64,
@@ -59,8 +59,8 @@ fn hold<H: Host, L: Ledger>(
     true
 }
 
-/// Takes the row that was read, behind so many copies of the last one, and tells what each brings.
-fn take_behind<H: Host, L: Ledger>(
+/// Takes the row that was read, after so many copies of the last one, and tells what each brings.
+fn take_after<H: Host, L: Ledger>(
     monitor: &mut Monitor,
     host: &mut H,
     times: u64,
@@ -85,7 +85,7 @@ fn take_behind<H: Host, L: Ledger>(
     tell(monitor, host, style)
 }
 
-/// Takes the row of the fields behind a stamp, behind so many copies of the last row.
+/// Takes the row of the fields after a stamp, after so many copies of the last row.
 fn take_fields<H: Host, L: Ledger>(
     monitor: &mut Monitor,
     fields: &[u8],
@@ -108,7 +108,7 @@ fn take_fields<H: Host, L: Ledger>(
 {
     match monitor.read_line(fields) {
         RowAnswer::Good => {
-            if take_behind(monitor, host, times, style, steps) {
+            if take_after(monitor, host, times, style, steps) {
                 Continue(())
             } else {
                 Break(Watched::WriteFault)
@@ -125,7 +125,7 @@ fn take_fields<H: Host, L: Ledger>(
     }
 }
 
-/// Takes the line of the last Row, behind a row of this time if there is one. Answers the time of the last row.
+/// Takes the line of the last Row, after a row of this time if there is one. Answers the time of the last row.
 fn take_line<H: Host, L: Ledger>(
     monitor: &mut Monitor,
     cut: &LineCut,
@@ -162,7 +162,7 @@ fn take_line<H: Host, L: Ledger>(
     }
 }
 
-/// Takes the line of the last Row, where so many lines behind the header stand before it. Answers how many stand behind
+/// Takes the line of the last Row, where so many lines after the header stand before it. Answers how many stand after
 /// it, or how the loop ends.
 fn timed_step<H: Host, L: Ledger>(
     monitor: &mut Monitor,

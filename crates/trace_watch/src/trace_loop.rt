@@ -91,8 +91,8 @@ pub(crate) fn is_header(cut: &LineCut) -> bool
     cut.number() == 1 && matches!(cut.line(), [b'#', ..])
 }
 
-/// Takes the line of the last Row, where `before` lines behind the header stand before it. Answers how many stand
-/// behind it, or how the loop ends.
+/// Takes the line of the last Row, where `before` lines after the header stand before it. Answers how many stand
+/// after it, or how the loop ends.
 fn step<H: Host, L: Ledger>(
     monitor: &mut Monitor,
     cut: &LineCut,
@@ -123,8 +123,8 @@ fn step<H: Host, L: Ledger>(
     Continue(before + 1)
 }
 
-/// Cuts one more line, where `before` lines behind the header stand before it, and takes it. Answers how many stand
-/// behind it, or how the loop ends.
+/// Cuts one more line, where `before` lines after the header stand before it, and takes it. Answers how many stand
+/// after it, or how the loop ends.
 fn turn<H: Host, L: Ledger>(
     monitor: &mut Monitor,
     cut: &mut LineCut,
@@ -187,7 +187,7 @@ fn turns<H: Host, L: Ledger>(
 }
 
 /// Watches a trace: takes its lines one by one from the place `Trace`, and writes the verdict lines that each brings to
-/// the place `Out` before it reads on. A header is passed over, and a line past `mission` lines behind it ends the
+/// the place `Out` before it reads on. A header is passed over, and a line past `mission` lines after it ends the
 /// loop. It takes no memory.
 ///
 /// Lines are counted from the first that the cut gives next, and numbered as the cut numbers them; the header is a

@@ -10,7 +10,7 @@ use std::alloc::{AllocError, AllocFailed};
 pub enum UnfoldFault {
     /// Its weight is above the room that is left.
     Heavy,
-    /// Memory is wanting.
+    /// Out of memory.
     Memory,
 }
 

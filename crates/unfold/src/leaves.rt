@@ -61,7 +61,7 @@ fn interval_of(low: u64, high: u64) -> Interval
 const MAX_NODES: usize = 4_194_304;
 
 impl Unfolding {
-    /// Puts a node behind the others. At `MAX_NODES` nodes memory is wanting.
+    /// Puts a node after the others. At `MAX_NODES` nodes it is out of memory.
     pub(crate) fn add_node(&mut self, node: Plain) -> Result<u32, AllocError>
         ensures pushed { OnOk result
             (self.new ≡ record self.old { nodes = self.old.nodes ++ node ∷ [] }) }
@@ -74,7 +74,7 @@ impl Unfolding {
         Ok(place)
     }
 
-    /// A node behind the others, whose operands are among them.
+    /// A node after the others, whose operands are among them.
     pub(crate) fn place(&mut self, node: Plain) -> Result<u32, AllocError>
         requires formed { (signals : ℕ) → IsFormed signals (trees self.old.nodes) node }
         ensures later { OnOk result (IsLater self.old self.new) }
@@ -85,7 +85,7 @@ impl Unfolding {
         Ok(place)
     }
 
-    /// A stored value that is a node behind the others.
+    /// A stored value that is a node after the others.
     fn leaf(&mut self, node: Plain, weight: u32) -> Result<Stored, AllocError>
         requires formed { (signals : ℕ) → IsFormed signals (trees self.old.nodes) node }
         ensures later { OnOk result (IsLater self.old self.new) }

@@ -238,7 +238,7 @@ fn signal_of(number: u32, truth: bool) -> Plain
     }
 }
 
-/// The place behind so many others, as a number of 32 bits. At 2^32 memory is wanting.
+/// The place after so many others, as a number of 32 bits. At 2^32 it is out of memory.
 pub(crate) fn next_place(len: usize) -> Result<u32, AllocError>
     ensures { IfOk result (λ place. place ≡ len) }
 {

@@ -118,7 +118,7 @@ impl Operands {
     }
 }
 
-/// The operator over one formula that a word begins with, and what stands behind its letter.
+/// The operator over one formula that a word begins with, and what stands after its letter.
 fn window_op(word: &str) -> Option<(WindowOp, &str)> {
     if let Some(rest) = word.strip_prefix('F') {
         return Some((WindowOp::F, rest));
@@ -132,7 +132,7 @@ fn window_op(word: &str) -> Option<(WindowOp, &str)> {
     Some((WindowOp::H, word.strip_prefix('H')?))
 }
 
-/// The operator between two formulas that a word begins with, and what stands behind its letter.
+/// The operator between two formulas that a word begins with, and what stands after its letter.
 fn between_op(word: &str) -> Option<(BetweenOp, &str)> {
     if let Some(rest) = word.strip_prefix('U') {
         return Some((BetweenOp::U, rest));

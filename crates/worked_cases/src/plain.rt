@@ -1,6 +1,6 @@
 //! The definitions of meaning, computed by the plain program over a formula and rows that a run gives.
 //!
-//! A formula's operators stand behind their operands, as in `a b U0,3`: the first two columns are `a` and `b` as truths,
+//! A formula's operators stand after their operands, as in `a b U0,3`: the first two columns are `a` and `b` as truths,
 //! `x` is the first as a whole number.
 
 ghost use Rattle.std.specs.Prelude.{◌^◌, ◌≤◌, length};
@@ -87,7 +87,7 @@ fn decided(alloc: Global, outs: &[Output], rows: &[List<i64>]) -> Result<String>
 
 fn fault(fault: Fault) -> Error {
     match fault {
-        Fault::Memory => anyhow!("memory is wanting"),
+        Fault::Memory => anyhow!("out of memory"),
         Fault::Number => anyhow!("a number leaves 64 bits, or a divisor is 0"),
     }
 }

@@ -58,7 +58,7 @@ fn host_of(
     Ok(host)
 }
 
-/// The words behind the program's name; `""` stands for a word without letters.
+/// The words after the program's name; `""` stands for a word without letters.
 fn words_of(alloc: Global, text: &str) -> Result<Words, AllocError> {
     let mut words = Words::new(alloc);
     for word in text.split_whitespace() {

@@ -11,7 +11,7 @@ use anyhow::{Context, Result, bail};
 use std::alloc::Global;
 use tool_io::Place;
 
-/// What is known behind some lines of a script.
+/// What is known after some lines of a script.
 #[derive(Drop)]
 struct Stage {
     alloc: Global,

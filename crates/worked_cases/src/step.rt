@@ -75,7 +75,7 @@ pub fn step_of(line: &str) -> Result<Step<'_>> {
     }
 }
 
-/// The step of a line that has two parts behind its first word, or a mark and a kind of bytes in its first word.
+/// The step of a line that has two parts after its first word, or a mark and a kind of bytes in its first word.
 fn longer_step_of<'a>(head: &'a str, rest: &'a str) -> Result<Step<'a>> {
     let (first, second) = rest.split_once(' ').unwrap_or((rest, ""));
     match head {

@@ -52,9 +52,9 @@ fn copy_picked(alloc: Global, line: u32, whole: &Expr, field: &Name) -> Result<E
     Ok(Expr { line, node })
 }
 
-/// A copy of an operand behind a prefix.
+/// A copy of an operand after a prefix.
 #[cycle(copying)]
-fn copy_behind(alloc: Global, prefix: Prefix, operand: &Expr) -> Result<Expr, AllocError>
+fn copy_after(alloc: Global, prefix: Prefix, operand: &Expr) -> Result<Expr, AllocError>
     ensures { IfOk result (λ copy. shape copy ≡ prefixed prefix (shape operand.now)) }
 {
     let operand = boxed(alloc, operand)?;
@@ -111,10 +111,10 @@ pub(super) fn copy_expr(alloc: Global, expr: &Expr) -> Result<Expr, AllocError>
         }
         Node::Group(members) => copy_enclosed(alloc, Bracket::Curly(line), members.as_slice()),
         Node::Pick(whole, field) => copy_picked(alloc, line, whole, field),
-        Node::Minus(a) => copy_behind(alloc, Prefix::Minus(line), a),
-        Node::Not(a) => copy_behind(alloc, Prefix::Not(line), a),
+        Node::Minus(a) => copy_after(alloc, Prefix::Minus(line), a),
+        Node::Not(a) => copy_after(alloc, Prefix::Not(line), a),
         Node::Window(op, low, high, a) => {
-            copy_behind(alloc, Prefix::Window(line, *op, *low, *high), a)
+            copy_after(alloc, Prefix::Window(line, *op, *low, *high), a)
         }
         Node::Arith(op, a, b) => join_copy(alloc, line, Infix::Arith(*op), b, boxed(alloc, a)?),
         Node::Compare(op, a, b) => join_copy(alloc, line, Infix::Compare(*op), b, boxed(alloc, a)?),

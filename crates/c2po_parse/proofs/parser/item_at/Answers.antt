@@ -8,7 +8,7 @@ use Rattle.c2po_parse.specs.Specification.{piece_trees, with_first, with_line, p
 use Rattle.c2po_parse.proofs.Spans.{many_pieces, faulty_pieces, read_pieces}
 use Rattle.c2po_parse.proofs.parser.item_at.Goals as goal
 
--- what is left of a list behind some tokens
+-- what is left of a list after some tokens
 rest-is : (n : ℕ) (ts : List Token) → take (length ts - n) (drop n ts) ≡ drop n ts
 rest-is n ts = take_all (length ts - n) (drop n ts) (omega (arith, length-drop n ts))
 

@@ -4,8 +4,8 @@ use Rattle.tool_io.proofs.LogLaws.{OnLog-map, OnLog-then}
 use Rattle.tool_runs.specs.Files.{file_place, file_limit}
 use Rattle.tool_runs.specs.Reading.{FileLog}
 use Rattle.c2po_runs.specs.Asking.{make_of}
-use Rattle.c2po_runs.specs.Phases.{BehindLog}
-use Rattle.c2po_runs.proofs.GatherRuns.{gather_behind, gather_unread}
+use Rattle.c2po_runs.specs.Phases.{AfterLog}
+use Rattle.c2po_runs.proofs.GatherRuns.{gather_after, gather_unread}
 use Rattle.c2po_runs.proofs.gathering.gather.Goals as goal
 
 pub returns-in_err-bytes-clause-log : goal.returns-in_err-bytes-clause-log
@@ -20,6 +20,6 @@ pub returns-clause-log : goal.returns-clause-log
 returns-clause-log g c =
     let asked = make_of c.args.asked.now in
     OnLog-then _ _ _ _ c.in_ok-bytes.ensures.log c.of_file.ensures.log
-    (λ first second read behind. gather_behind asked c.in_ok-bytes.bytes c.of_file.result first second (λ is. ap (option_map (λ name. name.now)) (c.requires.header is))
+    (λ first second read behind. gather_after asked c.in_ok-bytes.bytes c.of_file.result first second (λ is. ap (option_map (λ name. name.now)) (c.requires.header is))
     (subst (λ kind. FileLog (Ok c.in_ok-bytes.bytes) (file_place kind) (file_limit kind) asked.file first) c.file_kind.ensures read)
-    (subst (λ bytes. BehindLog c.of_file.result asked bytes second) c.deref.ensures.value behind))
+    (subst (λ bytes. AfterLog c.of_file.result asked bytes second) c.deref.ensures.value behind))

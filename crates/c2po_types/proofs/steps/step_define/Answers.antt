@@ -1,4 +1,4 @@
--- A definition without a fault is known behind it.
+-- A definition without a fault is known after it.
 use Rattle.std.proofs.Common.{◌≡◌, Ok, rules}
 use Rattle.c2po_types.proofs.Parts.{ok_before}
 use Rattle.c2po_types.proofs.steps.step_define.Goals as goal

@@ -10,7 +10,7 @@ use Rattle.mltl_base.specs.Lines.{line_with, word_text}
 use Rattle.mltl_base.specs.Programs.{name_of}
 use Rattle.contract_status.proofs.line.put_line.Goals as goal
 
--- the pieces of a line, put behind one another
+-- the pieces of a line, put after one another
 pieces : (name : List ℕ) (report : Report) (a b c d e f : List ℕ) → a ≡ name → b ≡ a ++ codes ":" → c ≡ b ++ decimal report.time → d ≡ c ++ codes "," → e ≡ d ++ word_text report.word → f ≡ e ++ codes "\n" → f ≡ line_with name report
 pieces name report a b c d e f p q r s t u = rw (u, t, s, r, q, p) (simp append_assoc)
 

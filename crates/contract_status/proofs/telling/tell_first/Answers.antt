@@ -1,6 +1,6 @@
 use Rattle.std.proofs.Common.{◌+◌, refl, arith}
 use Rattle.std.proofs.lemmas.Option.{slice_get_within}
-use Rattle.contract_status.proofs.Moving.{cursor_behind, fewer_left, gives_none, known_before, open_here, tells}
+use Rattle.contract_status.proofs.Moving.{cursor_after, fewer_left, gives_none, known_before, open_here, tells}
 use Rattle.contract_status.proofs.Placing.{readable}
 use Rattle.contract_status.proofs.telling.tell_first.Goals as goal
 
@@ -97,13 +97,13 @@ returns-clause-given c =
       fewer = fewer_left c.args.engines.now.rows next_times k (c.last_covered-time.result + 1) told.inside (omega (arith, told.upward)) (omega (arith, told.early, stands.1.count));
     }
 
-pub move_behind-requires-clause-within : goal.move_behind-requires-clause-within
-move_behind-requires-clause-within c =
+pub move_after-requires-clause-within : goal.move_after-requires-clause-within
+move_after-requires-clause-within c =
     let there = rw c.program-program.ensures.program at c.get.ensures in
     omega (arith, c.program-program.ensures.layout.few_outs, slice_get_within c.args.checked.now.outs c.in_ok-k.k c.get.result.now there)
 
-pub move_behind-requires-clause-early : goal.move_behind-requires-clause-early
-move_behind-requires-clause-early c =
+pub move_after-requires-clause-early : goal.move_after-requires-clause-early
+move_after-requires-clause-early c =
     let program = c.args.checked.now in let next_times = c.args.next_times.now in let stands = c.requires.stands in let k = c.in_ok-k.k in let out = c.get.result.now in
     let finds = rw c.program-program.ensures.program at c.in_ok-k.ensures.finds in let there = rw c.program-program.ensures.program at c.get.ensures in
     let first = finds stands.0 stands.1 stands.2.known in
@@ -120,4 +120,4 @@ returns-clause-cursor c =
     let told = tells c.args.style program stands.0 next_times k c.last_covered-time.result c.in_ok-k.stretch out there stands.2 found covers in
     λ rows taken known.
     let before = known_before program rows next_times k c.last_covered-time.result told.inside told.upward known in
-    cursor_behind program rows next_times k c.last_covered-time.result c.in_ok-k.stretch c.move_behind.new.self told.inside told.upward (finds rows taken before) (rw taken.count c.move_behind.ensures.next_time) c.move_behind.ensures.kept
+    cursor_after program rows next_times k c.last_covered-time.result c.in_ok-k.stretch c.move_after.new.self told.inside told.upward (finds rows taken before) (rw taken.count c.move_after.ensures.next_time) c.move_after.ensures.kept

@@ -6,7 +6,7 @@ use Rattle.ft_slab.specs.Nodes.{no_node, node_at, op_at, size_in, work_before, w
 use Rattle.ft_slab.specs.Plans.{IsOnPlan, IsPaced, IsPlaced, IsReady, IsSeated, Plan}
 use Rattle.ft_slab.specs.Tables.{IsScanned, IsTold, IsUpToDate}
 use Rattle.mltl_base.specs.declared.operators.FtOp.TheVariants.{Load}
-use Rattle.ft_slab.proofs.Pieces.{first_behind}
+use Rattle.ft_slab.proofs.Pieces.{first_after}
 use Rattle.ft_slab.proofs.Seats.{Stepped, stepped}
 use Rattle.ft_slab.proofs.Turning.{Turned, ready_here, turned_on, seats_on, told_here, Retold, retold_on, work_same, first_size, first_sizes, ahead_same, fronts_before}
 use Rattle.ft_slab.proofs.rows.row_of.Goals as goal
@@ -30,7 +30,7 @@ step-requires-clause-ready g c =
     let turned : Turned plan c.args.ops.now nodes slab n (length before) = subst (λ (i : ℕ). Turned plan c.args.ops.now nodes slab n i) (sym front) t0 in
     let back : length rest + c.loop-i.i ≡ length nodes = c.split_at_mut-before.ensures.back_len in
     let some : 0 < length rest = omega (arith, t0.same_length) in
-    let node_is : node ≡ node_at nodes (length before) = first_behind before rest blank no_node some ∙ ap (λ (ns : List Node). get_or ns (length before) no_node) (sym c.split_at_mut-before.ensures.value) in
+    let node_is : node ≡ node_at nodes (length before) = first_after before rest blank no_node some ∙ ap (λ (ns : List Node). get_or ns (length before) no_node) (sym c.split_at_mut-before.ensures.value) in
     let low_is : length low ≡ node.start = c.split_at_mut-earlier.ensures.front_len in
     let in_ops : length before < length c.args.ops.now = omega arith in
     let ready : IsReady plan n (op_at c.args.ops.now (length before)) before low node (take node.size high) =
@@ -56,7 +56,7 @@ loop-i-preserved g c =
     let turned : Turned plan c.args.ops.now nodes slab n (length before) = subst (λ (i : ℕ). Turned plan c.args.ops.now nodes slab n i) (sym front) t0 in
     let back : length rest + c.loop-i.i ≡ length nodes = c.split_at_mut-before.ensures.back_len in
     let some : 0 < length rest = omega (arith, t0.same_length) in
-    let node_is : node ≡ node_at nodes (length before) = first_behind before rest blank no_node some ∙ ap (λ (ns : List Node). get_or ns (length before) no_node) (sym c.split_at_mut-before.ensures.value) in
+    let node_is : node ≡ node_at nodes (length before) = first_after before rest blank no_node some ∙ ap (λ (ns : List Node). get_or ns (length before) no_node) (sym c.split_at_mut-before.ensures.value) in
     let low_is : length low ≡ node.start = c.split_at_mut-earlier.ensures.front_len in
     let new_node : Node = c.step.new.node in
     let own : List Slot = c.step.new.own in

@@ -1,3 +1,4 @@
+use Rattle.std.specs.Prelude.{⊤}
 use Rattle.std.proofs.Common.{◌≡◌, ◌++◌, [], ℕ, List, ap, ◌∙◌, arith, length}
 use Rattle.std.proofs.lemmas.List.{append-nil}
 use Rattle.std.proofs.lemmas.Result.{err_from_is_err_and}
@@ -10,7 +11,7 @@ use Rattle.obs_show.proofs.text.write.Goals as goal
 abbrev outputs_of : Program → List ℕ
 outputs_of P = written (output_bytes P) 0 P.outs
 
--- what is lacking behind each part
+-- what is lacking after each part
 abbrev from_pt : Program → List ℕ
 from_pt P = written (pt_bytes P) 0 P.pt ++ outputs_of P
 
@@ -25,7 +26,7 @@ returns-in_err-add_signals-clause-fault c =
     let P : Program = c.args.program.now in
     let l0 = lacking_all P c.new-text.result.items c.new-text.ensures.items in
     let p = err_from_is_err_and c.from_residual-in_err-add_signals.result c.from_residual-in_err-add_signals.ensures.1 in
-    rw (p.1, p.2) (too_long (Unit {0}) (text_of P) c.new-text.result.items (written signal_bytes 0 P.signals) (from_bz P) c.add_signals.new.text.items c.in_err-add_signals.field-0.0 l0 c.in_err-add_signals.ensures)
+    rw (p.1, p.2) (too_long ⊤ (text_of P) c.new-text.result.items (written signal_bytes 0 P.signals) (from_bz P) c.add_signals.new.text.items c.in_err-add_signals.field-0.0 l0 c.in_err-add_signals.ensures)
 
 pub returns-in_err-add_bz-clause-fault : goal.returns-in_err-add_bz-clause-fault
 returns-in_err-add_bz-clause-fault c =
@@ -33,7 +34,7 @@ returns-in_err-add_bz-clause-fault c =
     let l0 = lacking_all P c.new-text.result.items c.new-text.ensures.items in
     let l1 = lacking_less (text_of P) c.new-text.result.items (written signal_bytes 0 P.signals) (from_bz P) c.add_signals.new.text.items l0 c.in_ok-add_signals.ensures.0 in
     let p = err_from_is_err_and c.from_residual-in_err-add_bz.result c.from_residual-in_err-add_bz.ensures.1 in
-    rw (p.1, p.2) (too_long (Unit {0}) (text_of P) c.add_signals.new.text.items (written (bz_bytes P) 0 P.bz) (from_ft P) c.add_bz.new.text.items c.in_err-add_bz.field-0.0 l1 c.in_err-add_bz.ensures)
+    rw (p.1, p.2) (too_long ⊤ (text_of P) c.add_signals.new.text.items (written (bz_bytes P) 0 P.bz) (from_ft P) c.add_bz.new.text.items c.in_err-add_bz.field-0.0 l1 c.in_err-add_bz.ensures)
 
 pub returns-in_err-add_ft-clause-fault : goal.returns-in_err-add_ft-clause-fault
 returns-in_err-add_ft-clause-fault c =
@@ -42,7 +43,7 @@ returns-in_err-add_ft-clause-fault c =
     let l1 = lacking_less (text_of P) c.new-text.result.items (written signal_bytes 0 P.signals) (from_bz P) c.add_signals.new.text.items l0 c.in_ok-add_signals.ensures.0 in
     let l2 = lacking_less (text_of P) c.add_signals.new.text.items (written (bz_bytes P) 0 P.bz) (from_ft P) c.add_bz.new.text.items l1 c.in_ok-add_bz.ensures.0 in
     let p = err_from_is_err_and c.from_residual-in_err-add_ft.result c.from_residual-in_err-add_ft.ensures.1 in
-    rw (p.1, p.2) (too_long (Unit {0}) (text_of P) c.add_bz.new.text.items (written (ft_bytes P) 0 P.ft) (from_pt P) c.add_ft.new.text.items c.in_err-add_ft.field-0.0 l2 c.in_err-add_ft.ensures)
+    rw (p.1, p.2) (too_long ⊤ (text_of P) c.add_bz.new.text.items (written (ft_bytes P) 0 P.ft) (from_pt P) c.add_ft.new.text.items c.in_err-add_ft.field-0.0 l2 c.in_err-add_ft.ensures)
 
 pub returns-in_err-add_pt-clause-fault : goal.returns-in_err-add_pt-clause-fault
 returns-in_err-add_pt-clause-fault c =
@@ -52,7 +53,7 @@ returns-in_err-add_pt-clause-fault c =
     let l2 = lacking_less (text_of P) c.add_signals.new.text.items (written (bz_bytes P) 0 P.bz) (from_ft P) c.add_bz.new.text.items l1 c.in_ok-add_bz.ensures.0 in
     let l3 = lacking_less (text_of P) c.add_bz.new.text.items (written (ft_bytes P) 0 P.ft) (from_pt P) c.add_ft.new.text.items l2 c.in_ok-add_ft.ensures.0 in
     let p = err_from_is_err_and c.from_residual-in_err-add_pt.result c.from_residual-in_err-add_pt.ensures.1 in
-    rw (p.1, p.2) (too_long (Unit {0}) (text_of P) c.add_ft.new.text.items (written (pt_bytes P) 0 P.pt) (outputs_of P) c.add_pt.new.text.items c.in_err-add_pt.field-0.0 l3 c.in_err-add_pt.ensures)
+    rw (p.1, p.2) (too_long ⊤ (text_of P) c.add_ft.new.text.items (written (pt_bytes P) 0 P.pt) (outputs_of P) c.add_pt.new.text.items c.in_err-add_pt.field-0.0 l3 c.in_err-add_pt.ensures)
 
 pub returns-in_err-add_outputs-clause-fault : goal.returns-in_err-add_outputs-clause-fault
 returns-in_err-add_outputs-clause-fault c =
@@ -63,7 +64,7 @@ returns-in_err-add_outputs-clause-fault c =
     let l3 = lacking_less (text_of P) c.add_bz.new.text.items (written (ft_bytes P) 0 P.ft) (from_pt P) c.add_ft.new.text.items l2 c.in_ok-add_ft.ensures.0 in
     let l4 = lacking_less (text_of P) c.add_ft.new.text.items (written (pt_bytes P) 0 P.pt) (outputs_of P) c.add_pt.new.text.items l3 c.in_ok-add_pt.ensures.0 in
     let p = err_from_is_err_and c.from_residual-in_err-add_outputs.result c.from_residual-in_err-add_outputs.ensures.1 in
-    rw (p.1, p.2) (too_long (Unit {0}) (text_of P) c.add_pt.new.text.items (written (output_bytes P) 0 P.outs) [] c.add_outputs.new.text.items c.in_err-add_outputs.field-0.0 (ap (λ ts. c.add_pt.new.text.items ++ ts) (append-nil (outputs_of P)) ∙ l4) c.in_err-add_outputs.ensures)
+    rw (p.1, p.2) (too_long ⊤ (text_of P) c.add_pt.new.text.items (written (output_bytes P) 0 P.outs) [] c.add_outputs.new.text.items c.in_err-add_outputs.field-0.0 (ap (λ ts. c.add_pt.new.text.items ++ ts) (append-nil (outputs_of P)) ∙ l4) c.in_err-add_outputs.ensures)
 
 pub returns-clause-text : goal.returns-clause-text
 returns-clause-text c =

@@ -1,7 +1,7 @@
 use Rattle.std.proofs.Common.{◌≡◌, ℕ, ◌+◌, ◌<◌, List, ◌++◌, length, get_or, take, drop, set, arith, refl, subst, sym, ap, ◌∙◌}
 use Rattle.std.proofs.lemmas.Grind.{common_steps}
 use Rattle.mltl_base.specs.declared.operators.PtOp.{PtOp}
-use Rattle.ft_slab.proofs.Pieces.{first_behind}
+use Rattle.ft_slab.proofs.Pieces.{first_after}
 use Rattle.ft_slab.proofs.Seats.{Stepped, stepped}
 use Rattle.pt_boxes.specs.declared.boxes.Span.{Span}
 use Rattle.pt_boxes.specs.declared.rows.Node.{Node}
@@ -34,7 +34,7 @@ loop-i-preserved g c =
     let turned : Turned ops n nodes slab (length before) = subst (λ (k : ℕ). Turned ops n nodes slab k) (sym front) i.turned in
     let back : length rest + c.loop-i.i ≡ length nodes = c.split_at_mut-before.ensures.back_len in
     let some : 0 < length rest = omega (arith, turned.same_length) in
-    let node_is : node ≡ node_at nodes (length before) = first_behind before rest no_node no_node some ∙ ap (λ (ns : List Node). get_or ns (length before) no_node) (sym c.split_at_mut-before.ensures.value) in
+    let node_is : node ≡ node_at nodes (length before) = first_after before rest no_node no_node some ∙ ap (λ (ns : List Node). get_or ns (length before) no_node) (sym c.split_at_mut-before.ensures.value) in
     let low_is : length low ≡ node.start = c.split_at_mut-high.ensures.front_len in
     let new : Node = record { boxes = c.step-node.new.boxes; truth = c.step-node.result; start = node.start; size = node.size } in
     let own : List Span = c.step-node.new.own in

@@ -1,3 +1,4 @@
+use Rattle.std.specs.Prelude.{⊤}
 use Rattle.std.proofs.Common.{◌≡◌, ℕ, Option, Some, ◌-◌, List, [], drop, length, refl, replicate, subst, sym, take}
 use Rattle.std.proofs.lemmas.List.{take_rest}
 use Rattle.std.specs.declared.ops.ControlFlow.{ControlFlow}
@@ -32,7 +33,7 @@ takes_none answer said last mission line text style rows copies number monitor s
     subst (λ what. TakesStamped answer last what (program_of monitor) style rows copies number monitor []) (sym (stamped_as (program_of monitor) mission last line text said same is)) takes
 
 -- what the rest of a line from a place on brought
-rest_brings : (result : ControlFlow watched.Watched (Unit {0})) (program : Program) (style : Style) (rows : List Row) (copies : ℕ → List Row) (number time place : ℕ) (line : List ℕ) (after : State) (events : List Event) → Brings result (fields_at time (line_meaning program (take (length line - place) (drop place line)))) program style rows copies number after events → Brings result (fields_at time (line_meaning program (drop place line))) program style rows copies number after events
+rest_brings : (result : ControlFlow watched.Watched ⊤) (program : Program) (style : Style) (rows : List Row) (copies : ℕ → List Row) (number time place : ℕ) (line : List ℕ) (after : State) (events : List Event) → Brings result (fields_at time (line_meaning program (take (length line - place) (drop place line)))) program style rows copies number after events → Brings result (fields_at time (line_meaning program (drop place line))) program style rows copies number after events
 rest_brings result program style rows copies number time place line after events brings =
     subst (λ (fields : List ℕ). Brings result (fields_at time (line_meaning program fields)) program style rows copies number after events) (take_rest line place) brings
 

@@ -30,8 +30,8 @@ record LetsGo (old : Ring) (slots : List Slot) (mid : Ring) : Type 0 where
   bounded : (mid.low ≡ old.low) ⊎ (mid.low + length slots ≤ old.frontier)
   kept : (t : ℕ) → mid.low ≤ t → verdict_at mid slots t ≡ verdict_at old slots t
 
-closed_behind : (old mid new : Ring) (slots new_slots : List Slot) → LetsGo old slots mid → new.low ≡ mid.low → IsClosed mid slots new new_slots → IsClosed old slots new new_slots
-closed_behind old mid new slots new_slots lets low is =
+closed_after : (old mid new : Ring) (slots new_slots : List Slot) → LetsGo old slots mid → new.low ≡ mid.low → IsClosed mid slots new new_slots → IsClosed old slots new new_slots
+closed_after old mid new slots new_slots lets low is =
     let frontier = lets.frontier in
     let rises = lets.rises in
     record {
@@ -51,7 +51,7 @@ returns c =
     let slots = c.args.slots.now in
     let begun = c.requires.belongs.begun in
     let some_time = c.if-self.false in
-    let closed = λ (lets : LetsGo ring slots c.if-self-slots.self). closed_behind ring c.if-self-slots.self c.add.new.self slots c.add.new.slots lets c.add.ensures.low c.add.ensures.closed in
+    let closed = λ (lets : LetsGo ring slots c.if-self-slots.self). closed_after ring c.if-self-slots.self c.add.new.self slots c.add.new.slots lets c.add.ensures.low c.add.ensures.closed in
     elim c.if-self-slots.branch [
       | then-self-slots w ↦
           let forgot = w.forget.ensures in

@@ -2,7 +2,7 @@ use Rattle.std.proofs.Common.{◌≡◌, ◌+◌, ◌-◌, ◌∙◌, ℕ, List,
 use Rattle.std.specs.Prelude.{count_by}
 use Rattle.trace_feed.specs.Rows.{fields_of, is_comma}
 use Rattle.trace_feed.proofs.PassedFields.{block_from, byte_from}
-use Rattle.trace_feed.proofs.passing.behind_fields.Goals as goal
+use Rattle.trace_feed.proofs.passing.after_fields.Goals as goal
 
 pub passing-preserved : goal.passing-preserved
 passing-preserved c =

@@ -1,8 +1,8 @@
--- What was read stands behind the first bytes.
+-- What was read stands after the first bytes.
 use Rattle.std.proofs.Common.{◌≡◌, ◌-◌, length, arith}
 use Rattle.std.proofs.lemmas.List.{length-take, length-drop}
 use Rattle.tool_io.proofs.BufferLaws.{Fills-behind}
-use Rattle.tool_io.proofs.line_cut.read_behind.Goals as goal
+use Rattle.tool_io.proofs.line_cut.read_after.Goals as goal
 
 pub returns-clause-bytes : goal.returns-clause-bytes
 returns-clause-bytes g c =

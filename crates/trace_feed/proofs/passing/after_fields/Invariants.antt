@@ -1,12 +1,12 @@
 use Rattle.std.proofs.Common.{◌≤◌, ◌-◌, length}
-use Rattle.trace_feed.proofs.PassedFields.{AreBehind}
-use Rattle.trace_feed.proofs.passing.behind_fields.Given as goal
+use Rattle.trace_feed.proofs.PassedFields.{AreAfter}
+use Rattle.trace_feed.proofs.passing.after_fields.Given as goal
 
--- behind the fields that are left stand those that are looked for
+-- after the fields that are left stand those that are looked for
 abbrev pub invariant-passing : goal.invariant-passing
 invariant-passing l = record {
   within : l.at ≤ length l.line;
-  behind : AreBehind l.line l.from l.count l.at l.left;
+  behind : AreAfter l.line l.from l.count l.at l.left;
 }
 
 abbrev pub decreases-passing : goal.decreases-passing
@@ -15,7 +15,7 @@ decreases-passing l = length l.line - l.at
 abbrev pub invariant-bytes : goal.invariant-bytes
 invariant-bytes l = record {
   within : l.at ≤ length l.line;
-  behind : AreBehind l.line l.from l.count l.at l.left;
+  behind : AreAfter l.line l.from l.count l.at l.left;
 }
 
 abbrev pub decreases-bytes : goal.decreases-bytes

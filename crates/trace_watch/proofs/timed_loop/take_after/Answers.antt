@@ -3,7 +3,7 @@ use Rattle.tool_io.proofs.LogLaws.{OnLog-map, Appends-then}
 use Rattle.mltl_monitor.specs.Monitoring.{program_of, last_of, read_of}
 use Rattle.trace_watch.specs.StampedTelling.{TellsRows}
 use Rattle.trace_watch.proofs.TellLaws.{TellsRows-one, TellsFront-more}
-use Rattle.trace_watch.proofs.timed_loop.take_behind.Goals as goal
+use Rattle.trace_watch.proofs.timed_loop.take_after.Goals as goal
 
 pub returns-then-not-hold-clause-log : goal.returns-then-not-hold-clause-log
 returns-then-not-hold-clause-log g c rows stands =
