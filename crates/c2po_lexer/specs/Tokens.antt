@@ -2,6 +2,7 @@
 use Rattle.std.specs.Prelude.{◌≡◌, ℕ, ◌+◌, ◌-◌, ◌<◌, ◌≤◌, List, [], ◌∷◌, length, ◌==◌, if◌then◌else◌, nat_lt, take, drop, map, count_by, Option, Some, None, option_map, Result, Ok, Err, pos, ⊤}
 use Rattle.std.specs.List.{AllPass}
 use Rattle.std.specs.Str.Parse.{digits_value}
+use Rattle.mltl_base.specs.declared.limits.TheConstants.{MAX_NUMBER}
 use Rattle.c2po_lexer.specs.Spelling.{keyword_text, keyword_of, sign_text}
 use Rattle.c2po_lexer.specs.Cut.{Piece, is_in_word, front_of, size_of, piece_at, pieces_of}
 use Rattle.c2po_lexer.specs.declared.token.Token.{Token}
@@ -36,7 +37,7 @@ word_of line word =
 -- a number is at most 2 ^ 63 - 1
 abbrev pub number_of : ℕ → List ℕ → Result What LexFault
 number_of line digits =
-    if nat_lt 9223372036854775807 (digits_value 10 digits) then Err (fault.Number line)
+    if nat_lt MAX_NUMBER (digits_value 10 digits) then Err (fault.Number line)
     else Ok (what.Number (pos (digits_value 10 digits)))
 
 -- What a piece is, if it is a token at all. Blanks and comments are none, and a byte that begins nothing is a fault.

@@ -9,7 +9,7 @@ ghost use Rattle.c2po_lexer.specs.Tokens.{line_at, word_of, number_of, what_of, 
 use crate::fault::LexFault;
 use crate::front::Front;
 use crate::token::{Keyword, Token, Tokens, What};
-use mltl_base::limits::{MAX_SPEC_BYTES, MAX_WORD_BYTES};
+use mltl_base::limits::{MAX_NUMBER, MAX_SPEC_BYTES, MAX_WORD_BYTES};
 use mltl_base::{List, Name};
 use std::alloc::Global;
 use std::str;
@@ -26,7 +26,7 @@ fn newlines(bytes: &[u8]) -> u32
 fn value_of(digits: &[u8]) -> Option<i64>
     requires some { 1 ≤ length digits.now }
     requires digits { IsTrue (all_ascii_digits digits.now) }
-    ensures limit { IsSome result ↔ (digits_value 10 digits.now ≤ 9223372036854775807) }
+    ensures limit { IsSome result ↔ (digits_value 10 digits.now ≤ MAX_NUMBER) }
     ensures value { IfSome result (λ value. value ≡ pos (digits_value 10 digits.now)) }
 {
     match str::from_utf8(digits) {

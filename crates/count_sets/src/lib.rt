@@ -5,9 +5,9 @@
 //! to, and [`formula_counts`] is the law that this formula counts.
 //!
 //! ```
-//! let gates = network(alloc, CountOp::AtLeast, 3, 2)?;
-//! for gate in gates.as_slice() {
-//!     writeln!(out, "{gate:?}")?;
+//! fn ands_of(alloc: Global) -> Result<usize, AllocError> {
+//!     let gates = network(alloc, CountOp::AtLeast, 3, 2)?;
+//!     Ok(gates.as_slice().iter().filter(|gate| matches!(gate, Gate::Both(..))).count())
 //! }
 //! ```
 #![tactic(auto)]

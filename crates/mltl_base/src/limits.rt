@@ -8,6 +8,8 @@ pub const MAX_PROGRAM_BYTES: usize = 16_777_216;
 pub const MAX_LINE_BYTES: usize = 65_536;
 /// The most bytes of a word of a specification.
 pub const MAX_WORD_BYTES: usize = 64;
+/// The greatest number that a specification writes.
+pub const MAX_NUMBER: u64 = 9_223_372_036_854_775_807;
 /// The most tokens of one item of a specification.
 pub const MAX_ITEM_TOKENS: usize = 1_024;
 /// The greatest upper bound of an interval, in rows.

@@ -20,6 +20,24 @@ impl<T> Model for List<T> {
     ghost view = { λ list. list.items.items };
 }
 
+/// The members of a vector, in its memory.
+impl<T> From<Vec<T>> for List<T> {
+    ghost from_gives = { λ items list. list ≡ items.items };
+
+    fn from(items: Vec<T>) -> List<T> {
+        List { items }
+    }
+}
+
+/// The members of a list, in its memory.
+impl<T> From<List<T>> for Vec<T> {
+    ghost from_gives = { λ list items. items.items ≡ list };
+
+    fn from(list: List<T>) -> Vec<T> {
+        list.items
+    }
+}
+
 impl<T> List<T> {
     /// The empty list. It takes no memory.
     pub fn new(alloc: Global) -> Self

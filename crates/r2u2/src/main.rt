@@ -7,7 +7,7 @@ use tool_io::RealHost;
 
 fn main(rt: HostRuntime) -> ExitCode {
     let alloc = rt.alloc();
-    let Ok(words) = words_of(&rt, alloc) else {
+    let Ok(words) = words_of(alloc, &rt) else {
         return ExitCode::from(Status::Memory.code());
     };
     let mut host = RealHost::new(rt);

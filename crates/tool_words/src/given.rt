@@ -5,10 +5,10 @@ use std::alloc::{AllocError, Global};
 use std::env::{Env, FillError};
 
 /// The words after the program's own name, by their bytes.
-pub fn words_of<E: Env>(env: &E, alloc: Global) -> Result<Words, AllocError> {
+pub fn words_of<E: Env>(alloc: Global, env: &E) -> Result<Words, AllocError> {
     let mut words = Words::new(alloc);
     for i in 1..usize::MAX {
-        match word_at(env, alloc, i)? {
+        match word_at(alloc, env, i)? {
             Some(word) => words.push_bytes(&word)?,
             None => break,
         }
@@ -17,7 +17,7 @@ pub fn words_of<E: Env>(env: &E, alloc: Global) -> Result<Words, AllocError> {
 }
 
 /// Word `i`, or `None` after the last one. A buffer that is too short is made twice as long.
-fn word_at<E: Env>(env: &E, alloc: Global, i: usize) -> Result<Option<Vec<u8>>, AllocError> {
+fn word_at<E: Env>(alloc: Global, env: &E, i: usize) -> Result<Option<Vec<u8>>, AllocError> {
     for power in 10u32..40 {
         let mut word = vec![in alloc; 0u8; 1usize << power]?;
         match env.arg(i, &mut word) {
