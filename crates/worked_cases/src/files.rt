@@ -62,7 +62,11 @@ impl Files {
 
     /// Ends the file after so many bytes.
     pub fn cut(&mut self, length: usize) -> Result<()> {
-        self.last()?.truncate(length);
+        let bytes = self.last()?;
+        if bytes.len() < length {
+            bail!("the file has fewer bytes");
+        }
+        bytes.truncate(length);
         Ok(())
     }
 

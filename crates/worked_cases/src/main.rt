@@ -2,7 +2,8 @@
 //! says what runs over files in memory are to give.
 //!
 //! The script explains its form at its head. Each difference is printed with the name and the line of its case, and at
-//! the end how many cases and runs agreed.
+//! the end whether all cases agree; how many cases and runs did stands on the error output, so that a new case changes
+//! no stored output.
 #![tactic(auto)]
 
 mod files;
@@ -14,18 +15,23 @@ mod print;
 mod run;
 mod scene;
 mod script;
+mod setting;
 mod step;
 mod tally;
+mod told;
 
 use anyhow::Result;
 use std::io;
 use std::process::ExitCode;
 use tally::Tally;
 
-fn play_input(rt: &(impl Print + Input + AllocGlobal)) -> Result<Tally> {
+fn play_input(rt: &(impl Print + Eprint + Input + AllocGlobal)) -> Result<Tally> {
     let script = io::read_to_string(rt.alloc(), rt.reader())?;
     let tally = script::play(rt, rt.alloc(), script.as_str())?;
-    println!(rt; "{tally}")?;
+    eprintln!(rt; "{tally}")?;
+    if tally.is_whole() {
+        println!(rt; "all cases agree")?;
+    }
     Ok(tally)
 }
 

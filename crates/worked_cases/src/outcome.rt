@@ -23,6 +23,18 @@ impl Outcome {
     }
 }
 
+/// The first byte at which two texts part, and its line, both counted from 1.
+pub fn parting(came: &[u8], wanted: &[u8]) -> (usize, usize) {
+    let mut line = 1usize;
+    for (place, (one, other)) in came.iter().zip(wanted.iter()).enumerate() {
+        if one != other {
+            return (place.saturating_add(1), line);
+        }
+        line = line.saturating_add(usize::from(*one == b'\n'));
+    }
+    (came.len().min(wanted.len()).saturating_add(1), line)
+}
+
 /// Which parts of two outcomes differ.
 #[derive(Clone, Copy, PartialEq, Eq)]
 pub struct Parts {

@@ -1,7 +1,8 @@
 //! The lines that tell a reader where a run differs.
 
-use crate::outcome::{Outcome, Parts};
+use crate::outcome::{Outcome, Parts, parting};
 use crate::run::Asked;
+use crate::setting::Setting;
 use anyhow::Result;
 use std::alloc::{AllocError, Global};
 use std::str;
@@ -23,10 +24,35 @@ fn print_both(
     came: &[u8],
     wanted: &[u8],
 ) -> Result<()> {
+    let (byte, line) = parting(came, wanted);
     let came = shown(alloc, came)?;
     let wanted = shown(alloc, wanted)?;
-    println!(rt; "  {name}:\n{came}\n  wanted:\n{wanted}")?;
+    println!(rt;
+        "  {name}, which parts at byte {byte} in line {line}:\n{came}\n  wanted:\n{wanted}"
+    )?;
     Ok(())
+}
+
+/// Prints which run of which case differs.
+fn print_head(rt: &impl Print, case: &str, asked: &Asked, setting: Setting) -> Result<()> {
+    let line = asked.line;
+    let words = asked.words.as_str();
+    println!(rt; "{case}, line {line}: {words}\n  {setting}")?;
+    Ok(())
+}
+
+/// Prints that what was out after so many lines of the trace is not what was wanted then.
+pub fn print_untimely(
+    rt: &impl Print,
+    alloc: Global,
+    case: &str,
+    asked: &Asked,
+    setting: Setting,
+    came: &[u8],
+    wanted: &[u8],
+) -> Result<()> {
+    print_head(rt, case, asked, setting)?;
+    print_both(rt, alloc, "output before that call", came, wanted)
 }
 
 /// Prints in which parts a run gave something else than was wanted.
@@ -35,12 +61,11 @@ pub fn print_difference(
     alloc: Global,
     case: &str,
     asked: &Asked,
+    setting: Setting,
     found: &Outcome,
     parts: Parts,
 ) -> Result<()> {
-    let line = asked.line;
-    let words = asked.words.as_str();
-    println!(rt; "{case}, line {line}: {words}")?;
+    print_head(rt, case, asked, setting)?;
     if parts.status != asked.meant.status {
         let (came, wanted) = (found.status, asked.wanted.status);
         println!(rt; "  status {came}, wanted {wanted}")?;

@@ -7,6 +7,8 @@ use crate::files::NamedBytes;
 use crate::outcome::{Outcome, Parts};
 use crate::plain;
 use crate::scene::Scenes;
+use crate::setting::Setting;
+use crate::told::Told;
 use anyhow::{Context, Result, bail};
 use mltl_tools::{Words, c2po_main, r2u2_main};
 use std::alloc::{AllocError, Global};
@@ -25,7 +27,19 @@ pub struct Asked {
     pub lengths: Option<(usize, usize)>,
     pub failing: Option<(Place, u64)>,
     pub wanted: Outcome,
+    /// After which lines of the trace those of the wanted output are out, where the script says so.
+    pub told: Vec<Told>,
     pub meant: Parts,
+}
+
+impl Asked {
+    /// The name of the trace: the last word.
+    pub fn trace(&self) -> &str {
+        match self.words.as_str().rsplit_once(' ') {
+            Some((_, name)) => name,
+            None => "",
+        }
+    }
 }
 
 /// Lets a host of which no place is attached have these files.
@@ -40,20 +54,15 @@ fn put_files(host: &mut MemHost, files: &[NamedBytes]) -> Result<(), AllocError>
 }
 
 /// The host of a run, with the files of its case in place of those of all cases.
-fn host_of(
-    alloc: Global,
-    scenes: &Scenes,
-    asked: &Asked,
-    block: usize,
-) -> Result<MemHost, AllocError> {
+fn host_of(alloc: Global, scenes: &Scenes, setting: Setting) -> Result<MemHost, AllocError> {
     let mut host = MemHost::make(alloc, EVENTS, BYTES)?;
     put_files(&mut host, scenes.common.files.as_slice())?;
     put_files(&mut host, scenes.own.files.as_slice())?;
-    if let Some((place, call)) = asked.failing {
+    if let Some((place, call)) = setting.failing {
         host.fail(place, call)?;
     }
-    if block > 0 {
-        host.set_block(block);
+    if setting.block > 0 {
+        host.set_block(setting.block);
     }
     Ok(host)
 }
@@ -100,15 +109,14 @@ fn plain_outcome(alloc: Global, text: &str) -> Result<Outcome> {
     Ok(outcome)
 }
 
-/// What a run gives where a read gives at most so many bytes.
-pub fn outcome_of(alloc: Global, scenes: &Scenes, asked: &Asked, block: usize) -> Result<Outcome> {
-    let text = asked.words.as_str();
+/// What a run of these words gives under a setting.
+pub fn outcome_of(alloc: Global, scenes: &Scenes, text: &str, setting: Setting) -> Result<Outcome> {
     let (tool, rest) = text.split_once(' ').unwrap_or((text, ""));
     if tool == "plain" {
         return plain_outcome(alloc, rest);
     }
     let words = words_of(alloc, rest)?;
-    let mut host = host_of(alloc, scenes, asked, block)?;
+    let mut host = host_of(alloc, scenes, setting)?;
     let status = status_of(alloc, tool, &words, &mut host)?;
     Ok(Outcome {
         status,

@@ -76,7 +76,8 @@ impl Scenes {
         }
     }
 
-    fn find(&self, name: &str) -> Result<&[u8]> {
+    /// The bytes of the file of this name.
+    pub fn find(&self, name: &str) -> Result<&[u8]> {
         match self.own.files.find(name) {
             Some(bytes) => Ok(bytes),
             None => self.common.files.find(name).context("no such file"),

@@ -2,11 +2,13 @@
 
 use crate::outcome::{Outcome, Parts};
 use crate::piece::Piece;
-use crate::print::print_difference;
+use crate::print::{print_difference, print_untimely};
 use crate::run::{Asked, outcome_of};
 use crate::scene::Scenes;
+use crate::setting::Setting;
 use crate::step::{Step, step_of};
 use crate::tally::Tally;
+use crate::told::{Told, front_len, line_count, out_after};
 use anyhow::{Context, Result, bail};
 use std::alloc::Global;
 use tool_io::Place;
@@ -24,6 +26,8 @@ struct Stage {
     asked: Option<Asked>,
     written: Vec<u8>,
     tally: Tally,
+    /// The script has at least so many cases.
+    least: u32,
 }
 
 impl Stage {
@@ -38,6 +42,7 @@ impl Stage {
             asked: None,
             written: Vec::new(alloc),
             tally: Tally::new(),
+            least: 1,
         }
     }
 
@@ -65,6 +70,9 @@ impl Stage {
         if runs == 0 {
             bail!("a case without a run");
         }
+        if self.failing.is_some() || self.lengths.is_some() {
+            bail!("a failing call or lengths without a run");
+        }
         self.tally.count_case(runs == agreeing);
         self.scenes.own.clear();
         self.scenes.in_case = false;
@@ -91,6 +99,7 @@ impl Stage {
             lengths: self.lengths.take(),
             failing: self.failing.take(),
             wanted: Outcome::new(self.alloc),
+            told: Vec::new(self.alloc),
             meant: Parts::none(),
         });
         Ok(())
@@ -104,6 +113,12 @@ impl Stage {
             Step::Output(piece) => {
                 let bytes = self.scenes.bytes_of(piece)?;
                 asked.wanted.output.extend_from_slice(&bytes)?;
+            }
+            Step::OutputAfter(lines, text) => {
+                let bytes = self.scenes.bytes_of(Piece::Line(text))?;
+                asked.wanted.output.extend_from_slice(&bytes)?;
+                let end = asked.wanted.output.len();
+                asked.told.push(Told { lines, end })?;
             }
             Step::Errors(piece) => {
                 let bytes = self.scenes.bytes_of(piece)?;
@@ -121,26 +136,84 @@ impl Stage {
             return Ok(());
         };
         let Some((from, to)) = asked.lengths else {
-            return self.run(rt, &asked);
+            return self.run(rt, &asked, None);
         };
+        if to < from {
+            bail!("no length from {from} to {to}");
+        }
         for length in (from..=to).rev() {
             self.scenes.own.files.cut(length)?;
-            self.run(rt, &asked)?;
+            self.run(rt, &asked, Some(length))?;
         }
         Ok(())
     }
 
-    /// Makes a run with each limit of its reads.
-    fn run(&mut self, rt: &impl Print, asked: &Asked) -> Result<()> {
+    /// Makes a run with each limit of its reads, and those that show when its lines are out.
+    fn run(&mut self, rt: &impl Print, asked: &Asked, length: Option<usize>) -> Result<()> {
         let blocks = self.scenes.blocks()?;
         for block in &blocks {
-            let found = outcome_of(self.alloc, &self.scenes, asked, *block)?;
-            let parts = Parts::of(&found, &asked.wanted);
-            self.tally.count_run(parts == asked.meant);
-            if parts != asked.meant {
-                print_difference(rt, self.alloc, self.case.as_str(), asked, &found, parts)?;
-            }
-            self.written = found.output;
+            let setting = Setting {
+                block: *block,
+                length,
+                failing: asked.failing,
+            };
+            self.run_under(rt, asked, setting)?;
+        }
+        if asked.told.is_empty() {
+            return Ok(());
+        }
+        self.run_by_lines(rt, asked, length)
+    }
+
+    /// Makes a run under a setting.
+    fn run_under(&mut self, rt: &impl Print, asked: &Asked, setting: Setting) -> Result<()> {
+        let found = outcome_of(self.alloc, &self.scenes, asked.words.as_str(), setting)?;
+        let parts = Parts::of(&found, &asked.wanted);
+        self.tally.count_run(parts == asked.meant);
+        if parts != asked.meant {
+            let case = self.case.as_str();
+            print_difference(rt, self.alloc, case, asked, setting, &found, parts)?;
+        }
+        self.written = found.output;
+        Ok(())
+    }
+
+    /// Lets the read after each line of the trace fail, and compares what is out then.
+    fn run_by_lines(
+        &mut self,
+        rt: &impl Print,
+        asked: &Asked,
+        length: Option<usize>,
+    ) -> Result<()> {
+        let trace = Vec::from_slice(self.alloc, self.scenes.find(asked.trace())?)?;
+        for lines in 0..=line_count(&trace) {
+            // the first call opens the trace, and each later one reads a byte
+            let call = (front_len(&trace, lines) as u64).saturating_add(1);
+            let setting = Setting {
+                block: 1,
+                length,
+                failing: Some((Place::Trace, call)),
+            };
+            self.run_to_line(rt, asked, setting, lines)?;
+        }
+        Ok(())
+    }
+
+    /// Makes a run whose trace fails after so many lines.
+    fn run_to_line(
+        &mut self,
+        rt: &impl Print,
+        asked: &Asked,
+        setting: Setting,
+        lines: usize,
+    ) -> Result<()> {
+        let found = outcome_of(self.alloc, &self.scenes, asked.words.as_str(), setting)?;
+        let wanted = out_after(&asked.told, lines, &asked.wanted.output);
+        let agrees = found.output.as_slice() == wanted;
+        self.tally.count_run(agrees);
+        if !agrees {
+            let case = self.case.as_str();
+            print_untimely(rt, self.alloc, case, asked, setting, &found.output, wanted)?;
         }
         Ok(())
     }
@@ -165,6 +238,10 @@ impl Stage {
             Step::Block(numbers) => self.scenes.current().set_blocks(numbers),
             Step::Run(words) => self.ask(line, words),
             Step::Keep(name) => self.keep(name),
+            Step::Least(cases) => {
+                self.least = cases.max(1);
+                Ok(())
+            }
             Step::Each(from, to) => {
                 self.lengths = Some((from, to));
                 Ok(())
@@ -199,5 +276,9 @@ pub fn play(rt: &impl Print, alloc: Global, script: &str) -> Result<Tally> {
     }
     stage.settle(rt)?;
     stage.end()?;
+    let (cases, least) = (stage.tally.cases, stage.least);
+    if cases < least {
+        bail!("{cases} cases, where there are to be at least {least}");
+    }
     Ok(stage.tally)
 }

@@ -35,12 +35,16 @@ pub enum Step<'a> {
     Status(u8),
     /// The run before was to write these bytes to its output.
     Output(Piece<'a>),
+    /// The run before was to write this line to its output, before more of its trace is read than so many lines.
+    OutputAfter(usize, &'a str),
     /// The run before was to write these bytes to its error output.
     Errors(Piece<'a>),
     /// The run before was to differ from what is said of it, in the part of this name.
     Differs(&'a str),
     /// What the run before wrote is the file of this name.
     Keep(&'a str),
+    /// The script has at least so many cases.
+    Least(u32),
 }
 
 impl Step<'_> {
@@ -48,7 +52,11 @@ impl Step<'_> {
     pub fn is_wanted(&self) -> bool {
         matches!(
             self,
-            Step::Status(_) | Step::Output(_) | Step::Errors(_) | Step::Differs(_)
+            Step::Status(_)
+                | Step::Output(_)
+                | Step::OutputAfter(..)
+                | Step::Errors(_)
+                | Step::Differs(_)
         )
     }
 }
@@ -71,6 +79,7 @@ pub fn step_of(line: &str) -> Result<Step<'_>> {
         "differs" => Ok(Step::Differs(rest)),
         "keep" => Ok(Step::Keep(rest)),
         "cut" => Ok(Step::Cut(length_of(rest)?)),
+        "least" => Ok(Step::Least(rest.parse::<u32>().context("a number of cases")?)),
         _ => longer_step_of(head, rest),
     }
 }
@@ -145,6 +154,11 @@ fn given<'a>(head: &'a str, rest: &'a str) -> Result<Step<'a>> {
         && let Some(piece) = Piece::of_kind(kind, rest)
     {
         return Ok(Step::Output(piece));
+    }
+    if let Some(lines) = head.strip_prefix('>')
+        && let Ok(lines) = lines.parse::<usize>()
+    {
+        return Ok(Step::OutputAfter(lines, rest));
     }
     if let Some(kind) = head.strip_prefix('!')
         && let Some(piece) = Piece::of_kind(kind, rest)

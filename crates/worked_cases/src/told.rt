@@ -1,0 +1,42 @@
+//! After which line of its trace each line of an output is out.
+
+/// A line of an output: how many lines of the trace are read before it is out, and where it ends in the output.
+#[derive(Clone, Copy)]
+pub struct Told {
+    pub lines: usize,
+    pub end: usize,
+}
+
+/// What is out of an output once so many lines of the trace are read.
+pub fn out_after<'a>(told: &[Told], lines: usize, output: &'a [u8]) -> &'a [u8] {
+    let mut end = 0usize;
+    for line in told {
+        if line.lines <= lines {
+            end = end.max(line.end);
+        }
+    }
+    output.get(..end).unwrap_or(output)
+}
+
+/// How many bytes the first lines of a text have.
+pub fn front_len(text: &[u8], lines: usize) -> usize {
+    let mut left = lines;
+    for (place, byte) in text.iter().enumerate() {
+        if left == 0 {
+            return place;
+        }
+        left = left.saturating_sub(usize::from(*byte == b'\n'));
+    }
+    text.len()
+}
+
+/// How many lines a text has, a last one without a newline among them.
+pub fn line_count(text: &[u8]) -> usize {
+    let mut count = 0usize;
+    let mut before = b'\n';
+    for byte in text {
+        count = count.saturating_add(usize::from(before == b'\n'));
+        before = *byte;
+    }
+    count
+}
