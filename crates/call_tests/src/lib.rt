@@ -1,8 +1,10 @@
-//! Tests of calls that no program makes: on hosts, of a cut into lines after a fault, and on a queue.
+//! Tests of calls that no program makes: on hosts, of a cut into lines after a fault, on a queue, and of a compilation.
 //!
 //! They stand apart from the crates that they test, since a crate with tests is proved twice.
 #![tactic(auto)]
 
+#[cfg(test)]
+mod compiling;
 #[cfg(test)]
 mod hosts;
 #[cfg(test)]
