@@ -21,7 +21,7 @@
  * and buffers stay the caller's.
  *
  * MEMORY. r2u2_open and r2u2_open_under take all of it. r2u2_row, r2u2_next, r2u2_width, r2u2_outputs and r2u2_name take
- * none, and so can't fail for want of it.
+ * none, and so can't run out of it.
  *
  * ANSWERS. A call that answers a code was done where it answers R2U2_DONE, 0. At every other code the monitor is as it
  * was before the call, and nothing was written but the fault at R2U2_REFUSED.
@@ -47,7 +47,7 @@ enum r2u2_code {
     R2U2_NOT_OPEN = 1,      /* the struct has no monitor */
     R2U2_ALREADY_OPEN = 2,  /* the struct has a monitor: close it first */
     R2U2_REFUSED = 3,       /* the program or the header has a fault, which was told */
-    R2U2_NO_MEMORY = 4,     /* memory is wanting */
+    R2U2_NO_MEMORY = 4,     /* out of memory */
     R2U2_REPORTS_LEFT = 5,  /* ask for the reports of the last row first */
     R2U2_NOT_A_ROW = 6,     /* the numbers aren't a row of the program */
     R2U2_TOO_MANY_ROWS = 7, /* 1,099,511,627,776 rows were taken */
@@ -116,7 +116,7 @@ enum r2u2_style { R2U2_EACH = 0, R2U2_RUNS = 1 };
 uint32_t r2u2_open(struct r2u2 *it, const uint8_t *program, size_t count, struct r2u2_fault *fault);
 
 /* The same under a header: the signals that the program stores, of version 2, stand in the columns that have their names.
- * The header is one record of CSV behind '#', as "#request,grant", without the end of its line. Rows are as wide as the
+ * The header is one record of CSV after '#', as "#request,grant", without the end of its line. Rows are as wide as the
  * header. R2U2_REFUSED also where the header doesn't name each signal exactly once. */
 uint32_t r2u2_open_under(struct r2u2 *it, const uint8_t *program, size_t count, const char *header, size_t header_count,
                          struct r2u2_fault *fault);
@@ -125,7 +125,7 @@ uint32_t r2u2_open_under(struct r2u2 *it, const uint8_t *program, size_t count, 
 uint32_t r2u2_width(struct r2u2 *it);
 uint32_t r2u2_outputs(struct r2u2 *it);
 
-/* Writes the name of output `k`, counted from 0, to the front of `buffer`, without a zero byte behind it, and answers its
+/* Writes the name of output `k`, counted from 0, to the front of `buffer`, without a zero byte after it, and answers its
  * length, 1 to 64; the rest of the buffer stays. 0, and nothing is written, where none is open, `k` is no output, or
  * `count` is less than the name's length. */
 uint32_t r2u2_name(struct r2u2 *it, uint32_t k, char *buffer, size_t count);

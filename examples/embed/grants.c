@@ -39,7 +39,7 @@ static void print_reports(struct r2u2 *monitor) {
     }
 }
 
-/* Takes the lines of a trace behind its header, and prints their reports. */
+/* Takes the lines of a trace after its header, and prints their reports. */
 static uint32_t watch(struct r2u2 *monitor, FILE *trace) {
     char line[MOST_BYTES];
     int64_t numbers[MOST_COLUMNS] = {0};
