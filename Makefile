@@ -30,10 +30,9 @@ check:
 	rt ci
 
 install: $(BUILT)
-	install -d $(DESTDIR)$(PREFIX)/bin $(DESTDIR)$(PREFIX)/share/man/man1 $(DESTDIR)$(PREFIX)/share/man/man5
+	install -d $(DESTDIR)$(PREFIX)/bin $(DESTDIR)$(PREFIX)/share/man/man1
 	install -m 755 $(BUILT) $(DESTDIR)$(PREFIX)/bin
 	install -m 644 $(PROGRAMS:%=docs/man/%.1) $(DESTDIR)$(PREFIX)/share/man/man1
-	install -m 644 docs/man/c2po.5 $(DESTDIR)$(PREFIX)/share/man/man5
 
 clean:
 	rm -rf build

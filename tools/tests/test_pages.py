@@ -1,0 +1,87 @@
+"""tools/pages: that it finds what pages leave out, and what is no case."""
+
+import shutil
+import subprocess
+import sys
+import tempfile
+import unittest
+from pathlib import Path
+
+ROOT = Path(__file__).resolve().parent.parent.parent
+PARTS = [".ci", "bench", "crates", "docs", "edits", "examples", "include", "tools"]
+
+# A file, what stands in it, what is put in its place, and what is to be told then.
+CHANGES = [
+    ("README.md", "(docs/LANGUAGE.md)", "(docs/LANGUAGES.md)", "README.md: no file docs/LANGUAGES.md"),
+    ("README.md", "granted:2,F", "granted:2,T", "README.md: no case gives the lines of"),
+    ("docs/TROUBLESHOOTING.md", "`mixed tense`", "`mixed times`", "docs/TROUBLESHOOTING.md: no entry shows mixed tense"),
+    ("docs/TROUBLESHOOTING.md", "`FTSPEC f: p == q;`", "`FTSPEC f: q == p;`", "no case has the line FTSPEC f: q == p;"),
+    ("docs/man/c2po.1", "bad divisor", "bad division", "DIAGNOSTICS of the manual: no entry shows bad divisor"),
+    ("docs/man/r2u2.1", ".It Fl -runs", ".It Fl -run", "docs/man/r2u2.1: no entry for --runs"),
+    ("docs/man/c2po.5", "heaters, 2", "heaters, 1", "docs/man/c2po.5: no case has this specification"),
+    ("docs/LANGUAGE.md", "forexactly", "forexact", "docs/LANGUAGE.md: no entry for forexactly"),
+    ("docs/LANGUAGE.md", "| 3 | 1 | 0 | F | 4 |", "| 3 | 1 | 0 | T | 4 |", "docs/LANGUAGE.md: no case gives the table"),
+    ("docs/LANGUAGE.md", "| 3 | 1 | 0 | F | 4 |", "| 3 | 1 | 0 | F | 3 |", "a case tells lines after other rows"),
+    ("examples/grant.csv", "0,1", "1,1", "examples/grant.csv: no case has this trace"),
+    ("examples/grant.c2po", "F[0,3]", "F[0,4]", "examples/grant.c2po: no case has this specification"),
+    ("crates/tool_runs/src/message.rt", '"mixed tense"', '"mixed times"', "no entry shows mixed times"),
+    ("crates/c2po_lexer/src/token.rt", 'b"<->"', 'b"<-->"', "docs/LANGUAGE.md: no entry for <-->"),
+]
+
+
+class Pages(unittest.TestCase):
+    @classmethod
+    def setUpClass(cls):
+        cls.folder = tempfile.TemporaryDirectory()
+        cls.top = Path(cls.folder.name)
+        for part in PARTS:
+            if (ROOT / part).is_dir():
+                shutil.copytree(ROOT / part, cls.top / part, ignore=shutil.ignore_patterns("out", "__pycache__"))
+        for name in ["README.md", "crates.txt", "Makefile"]:
+            shutil.copy(ROOT / name, cls.top / name)
+
+    @classmethod
+    def tearDownClass(cls):
+        cls.folder.cleanup()
+
+    def told(self):
+        ran = subprocess.run([sys.executable, str(self.top / "tools/pages")], capture_output=True, encoding="utf-8")
+        self.assertEqual(ran.stderr, "")
+        return ran.returncode, ran.stdout
+
+    def test_pages_as_they_are(self):
+        self.assertEqual(self.told(), (0, "pages: ok\n"))
+
+    def test_a_name_in_a_comment_is_none(self):
+        page, code = self.top / "docs/PROMISES.md", self.top / "crates/scq_ring/src/lib.rt"
+        texts = [file.read_text(encoding="utf-8") for file in (page, code)]
+        page.write_text(texts[0] + "\n`no_such_name`\n", encoding="utf-8")
+        code.write_text(texts[1] + "\n// no_such_name\n", encoding="utf-8")
+        status, out = self.told()
+        for file, text in zip((page, code), texts):
+            file.write_text(text, encoding="utf-8")
+        self.assertEqual(status, 1)
+        self.assertIn("no code has no_such_name", out)
+
+
+def finds(name, old, new, wanted):
+    """A test that the change is found."""
+
+    def test(self):
+        file = self.top / name
+        text = file.read_text(encoding="utf-8")
+        self.assertIn(old, text)
+        file.write_text(text.replace(old, new), encoding="utf-8")
+        status, out = self.told()
+        file.write_text(text, encoding="utf-8")
+        self.assertEqual(status, 1)
+        self.assertIn(wanted, out)
+
+    return test
+
+
+for number, change in enumerate(CHANGES):
+    setattr(Pages, f"test_change_{number}", finds(*change))
+
+if __name__ == "__main__":
+    unittest.main()
