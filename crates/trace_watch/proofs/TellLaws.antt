@@ -1,6 +1,6 @@
 -- The lines of reports, told one after another.
 
-use Rattle.std.proofs.Common.{◌≡◌, ℕ, ◌+◌, ◌-◌, ◌≤◌, arith, replicate, List, [], ◌∷◌, ◌++◌, Bool, true, false, map, Option, Some, refl, sym, ◌∙◌, ap, subst, append_assoc, inr}
+use Rattle.std.proofs.Common.{◌≡◌, ℕ, ◌+◌, ◌-◌, ◌≤◌, arith, replicate, List, [], ◌∷◌, ◌++◌, Bool, true, false, map, refl, sym, ◌∙◌, ap, subst, append_assoc}
 use Rattle.std.specs.List.{concat}
 use Rattle.std.proofs.lemmas.List.{append-nil, map-append, replicate-append-replicate}
 use Rattle.std.proofs.lemmas.List.Folds.{concat-append}
@@ -13,9 +13,9 @@ use Rattle.mltl_base.specs.declared.report.Style.{Style}
 use Rattle.mltl_base.specs.declared.program.Program.{Program}
 use Rattle.mltl_base.specs.Atoms.{Row}
 use Rattle.tool_io.specs.declared.host.Place.TheVariants.{Out}
-use Rattle.tool_io.specs.Log.{Event, OnLog, Writes, WritesFront}
+use Rattle.tool_io.specs.Log.{Event, Writes, WritesFront}
 use Rattle.tool_io.proofs.ListLaws.{some-append}
-use Rattle.tool_io.proofs.LogLaws.{Appends-then, Writes-none, Writes-then, WritesFront-then}
+use Rattle.tool_io.proofs.LogLaws.{Writes-none, Writes-then, WritesFront-then}
 use Rattle.mltl_monitor.specs.declared.state.State.{State}
 use Rattle.mltl_monitor.specs.Monitoring.{program_of, open_of, Stands, TakesRow}
 use Rattle.trace_watch.specs.Watch.{HasTold, HasFront}

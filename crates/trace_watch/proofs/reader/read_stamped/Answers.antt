@@ -1,4 +1,4 @@
-use Rattle.std.proofs.Common.{◌≡◌, ◌-◌, ℕ, List, IsTrue, Some, drop, length, subst, sym, take}
+use Rattle.std.proofs.Common.{ℕ, List, IsTrue, Some, drop, subst, sym}
 use Rattle.std.proofs.lemmas.List.{take_rest}
 use Rattle.mltl_monitor.specs.Monitoring.{program_of, read_of}
 use Rattle.sparse_feed.specs.Stamps.{may_follow}

@@ -1,8 +1,8 @@
-use Rattle.std.proofs.Common.{◌≡◌, ◌∙◌, ap, refl, subst, sym}
+use Rattle.std.proofs.Common.{◌∙◌, ap, subst, sym}
 use Rattle.tool_io.proofs.LogLaws.{OnLog-none, OnLog-map}
 use Rattle.mltl_monitor.specs.Monitoring.{program_of}
 use Rattle.mltl_monitor.proofs.Keeping.{same_stands}
-use Rattle.trace_watch.specs.Feed.{IsFaulty, IsPast, text_meaning}
+use Rattle.trace_watch.specs.Feed.{text_meaning}
 use Rattle.trace_watch.specs.Turns.{FindsRow, line_of}
 use Rattle.trace_watch.proofs.FoundLaws.{takes_row, takes_front, takes_blank, takes_bad, takes_past, writes_none}
 use Rattle.trace_watch.proofs.trace_loop.Course.take.Goals as goal
