@@ -21,7 +21,8 @@ use Rattle.tool_io.proofs.CutLaws.{lines_of-none, is_long-row}
 use Rattle.tool_io.proofs.Prompting.{PromptBy, PromptBy-append, Writes-prompt}
 use Rattle.mltl_monitor.specs.declared.state.State.{State}
 use Rattle.trace_watch.specs.Trace.{TraceRows, Clean, ends_by, is_marked, is_header, after_header, due}
-use Rattle.trace_watch.specs.Telling.{TellsAll, WritesNone, text_of}
+use Rattle.trace_watch.specs.Telling.{TellsAll, WritesNone}
+use Rattle.trace_watch.specs.Turns.{text_of}
 use Rattle.trace_watch.specs.Watch.{OnlyRun, ReadsNoMore, HasTold, first_of}
 use Rattle.trace_watch.proofs.LineLaws.{is_header-short, first_early, OnlyRun-reads, OnlyRun-writes, OnlyRun-append, Follows, reads_prompt, no_reads, true_false, row_follows, row_line}
 

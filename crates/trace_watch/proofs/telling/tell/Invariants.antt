@@ -6,7 +6,7 @@ use Rattle.tool_io.specs.Log.{OnLog}
 use Rattle.tool_io.specs.Host.{NoFault}
 use Rattle.mltl_monitor.specs.Monitoring.{program_of, taken_by, last_of, read_of, Stands, left_to_tell, open_of}
 use Rattle.trace_watch.proofs.TellLaws.{HasSent}
-use Rattle.trace_watch.proofs.trace_loop.tell.Given as goal
+use Rattle.trace_watch.proofs.telling.tell.Given as goal
 
 abbrev pub invariant-loop-report : goal.invariant-loop-report
 invariant-loop-report g l = record {

@@ -3,10 +3,9 @@ use Rattle.std.proofs.lemmas.List.{replicate_more}
 use Rattle.tool_io.proofs.HostLaws.{NoFault-then}
 use Rattle.tool_io.proofs.LogLaws.{OnLog-none, OnLog-map, Appends-then}
 use Rattle.mltl_monitor.specs.Monitoring.{program_of, last_of}
-use Rattle.trace_watch.specs.Telling.{TellsAll}
-use Rattle.trace_watch.specs.StampedTelling.{TellsRows}
+use Rattle.trace_watch.specs.Telling.{TellsAll, TellsRows}
 use Rattle.trace_watch.proofs.TellLaws.{TellsAll-none, TellsRows-one, TellsFront-held}
-use Rattle.trace_watch.proofs.timed_loop.hold.Goals as goal
+use Rattle.trace_watch.proofs.telling.hold.Goals as goal
 
 pub loop-done-init : goal.loop-done-init
 loop-done-init g c = record {

@@ -1,9 +1,9 @@
 use Rattle.std.proofs.Common.{◌++◌, ◌∷◌, [], subst, replicate}
 use Rattle.tool_io.proofs.LogLaws.{OnLog-map, Appends-then}
 use Rattle.mltl_monitor.specs.Monitoring.{program_of, last_of, read_of}
-use Rattle.trace_watch.specs.StampedTelling.{TellsRows}
+use Rattle.trace_watch.specs.Telling.{TellsRows}
 use Rattle.trace_watch.proofs.TellLaws.{TellsRows-one, TellsFront-more}
-use Rattle.trace_watch.proofs.timed_loop.take_after.Goals as goal
+use Rattle.trace_watch.proofs.telling.take_after.Goals as goal
 
 pub returns-then-not-hold-clause-log : goal.returns-then-not-hold-clause-log
 returns-then-not-hold-clause-log g c rows stands =
@@ -12,7 +12,7 @@ returns-then-not-hold-clause-log g c rows stands =
 pub returns-clause-log : goal.returns-clause-log
 returns-clause-log g c rows stands =
     let held = c.if-not-hold.ensures.log rows stands in
-    let copies = replicate c.args.times (last_of c.args.monitor.now) in
+    let copies = replicate c.args.copies (last_of c.args.monitor.now) in
     let read = read_of c.hold.new.monitor in
     let program = program_of c.args.monitor.now in
     let takes = c.take_read.ensures.takes in

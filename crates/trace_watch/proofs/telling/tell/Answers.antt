@@ -6,7 +6,7 @@ use Rattle.mltl_base.specs.Lines.{lines_of_reports}
 use Rattle.mltl_base.specs.Programs.{output_names}
 use Rattle.mltl_monitor.specs.Monitoring.{program_of, open_of, last_of, read_of}
 use Rattle.trace_watch.proofs.TellLaws.{HasSent-none, HasSent-more, HasSent-all, HasSent-front, next_line}
-use Rattle.trace_watch.proofs.trace_loop.tell.Goals as goal
+use Rattle.trace_watch.proofs.telling.tell.Goals as goal
 
 pub loop-report-init : goal.loop-report-init
 loop-report-init g c = record {

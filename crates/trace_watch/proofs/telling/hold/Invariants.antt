@@ -4,7 +4,7 @@ use Rattle.tool_io.specs.Log.{OnLog}
 use Rattle.tool_io.specs.Host.{NoFault}
 use Rattle.mltl_monitor.specs.Monitoring.{program_of, taken_by, last_of, read_of, IsDrained, Stands}
 use Rattle.trace_watch.specs.Telling.{TellsAll}
-use Rattle.trace_watch.proofs.timed_loop.hold.Given as goal
+use Rattle.trace_watch.proofs.telling.hold.Given as goal
 
 abbrev pub invariant-loop-done : goal.invariant-loop-done
 invariant-loop-done g l = record {
