@@ -23,7 +23,7 @@ use Rattle.unfold.specs.Values.{weight, formula_of}
 use Rattle.unfold.specs.Environment.{declare, fields, value, value_of}
 use Rattle.c2po_types.specs.FirstFault.{State, start, when_ranged, one_tense, with_signals, with_out, body_step, item_step, checked, first_fault, fault_of}
 use Rattle.c2po_types.specs.Signals.{body_signals, signals_of}
-use Rattle.c2po_types.proofs.Parts.{bind-ok, unless-ok, not-passed, when-ok, when_ranged-ok, ok-inj}
+use Rattle.c2po_types.proofs.Parts.{is-ok, bind-ok, unless-ok, not-passed, when-ok, when_ranged-ok, ok-inj}
 use Rattle.c2po_types.proofs.SignalLaws.{checked-signals}
 use Rattle.c2po_types.specs.Outputs.{Place, before, name_of, values_after, asked_at, behind, asked_from, outputs_of}
 use Rattle.c2po_types.proofs.Tensing.{of_tense}
@@ -169,10 +169,6 @@ items-right front (i ∷ items) s t p a h =
       ranged = All-append HasRanges (asked_at i.body p) (asked_from items (behind i.body p)) one.ranged rest.ranged;
       tensed = All-append IsTensed (asked_at i.body p) (asked_from items (behind i.body p)) one.tensed rest.tensed;
     }
-
-is-ok : (m : Checked State) → fault_of m ≡ None → (t : State) × (m ≡ Ok t)
-is-ok (Ok t) h = (t, refl)
-is-ok (Err fault) h = absurd (cc)
 
 faultless-right : (items : List ItemShape) → first_fault items ≡ None → AreRight items before
 unfolding checked
