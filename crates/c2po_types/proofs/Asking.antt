@@ -14,7 +14,7 @@ use Rattle.plain_nodes.specs.declared.nodes.PlainOut.{PlainOut}
 use Rattle.plain_nodes.specs.declared.nodes.PlainOut.TheVariants as out
 use Rattle.plain_nodes.specs.Nodes.{Tree, number, formula, trees, formula_in, IsFormula, Has, Grows}
 use Rattle.plain_nodes.specs.Outputs.{asked_by, NamesFormulas}
-use Rattle.c2po_types.specs.Reached.{AskFor}
+use Rattle.c2po_types.specs.Unfolded.{AskFor}
 
 -- no outputs
 pub asks-none : (nodes : List Plain) → AskFor nodes [] []

@@ -126,7 +126,7 @@ defined-signals line x d v s t h = ap (λ (r : State). r.declared.signals) (sym 
 out-signals : (line : ℕ) (labels : Labels) (w : ℕ) (why : Option NoRange) (mixed : Bool) (s t : State) → with_out line labels w why mixed s ≡ Ok t → t.declared.signals ≡ s.declared.signals
 out-signals line labels w why mixed s t h = ap (λ (r : State). r.declared.signals) (sym (ok-inj _ t (unless-ok mixed _ _ t (when_ranged-ok line why _ t (when-ok _ _ _ t h)))))
 
-body-signals : (line : ℕ) (body : BodyShape) (s t : State) → body_step line body s ≡ Ok t → t.declared.signals ≡ s.declared.signals ++ body_signals body
+pub body-signals : (line : ℕ) (body : BodyShape) (s t : State) → body_step line body s ≡ Ok t → t.declared.signals ≡ s.declared.signals ++ body_signals body
 body-signals line (structure x fs) s t h =
     let p = bind-ok (with_struct line x fs s.declared) _ t h in
     ap (λ (r : State). r.declared.signals) (sym (ok-inj _ t p.2)) ∙ struct-signals line x fs s.declared p.0 p.1 ∙ sym (append-nil s.declared.signals)

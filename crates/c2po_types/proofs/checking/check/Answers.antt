@@ -1,6 +1,7 @@
 use Rattle.std.proofs.Common.{◌≡◌, ◌<◌, ◌^◌, ◌∙◌, None, refl, sym, ap, subst, map, length, List, arith}
 use Rattle.mltl_base.specs.declared.signal.Signal.{Signal}
 use Rattle.c2po_tree.specs.ItemShape.{item_shape}
+use Rattle.plain_nodes.specs.declared.nodes.Expanded.{Expanded}
 use Rattle.plain_nodes.specs.Outputs.{IsSound}
 use Rattle.c2po_types.specs.FirstFault.{first_fault}
 use Rattle.c2po_types.specs.Outputs.{outputs_of}
@@ -30,6 +31,7 @@ of-requires-clause-sound c =
     let found = checked-signals items (state_of q p.0) p.2 in
     let nodes : length c.into_nodes-nodes.result < 2 ^ 32 = omega (arith, ap length c.into_nodes-nodes.ensures.nodes, c.into_nodes-nodes.ensures.few) in
     let outs : length q.outs < 2 ^ 32 = omega (arith, c.len.ensures, c.in-Ok.ensures) in
-    subst (λ is. IsSound _ (length (signals_of is))) (ap (map item_shape) c.as_slice.ensures ∙ sym c.in_ok-copy.ensures)
-    (made-sound q items _ (record { all = c.in_ok-declared.ensures.unfolded; nodes = c.into_nodes-nodes.ensures.nodes; outs = refl })
+    let made : Expanded = record { nodes = c.into_nodes-nodes.result; outs = q.outs } in
+    subst (λ is. IsSound made (length (signals_of is))) (ap (map item_shape) c.as_slice.ensures ∙ sym c.in_ok-copy.ensures)
+    (made-sound q items made (record { all = c.in_ok-declared.ensures.unfolded; nodes = c.into_nodes-nodes.ensures.nodes; outs = refl })
     (no-fault items (state_of q p.0) p.2) (ap length found) nodes outs)

@@ -18,7 +18,7 @@ loop-number-preserved c =
         sym (signals-more c.args.signals.now k c.in-Ok.place s p.0 c.loop-number-test.true c.index-signals-number.is c.in-Ok.ensures.1) ∙ p.2,
       );
       sound = λ sound. c.in_ok-add_signal.ensures.sound (k + 1) (omega (arith, c.in-Ok.ensures.1)) (sound-more k (k + 1) old (omega arith) (c.loop-number.invariant.sound sound));
-      grows = grows_then (nodes_of c.args.values.now) old (nodes_of c.add_signal.new.values) c.loop-number.invariant.grows c.in_ok-add_signal.ensures.grows;
+      grows = grows_then (nodes_of c.args.values.now) old (nodes_of c.add_signal.new.self) c.loop-number.invariant.grows c.in_ok-add_signal.ensures.grows;
     }
 
 pub returns-clause-added : goal.returns-clause-added

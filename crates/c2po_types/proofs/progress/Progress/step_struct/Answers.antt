@@ -3,7 +3,7 @@ use Rattle.std.proofs.Common.{◌≡◌, ◌+◌, ◌∙◌, refl, sym, ap, subs
 use Rattle.c2po_tree.specs.ItemShape.{structure, field_shape}
 use Rattle.plain_nodes.specs.Nodes.{AreSound}
 use Rattle.unfold.specs.Environment.{declare, fields}
-use Rattle.unfold.specs.Holding.{StandsFor}
+use Rattle.unfold.specs.Holding.{StandsFor, nodes_of}
 use Rattle.c2po_types.proofs.SignalLaws.{struct-signals}
 use Rattle.c2po_types.proofs.Stepping.{stands-after}
 use Rattle.c2po_types.proofs.progress.Progress.step_struct.Goals as goal
@@ -21,4 +21,4 @@ returns-clause-puts c = λ place told stands.
     stands-after p.values c.add_struct.new.self (length p.declared.signals) (length d.signals) p.outs (structure x fs) place told refl stands
     (subst (λ xs. StandsFor c.add_struct.new.self (declare x (fields xs) place.values))
     (c.in_ok-names.ensures ∙ ap (λ gs. map (λ f. f.name) (map field_shape gs)) c.as_slice.ensures) (added.stands place.values stands.values))
-    count (subst (λ n. AreSound n _) (sym (ap length same)) sound) added.grows
+    count (subst (λ n. AreSound n (nodes_of c.add_struct.new.self)) (sym (ap length same)) sound) added.grows

@@ -13,12 +13,12 @@ use Rattle.c2po_types.proofs.typed.TypedSpec.expanded.Goals as goal
 pub returns-clause-ranged : goal.returns-clause-ranged
 returns-clause-ranged c =
     let h = c.self.invariant in
-    subst (All HasRanges) (sym h.unfolds) (faultless-ranged (spec_shape c.args.self.now) h.faultless)
+    subst (All HasRanges) (sym h.unfolds) (faultless-ranged (spec_shape c.self.inside.tree) h.faultless)
 
 pub returns-clause-named : goal.returns-clause-named
 returns-clause-named c =
     let h = c.self.invariant in
     let kept = c.self.inside.expanded in
     let count = ap length (sym h.unfolds) ∙ length-map kept.outs (asked_by (trees kept.nodes)) in
-    let few : length (outputs_of (spec_shape c.args.self.now)) < 2 ^ 64 = omega (arith, count, h.sound.few_outs) in
-    subst (All HasPlainName) (sym h.unfolds) (plain_outputs (spec_shape c.args.self.now) few h.plain)
+    let few : length (outputs_of (spec_shape c.self.inside.tree)) < 2 ^ 64 = omega (arith, count, h.sound.few_outs) in
+    subst (All HasPlainName) (sym h.unfolds) (plain_outputs (spec_shape c.self.inside.tree) few h.plain)
