@@ -62,25 +62,10 @@ asks-later old new outs told g h =
     record { formulas = k.0; asked = k.1 ∙ h.asked }
 
 -- one more output
-asks-push : (nodes : List Plain) (outs : List PlainOut) (told : List Asked) (o : PlainOut) (a : Asked) → AskFor nodes outs told
+pub asks-push : (nodes : List Plain) (outs : List PlainOut) (told : List Asked) (o : PlainOut) (a : Asked) → AskFor nodes outs told
     → NamesFormulas (trees nodes) o → asked_by (trees nodes) o ≡ a → AskFor nodes (outs ++ o ∷ []) (told ++ a ∷ [])
 asks-push nodes outs told o a h names e = record {
   formulas = All-push (NamesFormulas (trees nodes)) outs o h.formulas names;
   asked = map-append (asked_by (trees nodes)) outs (o ∷ [])
       ∙ (ap (λ (more : List Asked). more ++ asked_by (trees nodes) o ∷ []) h.asked ∙ ap (λ (b : Asked). told ++ b ∷ []) e);
 }
-
--- a formula, and a contract
-pub asks-formula : (nodes : List Plain) (outs : List PlainOut) (told : List Asked) (engine : Engine) (n : ℕ) (name : List ℕ) (p : Formula)
-    → AskFor nodes outs told → Has nodes n (formula p)
-    → AskFor nodes (outs ++ out.Formula engine n name ∷ []) (told ++ record { engine = engine; name = name; output = output.formula p } ∷ [])
-asks-formula nodes outs told engine n name p h k = asks-push nodes outs told (out.Formula engine n name) _ h (is_formula nodes n p k)
-    (ap (λ (found : Option Tree). record { engine = engine; name = name; output = output.formula (formula_in found) }) k.found)
-
-pub asks-contract : (nodes : List Plain) (outs : List PlainOut) (told : List Asked) (engine : Engine) (n m : ℕ) (name : List ℕ) (p q : Formula)
-    → AskFor nodes outs told → Has nodes n (formula p) → Has nodes m (formula q)
-    → AskFor nodes (outs ++ out.Contract engine n m name ∷ []) (told ++ record { engine = engine; name = name; output = output.contract p q } ∷ [])
-asks-contract nodes outs told engine n m name p q h k l =
-    asks-push nodes outs told (out.Contract engine n m name) _ h (is_formula nodes n p k, is_formula nodes m q l)
-    (ap (λ (found : Option Tree). record { engine = engine; name = name; output = output.contract (formula_in found) (formula_in (slice_get (trees nodes) m)) }) k.found
-    ∙ ap (λ (found : Option Tree). record { engine = engine; name = name; output = output.contract p (formula_in found) }) l.found)
