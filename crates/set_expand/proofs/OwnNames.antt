@@ -21,9 +21,9 @@ use Rattle.mltl_base.specs.Ranges.{NoRange}
 use Rattle.unfold.specs.Environment.{value_of}
 use Rattle.unfold.specs.Values as values
 use Rattle.unfold.specs.Faults.{value_fault}
-use Rattle.c2po_types.specs.FirstFault.{State, start, with_out, body_step, item_step, checked, first_fault, fault_of}
+use Rattle.c2po_types.specs.FirstFault.{State, start, with_out, body_step, item_step, checked, first_fault}
 use Rattle.c2po_types.specs.Signals.{signals_of}
-use Rattle.c2po_types.proofs.Parts.{bind-ok, unless-ok, when-ok, when_ranged-ok, ok-inj}
+use Rattle.c2po_types.proofs.Parts.{is-ok, bind-ok, unless-ok, when-ok, when_ranged-ok, ok-inj}
 use Rattle.c2po_types.proofs.SignalLaws.{checked-signals, signal_added}
 use Rattle.mltl_base.specs.Kinds.{HaveOwnNames}
 
@@ -146,10 +146,6 @@ items-apart [] s t h apart = subst IsApart (ap (λ (r : State). r.declared) (ok-
 items-apart (i ∷ items) s t h apart =
     let p = bind-ok (item_step i s) (in_turn item_step items) t h in
     items-apart items p.0 t p.2 (body-apart i.line i.body s p.0 p.1 apart)
-
-is-ok : (m : Checked State) → fault_of m ≡ None → (t : State) × (m ≡ Ok t)
-is-ok (Ok t) h = (t, refl)
-is-ok (Err fault) h = absurd (cc)
 
 none-apart : IsApart start.declared
 none-apart = record {

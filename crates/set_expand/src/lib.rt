@@ -12,9 +12,6 @@
 
 pub mod expanding;
 pub mod laws;
-pub mod names;
-pub mod progress;
-pub mod steps;
 
 pub use expanding::expand;
 pub use plain_nodes::{Expanded, Plain, PlainOut};
