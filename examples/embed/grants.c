@@ -43,11 +43,13 @@ static void print_reports(struct r2u2 *monitor) {
 static uint32_t watch(struct r2u2 *monitor, FILE *trace) {
     char line[MOST_BYTES];
     int64_t numbers[MOST_COLUMNS] = {0};
+    struct r2u2_row_fault fault = {0};
     uint32_t code = R2U2_DONE;
     while (code == R2U2_DONE && fgets(line, sizeof line, trace)) {
-        code = r2u2_row(monitor, numbers, read_row(line, numbers));
+        code = r2u2_row(monitor, numbers, read_row(line, numbers), &fault);
         print_reports(monitor);
     }
+    if (code == R2U2_NOT_A_ROW) fprintf(stderr, "grants: no number that fits in column %u\n", fault.column + 1);
     return code;
 }
 
