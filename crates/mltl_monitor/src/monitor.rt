@@ -10,7 +10,7 @@ use std::alloc::{AllocError, Global};
 use std::marker::Model;
 use std::mem;
 use std::sync::ledger::Ledger;
-use trace_feed::{Readings, RowAnswer, row_fields};
+use trace_feed::{Readings, RowAnswer, row_fields_by};
 
 /// A monitor of a checked program. It takes rows one by one, and gives the reports that each row brings before it takes
 /// the next. All its memory is taken by `load`. Contracts see its state.
@@ -127,7 +127,7 @@ impl Monitor {
         ensures same { IsSame self.old self.new }
     {
         let state = &mut self.state;
-        row_fields(
+        row_fields_by(
             line,
             &state.running.checked,
             &self.readings,
