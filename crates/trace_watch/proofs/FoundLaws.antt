@@ -1,6 +1,6 @@
 -- What lines were found to be, and what was taken of them.
 
-use Rattle.std.proofs.Common.{◌≡◌, ℕ, ◌+◌, ◌<◌, ◌≤◌, ◌^◌, IsTrue, Option, Some, None, List, [], ◌∷◌, ◌++◌, length, replicate, refl, sym, ◌∙◌, ap, subst, arith, append_assoc}
+use Rattle.std.proofs.Common.{◌≡◌, ℕ, ◌+◌, ◌<◌, ◌≤◌, IsTrue, Option, Some, None, List, [], ◌∷◌, ◌++◌, length, replicate, refl, sym, ◌∙◌, ap, subst, arith, append_assoc}
 use Rattle.std.proofs.lemmas.List.{append-nil, length-append, length-replicate}
 use Rattle.std.proofs.lemmas.Bool.Decides.{nat_tests}
 use Rattle.std.specs.declared.ops.ControlFlow.TheVariants.{Continue, Break}
@@ -24,19 +24,6 @@ use Rattle.trace_watch.specs.Feed.{Feed, Plain, Stamped, Meaning, IsPast, IsFaul
 use Rattle.trace_watch.specs.Telling.{TellsAll, TellsFront, WritesNone}
 use Rattle.trace_watch.specs.Turns.{FindsFields, FindsRow, Finds, IsCounted, IsLast, StandsAt, Takes, fault_of, rows_found, times_until}
 use Rattle.trace_watch.proofs.TellLaws.{TellsAll-none}
-
--- a gap leaves room for its row within the mission time, and only stands after a row
-pub record GapFits (taken times : ℕ) : Type 0 where
-  pub begun : 0 < times → 0 < taken
-  pub early : taken + times < 2 ^ 40
-
-pub gap_fits : (last : Option ℕ) (time mission taken times : ℕ) → taken ≡ times_until last → times ≡ times_between last time
-    → IsTrue (may_follow last time) → time < mission → mission ≤ 2 ^ 40 → GapFits taken times
-gap_fits None time mission taken times counted between follows early far =
-    record { begun = λ some. absurd (omega (arith, some, between)); early = omega (arith, counted, between, early, far) }
-gap_fits (Some last) time mission taken times counted between follows early far =
-    let after : last < time = grind (arith, nat_tests, follows) in
-    record { begun = λ some. omega (arith, counted); early = omega (arith, counted, between, after, early, far) }
 
 -- what rows a monitor has, by the last
 times_taken : (last : Option (ℕ × Row)) (rows : List Row) → IsLast last rows → length rows ≡ times_until (time_of last)

@@ -47,9 +47,6 @@ IsLedBy-then all mid rest first second a b = record {
 pub IsLedBy-same : (all same rest : TraceRows) (first : List Row) → all ≡ same → IsLedBy same first rest → IsLedBy all first rest
 IsLedBy-same all same rest first is a = subst (λ t. IsLedBy t first rest) (sym is) a
 
-pub IsLedBy-rest : (all rest same : TraceRows) (first : List Row) → rest ≡ same → IsLedBy all first rest → IsLedBy all first same
-IsLedBy-rest all rest same first is a = subst (IsLedBy all first) is a
-
 -- After some lines, of which so many stand after the header, each with its lines told. `rows_in` are the rows of all
 -- lines, `rest` of those after the header that follow.
 pub record HasWatched (program : Program) (style : Style) (rows_in : List (List ℕ) → TraceRows) (start cut : Cutting) (monitor : State) (rest : List (ℕ × List ℕ) → TraceRows) (before : ℕ) (Keeps : List Row → Type 0) (events : List Event) : Type 0 where
