@@ -191,12 +191,7 @@ impl Declarations {
     }
 
     /// Declares one more defined value, whose name isn't among those declared.
-    pub fn declare_value(
-        &mut self,
-        alloc: Global,
-        name: &Name,
-        kind: Kind,
-    ) -> Result<(), TypeFault>
+    pub fn declare_value(&mut self, alloc: Global, name: &Name, kind: Kind) -> Result<(), TypeFault>
         requires { is_named name.now self.old.names ≡ false }
         ensures { Gives (λ _. self.new) result (Ok (with_value name.now kind self.old)) }
     {

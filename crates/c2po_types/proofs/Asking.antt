@@ -4,15 +4,12 @@ use Rattle.std.proofs.Common.{◌≡◌, ℕ, Some, None, Option, List, [], ◌�
 use Rattle.std.specs.Prelude.{slice_get, All}
 use Rattle.std.proofs.lemmas.List.{map-append}
 use Rattle.std.proofs.lemmas.List.Elements.{All-nil, All-cons, All-head, All-tail, All-push}
-use Rattle.mltl_base.specs.declared.interval.Engine.{Engine}
-use Rattle.mltl_base.specs.Formula.{Formula}
 use Rattle.mltl_base.specs.Reports as output
 use Rattle.mltl_base.specs.Subformulas.{Asked}
-use Rattle.plain_nodes.proofs.Pushing.{is_formula}
 use Rattle.plain_nodes.specs.declared.nodes.Plain.{Plain}
 use Rattle.plain_nodes.specs.declared.nodes.PlainOut.{PlainOut}
 use Rattle.plain_nodes.specs.declared.nodes.PlainOut.TheVariants as out
-use Rattle.plain_nodes.specs.Nodes.{Tree, number, formula, trees, formula_in, IsFormula, Has, Grows}
+use Rattle.plain_nodes.specs.Nodes.{Tree, number, formula, trees, formula_in, IsFormula, Grows}
 use Rattle.plain_nodes.specs.Outputs.{asked_by, NamesFormulas}
 use Rattle.c2po_types.specs.Unfolded.{AskFor}
 

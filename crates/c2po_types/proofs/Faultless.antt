@@ -1,6 +1,6 @@
 -- What the check of a specification says of what its items unfold to.
 
-use Rattle.std.proofs.Common.{◌≡◌, ℕ, ◌+◌, ◌≤◌, Bool, true, false, Option, Some, None, Ok, Err, List, [], ◌∷◌, ◌++◌, map, length, drop, refl, sym, ap, subst, ◌∙◌, arith, if◌then◌else◌}
+use Rattle.std.proofs.Common.{◌≡◌, ℕ, ◌+◌, Bool, false, Option, Some, None, Ok, List, [], ◌∷◌, ◌++◌, map, length, drop, refl, sym, ap, subst, ◌∙◌, arith}
 use Rattle.std.specs.Prelude.{nat_le, All}
 use Rattle.std.proofs.Math.Seq.{drop-append_seam}
 use Rattle.std.proofs.lemmas.Bool.{or_parts}
@@ -11,19 +11,18 @@ use Rattle.mltl_base.specs.Ranges.{NoRange}
 use Rattle.mltl_base.specs.Subformulas.{Asked, IsOfTense, IsTensed}
 use Rattle.plain_nodes.proofs.NoFaults.{neither}
 use Rattle.c2po_tree.specs.ItemShape.{BodyShape, ItemShape, structure, input, define, formula, contract}
-use Rattle.c2po_kinds.specs.declared.fault.TypeFault.{TypeFault}
 use Rattle.c2po_kinds.specs.declared.fault.TypeFault.TheVariants.{Wide, Tense}
-use Rattle.c2po_kinds.specs.Checking.{Checked, ◌>>=◌, in_turn}
+use Rattle.c2po_kinds.specs.Checking.{Checked, in_turn}
 use Rattle.c2po_kinds.specs.Items.{Labels, with_struct, with_input, define_kind, with_value, with_label, formula_kind, contract_kind}
 use Rattle.plain_nodes.specs.Faults.{HasRanges, formula_fault}
 use Rattle.unfold.specs.Faults.{value_fault}
 use Rattle.unfold.specs.Values.{weight, formula_of}
 use Rattle.unfold.specs.Environment.{Env, declare, fields, value, value_of}
-use Rattle.c2po_types.specs.FirstFault.{State, start, when_ranged, one_tense, with_signals, with_out, body_step, item_step, checked, first_fault, fault_of}
+use Rattle.c2po_types.specs.FirstFault.{State, start, when_ranged, one_tense, with_signals, with_out, body_step, item_step, checked, first_fault}
 use Rattle.c2po_types.specs.Signals.{body_signals}
 use Rattle.c2po_types.proofs.Parts.{is-ok, bind-ok, unless-ok, not-passed, when-ok, when_ranged-ok, ok-inj}
 use Rattle.c2po_types.proofs.SignalLaws.{body-signals}
-use Rattle.c2po_types.specs.Outputs.{Place, before, name_of, values_after, asked_at, behind, asked_from, outputs_of}
+use Rattle.c2po_types.specs.Outputs.{Place, before, values_after, asked_at, behind, asked_from, outputs_of}
 use Rattle.c2po_types.proofs.Tensing.{of_tense}
 
 -- no whole number lacks a range

@@ -6,3 +6,4 @@ pub mod Stepping
 pub mod Tensing
 pub mod Faultless
 pub mod Labelling
+pub mod OwnNames

@@ -39,7 +39,8 @@ fn run(alloc: Global, items: &[Item]) -> Result<Progress, TypeFault>
 /// Items are taken in the order of the text. Within an item names and kinds come first, operands before operators and
 /// from left to right; then the weight of what it unfolds to, divisors and ranges, and tenses.
 ///
-/// Errors: the first fault with its line; `Memory` when out of memory, as it also is at 2^32 outputs.
+/// Errors: the first fault with its line; `Memory` when out of memory, as it also is at 4,194,304 nodes and at 2^32
+/// outputs.
 pub fn check(alloc: Global, tree: &SpecTree) -> Result<TypedSpec, TypeFault>
     requires plain { ArePlainItems (spec_shape tree.now) }
     ensures unchanged { IfOk result (λ spec. spec_shape spec ≡ spec_shape tree.now) }
@@ -58,9 +59,5 @@ pub fn check(alloc: Global, tree: &SpecTree) -> Result<TypedSpec, TypeFault>
     };
     let nodes = values.into_nodes();
     let copy = copy_tree(alloc, tree)?;
-    Ok(TypedSpec::of(
-        copy,
-        declared.signals,
-        Expanded { nodes, outs },
-    ))
+    Ok(TypedSpec::of(copy, declared.signals, Expanded { nodes, outs }))
 }

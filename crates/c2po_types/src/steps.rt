@@ -169,7 +169,9 @@ impl Progress {
             → Reaches result self.new
             (with_out line self.old.labels weight (told_fault why) mixed (state_of self.old env)) }
         ensures put { OnOk result (self.new ≡ record self.old {
-            total = self.old.total + weight; outs = self.old.outs ++ out ∷ [] }) }
+          total = self.old.total + weight;
+          outs = self.old.outs ++ out ∷ [];
+        }) }
     {
         if let Some(why) = why {
             return Err(no_range(line, why));

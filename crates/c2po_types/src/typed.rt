@@ -1,6 +1,8 @@
 //! Specifications without a fault.
 
-ghost use Rattle.std.specs.Prelude.{◌≡◌, None, All, length};
+ghost use Rattle.std.specs.Prelude.{◌≡◌, ◌≤◌, None, All, length};
+ghost use Rattle.mltl_base.specs.declared.limits.TheConstants.{MAX_SIGNALS};
+ghost use Rattle.mltl_base.specs.Kinds.{HaveOwnNames};
 ghost use Rattle.c2po_tree.specs.ItemShape.{spec_shape};
 ghost use Rattle.c2po_tree.specs.Names.{ArePlainItems};
 ghost use Rattle.plain_nodes.specs.Faults.{HasRanges};
@@ -66,9 +68,12 @@ impl TypedSpec {
         &self.tree
     }
 
-    /// The signals in the order of declaration.
+    /// The signals in the order of declaration, which have names of their own.
     pub fn signals(&self) -> &List<Signal>
-        ensures { result.now ≡ signals_of (spec_shape self.now) }
+        ensures signals { result.now ≡ signals_of (spec_shape self.now) }
+        ensures named { HaveOwnNames result.now }
+        ensures few { length result.now ≤ MAX_SIGNALS }
+        ensures plain { ArePlainItems (spec_shape self.now) }
     {
         &self.signals
     }

@@ -1,3 +1,2 @@
 pub mod ReadValues
 pub mod Signalling
-pub mod OwnNames

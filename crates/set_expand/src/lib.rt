@@ -11,7 +11,6 @@
 #![tactic(auto)]
 
 pub mod expanding;
-pub mod laws;
 
 pub use expanding::expand;
 pub use plain_nodes::{Expanded, Plain, PlainOut};

@@ -1,9 +1,7 @@
-use Rattle.std.proofs.Common.{◌≡◌, ◌<◌, ◌^◌, ◌∙◌, None, refl, sym, ap, subst, map, length, List, arith}
-use Rattle.mltl_base.specs.declared.signal.Signal.{Signal}
+use Rattle.std.proofs.Common.{◌<◌, ◌^◌, ◌∙◌, refl, sym, ap, subst, map, length, arith}
 use Rattle.c2po_tree.specs.ItemShape.{item_shape}
 use Rattle.plain_nodes.specs.declared.nodes.Expanded.{Expanded}
 use Rattle.plain_nodes.specs.Outputs.{IsSound}
-use Rattle.c2po_types.specs.FirstFault.{first_fault}
 use Rattle.c2po_types.specs.Outputs.{outputs_of}
 use Rattle.c2po_types.specs.Signals.{signals_of}
 use Rattle.c2po_types.specs.Reaching.{state_of}

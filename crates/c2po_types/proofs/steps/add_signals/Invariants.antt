@@ -1,4 +1,4 @@
-use Rattle.std.proofs.Common.{◌≡◌, ◌≤◌, drop}
+use Rattle.std.proofs.Common.{◌≡◌, drop}
 use Rattle.plain_nodes.specs.Nodes.{AreSound, Grows}
 use Rattle.unfold.specs.Environment.{Env}
 use Rattle.unfold.specs.Holding.{StandsFor, nodes_of}

@@ -1,6 +1,6 @@
 -- The names of signals.
 
-use Rattle.std.proofs.Common.{◌≡◌, ℕ, ◌<◌, ◌≤◌, Bool, true, false, is_some, Option, Some, None, Ok, Err, List, [], ◌∷◌, ◌++◌, length, refl, sym, ap, subst, ◌∙◌, arith, if◌then◌else◌, inl, inr}
+use Rattle.std.proofs.Common.{◌≡◌, ℕ, ◌<◌, ◌≤◌, Bool, true, false, is_some, Option, Some, None, Ok, List, [], ◌∷◌, ◌++◌, length, refl, sym, ap, subst, ◌∙◌, arith, if◌then◌else◌, inl, inr}
 use Rattle.std.specs.Prelude.{slice_get}
 use Rattle.std.specs.Str.{bytes_eq}
 use Rattle.std.proofs.lemmas.Bool.Decides.{nat_tests}
@@ -15,7 +15,7 @@ use Rattle.c2po_kinds.specs.declared.kind.Meaning.TheVariants.{Struct, Value}
 use Rattle.mltl_base.specs.declared.signal.Signal.{Signal}
 use Rattle.c2po_kinds.specs.declared.declarations.Declarations.{Declarations}
 use Rattle.c2po_kinds.specs.declared.fault.TypeFault.TheVariants.{Twice}
-use Rattle.c2po_kinds.specs.Checking.{Checked, ◌>>=◌, in_turn}
+use Rattle.c2po_kinds.specs.Checking.{◌>>=◌, in_turn}
 use Rattle.c2po_kinds.specs.Items.{Labels, with_field, signal_kind, type_kind, signal_truth, with_struct, with_signal, with_input, define_kind, with_value, with_label, formula_kind, contract_kind}
 use Rattle.mltl_base.specs.Ranges.{NoRange}
 use Rattle.unfold.specs.Environment.{value_of}
