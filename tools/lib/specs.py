@@ -34,6 +34,8 @@ class Item:
     section: str
     name: str
     body: list
+    start: int = 0
+    end: int = 0
 
 
 @dataclass
@@ -104,10 +106,9 @@ def items(text):
     """The items of a specification in their order."""
     for section, item in cut(tokens(text)):
         sign = {"DEFINE": ":=", "INPUT": None}.get(section, ":")
-        if len(item) > 1 and item[1].text == sign:
-            yield Item(section, item[0].text, item[2:])
-        else:
-            yield Item(section, None, item)
+        named = len(item) > 1 and item[1].text == sign
+        ends = (item[0].start, item[-1].end) if item else (0, 0)
+        yield Item(section, item[0].text if named else None, item[2:] if named else item, *ends)
 
 
 def declared(item):

@@ -26,11 +26,19 @@ def note(text):
     print(f"{name()}: {text}", file=sys.stderr, flush=True)
 
 
+class Words(argparse.ArgumentParser):
+    """A reader of the command line that tells a fault in one line."""
+
+    def error(self, message):
+        note(f"{message} (--help tells more)")
+        sys.exit(TROUBLE)
+
+
 def words(doc, **more):
     """A reader of the command line: its text for --help is the text at the top of the tool, without the usage line."""
     head, _, rest = doc.partition("\n\n")
     body = "\n\n".join(part for part in rest.split("\n\n") if not part.startswith("usage:"))
-    return argparse.ArgumentParser(
+    return Words(
         prog=name(),
         description=f"{head}\n\n{body}".strip(),
         formatter_class=argparse.RawDescriptionHelpFormatter,

@@ -12,6 +12,7 @@ from tell import Trouble
 LINE = re.compile(rb"([A-Za-z0-9_]{1,64}):(\d{1,13}),(T|F|inactive|invalid|verified)\r?")
 WORDS = ("T", "F", "inactive", "invalid", "verified")
 BAD = ("F", "invalid")
+NAMED = {word.encode(): word for word in WORDS}
 LONGEST = 128
 
 
@@ -29,27 +30,31 @@ class Reader:
         self.next, self.names, self.count = {}, {}, 0
         self.where = f"{what} " if what else ""
 
-    def stretch(self, number, line):
-        """What one line tells: the output's name, the first and the last time, and the word."""
-        found = LINE.fullmatch(line)
+    def fault(self, number, line, found):
+        """What is wrong with a line."""
         if not found:
-            raise Trouble(f"{self.where}line {number}: not a verdict line: {shown(line)}")
-        raw, time, word = found.groups()
-        last = int(time)
-        first = self.next.get(raw)
-        if first is None:
-            first, self.names[raw] = 0, raw.decode()
-        if last < first:
-            raise Trouble(f"{self.where}line {number}: time {last} of {self.names[raw]} is told twice")
-        self.next[raw] = last + 1
-        self.count = number
-        return self.names[raw], first, last, word.decode()
+            return Trouble(f"{self.where}line {number}: not a verdict line: {shown(line)}")
+        return Trouble(f"{self.where}line {number}: time {int(found[2])} of {found[1].decode()} is told twice")
 
     def stretches(self, file):
-        """What the lines of a file tell, in their order."""
+        """What each line of a file tells: the output's name, the first and the last time, and the word."""
+        match, after, names = LINE.fullmatch, self.next, self.names
+        for number, line in self.numbered(file):
+            found = match(line)
+            if not found:
+                raise self.fault(number, line, found)
+            raw, time, word = found.groups()
+            last, first = int(time), after.get(raw, 0)
+            if last < first:
+                raise self.fault(number, line, found)
+            if raw not in names:
+                names[raw] = raw.decode()
+            after[raw] = last + 1
+            self.count = number
+            yield names[raw], first, last, NAMED[word]
+
+    def numbered(self, file):
         try:
-            for number, line in lines_of(file, LONGEST):
-                yield self.stretch(number, line)
+            yield from lines_of(file, LONGEST)
         except Trouble as trouble:
-            text = str(trouble)
-            raise Trouble(text if text.startswith(self.where) else self.where + text) from None
+            raise Trouble(f"{self.where}{trouble}") from None
