@@ -7,12 +7,10 @@ same trace. So the counts are counts of proved verdicts.
 """
 
 import tempfile
-from pathlib import Path
 
-import programs
 import tell
+from again import TOLD, as_text, fresh, made
 from r2u2_run import Command
-from specs import read_spec, spec_of_text
 from tell import Trouble
 from verdict_counts import Result, counted
 
@@ -111,12 +109,9 @@ def sides_of(spec, compiled):
 
 
 def watched(spec, sides):
-    """The specification whose outputs are the left sides, and their names there."""
-    words = {token.text for item in spec.items for token in item.body} | {item.name for item in spec.items}
-    stem = "left"
-    while any(word and word.startswith(stem) for word in words):
-        stem += "_"
-    parts = [f"{it.section} {spec.text[it.start : it.end]};" for it in spec.items if it.section not in ("FTSPEC", "PTSPEC")]
+    """The specification whose outputs are the left sides, and of each the output that it belongs to."""
+    stem = fresh(spec, "left")
+    parts = [f"{it.section} {spec.text[it.start : it.end]};" for it in spec.items if it.section not in TOLD]
     names = {}
     for k, output in enumerate(spec.outputs):
         if output.name in sides:
@@ -125,45 +120,15 @@ def watched(spec, sides):
     return "\n".join([*parts, ""]), names
 
 
-def header_for(signals):
-    """A header with each signal at its column, for a program that stores them."""
-    taken, names = {signal.column: signal.name for signal in signals}, {signal.name for signal in signals}
-    stem = "other"
-    while any(name.startswith(stem) for name in names):
-        stem += "_"
-    return "# " + ",".join(taken.get(k, f"{stem}{k}") for k in range(max(taken, default=-1) + 1)) + "\n"
-
-
-def compiled_again(program, text, folder):
-    """The program of a text, with the columns of another program."""
-    path, header, made = folder / "left.c2po", folder / "header.csv", folder / "left.obs"
-    path.write_text(text)
-    header.write_text(header_for(program.signals))
-    words = ["--header", header] if program.signals else []
-    programs.written([programs.program("c2po"), *map(str, [*words, "-o", made, path])], "left sides")
-    return made
-
-
 def watch(command, result, folder):
     """Runs r2u2 over the left sides, and gives its counts to the outputs of the result."""
     words = command.r2u2
-    given = read_spec(words.file)
-    compiled = given.is_program()
-    if compiled and not given.signals:
-        raise Trouble("left sides: a program of version 1 stores no signals: c2po --upgrade")
-    if compiled:
-        shown = programs.written([programs.program("c2po"), "--show", words.file], "left sides").decode("ascii")
-        spec = spec_of_text(words.file, shown)
-    else:
-        spec = given
-    text, names = watched(spec, sides_of(spec, compiled))
+    spec, given = as_text(words.file, "left sides")
+    text, names = watched(spec, sides_of(spec, given.is_program()))
     if not names:
         return
-    file = folder / "left.c2po"
-    file.write_text(text, encoding="latin-1")
-    if compiled:
-        file = compiled_again(given, text, folder)
-    again = Command([command.words[0], *words.with_file(file, not compiled)])
+    file = made(given, text, folder, "left sides")
+    again = Command([command.words[0], *words.with_file(file, not given.is_program())])
     left = Result("left sides")
     again.run(lambda lines: counted(lines, left), left)
     if left.failed:
@@ -184,6 +149,6 @@ def exercised(command, result):
     """Tells of each output of the result how often its left side was true; what can't be told is said."""
     try:
         with tempfile.TemporaryDirectory() as folder:
-            watch(command, result, Path(folder))
+            watch(command, result, folder)
     except Trouble as trouble:
         tell.note(trouble)

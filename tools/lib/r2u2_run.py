@@ -43,7 +43,8 @@ class Words:
 class Command:
     """A command that prints verdict lines."""
 
-    def __init__(self, words):
+    def __init__(self, words, quiet=False):
+        self.quiet = quiet
         self.r2u2 = Words(words[1:]) if Path(words[0]).name == "r2u2" else None
         if self.r2u2 and self.r2u2.demo:
             raise Trouble("--demo prints no verdict lines: it counts by itself")
@@ -69,7 +70,7 @@ class Command:
         except OSError as fault:
             raise Trouble(f"cannot run {self.words[0]}: {fault.strerror}") from None
         tail = bytearray()
-        passing = threading.Thread(target=passed_on, args=(child.stderr, tail), daemon=True)
+        passing = threading.Thread(target=passed_on, args=(child.stderr, tail, self.quiet), daemon=True)
         passing.start()
         try:
             read(child.stdout)
@@ -83,11 +84,12 @@ class Command:
             result.failed.append({"log": result.log, "code": 128 - code if code < 0 else code, "message": text})
 
 
-def passed_on(errors, tail):
-    """What a command says on its error output goes on to ours, and the end of it is kept."""
+def passed_on(errors, tail, quiet):
+    """What a command says on its error output goes on to ours, unless it is to be quiet, and the end of it is kept."""
     while block := errors.read1(KEPT):
-        sys.stderr.buffer.write(block)
-        sys.stderr.flush()
+        if not quiet:
+            sys.stderr.buffer.write(block)
+            sys.stderr.flush()
         tail += block
         del tail[:-KEPT]
 

@@ -17,8 +17,8 @@ LATEST = 1 << 40
 class Runs:
     """Values over the times from `first` on: each holds up to its own last time."""
 
-    def __init__(self, first=0):
-        self.first, self.lasts, self.values = first, array("Q"), []
+    def __init__(self, first=0, whole=False):
+        self.first, self.lasts, self.values = first, array("Q"), array("Q") if whole else []
 
     def add(self, last, value):
         """The value of all times after those told before, up to `last`; an equal one goes on."""
