@@ -85,17 +85,21 @@ class Sheet:
         self.top += GAP
 
     def dots(self, runs, rank):
-        """For each dot of a lane the value of the highest rank that it stands for, as runs of dots."""
-        first, last = self.model.first, self.model.last
-        found = [None] * WIDE
+        """Of each dot the values of the highest and of the lowest rank that it stands for, as runs of dots."""
+        first, last, cell = self.model.first, self.model.last, self.cell
+        ranks = {value: rank(value) for value in set(runs.values)}
+        most, least = [None] * WIDE, [None] * WIDE
         for begin, end, value in runs.between(first, last):
-            low = int((begin - first) * self.cell)
-            high = max(low + 1, min(WIDE, round((end - first + 1) * self.cell)))
-            mine = (rank(value), value)
-            for k in range(low, min(high, WIDE)):
-                if found[k] is None or mine[0] > found[k][0]:
-                    found[k] = mine
-        return joined(found)
+            low, mine = int((begin - first) * cell), ranks[value]
+            high = min(WIDE, max(low + 1, round((end - first + 1) * cell)))
+            for k in range(low, high):
+                if most[k] is None:
+                    most[k] = least[k] = value
+                elif mine > ranks[most[k]]:
+                    most[k] = value
+                elif mine < ranks[least[k]]:
+                    least[k] = value
+        return list(joined(list(zip(most, least))))
 
     def svg(self):
         width, height = max(self.right(), self.wide) + EDGE, self.top + EDGE
@@ -108,7 +112,7 @@ class Sheet:
 
 
 def joined(found):
-    """Runs of equal entries: first, one after the last, and the value or None."""
+    """Runs of equal entries: first, one after the last, and the entry."""
     first = 0
     for k in range(1, len(found) + 1):
         if k == len(found) or found[k] != found[first]:
@@ -140,21 +144,14 @@ def draw_level(sheet, column):
 
 def draw_dense_level(sheet, column, high, low):
     """The same of a long trace: a dot that stands for both truths is filled."""
-    ones = list(sheet.dots(column.runs, lambda value: value == "1"))
-    zeros = [None] * WIDE
-    for begin, end, kept in sheet.dots(column.runs, lambda value: value != "1"):
-        zeros[begin:end] = [kept is not None and kept[0]] * (end - begin)
     path = []
-    for begin, end, kept in ones:
-        if kept is None:
+    for begin, end, (most, least) in sheet.dots(column.runs, lambda value: value == "1"):
+        if most is None:
             continue
-        if not kept[0]:
-            path.append(f"{'L' if path else 'M'}{plain(sheet.left + begin)} {plain(low)}H{plain(sheet.left + end)}")
-            continue
-        for first, after, both in joined(zeros[begin:end]):
-            x, wide = sheet.left + begin + first, after - first
-            sheet.rect(x, high, wide, low - high, INK if both else PALE)
-            path.append(f"{'L' if path else 'M'}{plain(x)} {plain(high)}H{plain(x + wide)}")
+        x, on = sheet.left + begin, most == "1"
+        if on:
+            sheet.rect(x, high, end - begin, low - high, PALE if least == "1" else INK)
+        path.append(f"{'L' if path else 'M'}{plain(x)} {plain(high if on else low)}H{plain(x + end - begin)}")
     sheet.line("".join(path) or "M0 0", INK, 1)
     sheet.top += LANE + GAP / 2
 
@@ -192,16 +189,15 @@ def draw_curve(sheet, column):
     def y(value):
         return low - (value - least) / (most - least or 1) * (low - high)
 
-    tops = list(sheet.dots(column.runs, values.get))
-    path = [f"M{plain(sheet.left + tops[0][0])} {plain(y(tops[0][2][1] and values[tops[0][2][1]]))}"] if tops[0][2] else []
-    for begin, end, kept in tops:
-        if kept and path:
-            path.append(f"L{plain(sheet.left + begin)} {plain(y(kept[0]))}H{plain(sheet.left + end)}")
-    for begin, end, kept in reversed(list(sheet.dots(column.runs, lambda text: -values[text]))):
-        if kept and path:
-            path.append(f"L{plain(sheet.left + end)} {plain(y(-kept[0]))}H{plain(sheet.left + begin)}")
-    if path:
-        sheet.add(f'<path d="{"".join(path)}Z" fill="#b9c4d0" stroke="#b9c4d0" stroke-width="1"/>')
+    upper, lower = [], []
+    for begin, end, kept in sheet.dots(column.runs, values.get):
+        if kept[0] is not None:
+            left, right = plain(sheet.left + begin), plain(sheet.left + end)
+            upper.append(f"{left} {plain(y(values[kept[0]]))}H{right}")
+            lower.append(f"{right} {plain(y(values[kept[1]]))}H{left}")
+    if upper:
+        path = "M" + "L".join(upper + lower[::-1]) + "Z"
+        sheet.add(f'<path d="{path}" fill="#b9c4d0" stroke="#b9c4d0" stroke-width="1"/>')
     for text, place in ((f"{most:g}", high + 7), (f"{least:g}", low)):
         sheet.text(sheet.right() + 4, place, text, FAINT, 9)
         sheet.wide = max(sheet.wide, sheet.right() + 4 + len(text) * 6)
@@ -217,20 +213,27 @@ def draw_square(sheet, x, y, word, wide):
 
 def draw_lane(sheet, lane):
     sheet.name(lane.name)
-    model = sheet.model
     if sheet.squares:
-        for time in range(model.first, model.last + 1):
+        for time in range(sheet.model.first, sheet.model.last + 1):
             draw_square(sheet, sheet.x(time), sheet.top, lane.words.at(time), sheet.cell)
     else:
-        for begin, end, kept in sheet.dots(lane.words, GRAVEST.get):
-            text, fill, ink = LOOKS[kept[1] if kept else None]
-            dash = ' stroke="#8a96a3" stroke-dasharray="3 2"' if kept is None else ""
-            sheet.rect(sheet.left + begin, sheet.top, end - begin, LANE, fill, dash)
-            if text and end - begin > 30:
-                sheet.text(sheet.left + (begin + end) / 2, sheet.top + LANE / 2 + 4, text, ink, anchor="middle", weight=600)
+        for begin, end, (most, least) in sheet.dots(lane.words, GRAVEST.get):
+            draw_bar(sheet, begin, end, most, least)
     sheet.top += LANE
     draw_marks(sheet, lane)
     sheet.top += GAP
+
+
+def draw_bar(sheet, begin, end, most, least):
+    """Dots of one word; or of several, of which the gravest stands above the least grave."""
+    text, fill, ink = LOOKS[most]
+    x, wide = sheet.left + begin, end - begin
+    dash = ' stroke="#8a96a3" stroke-dasharray="3 2"' if most is None else ""
+    sheet.rect(x, sheet.top, wide, LANE, fill, dash)
+    if most != least:
+        sheet.rect(x, sheet.top + LANE / 2, wide, LANE / 2, LOOKS[least][1])
+    elif text and wide > 30:
+        sheet.text(x + wide / 2, sheet.top + LANE / 2 + 4, text, ink, anchor="middle", weight=600)
 
 
 def draw_marks(sheet, lane):
@@ -296,7 +299,7 @@ def draw_legend(sheet):
     elif marks:
         notes.append("+: rows until a word was told")
     if sheet.cell < 1:
-        notes.append(f"a dot is {1 / sheet.cell:,.0f} rows, and shows their gravest word")
+        notes.append(f"a dot is {1 / sheet.cell:,.0f} rows: where their words differ, the gravest is above")
     text = "; ".join(notes)
     sheet.text(x + 8, sheet.top + LANE / 2 + 4, text, FAINT, 11)
     sheet.wide = max(sheet.wide, x + 8 + len(text) * 6.6)
