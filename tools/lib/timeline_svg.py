@@ -23,7 +23,7 @@ MEANINGS = {
 GRAVEST = {word: rank for rank, word in enumerate(("inactive", "T", "verified", None, "F", "invalid"))}
 SQUARE, LANE, GAP, EDGE, MARK = 26, 24, 8, 12, 14
 LETTER = 7.8
-SQUARES, WIDE, NARROWEST = 60, 1100, 8
+SQUARES, WIDE, NARROWEST, LONGEST = 60, 1100, 8, 24
 INK, FAINT, GRID, PALE = "#1f2933", "#6b7785", "#d9dfe6", "#e8edf2"
 
 
@@ -48,7 +48,7 @@ class Sheet:
         self.model, self.parts = model, []
         self.left = EDGE + max([len(name) for name in names] + [4]) * LETTER + GAP
         self.squares = model.times() <= SQUARES
-        self.cell = float(max(SQUARE, widest(model))) if self.squares else WIDE / model.times()
+        self.cell = max(SQUARE, widest(model)) if self.squares else WIDE / model.times()
         self.top, self.wide = EDGE, 0
 
     def add(self, text):
@@ -87,10 +87,12 @@ class Sheet:
     def dots(self, runs, rank):
         """Of each dot the values of the highest and of the lowest rank that it stands for, as runs of dots."""
         first, last, cell = self.model.first, self.model.last, self.cell
-        ranks = {value: rank(value) for value in set(runs.values)}
+        ranks = {}
         most, least = [None] * WIDE, [None] * WIDE
         for begin, end, value in runs.between(first, last):
-            low, mine = int((begin - first) * cell), ranks[value]
+            low, mine = int((begin - first) * cell), ranks.get(value)
+            if mine is None:
+                mine = ranks[value] = rank(value)
             high = min(WIDE, max(low + 1, round((end - first + 1) * cell)))
             for k in range(low, high):
                 if most[k] is None:
@@ -122,8 +124,9 @@ def joined(found):
 
 def widest(model):
     """The room that the longest number of a short trace needs."""
-    texts = [value for column in model.columns if column.kind != "bool" for value in column.runs.values]
-    return max([0] + [min(len(text), 24) * 6.6 + 6 for text in texts])
+    numbers = [column.runs for column in model.columns if column.kind != "bool"]
+    texts = [value for runs in numbers for _, _, value in runs.between(model.first, model.last)]
+    return max([0] + [min(len(text), LONGEST) * 7.8 + 4 for text in texts])
 
 
 def draw_level(sheet, column):
@@ -162,12 +165,12 @@ def draw_numbers(sheet, column):
     if not sheet.squares:
         draw_curve(sheet, column)
     for begin, end, value in column.runs.between(sheet.model.first, sheet.model.last):
-        size = 12 if len(value) * 7.4 < sheet.cell else 11
+        value = value if len(value) <= LONGEST else value[: LONGEST - 1] + "…"
         if sheet.squares:
             for time in range(begin, end + 1):
-                sheet.text(sheet.x(time + 0.5), sheet.top + LANE / 2 + 4, value[:24], INK, size, "middle")
+                sheet.text(sheet.x(time + 0.5), sheet.top + LANE / 2 + 4, value, INK, 12, "middle")
         elif (end - begin + 1) * sheet.cell > len(value) * 6.6 + 8:
-            sheet.text(sheet.x((begin + end + 1) / 2), sheet.top + LANE / 2 + 4, value[:24], INK, 11, "middle")
+            sheet.text(sheet.x((begin + end + 1) / 2), sheet.top + LANE / 2 + 4, value, INK, 11, "middle")
     sheet.top += LANE + GAP / 2
 
 
@@ -180,7 +183,8 @@ def number(text):
 
 def draw_curve(sheet, column):
     """The least and the greatest number of each dot, as a band."""
-    values = {text: number(text) for text in set(column.runs.values)}
+    shown = {value for _, _, value in column.runs.between(sheet.model.first, sheet.model.last)}
+    values = {text: number(text) for text in shown}
     if None in values.values() or not values:
         return
     least, most = min(values.values()), max(values.values())
@@ -301,8 +305,9 @@ def draw_legend(sheet):
     if sheet.cell < 1:
         notes.append(f"a dot is {1 / sheet.cell:,.0f} rows: where their words differ, the gravest is above")
     text = "; ".join(notes)
-    sheet.text(x + 8, sheet.top + LANE / 2 + 4, text, FAINT, 11)
-    sheet.wide = max(sheet.wide, x + 8 + len(text) * 6.6)
+    if text:
+        sheet.text(x + 8, sheet.top + LANE / 2 + 4, text, FAINT, 11)
+    sheet.wide = max(sheet.wide, x + len(text) * 6.6)
     sheet.top += LANE
 
 
