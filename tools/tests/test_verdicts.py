@@ -242,12 +242,12 @@ class Merge(Case):
 
 
 SPEC = """INPUT p, q, r: bool; x: int;
-DEFINE rule := (p && q -> r); set := {p, q};
+DEFINE rule := (p && q -> r); pair := {p, q};
 FTSPEC plain: p -> F[0,3] q;
   nested: (p -> q -> r);
   named: rule;
   window: G[0,5] (p -> q);
-  every: foreach(y: set)(y -> F[0,2] r);
+  every: foreach(y: pair)(y -> F[0,2] r);
   both: p -> q <-> r;
   none: p && q;
   other: G[0,2] (p -> q) && r;
@@ -266,7 +266,7 @@ class Exercised(Case):
                 "nested": "p",
                 "named": "p && q",
                 "window": "F[0,5] (p)",
-                "every": "forsome(y: set)(y)",
+                "every": "forsome(y: pair)(y)",
                 "past": "O[1,4] (x > 3)",
                 "back": "!p",
             },
