@@ -18,13 +18,22 @@ class Unfit(Exception):
 
 
 def exact(text):
-    """The number that a text is, exactly; None where it is none."""
+    """The number that a text is, as a fraction of whole numbers, not in lowest terms; None where it is none."""
     found = NUMBER.fullmatch(text)
-    if not found or not (found[2] or found[3]) or len(text) > 400:
+    if not found or len(text) > 400:
         return None
-    places = found[3] or ""
-    value = Fraction(int(found[1] + found[2] + places), 10 ** len(places))
-    return value * Fraction(10) ** int(found[4] or 0)
+    sign, whole, places, exponent = found.groups()
+    if not (whole or places):
+        return None
+    up = int(exponent or 0) - len(places or "")
+    value = int(sign + whole + (places or ""))
+    return (value * 10**up, 1) if up >= 0 else (value, 10**-up)
+
+
+def fraction(text):
+    """The same in lowest terms."""
+    found = exact(text)
+    return found and Fraction(*found)
 
 
 def counted(number, noun):
@@ -32,7 +41,7 @@ def counted(number, noun):
 
 
 def factor(option, text):
-    value = exact(text)
+    value = fraction(text)
     if value is None or value <= 0:
         raise Trouble(f"{option}: {shown(text)} isn't a number above 0")
     return value
@@ -67,10 +76,10 @@ def within(value):
     return str(value)
 
 
-def rounded(value):
-    """The nearest whole number, halves away from 0."""
-    whole = int(abs(value) + Fraction(1, 2))
-    return whole if value >= 0 else -whole
+def rounded(over, under):
+    """The nearest whole number to a fraction, halves away from 0."""
+    whole = (2 * abs(over) + under) // (2 * under)
+    return whole if over >= 0 else -whole
 
 
 class Column:
@@ -96,18 +105,20 @@ class Column:
         if value is None:
             truth = self.kind == "int" and text.lower() in ("true", "false")
             raise Unfit(f"{shown(text)} is no number" + (": the input is int" if truth else ""))
-        scaled = value * (self.scale or 1)
+        over, under = value
+        if self.scale is not None:
+            over, under = over * self.scale.numerator, under * self.scale.denominator
+        whole, rest = divmod(over, under)
         if self.kind == "bool":
-            if scaled not in (0, 1):
+            if rest or whole not in (0, 1):
                 raise Unfit(f"{text} is no truth: the input is bool")
-            return str(int(scaled))
-        if scaled.denominator != 1:
+        elif rest:
             if not self.rounds:
                 by = f" times {self.scale}" if self.scale else ""
                 raise Unfit(f"{text}{by} isn't whole: --scale or --round")
             self.changed += 1
-            scaled = rounded(scaled)
-        return within(int(scaled))
+            whole = rounded(over, under)
+        return within(whole)
 
 
 class Columns:

@@ -1,13 +1,13 @@
 """Rows of a trace, out of lines of telemetry: one for each line, or by their times."""
 
-import math
 import os
 import stat
 import sys
 import tempfile
+from fractions import Fraction
 
 from telemetry import Refused, shown
-from telemetry_fields import counted, exact, factor
+from telemetry_fields import counted, exact, factor, fraction
 from tell import Trouble, told_os
 
 LONGEST = 65535
@@ -94,7 +94,7 @@ class Timed:
         self.rate = factor("--rate", found.rate)
         self.start = None
         if found.start is not None:
-            self.start = exact(found.start)
+            self.start = fraction(found.start)
             if self.start is None:
                 raise Trouble(f"--start: {shown(found.start)} is no number")
         # The row that was taken last, its text, and whether it is still to be written.
@@ -109,22 +109,31 @@ class Timed:
         time = exact(text)
         if time is None:
             raise self.refused(number, f"{shown(text)} is no time in seconds")
-        time *= self.columns.time_scale
-        if self.time is not None and (time < self.time or time == self.time and not self.hold):
-            what = "is before" if time < self.time else "is also"
-            raise self.refused(number, f"time has to rise: {shown(text)} {what} that of line {self.line}")
-        self.start = time if self.start is None else self.start
-        row = (time - self.start) * self.rate
-        if self.time is None and row > 0:
+        over, under = time[0] * self.columns.time_scale.numerator, time[1] * self.columns.time_scale.denominator
+        if self.time is not None:
+            self.rises(number, text, over * self.time[1] - self.time[0] * under)
+        self.start = Fraction(over, under) if self.start is None else self.start
+        begin = self.start * self.rate
+        first, self.time, self.line = self.time is None, (over, under), number
+        over = over * self.rate.numerator * begin.denominator - begin.numerator * under * self.rate.denominator
+        under *= self.rate.denominator * begin.denominator
+        if first and over > 0:
             raise self.refused(number, "the first time is after --start")
-        self.time, self.line = time, number
-        return self.whole_row(number, text, row)
+        return self.whole_row(number, text, over, under)
 
-    def whole_row(self, number, text, row):
-        if not self.hold and (row.denominator != 1 or row < 0):
-            what = "before --start" if row < 0 else f"between two rows, at {float(row):g}"
+    def rises(self, number, text, change):
+        """Time has to rise; lines of one time are told apart only where the last one is held."""
+        if change < 0 or change == 0 and not self.hold:
+            what = "is before" if change < 0 else "is also"
+            raise self.refused(number, f"time has to rise: {shown(text)} {what} that of line {self.line}")
+
+    def whole_row(self, number, text, over, under):
+        """The row at a place, or the next one where the last value is held."""
+        row = -(-over // under)
+        if not self.hold and (row * under != over or row < 0):
+            what = "before --start" if over < 0 else f"between two rows, at {over / under:g}"
             raise self.refused(number, f"{shown(text)} is {what}: --hold counts it from the next row on")
-        row = max(0, math.ceil(row))
+        row = max(0, row)
         if row >= LATEST or (not self.stamps and row - self.row > MOST_BETWEEN):
             raise self.refused(number, f"{row - self.row} rows after the line before" + ("" if self.stamps else ": --stamps"))
         return row

@@ -1,6 +1,7 @@
 """What the tests of the tools share: where things are, and how a tool is run."""
 
 import os
+import resource
 import subprocess
 import sys
 import tempfile
@@ -45,6 +46,12 @@ def shell(line, **names):
         env=env,
     )
     return ran.returncode, ran.stdout, ran.stderr
+
+
+def spent():
+    """The processor's seconds of all children so far; those of the clock say little where other work runs beside."""
+    used = resource.getrusage(resource.RUSAGE_CHILDREN)
+    return used.ru_utime + used.ru_stime
 
 
 class Case(unittest.TestCase):

@@ -4,9 +4,8 @@ import decimal
 import random
 import subprocess
 import sys
-import time
 
-from support import ROOT, TOOLS, Case, program, shell, tool
+from support import ROOT, TOOLS, Case, program, shell, spent, tool
 
 SPEC = "INPUT volts: int; on: bool;\nFTSPEC f: on -> F[0,3] volts > 5;\n"
 
@@ -156,9 +155,9 @@ class Times(Traces):
         self.assertEqual(self.made("t,a\n5.0,1\n5.1,2\n5.4,3\n", *self.WORDS, "--stamps"), "# a\n@0,1\n@1,2\n@4,3\n")
 
     def test_a_long_gap(self):
-        text = "t,a\n0,1\n300000,2\n"
-        self.assertEqual(self.made(text, *self.WORDS, "--stamps"), "# a\n@0,1\n@3000000,2\n")
-        self.assertEqual(self.made(text, *self.WORDS).count("\n"), 3000002)
+        text = "t,a\n0,1\n30000,2\n"
+        self.assertEqual(self.made(text, *self.WORDS, "--stamps"), "# a\n@0,1\n@300000,2\n")
+        self.assertEqual(self.made(text, *self.WORDS).count("\n"), 300002)
         self.assertIn("--stamps", self.refused("t,a\n0,1\n3e8,2\n", *self.WORDS))
         status, _, errors = tool("trace", *self.WORDS, "--stamps", give="t,a\n0,1\n3e8,2\n")
         self.assertEqual((status, errors), (0, "trace: the last time is 3000000000: r2u2 --timed needs --mission-time 3000000001\n"))
@@ -222,10 +221,10 @@ class Pipes(Traces):
 
     def test_many_lines(self):
         made = "print('t,a,b'); [print(f'{k/10},{k%7}.25,true') for k in range(200000)]"
-        before = time.monotonic()
+        before = spent()
         line = f'{sys.executable} -c "$MADE" | "$TOOLS/trace" --time t --rate 10 --scale a=100 | tail -1'
         self.assertEqual(shell(line, MADE=made), (0, f"{199999 % 7}25,1\n", ""))
-        self.assertLess(time.monotonic() - before, 60)
+        self.assertLess(spent() - before, 60)
 
     def test_into_r2u2(self):
         line = 'printf "t,on,volts\\n0,true,5.5\\n0.1,0,6\\n" | "$TOOLS/trace" --spec "$SPEC" --scale volts=10 | "$R2U2" --source "$SPEC"'

@@ -51,7 +51,7 @@ class Traces(Case):
 
     def test_a_million_rows(self):
         path = self.file("long.csv", "# a,b\n" + "0,1\n1,1\n" * 500000)
-        before = time.monotonic()
+        before = time.process_time()
         trace = traces.read_trace(path)
-        self.assertLess(time.monotonic() - before, 20)
+        self.assertLess(time.process_time() - before, 20)
         self.assertEqual((trace.times, len(trace.columns[0]), len(trace.columns[1])), (1000000, 1000000, 1))

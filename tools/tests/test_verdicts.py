@@ -6,10 +6,9 @@ import pty
 import resource
 import subprocess
 import sys
-import time
 import xml.etree.ElementTree as ElementTree
 
-from support import ROOT, TOOLS, Case, program, shell, tool
+from support import ROOT, TOOLS, Case, program, shell, spent, tool
 
 import specs
 from left_sides import sides_of, watched
@@ -136,13 +135,13 @@ class Streams(Case):
 
     def test_many_lines_in_little_memory(self):
         made = "import sys\nfor k in range(2000000): sys.stdout.write(f'granted:{k},T\\n')"
-        before = time.monotonic()
+        before = spent()
         line = f"{sys.executable} -c \"$MADE\" | /usr/bin/env {sys.executable} -c \"$LIMIT\" \"$TOOLS/verdicts\""
         limit = "import os,resource,sys; resource.setrlimit(resource.RLIMIT_DATA,(60<<20,60<<20)); os.execv(sys.argv[1],sys.argv[1:])"
         status, out, errors = shell(line, MADE=made, LIMIT=limit)
         self.assertEqual((status, errors), (0, ""))
         self.assertEqual(out.splitlines()[1].split(), "granted 2000000 - to 1999999".split())
-        self.assertLess(time.monotonic() - before, 60)
+        self.assertLess(spent() - before, 60)
 
     def test_progress_on_a_terminal(self):
         head, tail = pty.openpty()
