@@ -34,6 +34,11 @@ class Words(argparse.ArgumentParser):
         sys.exit(TROUBLE)
 
 
+def plain(text):
+    """A text without control characters, which no XML may hold."""
+    return "".join(letter if letter.isprintable() or letter in "\t\n" else "\N{REPLACEMENT CHARACTER}" for letter in text)
+
+
 def words(doc, **more):
     """A reader of the command line: its text for --help is the text at the top of the tool, without the usage line."""
     head, _, rest = doc.partition("\n\n")
@@ -50,6 +55,8 @@ def words(doc, **more):
 def run(main):
     """Runs a tool to its end: a closed pipe or an interrupt ends it without a word, trouble with one line."""
     signal.signal(signal.SIGPIPE, signal.SIG_DFL)
+    sys.stdout.reconfigure(encoding="utf-8", errors="replace")
+    sys.stderr.reconfigure(encoding="utf-8", errors="replace")
     try:
         status = main()
         sys.stdout.flush()

@@ -2,6 +2,8 @@
 
 from html import escape
 
+from tell import plain as printable
+
 # How a word is drawn: its short text, the colour of its square and of the text.
 LOOKS = {
     "T": ("T", "#2f74c0", "#ffffff"),
@@ -57,7 +59,7 @@ class Sheet:
     def text(self, x, y, text, colour, size=12, anchor="start", weight=400):
         bold = f' font-weight="{weight}"' if weight != 400 else ""
         place = f' text-anchor="{anchor}"' if anchor != "start" else ""
-        self.add(f'<text x="{plain(x)}" y="{plain(y)}" fill="{colour}" font-size="{size}"{place}{bold}>{escape(text)}</text>')
+        self.add(f'<text x="{plain(x)}" y="{plain(y)}" fill="{colour}" font-size="{size}"{place}{bold}>{escape(printable(text))}</text>')
 
     def rect(self, x, y, wide, high, fill, more=""):
         self.add(f'<rect x="{plain(x)}" y="{plain(y)}" width="{plain(wide)}" height="{plain(high)}" fill="{fill}"{more}/>')

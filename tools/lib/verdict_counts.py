@@ -3,12 +3,18 @@
 import json
 import sys
 import time
-from xml.sax.saxutils import quoteattr
+from html import escape
 
-from tell import Trouble
+from tell import Trouble, plain
 from verdict_lines import BAD, WORDS, Reader
 
 LAYOUT = 1
+
+
+def quoteattr(text):
+    """A text as the value of an attribute."""
+    return f'"{escape(plain(text))}"'
+
 
 
 class Output:
@@ -55,7 +61,7 @@ class Result:
     def __init__(self, log=None, names=(), logs=1):
         self.log, self.logs = log, logs
         self.outputs = {name: Output(name) for name in names}
-        self.lines = 0
+        self.lines, self.interrupted = 0, False
         self.failed = []
 
     def output(self, name):
@@ -68,6 +74,8 @@ class Result:
         return [output for output in self.outputs.values() if output.first and output.name not in ignored]
 
     def status(self, ignored=()):
+        if self.interrupted:
+            return 130
         return 2 if self.failed else 1 if self.bad(ignored) else 0
 
 
@@ -97,6 +105,8 @@ def counted(file, result):
             output.take(first, last, word, result.log)
             if not reader.count & 0x3FFF:
                 progress.tell(f"{reader.count:,} lines, {name} to {last:,}")
+    except KeyboardInterrupt:
+        result.interrupted = True
     finally:
         progress.done()
         result.lines = reader.count
@@ -166,17 +176,24 @@ def as_json(result, ignored=()):
     return text + ("\n  " + ",\n  ".join(outputs) + "\n" if outputs else "") + "]}"
 
 
+def failure_of(record):
+    return {"log": record["log"], "code": record["code"], "message": str(record["message"])}
+
+
 def from_json(record):
     """The result that as_json wrote."""
     if not isinstance(record, dict) or record.get("verdicts") != LAYOUT:
         raise Trouble("not what verdicts --json prints")
     try:
         result = Result(record["log"], logs=record["logs"])
-        result.lines, result.failed = record["lines"], record["failed"]
+        result.lines, result.failed = int(record["lines"]), [failure_of(it) for it in record["failed"]]
         for kept in record["outputs"]:
             output = result.outputs[kept["name"]] = Output(kept["name"], kept["logs"])
             output.words, output.decided = {word: int(kept["words"][word]) for word in kept["words"]}, kept["decided"]
-            output.bad_logs, output.first, output.left = kept["bad_logs"], kept["first"], kept.get("exercised")
+            output.bad_logs, output.left = int(kept["bad_logs"]), kept.get("exercised")
+            first = kept["first"]
+            output.first = first and {"time": int(first["time"]), "word": str(first["word"]), "log": first["log"]}
+            output.left = output.left and {key: int(output.left[key]) for key in ("true", "of")}
     except (KeyError, TypeError, ValueError, AttributeError):
         raise Trouble("not what verdicts --json prints") from None
     return result
