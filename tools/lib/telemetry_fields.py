@@ -153,7 +153,8 @@ class Columns:
         chosen = [Column(name, k, None) for k, name in enumerate(self.names) if k != self.time]
         for column in chosen:
             if not NAME.fullmatch(column.name):
-                raise Refused(f"line {self.line}, column {column.place + 1}: {shown(column.name)} can't name a column: --rename")
+                where = f"line {self.line}, column {column.place + 1}"
+                raise Refused(f"{where}: {shown(column.name)} can't name a column: --rename")
             self.place(column.name, "the trace")
         return chosen
 

@@ -135,7 +135,8 @@ class Timed:
             raise self.refused(number, f"{shown(text)} is {what}: --hold counts it from the next row on")
         row = max(0, row)
         if row >= LATEST or (not self.stamps and row - self.row > MOST_BETWEEN):
-            raise self.refused(number, f"{row - self.row} rows after the line before" + ("" if self.stamps else ": --stamps"))
+            hint = "" if self.stamps else ": --stamps"
+            raise self.refused(number, f"{row - self.row} rows after the line before{hint}")
         return row
 
     def take(self, number, fields):
@@ -174,7 +175,8 @@ class Timed:
 
     def remarks(self):
         if self.replaced:
-            verb = "stands in no row, as a later one has it" if self.replaced == 1 else "stand in no row, as later ones have theirs"
+            one = "stands in no row, as a later one has it"
+            verb = one if self.replaced == 1 else "stand in no row, as later ones have theirs"
             yield f"{counted(self.replaced, 'line')} {verb}; the first is line {self.first_replaced}"
         if self.stamps and self.row >= DEFAULT_TIMES:
             yield f"the last time is {self.row}: r2u2 --timed needs --mission-time {self.row + 1}"

@@ -59,7 +59,8 @@ class Sheet:
     def text(self, x, y, text, colour, size=12, anchor="start", weight=400):
         bold = f' font-weight="{weight}"' if weight != 400 else ""
         place = f' text-anchor="{anchor}"' if anchor != "start" else ""
-        self.add(f'<text x="{plain(x)}" y="{plain(y)}" fill="{colour}" font-size="{size}"{place}{bold}>{escape(printable(text))}</text>')
+        head = f'<text x="{plain(x)}" y="{plain(y)}" fill="{colour}" font-size="{size}"{place}{bold}>'
+        self.add(f"{head}{escape(printable(text))}</text>")
 
     def rect(self, x, y, wide, high, fill, more=""):
         self.add(f'<rect x="{plain(x)}" y="{plain(y)}" width="{plain(wide)}" height="{plain(high)}" fill="{fill}"{more}/>')
@@ -258,7 +259,8 @@ def draw_marks(sheet, lane):
     path, rows = [], set()
     for begin, end, row in lane.told.between(model.first, model.last):
         for time in range(begin, end + 1):
-            path.append(f"M{plain(sheet.x(time + 0.5))} {plain(high)}L{plain(sheet.x(min(row, model.last + 0.5) + 0.5))} {plain(low)}")
+            foot = sheet.x(min(row, model.last + 0.5) + 0.5)
+            path.append(f"M{plain(sheet.x(time + 0.5))} {plain(high)}L{plain(foot)} {plain(low)}")
         if row <= model.last:
             rows.add(row)
     sheet.line("".join(path), "#8a96a3", 0.8)
@@ -282,7 +284,8 @@ def draw_axis(sheet):
 
 def draw_stamps(sheet):
     """A mark under each time that a line of the trace has as its stamp."""
-    places = {round(sheet.x(time + 0.5)) for time in sheet.model.stamps or [] if sheet.model.first <= time <= sheet.model.last}
+    model = sheet.model
+    places = {round(sheet.x(time + 0.5)) for time in model.stamps or [] if model.first <= time <= model.last}
     if places:
         sheet.line("".join(f"M{x} {plain(sheet.top + 12)}v4" for x in sorted(places)), INK, 1.2)
 

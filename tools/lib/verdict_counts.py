@@ -165,7 +165,8 @@ def remarks(result, ignored):
 
 def failure_text(fault):
     where = f"{fault['log']}: " if fault.get("log") else ""
-    return f"{where}failed with {fault['code']}: {fault['message']}" if fault["message"] else f"{where}failed with {fault['code']}"
+    text = f"{where}failed with {fault['code']}" if fault["code"] is not None else f"{where}failed"
+    return f"{text}: {fault['message']}" if fault["message"] else text
 
 
 def as_json(result, ignored=()):
@@ -222,7 +223,8 @@ def as_junit(result, ignored=()):
     tests = [test_of(output, ignored) for output in outputs]
     for fault in result.failed:
         name = quoteattr(f"run of {fault['log']}" if fault.get("log") else "run")
-        tests.append(f'  <testcase classname="r2u2" name={name}><error message={quoteattr(failure_text(fault))}/></testcase>')
+        text = quoteattr(failure_text(fault))
+        tests.append(f'  <testcase classname="r2u2" name={name}><error message={text}/></testcase>')
     failures, skipped = len(result.bad(ignored)), sum("<skipped" in test for test in tests)
     counts = f'tests="{len(tests)}" failures="{failures}" errors="{len(result.failed)}" skipped="{skipped}"'
     head = ['<?xml version="1.0" encoding="UTF-8"?>', f"<testsuites {counts}>", f'<testsuite name="r2u2" {counts}>']
