@@ -269,7 +269,7 @@ class Real(Pictures):
         for trace in ("# b,tick\n0,1\n0,0\n1,0\n", "x,0,1\nx,0,0\nx,1,0\n"):
             out = self.run_over(obs, self.file("trace", trace))[0]
             texts = [part.text for part in ElementTree.fromstring(out).iter(f"{SVG}text")]
-            self.assertEqual([text for text in texts if text in ("b", "tick", "one", "two")], ["b", "tick", "one", "two"])
+            self.assertEqual([text for text in texts if text in ("b", "tick", "one", "two")], ["tick", "b", "one", "two"])
             self.assertEqual([text for text in texts if text in ("T", "F")][:6], list("TTTFFT"))
 
     def test_a_run_that_fails(self):
