@@ -1,0 +1,117 @@
+"""From a specification, or a compiled program, to the program's text, with the names that the specification gave."""
+
+import re
+from dataclasses import dataclass
+from pathlib import Path
+
+from programs import program, ran, written
+from shown import Shown, shown
+from specs import items, read_spec
+from tell import Trouble, told_os
+
+REFUSED = re.compile(r"c2po: line (\d+): (.*)")
+COMMENT = re.compile(r"--[^\n]*")
+MOST_NAMES = 256
+
+
+@dataclass
+class Compiled:
+    """A program of version 2 in a file, its text, and what the file that was given stores."""
+
+    path: Path
+    shown: Shown
+    given: object
+    old: bool = False
+
+    def columns(self):
+        """The names of the columns of a row, with others where no signal stands."""
+        by_column = {signal.column: signal.name for signal in read_spec(self.path).signals}
+        free = (f"_{k}" for k in range(1 << 32) if f"_{k}" not in self.shown.signals)
+        return [by_column[k] if k in by_column else next(free) for k in range(max(by_column, default=-1) + 1)]
+
+
+def text_of(path):
+    return shown(written([program("c2po"), "--show", str(path)], "c2po --show").decode("ascii"))
+
+
+def make(spec, out, *words):
+    """Compiles a specification; what c2po says of it is told as it is."""
+    status, _, text = ran([program("c2po"), *words, "-o", str(out), str(spec)])
+    if status:
+        raise Trouble(text.removeprefix("c2po: ") if text else f"c2po ended with status {status}")
+
+
+def compiled(path, folder):
+    """The program of a file, which may be a specification or a program of either version."""
+    try:
+        given = read_spec(path)
+    except Trouble as trouble:
+        given = None
+        if not Path(path).is_file():
+            raise trouble
+    out = Path(folder, "whole.obs")
+    if given and given.is_program():
+        old = given.raw[4:6] == b"\x01\x00"
+        make(path, out, "--upgrade")
+        return Compiled(out, text_of(out), given, old)
+    try:
+        make(path, out)
+    except Trouble as trouble:
+        raise Trouble(f"{path}: {trouble}") from None
+    made = named(given, folder) or Compiled(out, text_of(out), given)
+    for told, output in zip(made.shown.outputs, given.outputs):
+        told.texts.update(zip(told.operands(), texts_of(given.text, output.body)))
+    return made
+
+
+def texts_of(text, body):
+    """A formula, or the two of a contract, as the specification writes them, without comments and line ends."""
+    cut = [k for k, token in enumerate(body) if token.text == "=>"]
+    for part in (body[: cut[0]], body[cut[0] + 1 :]) if cut else (body,):
+        yield " ".join(COMMENT.sub(" ", text[part[0].start : part[-1].end]).split())
+
+
+def definitions(given):
+    """The names that a specification defines, but those of sets and structs."""
+    found = [item for item in given.items if item.section == "DEFINE" and item.name and item.body]
+    return [item.name for item in found if item.body[0].text != "{" and not is_build(item.body)]
+
+
+def is_build(body):
+    return len(body) > 1 and body[1].text == "(" and body[0].text not in ("foreach", "forsome")
+
+
+def named(given, folder):
+    """The program with each definition that is a formula as one more output, which then leads to its name."""
+    names = definitions(given)[:MOST_NAMES]
+    label = "part"
+    while any(told.name.startswith(label) for told in given.outputs):
+        label += "_"
+    asked = {name: "FTSPEC" for name in names}
+    spec, out = Path(folder, "named.c2po"), Path(folder, "named.obs")
+    first = given.text.count("\n") + 2
+    while asked:
+        lines = [f"{section} {label}{k}: {name};" for k, (name, section) in enumerate(asked.items())]
+        spec.write_text(given.text + "\n" + "\n".join(lines) + "\n", encoding="latin-1")
+        status, _, text = ran([program("c2po"), "-o", str(out), str(spec)])
+        if not status:
+            return with_names(out, given, label, list(asked))
+        told = REFUSED.fullmatch(text)
+        if not told or not 0 <= int(told[1]) - first < len(asked):
+            return None
+        name = list(asked)[int(told[1]) - first]
+        if told[2] == "mixed tense" and asked[name] == "FTSPEC":
+            asked[name] = "PTSPEC"
+        else:
+            del asked[name]
+    return None
+
+
+def with_names(out, given, label, names):
+    """The program of a file, in which the last outputs are those of the names."""
+    text = text_of(out)
+    text.outputs, added = text.outputs[: -len(names)], text.outputs[-len(names) :]
+    for told, name in zip(added, names):
+        if told.left in text.nodes:
+            text.called.setdefault(told.left, name)
+    return Compiled(out, text, given)
