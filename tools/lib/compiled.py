@@ -51,16 +51,16 @@ def compiled(path, folder):
             raise trouble
     out = Path(folder, "whole.obs")
     if given and given.is_program():
-        old = given.raw[4:6] == b"\x01\x00"
         make(path, out, "--upgrade")
-        return Compiled(out, text_of(out), given, old)
+        return Compiled(out, text_of(out), given, given.raw[4:6] == b"\x01\x00")
     try:
         make(path, out)
     except Trouble as trouble:
         raise Trouble(f"{path}: {trouble}") from None
-    made = named(given, folder) or Compiled(out, text_of(out), given)
+    made = Compiled(out, text_of(out), given)
     for told, output in zip(made.shown.outputs, given.outputs):
         told.texts.update(zip(told.operands(), texts_of(given.text, output.body)))
+    name(made.shown, given, folder)
     return made
 
 
@@ -81,37 +81,37 @@ def is_build(body):
     return len(body) > 1 and body[1].text == "(" and body[0].text not in ("foreach", "forsome")
 
 
-def named(given, folder):
-    """The program with each definition that is a formula as one more output, which then leads to its name."""
-    names = definitions(given)[:MOST_NAMES]
+def name(text, given, folder):
+    """Gives the parts of a program the names that its specification defines.
+
+    The specification is compiled once more, with each definition that is a formula as one more output.
+    """
+    asked = {it: "FTSPEC" for it in definitions(given)[:MOST_NAMES]}
     label = "part"
     while any(told.name.startswith(label) for told in given.outputs):
         label += "_"
-    asked = {name: "FTSPEC" for name in names}
     spec, out = Path(folder, "named.c2po"), Path(folder, "named.obs")
     first = given.text.count("\n") + 2
     while asked:
-        lines = [f"{section} {label}{k}: {name};" for k, (name, section) in enumerate(asked.items())]
+        lines = [f"{section} {label}{k}: {it};" for k, (it, section) in enumerate(asked.items())]
         spec.write_text(given.text + "\n" + "\n".join(lines) + "\n", encoding="latin-1")
-        status, _, text = ran([program("c2po"), "-o", str(out), str(spec)])
+        status, _, refusal = ran([program("c2po"), "-o", str(out), str(spec)])
         if not status:
-            return with_names(out, given, label, list(asked))
-        told = REFUSED.fullmatch(text)
+            return call(text, text_of(out), list(asked))
+        told = REFUSED.fullmatch(refusal)
         if not told or not 0 <= int(told[1]) - first < len(asked):
             return None
-        name = list(asked)[int(told[1]) - first]
-        if told[2] == "mixed tense" and asked[name] == "FTSPEC":
-            asked[name] = "PTSPEC"
+        it = list(asked)[int(told[1]) - first]
+        if told[2] == "mixed tense" and asked[it] == "FTSPEC":
+            asked[it] = "PTSPEC"
         else:
-            del asked[name]
+            del asked[it]
     return None
 
 
-def with_names(out, given, label, names):
-    """The program of a file, in which the last outputs are those of the names."""
-    text = text_of(out)
-    text.outputs, added = text.outputs[: -len(names)], text.outputs[-len(names) :]
-    for told, name in zip(added, names):
-        if told.left in text.nodes:
-            text.called.setdefault(told.left, name)
-    return Compiled(out, text, given)
+def call(text, other, names):
+    """Gives names to the parts of a program that equal the last outputs of another one."""
+    equal = text.equals_of(other)
+    for told, it in zip(other.outputs[-len(names) :], names):
+        for ref in equal.get(told.left, ()):
+            text.called.setdefault(ref, it)

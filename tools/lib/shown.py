@@ -6,6 +6,7 @@ of the language where they can be found again: `!(true U[0,3] !p)` as `G[0,3] p`
 
 import re
 from dataclasses import dataclass, field
+from itertools import product
 
 from tell import Trouble
 
@@ -76,7 +77,8 @@ class Shown:
             if told.name == name:
                 return told
         names = [told.name for told in self.outputs]
-        raise Trouble(f"no output {name}: there {'is' if len(names) == 1 else 'are'} {', '.join(names[:20])}")
+        known = f"there {'is' if len(names) == 1 else 'are'} {', '.join(names[:20])}" if names else "there is none"
+        raise Trouble(f"no output {name}: {known}")
 
     def op(self, ref):
         return self.nodes[ref].op if ref in self.nodes else None
@@ -100,6 +102,18 @@ class Shown:
     def is_leaf(self, ref):
         """Whether a formula speaks of one row by itself: a signal, a comparison, true."""
         return ref not in self.nodes or self.nodes[ref].op in ATOMS
+
+    def equals_of(self, other):
+        """Which definitions equal those of another text; both engines may have one."""
+        refs, equal = {}, {}
+        for ref, node in self.nodes.items():
+            refs.setdefault(node, []).append(ref)
+        for ref, node in other.nodes.items():
+            sides = [equal.get(operand, [None]) if operand in other.nodes else [operand] for operand in node.operands()]
+            looked_for = (Node(node.op, *pair, *[None] * (2 - len(pair)), node.low, node.high) for pair in product(*sides))
+            if found := [it for node in looked_for for it in refs.get(node, ())]:
+                equal[ref] = found
+        return equal
 
     def signals_of(self, ref):
         below = self.below(ref)
@@ -194,6 +208,14 @@ class Shown:
             left, right = (self.inner(part, mine, side, depth) for part, side in zip(form.parts, sides))
             text = f"{left} {form.op}{form.window} {right}"
         return f"({text})" if mine < level else text
+
+    def uncalled(self, ref):
+        """A formula by its own operators, also where it has a name."""
+        name = self.called.pop(ref, None)
+        text = self.text(ref)
+        if name:
+            self.called[ref] = name
+        return text
 
     def inner(self, part, mine, level, depth):
         """A part of a formula; a comparison below a temporal operator or a denial has brackets, for the eye."""
