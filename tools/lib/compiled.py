@@ -113,5 +113,6 @@ def call(text, other, names):
     """Gives names to the parts of a program that equal the last outputs of another one."""
     equal = text.equals_of(other)
     for told, it in zip(other.outputs[-len(names) :], names):
-        for ref in equal.get(told.left, ()):
-            text.called.setdefault(ref, it)
+        bare, denied = other.bare(told.left)
+        for ref in equal.get(bare, ()):
+            text.called.setdefault((ref, denied), it)

@@ -45,9 +45,9 @@ class Reasons:
         self.word = None
         if None in (found := [self.word_at(at) for at in range(low, time + 1)]):
             self.source = Waits(parts)
-            self.at = time if found[-1] is None else low + found.index(None)
-            words = [parts.part[ref].at(self.at) for ref in parts.told.operands()]
-            pairs = [(ref, word) for ref, word in zip(parts.told.operands(), words) if word == UNKNOWN]
+            at = time if found[-1] is None else low + found.index(None)
+            pairs = [(ref, UNKNOWN) for ref in parts.told.operands() if parts.part[ref].at(at) == UNKNOWN]
+            self.at = max(self.source.first(ref, at) for ref, _ in pairs)
         else:
             self.word, self.source = found[-1], Witness(parts)
             pairs = zip(parts.told.operands(), NEEDS[self.word])
@@ -71,10 +71,8 @@ class Reasons:
 
     def reason(self, ref, word, times, denied=False):
         """A part with what it follows from. It is told as the formula around it spells it: as it is, or denied."""
-        while (inner := self.shown.within(ref)) != ref:
-            if self.shown.op(ref) == "!":
-                word, denied = DENIED[word], not denied
-            ref = inner
+        bare, turned = self.shown.bare(ref)
+        ref, word, denied = bare, DENIED[word] if turned else word, denied != turned
         denied = denied and self.shown.form(ref, True).op != "!"
         told = DENIED[word] if denied else word
         if self.shown.is_leaf(ref):
@@ -89,7 +87,7 @@ class Reasons:
         both = self.shown.op(ref) == "&&"
         for (operand, word), times in below.items():
             reason = self.reason(operand, word, times, spelled.get(operand, False))
-            same = both and self.shown.op(operand) == "&&" and operand not in self.shown.called
+            same = both and self.shown.op(operand) == "&&" and not self.shown.name(operand)
             found += reason.below if same else [reason]
         return [reason for reason in found if reason.cells or reason.below] or found
 

@@ -24,7 +24,7 @@ COMPARED, NEGATIVE, LEAF = 7, 10, 11
 TEMPORAL = (5, 6)
 ATOMS = ("==", "<", "<=")
 DENIED = {"==": "!=", "<": ">=", "<=": ">"}
-TURNED = {"==": "==", "!=": "!=", "<": ">", "<=": ">=", ">": "<", ">=": "<="}
+TURNED = {"<": ">", "<=": ">=", ">": "<", ">=": "<="}
 DEEPEST = 60
 
 
@@ -70,6 +70,7 @@ class Shown:
     signals: dict = field(default_factory=dict)
     nodes: dict = field(default_factory=dict)
     outputs: list = field(default_factory=list)
+    # The names that the specification gives to formulas, by what they are without denials and whether they are denied.
     called: dict = field(default_factory=dict)
 
     def output(self, name):
@@ -121,37 +122,47 @@ class Shown:
 
     def is_negative(self, ref):
         """Whether a formula is spelled shorter when it is denied."""
+        if self.name(ref):
+            return False
         op = self.op(ref)
         if op == "&&":
             return all(self.is_negative(part) for part in self.nodes[ref].operands())
         return op == "!"
 
+    def bare(self, ref, denied=False):
+        """A formula without the denials around it, and whether it is then denied."""
+        while (inner := self.within(ref)) != ref:
+            ref, denied = inner, denied != (self.op(ref) == "!")
+        return ref, denied
+
     def within(self, ref):
-        """What a formula without a name says in another way: that which it denies, or joins with true; else itself."""
+        """What a formula denies, or joins with true; else itself."""
         node = self.nodes.get(ref)
-        if node is None or ref in self.called:
-            return ref
-        if node.op == "&&" and "true" in node.operands():
+        if node and node.op == "&&" and "true" in node.operands():
             return node.left if node.right == "true" else node.right
-        return node.left if node.op == "!" else ref
+        return node.left if node and node.op == "!" else ref
+
+    def name(self, ref, denied=False):
+        return self.called.get(self.bare(ref, denied))
 
     def form(self, ref, denied=False):
         """A formula, or its denial, by its outermost operator; a leaf has no parts."""
+        ref, denied = self.bare(ref, denied)
+        if (ref, denied) in self.called:
+            return Form(self.called[ref, denied], [])
+        if denied and (ref in self.signals or (ref, False) in self.called):
+            return Form("!", [(ref, False)])
         node = self.nodes.get(ref)
-        if node is None or ref in self.called:
-            if denied:
-                return Form("false", []) if ref == "true" else Form("!", [(ref, False)])
-            return Form(self.called.get(ref, ref), [])
-        if (inner := self.within(ref)) != ref:
-            return self.form(inner, denied != (node.op == "!"))
+        if node is None:
+            return Form("false" if denied else ref, [])
         if node.op in ATOMS:
             return self.compared(node, DENIED[node.op] if denied else node.op)
         return self.denied(ref, node) if denied else self.plain(node)
 
     def compared(self, node, op):
-        """A comparison, with a number on its right side."""
+        """A comparison, of an order with a number on its right side."""
         parts = [(node.left, False), (node.right, False)]
-        return Form(TURNED[op], parts[::-1]) if self.is_number(node.left) else Form(op, parts)
+        return Form(TURNED[op], parts[::-1]) if op in TURNED and self.is_number(node.left) else Form(op, parts)
 
     def is_number(self, ref):
         node = self.nodes.get(ref)
@@ -211,10 +222,11 @@ class Shown:
 
     def uncalled(self, ref):
         """A formula by its own operators, also where it has a name."""
-        name = self.called.pop(ref, None)
+        bare = self.bare(ref)
+        name = self.called.pop(bare, None)
         text = self.text(ref)
         if name:
-            self.called[ref] = name
+            self.called[bare] = name
         return text
 
     def inner(self, part, mine, level, depth):

@@ -89,4 +89,4 @@ class Telling:
         return f"waits for {joined(told)}" if told else self.leaf(reasons.leaves()[0])
 
     def within(self, times, word="in"):
-        return f"{word} {self.unit if len(times) == 1 else self.unit + 's'} {stretch(times, 1)}"
+        return f"{word} {self.unit if len(times) == 1 else self.unit + 's'} {stretch(times, 2)}"
