@@ -8,6 +8,7 @@ PREFIX ?= /usr/local
 SPEC ?= examples/grant.c2po
 TRACE ?= examples/grant.csv
 JOBS ?= $(shell nproc)
+VERSION = $(shell cat VERSION)
 
 PROGRAMS = r2u2 c2po
 BUILT = $(PROGRAMS:%=build/%)
@@ -69,6 +70,7 @@ install: $(BUILT)
 	install -m 644 desk/vim/syntax/c2po.vim $(VIM)/syntax
 	install -m 644 desk/vim/ftdetect/c2po.vim $(VIM)/ftdetect
 	cp -R desk/vscode/. $(SHARED)/vscode
+	sed "s/\"version\": \"0.0.0\"/\"version\": \"$(VERSION)\"/" desk/vscode/package.json > $(SHARED)/vscode/package.json
 
 uninstall:
 	rm -f $(NAMES:%=$(INTO)/bin/%) $(NAMES:%=$(INTO)/share/man/man1/%.1) $(NAMES:%=$(BASH)/%) $(NAMES:%=$(FISH)/%.fish)
