@@ -68,11 +68,13 @@ class Telling:
     def line(self, reason):
         return self.leaf(reason) if self.shown.is_leaf(reason.ref) else self.inner(reason)
 
-    def tree(self, reasons, depth=1):
+    def tree(self, reasons):
         """The lines of reasons, each below what it decides."""
-        for reason in reasons:
+        left = [(1, reason) for reason in reversed(reasons)]
+        while left:
+            depth, reason = left.pop()
             yield "  " * depth + self.line(reason)
-            yield from self.tree(reason.below, depth + 1)
+            left += [(depth + 1, it) for it in reversed(reason.below)]
 
     def summary(self, reasons):
         """All that decides a verdict, or that an open one waits for, in one line."""
