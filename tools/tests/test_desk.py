@@ -6,7 +6,7 @@ import shutil
 import subprocess
 import unittest
 
-from support import ROOT, TOOLS, Case, shell
+from support import ROOT, TOOLS, Case, shell, tool
 from specs import tokens
 
 DESK = ROOT / "desk"
@@ -113,6 +113,12 @@ class Completion(Case):
         lines = re.findall(r"^\.It (Fl .*)", page, re.M)
         found = {word for line in lines for word in re.findall(r"(?:Fl |, )(?!Fl)(-?[A-Za-z][\w-]*)", line)}
         return {f"-{word}" for word in found} - {"-h"}
+
+    def test_man_pages_have_the_options_of_the_help(self):
+        for name in NAMES[2:]:
+            _, out, _ = tool(name.removeprefix("r2u2-"), "--help")
+            told = set(re.findall(r"^  (?:-h, )?(--?[a-z][a-z-]*)", out, re.M))
+            self.assertEqual(told - {"--help"}, self.options(name) - {"--help"}, name)
 
     def offered(self, text):
         return {word.partition("\t")[0] for word in text.split("\n") if word}

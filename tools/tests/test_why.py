@@ -1,6 +1,7 @@
 """tools/why: the cells that it names decide the verdict, and what it says of the examples."""
 
 import random
+import re
 import subprocess
 from concurrent.futures import ThreadPoolExecutor
 
@@ -223,7 +224,7 @@ class Sentences(Case):
         page = self.folder / "why.html"
         self.told("--html", page, *GRANT, "granted:2")
         text = page.read_text()
-        self.assertEqual(text.count(" marked"), 5)
+        self.assertEqual(len(re.findall(r'class="[^"]*marked"', text)), 5)
         self.assertIn("grant is false at rows 2, 3, 4 and 5", text)
 
     def test_faults(self):
