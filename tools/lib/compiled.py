@@ -6,11 +6,12 @@ from pathlib import Path
 
 from programs import program, ran, written
 from shown import Shown, shown
-from specs import items, read_spec
-from tell import Trouble, told_os
+from specs import MAGIC, read_spec
+from tell import Trouble, opened
 
 REFUSED = re.compile(r"c2po: line (\d+): (.*)")
 COMMENT = re.compile(r"--[^\n]*")
+QUANTIFIERS = ("foreach", "forsome", "forexactly", "foratleast", "foratmost")
 MOST_NAMES = 256
 
 
@@ -43,24 +44,19 @@ def make(spec, out, *words):
 
 def compiled(path, folder):
     """The program of a file, which may be a specification or a program of either version."""
-    try:
-        given = read_spec(path)
-    except Trouble as trouble:
-        given = None
-        if not Path(path).is_file():
-            raise trouble
     out = Path(folder, "whole.obs")
-    if given and given.is_program():
-        make(path, out, "--upgrade")
-        return Compiled(out, text_of(out), given, given.raw[4:6] == b"\x01\x00")
+    with opened(path) as file:
+        is_program = file.read(len(MAGIC)) == MAGIC
     try:
-        make(path, out)
+        make(path, out, *["--upgrade"] * is_program)
     except Trouble as trouble:
         raise Trouble(f"{path}: {trouble}") from None
-    made = Compiled(out, text_of(out), given)
-    for told, output in zip(made.shown.outputs, given.outputs):
-        told.texts.update(zip(told.operands(), texts_of(given.text, output.body)))
-    name(made.shown, given, folder)
+    given = read_spec(path)
+    made = Compiled(out, text_of(out), given, is_program and given.raw[4:6] == b"\x01\x00")
+    if not is_program:
+        for told, output in zip(made.shown.outputs, given.outputs):
+            told.texts.update(zip(told.operands(), texts_of(given.text, output.body)))
+        name(made.shown, given, folder)
     return made
 
 
@@ -78,7 +74,8 @@ def definitions(given):
 
 
 def is_build(body):
-    return len(body) > 1 and body[1].text == "(" and body[0].text not in ("foreach", "forsome")
+    """Whether a definition begins with a name and a bracket, as a struct does."""
+    return len(body) > 1 and body[1].text == "(" and body[0].text.isidentifier() and body[0].text not in QUANTIFIERS
 
 
 def name(text, given, folder):

@@ -19,7 +19,8 @@ FALSE, TRUE, UNKNOWN = 0, 1, 2
 WORDS = {"T": TRUE, "F": FALSE, "verified": TRUE, "invalid": FALSE, "inactive": FALSE}
 # The outputs of one program weigh at most 65,536; those of a part never weigh more.
 MOST_WEIGHT = 60_000
-MOST_TIMES = 1 << 23
+MOST_TIMES = 1 << 22
+LONGEST = 1 << 40
 
 
 @dataclass
@@ -109,7 +110,7 @@ class Parts:
             spec.write_text(self.text(batch), encoding="ascii")
             header.write_text(f"#{','.join(columns)}\n", encoding="ascii")
             make(spec, out, "--header", str(header))
-            words = [program("r2u2"), *["--timed"] * timed, "--runs", str(out), str(trace)]
+            words = [program("r2u2"), *["--timed"] * timed, "--mission-time", str(LONGEST), "--runs", str(out), str(trace)]
             self.listen(words, [self.part[ref] for ref in batch])
 
     def listen(self, words, parts):

@@ -121,13 +121,14 @@ class Shown:
         return [name for name in self.signals if name in below]
 
     def is_negative(self, ref):
-        """Whether a formula is spelled shorter when it is denied."""
-        if self.name(ref):
-            return False
-        op = self.op(ref)
-        if op == "&&":
-            return all(self.is_negative(part) for part in self.nodes[ref].operands())
-        return op == "!"
+        """Whether a formula is spelled shorter when it is denied: a denial without a name, or several joined by `&&`."""
+        left = [ref]
+        while left:
+            ref = left.pop()
+            if self.name(ref) or self.op(ref) not in ("!", "&&"):
+                return False
+            left += self.nodes[ref].operands() if self.op(ref) == "&&" else ()
+        return True
 
     def bare(self, ref, denied=False):
         """A formula without the denials around it, and whether it is then denied."""

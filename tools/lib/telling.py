@@ -15,11 +15,9 @@ def joined(words):
 
 def runs_of(times):
     """Rising times as pairs of a first and a last one."""
-    return [
-        (run[0][1], run[-1][1])
-        for _, it in groupby(enumerate(times), lambda pair: pair[1] - pair[0])
-        for run in [list(it)]
-    ]
+    stretches = groupby(enumerate(times), lambda pair: pair[1] - pair[0])
+    runs = [[time for _, time in pairs] for _, pairs in stretches]
+    return [(run[0], run[-1]) for run in runs]
 
 
 def stretch(times, singly=SINGLY):
@@ -45,7 +43,7 @@ class Telling:
     def values(self, leaf):
         """What the signals of a comparison are, where these are few."""
         names = self.shown.signals_of(leaf.ref)
-        if self.shown.is_leaf(leaf.ref) and leaf.ref in names or len(names) * len(leaf.times) > MOST_VALUES:
+        if leaf.ref in names or len(names) * len(leaf.times) > MOST_VALUES:
             return ""
         told = [f"{name} is {joined([str(self.trace.value(name, time)) for time in leaf.times])}" for name in names]
         return f" ({'; '.join(told)})" if told else ""

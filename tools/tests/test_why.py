@@ -165,7 +165,7 @@ class Sentences(Case):
     def test_an_open_verdict(self):
         rows = self.file("rows.csv", "# request,grant\n" + "0,0\n" * 5 + "1,0\n")
         self.assertEqual(self.first(GRANT[0], rows, "granted:5"), "granted is open at 5: waits for grant in rows 6 to 8")
-        past = "granted is open at 6: the trace has 6 rows, counted from 0"
+        past = "granted is open at 6: the trace ends with row 5"
         self.assertEqual(self.told(GRANT[0], rows, "granted:6"), [past])
 
     def test_a_line_that_waits_for_an_earlier_one(self):
@@ -226,6 +226,17 @@ class Sentences(Case):
         text = page.read_text()
         self.assertEqual(len(re.findall(r'class="[^"]*marked"', text)), 5)
         self.assertIn("grant is false at rows 2, 3, 4 and 5", text)
+
+    def test_a_trace_without_rows(self):
+        empty = self.file("rows.csv", "")
+        self.assertEqual(self.told(GRANT[0], empty, "granted:0"), ["granted is open at 0: the trace has no rows"])
+
+    def test_a_deep_formula(self):
+        lines = [f"d{k} := F[0,1] (d{k - 1} && q);" if k % 2 else f"d{k} := !d{k - 1} || G[1,2] q;" for k in range(1, 1000)]
+        text = "INPUT p, q: bool;\nDEFINE d0 := p;\n" + "\n".join(lines) + "\nFTSPEC f: d999;\n"
+        rows = "".join(f"{k % 2},{int(k % 7 > 0)}\n" for k in range(3000))
+        line = self.first(self.file("spec.c2po", text), self.file("rows.csv", rows), "f:100")
+        self.assertRegex(line, "^f is [TF] at 100: [pq] ")
 
     def test_faults(self):
         nowhere = self.folder / "nowhere"
