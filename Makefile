@@ -53,7 +53,7 @@ test:
 check:
 	rt ci
 	@mkdir -p build
-	cp $(PROGRAMS:%=crates/%/out/%) crates/r2u2_c/out/libr2u2_c.a build
+	cp $(foreach name,$(PROGRAMS),crates/$(name)/out/$(name)) crates/r2u2_c/out/libr2u2_c.a build
 
 install: $(BUILT)
 	install -d $(INTO)/bin $(INTO)/share/man/man1 $(SHARED)/tools/lib $(SHARED)/vscode $(BASH) $(ZSH) $(FISH) $(VIM)/syntax $(VIM)/ftdetect
