@@ -50,10 +50,11 @@ test:
 	cd crates/worked_cases && rt try < stdin
 	tools/test
 
+# The library comes along where the kit's gate builds it; else `rt lib` in its folder does.
 check:
 	rt ci
 	@mkdir -p build
-	cp $(foreach name,$(PROGRAMS),crates/$(name)/out/$(name)) crates/r2u2_c/out/libr2u2_c.a build
+	cp $(wildcard crates/r2u2_c/out/libr2u2_c.a) $(foreach name,$(PROGRAMS),crates/$(name)/out/$(name)) build
 
 install: $(BUILT)
 	install -d $(INTO)/bin $(INTO)/share/man/man1 $(SHARED)/tools/lib $(SHARED)/vscode $(BASH) $(ZSH) $(FISH) $(VIM)/syntax $(VIM)/ftdetect
