@@ -1,6 +1,6 @@
 -- A row fits a program exactly where it is as wide, and each of its columns can hold its number.
 
-use Rattle.std.proofs.Common.{◌≡◌, ◌⊎◌, inl, inr, ℕ, ◌+◌, ◌<◌, ◌≤◌, ℤ, pos, Bool, true, false, Option, None, Some, List, length, get_or, refl, ap, arith, sym, subst, ◌∙◌, eq-eqb}
+use Rattle.std.proofs.Common.{◌≡◌, inl, inr, ℕ, ◌+◌, ◌<◌, ℤ, pos, Bool, true, false, Option, None, Some, List, length, get_or, refl, ap, arith, sym, subst, ◌∙◌, eq-eqb}
 use Rattle.std.specs.Prelude.{FitsSigned, MatchOption, if◌then◌else◌}
 use Rattle.std.specs.Int.{w32}
 use Rattle.std.specs.List.{list_any}

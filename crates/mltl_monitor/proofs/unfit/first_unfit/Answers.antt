@@ -1,4 +1,4 @@
-use Rattle.std.proofs.Common.{◌≡◌, ◌<◌, ℕ, arith, rules, refl, subst, sym, length, to_z, of_z, true, false}
+use Rattle.std.proofs.Common.{◌≡◌, ◌<◌, arith, rules, refl, subst, sym, length, to_z, of_z, true, false}
 use Rattle.std.specs.Int.{w64}
 use Rattle.mltl_base.specs.Atoms.{in_column}
 use Rattle.trace_feed.specs.declared.fields.Reading.{Reading}
