@@ -94,7 +94,7 @@ def name(text, given, folder):
         spec.write_text(given.text + "\n" + "\n".join(lines) + "\n", encoding="latin-1")
         status, _, refusal = ran([program("c2po"), "-o", str(out), str(spec)])
         if not status:
-            return call(text, text_of(out), list(asked))
+            return call(text, out, list(asked))
         told = REFUSED.fullmatch(refusal)
         if not told or not 0 <= int(told[1]) - first < len(asked):
             return None
@@ -106,8 +106,12 @@ def name(text, given, folder):
     return None
 
 
-def call(text, other, names):
-    """Gives names to the parts of a program that equal the last outputs of another one."""
+def call(text, named, names):
+    """Gives names to the parts of a program that equal the last outputs of another one, where that isn't too large to show."""
+    try:
+        other = text_of(named)
+    except Trouble:
+        return
     equal = text.equals_of(other)
     for told, it in zip(other.outputs[-len(names) :], names):
         bare, denied = other.bare(told.left)
