@@ -60,7 +60,9 @@ class Anything(Case):
     def test_an_interrupt(self):
         """What was read so far is told."""
         words = [sys.executable, str(TOOLS / "verdicts")]
-        child = subprocess.Popen(words, stdin=subprocess.PIPE, stdout=subprocess.PIPE, stderr=subprocess.PIPE)
+        pipes = {"stdin": subprocess.PIPE, "stdout": subprocess.PIPE, "stderr": subprocess.PIPE}
+        # a shell that runs the tests in the background ignores interrupts, and its children would too
+        child = subprocess.Popen(words, preexec_fn=lambda: signal.signal(signal.SIGINT, signal.SIG_DFL), **pipes)
         child.stdin.write(b"".join(b"f:%d,T\n" % k for k in range(40000)))
         child.stdin.flush()
         child.send_signal(signal.SIGINT)

@@ -16,8 +16,8 @@ class Man(Case):
         for name, page in self.pages():
             with self.subTest(name):
                 helped = set(re.findall(r"^  +(?:-\w, )?(-[-\w]+)", tool(name, "--help")[1], re.M)) - {"--help", "-h"}
-                text = page.read_text(encoding="utf-8")
-                told = {f"-{word}" for word in re.findall(r"Fl (-?[a-z][-a-z]*)", text)} - {"--help", "-h"}
+                lists = "\n".join(re.findall(r"^\.(?:It|Op) .*$", page.read_text(encoding="utf-8"), re.M))
+                told = {f"-{word}" for word in re.findall(r"Fl (-?[a-z][-a-z]*)", lists)} - {"--help", "-h"}
                 self.assertEqual(helped, told)
 
     def test_groff_takes_them(self):

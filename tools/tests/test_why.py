@@ -112,7 +112,7 @@ class Deciding(Case):
         specs = sorted((EXAMPLES / "patterns").glob("*.c2po"))
         with ThreadPoolExecutor() as pool:
             found = [told for each in pool.map(self.check_pattern, specs) for told in each]
-        self.assertEqual(len(specs), 12)
+        self.assertGreaterEqual(len(specs), 12)
         self.assertGreater(sum(found), 80)
 
 
