@@ -89,7 +89,8 @@ pub fn reports_come_in_time()
 /// Numbers are a row of a program exactly where there is one for each column, and each column can hold its number.
 #[tactic(auto, using(crate::proofs::Fitting::fit_from_columns))]
 pub fn fit_rows_fit_each_column()
-    ensures wide { (program : Observer) (row : Row) → IsFit program row → length row ≡ program.width }
+    ensures wide { (program : Observer) (row : Row) → IsFit program row
+        → length row ≡ program.width }
     ensures holds { (program : Observer) (row : Row) (c : ℕ) → IsFit program row
         → FitsColumn (reading_of program.bz) row c }
     ensures fits { (program : Observer) (row : Row) → length row ≡ program.width

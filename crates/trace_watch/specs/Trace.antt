@@ -60,10 +60,11 @@ rows_of program mission before feed (line ∷ rest) =
 abbrev pub fed_rows : Feed → Program → ℕ → ℕ → List (List ℕ) → TraceRows
 fed_rows feed program mission first raws = rows_of program mission 0 feed (after_header first raws)
 
--- those of plain lines, and of stamped ones
+-- those of plain lines
 abbrev pub trace_rows : Program → ℕ → ℕ → List (List ℕ) → TraceRows
 trace_rows program mission first raws = fed_rows Plain program mission first raws
 
+-- and those of lines that begin with a time
 abbrev pub stamped_rows : Program → ℕ → ℕ → List (List ℕ) → TraceRows
 stamped_rows program mission first raws = fed_rows (Stamped None) program mission first raws
 
