@@ -288,7 +288,7 @@ class Real(Pictures):
         self.assertIn("</svg>", out)
 
     def test_a_long_gap(self):
-        spec, trace = self.file("spec", "INPUT p: bool; FTSPEC f: F[0,3] p;"), self.file("trace", "@0,1\n@3000000,0\n@3000009,1\n")
+        spec, trace = self.file("spec", "INPUT p: bool; FTSPEC f: F[0,3] p;"), self.file("trace", "@0,1\n@200000,0\n@200009,1\n")
         before = spent()
         out, _ = self.run_over("--source", "--timed", spec, trace)
         self.assertLess(spent() - before, 60)
