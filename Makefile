@@ -79,3 +79,5 @@ uninstall:
 
 clean:
 	rm -rf build
+
+-include embed/embed.mk

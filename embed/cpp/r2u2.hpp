@@ -11,7 +11,7 @@
 
 #include "r2u2_checked.h"
 
-namespace r2u2 {
+namespace mltl {
 
 // A code above 0, and the fault that was told with it, if one was.
 struct Error : std::runtime_error {
@@ -89,9 +89,9 @@ private:
         throw error;
     }
 
-    struct r2u2 it {};
+    r2u2 it{};
 };
 
-}  // namespace r2u2
+}  // namespace mltl
 
 #endif
