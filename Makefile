@@ -80,3 +80,5 @@ uninstall:
 
 clean:
 	rm -rf build
+
+-include embed/embed.mk
