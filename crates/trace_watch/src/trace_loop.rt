@@ -58,6 +58,7 @@ impl Course {
     }
 
     /// Reads a line, and keeps its row aside. Nothing else of the monitor changes.
+    #[inline(always)]
     fn read(&self, monitor: &mut Monitor, line: &[u8]) -> Found
         requires drained { IsDrained monitor.old }
         requires counted { IsCounted self.now.reader self.now.lines (taken_by monitor.old) }
@@ -79,6 +80,7 @@ impl Course {
     }
 
     /// Takes the line of the last Row, and tells what it brings.
+    #[inline(always)]
     fn take<H: Host, L: Ledger>(
         &mut self,
         monitor: &mut Monitor,
@@ -116,6 +118,7 @@ impl Course {
     }
 
     /// Takes the line of the last Row, unless it is the header or past the mission time.
+    #[inline(always)]
     fn step<H: Host, L: Ledger>(
         &mut self,
         monitor: &mut Monitor,
@@ -148,6 +151,7 @@ impl Course {
     }
 
     /// Cuts one more line, and takes it.
+    #[inline(always)]
     fn turn<H: Host, L: Ledger>(
         &mut self,
         monitor: &mut Monitor,
