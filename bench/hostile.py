@@ -19,6 +19,7 @@ import argparse
 import collections
 import os
 import resource
+import signal
 import subprocess
 import sys
 import tempfile
@@ -40,7 +41,7 @@ Run = collections.namedtuple('Run', 'words most')
 def limited(seconds, stack):
     """What a run's process takes on before it begins."""
     def take_on():
-        resource.setrlimit(resource.RLIMIT_CPU, (seconds, seconds))
+        resource.setrlimit(resource.RLIMIT_CPU, (seconds, seconds + 5))
         resource.setrlimit(resource.RLIMIT_AS, (ROOM, ROOM))
         resource.setrlimit(resource.RLIMIT_STACK, (stack << 10, stack << 10))
     return take_on
@@ -55,7 +56,7 @@ def judged(taken, most):
     """What is to be said of a run, if anything."""
     if taken.status in REFUSED and taken.user < AT_ONCE:
         return 'REFUSED AT ONCE'
-    if taken.status >= 128 + 24 and taken.status <= 128 + 25:
+    if taken.status == 128 + signal.SIGXCPU:
         return 'PAST THE LIMIT OF TIME'
     if taken.status not in (DONE, *REFUSED, OUT_OF_MEMORY):
         return 'ENDED BY A SIGNAL'

@@ -57,7 +57,7 @@ def colliding_names():
 def windows():
     """A specification whose queues and those of its signals have 16,777,216 slots together."""
     names = ['p%d' % k for k in range(16)]
-    spans = [1_048_576] * 15 + [1_048_560]
+    spans = [1_048_576] * 15 + [1_048_543]
     outputs = ''.join('FTSPEC F[0,%d] %s;\n' % it for it in zip(spans, names))
     return 'INPUT %s: bool;\n%s' % (', '.join(names), outputs)
 
@@ -67,7 +67,7 @@ def columns(count):
 
 
 # A header and a row of 65,535 bytes, with as many columns as they hold.
-COLUMNS = 11_000
+COLUMNS = 10_900
 HEADER = ('# ' + columns(COLUMNS)).ljust(65_534) + '\n'
 ROW = ','.join(['1'] * 32_767) + '\n'
 WIDE = 'INPUT\n' + ''.join('c%d: bool;\n' % k for k in range(COLUMNS)) + 'FTSPEC c0;\n'
@@ -75,13 +75,13 @@ PLAIN = 'INPUT p: bool;\nFTSPEC f: p;\n'
 
 # `make` gives the bytes of a program, or the text of a specification, which c2po compiles before.
 PROGRAMS = [
-    Program('outputs', '16 MiB of outputs', of_outputs, '', []),
-    Program('numbers', '16 MiB of instructions of the Booleanizer', of_numbers, '', []),
-    Program('denials', '16 MiB of instructions of future time', of_denials, '', []),
-    Program('signals', '65,536 signals with names of 64 digits', of_signals(long_names), '', []),
-    Program('colliding', '65,536 signals whose names collide', of_signals(colliding_names), '', []),
-    Program('slots', '16,777,216 slots', windows, '', []),
-    Program('header', 'a header of 65,535 bytes', lambda: WIDE, HEADER, []),
-    Program('row', 'a row of 65,534 bytes', lambda: PLAIN, ROW, []),
-    Program('gap', 'a gap of 16,777,215 rows between two stamps', lambda: PLAIN, '@0,1\n@16777215,1\n', ['--timed']),
+    Program('program-outputs', '16 MiB of outputs', of_outputs, '', []),
+    Program('program-numbers', '16 MiB of instructions of the Booleanizer', of_numbers, '', []),
+    Program('program-denials', '16 MiB of instructions of future time', of_denials, '', []),
+    Program('program-signals', '65,536 signals with names of 64 digits', of_signals(long_names), '', []),
+    Program('program-colliding', '65,536 signals whose names collide', of_signals(colliding_names), '', []),
+    Program('most-slots', '16,777,216 slots', windows, '', []),
+    Program('long-header', 'a header of 65,535 bytes', lambda: WIDE, HEADER, []),
+    Program('long-row', 'a row of 65,534 bytes', lambda: PLAIN, ROW, []),
+    Program('long-gap', 'a gap of 16,777,215 rows between two stamps', lambda: PLAIN, '@0,1\n@16777215,1\n', ['--timed']),
 ]

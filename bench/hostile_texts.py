@@ -62,7 +62,8 @@ def structs_within(fields, depth, definitions):
 
 def equivalences():
     items = ['d%d := foreach(v: s)(F[0,%d] v%s);\n' % (k, k, '<->p' * 126) for k in range(127)]
-    return SIGNALS + 'DEFINE s := {' + members(254) + '};\n' + ''.join(items) + 'FTSPEC p;\n'
+    signals = 'INPUT p: bool; %s: bool;\n' % members(254, 'p#')
+    return signals + 'DEFINE s := {' + members(254, 'p#') + '};\n' + ''.join(items) + 'FTSPEC p;\n'
 
 
 def declared(names):
