@@ -1,19 +1,38 @@
-# make try        runs the first example inside a small program, unproved, within about a minute
+# make try        runs r2u2, unproved, over SPEC and TRACE, by default those of the first example, within about a minute
+# make test       plays the cases and the tests of the tools, unproved, within two minutes
 # make            proves and builds both programs into build/
-# make check      passes the whole gate: proofs, edits that must fail, cases
-# make install    installs both programs and their man pages under PREFIX
+# make check      passes the whole gate: proofs, edits that must fail, cases; the programs and the library come into build/
+# make install    installs programs, tools, man pages, completions and syntax under PREFIX; make uninstall removes them
 
 PREFIX ?= /usr/local
+SPEC ?= examples/grant.c2po
+TRACE ?= examples/grant.csv
+JOBS ?= $(shell nproc)
+VERSION = $(shell cat VERSION)
+
 PROGRAMS = r2u2 c2po
 BUILT = $(PROGRAMS:%=build/%)
+TOOLS = budget timeline trace verdicts why
+NAMES = $(PROGRAMS) $(TOOLS:%=r2u2-%)
 
-.PHONY: all try check install clean $(PROGRAMS)
+INTO = $(DESTDIR)$(PREFIX)
+BASH = $(INTO)/share/bash-completion/completions
+ZSH = $(INTO)/share/zsh/site-functions
+FISH = $(INTO)/share/fish/vendor_completions.d
+VIM = $(INTO)/share/vim/vimfiles
+SHARED = $(INTO)/share/r2u2
+
+.PHONY: all try test check install uninstall clean libraries $(PROGRAMS)
 .NOTPARALLEL:
 
 all: $(PROGRAMS)
 
+# `rt all` proves r2u2 and each crate below it, which are those below c2po too, as many side by side as JOBS says.
+libraries:
+	cd crates/r2u2 && rt all check --jobs $(JOBS)
+
 # `rt run` proves what has changed, links the program and runs it: here it only prints its usage line.
-$(PROGRAMS):
+$(PROGRAMS): libraries
 	@mkdir -p build
 	cd crates/$@ && rt run -- --help
 	cp crates/$@/out/$@ build/$@
@@ -24,15 +43,42 @@ $(BUILT):
 
 try:
 	@echo 'Unproved. The proved programs come by "make".'
-	cd crates/own_monitor && rt try
+	@spec=$$(realpath -- '$(SPEC)') && trace=$$(realpath -- '$(TRACE)') && cd crates/r2u2 && rt try -- --source "$$spec" "$$trace"
 
+test:
+	@echo 'Unproved. The gate is "make check".'
+	cd crates/worked_cases && rt try < stdin
+	tools/test
+
+# The library comes along where the kit's gate builds it; else `rt lib` in its folder does.
 check:
 	rt ci
+	@mkdir -p build
+	cp $(wildcard crates/r2u2_c/out/libr2u2_c.a) $(foreach name,$(PROGRAMS),crates/$(name)/out/$(name)) build
 
 install: $(BUILT)
-	install -d $(DESTDIR)$(PREFIX)/bin $(DESTDIR)$(PREFIX)/share/man/man1
-	install -m 755 $(BUILT) $(DESTDIR)$(PREFIX)/bin
-	install -m 644 $(PROGRAMS:%=docs/man/%.1) $(DESTDIR)$(PREFIX)/share/man/man1
+	install -d $(INTO)/bin $(INTO)/share/man/man1 $(SHARED)/tools/lib $(SHARED)/vscode $(BASH) $(ZSH) $(FISH) $(VIM)/syntax $(VIM)/ftdetect
+	install -m 755 $(BUILT) $(INTO)/bin
+	install -m 755 $(TOOLS:%=tools/%) $(SHARED)/tools
+	install -m 644 tools/lib/*.* $(SHARED)/tools/lib
+	for tool in $(TOOLS); do ln -sf ../share/r2u2/tools/$$tool $(INTO)/bin/r2u2-$$tool; done
+	install -m 644 $(NAMES:%=docs/man/%.1) $(INTO)/share/man/man1
+	install -m 644 desk/completions/r2u2.bash $(BASH)/r2u2
+	for name in $(filter-out r2u2,$(NAMES)); do ln -sf r2u2 $(BASH)/$$name; done
+	install -m 644 desk/completions/_r2u2 $(ZSH)
+	install -m 644 desk/completions/r2u2.fish $(FISH)
+	for name in $(filter-out r2u2,$(NAMES)); do ln -sf r2u2.fish $(FISH)/$$name.fish; done
+	install -m 644 desk/vim/syntax/c2po.vim $(VIM)/syntax
+	install -m 644 desk/vim/ftdetect/c2po.vim $(VIM)/ftdetect
+	cp -R desk/vscode/. $(SHARED)/vscode
+	sed "s/\"version\": \"0.0.0\"/\"version\": \"$(VERSION)\"/" desk/vscode/package.json > $(SHARED)/vscode/package.json
+
+uninstall:
+	rm -f $(NAMES:%=$(INTO)/bin/%) $(NAMES:%=$(INTO)/share/man/man1/%.1) $(NAMES:%=$(BASH)/%) $(NAMES:%=$(FISH)/%.fish)
+	rm -f $(ZSH)/_r2u2 $(VIM)/syntax/c2po.vim $(VIM)/ftdetect/c2po.vim
+	rm -rf $(SHARED)
 
 clean:
 	rm -rf build
+
+-include embed/embed.mk

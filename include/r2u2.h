@@ -24,7 +24,7 @@
  * none, and so can't run out of it.
  *
  * ANSWERS. A call that answers a code was done where it answers R2U2_DONE, 0. At every other code the monitor is as it
- * was before the call, and nothing was written but the fault at R2U2_REFUSED.
+ * was before the call, and nothing was written but the fault that tells why.
  */
 #ifndef R2U2_H
 #define R2U2_H
@@ -90,6 +90,13 @@ struct r2u2_fault {
     char text[96];  /* the message, ended by a zero byte, as "operand ft 3" or "name grant missing" */
 };
 
+/* Why a row wasn't taken. */
+struct r2u2_row_fault {
+    uint32_t why;    /* R2U2_REPORTS_LEFT, R2U2_NOT_A_ROW or R2U2_TOO_MANY_ROWS */
+    uint32_t column; /* of R2U2_NOT_A_ROW, counted from 0: the first column that can't hold its number; where the numbers
+                      * are too few the first without one, and where they are too many the first past the width. Else 0 */
+};
+
 /* The word of an output at a time: the verdict of a formula, or the status of an assume-guarantee contract. */
 enum r2u2_word {
     R2U2_FALSE = 0,
@@ -133,8 +140,9 @@ uint32_t r2u2_name(struct r2u2 *it, uint32_t k, char *buffer, size_t count);
 /* Takes the next row: one number for each column. A truth is 0 or 1, a whole number has 32 bits with its sign; columns
  * that the program doesn't read may hold anything. Ask for all its reports before the next row.
  *
- * R2U2_DONE, R2U2_NOT_OPEN, R2U2_REPORTS_LEFT, R2U2_NOT_A_ROW, R2U2_TOO_MANY_ROWS: the first of these that holds. */
-uint32_t r2u2_row(struct r2u2 *it, const int64_t *numbers, size_t count);
+ * R2U2_DONE, R2U2_NOT_OPEN, R2U2_REPORTS_LEFT, R2U2_NOT_A_ROW, R2U2_TOO_MANY_ROWS: the first of these that holds. At the
+ * last three `fault` tells why. */
+uint32_t r2u2_row(struct r2u2 *it, const int64_t *numbers, size_t count, struct r2u2_row_fault *fault);
 
 /* Gives the next report of the rows so far: outputs in order, and the times of each in order. Each time of an output is
  * told once, as soon as the rows decide it, and no later than its worst-case delay. Where `style` is R2U2_EACH times are

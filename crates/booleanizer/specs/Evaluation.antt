@@ -1,12 +1,12 @@
 -- What the Booleanizer computes on a row, in numbers of 64 bits.
 -- A reader of the contracts needs this file.
 
-use Rattle.std.specs.Prelude.{◌≢◌, ◌<◌, ℕ, ℤ, pos, neg_ℤ, ◌+ℤ◌, ◌-ℤ◌, ◌*ℤ◌, int_div, int_rem, int_lt, int_le, Bool, if◌then◌else◌, List, [], ◌∷◌, ◌++◌, length, map, slice_index_or, FitsSigned, ⊤}
+use Rattle.std.specs.Prelude.{◌≡◌, ◌≢◌, ◌<◌, ℕ, ℤ, pos, neg_ℤ, ◌+ℤ◌, ◌-ℤ◌, ◌*ℤ◌, int_div, int_rem, int_lt, int_le, Bool, if◌then◌else◌, List, [], ◌∷◌, ◌++◌, length, map, slice_get, slice_index_or, Some, FitsSigned, ⊤}
 use Rattle.std.specs.Int.{w64}
 use Rattle.std.specs.Ordering.{int_eq}
 use Rattle.mltl_base.specs.declared.operators.BzOp.{BzOp}
 use Rattle.mltl_base.specs.declared.operators.BzOp.TheVariants.{Column, IsTrue, Const, Neg, Add, Sub, Mul, Div, Rem, Eq, Lt, Le}
-use Rattle.mltl_base.specs.Atoms.{Row, value, holds, in_column}
+use Rattle.mltl_base.specs.Atoms.{Row, Atom, value, holds, in_column}
 use Rattle.mltl_base.specs.Programs.{Expression, whole, truth, expression_of, expressions, term_at}
 use Rattle.obs_verify.specs.Soundness.{AreWhole, IsWhole}
 
@@ -22,6 +22,13 @@ number_on row (truth a) = truth_number (holds a row)
 -- the numbers of all instructions on a row
 abbrev pub numbers_on : Row → List BzOp → List ℤ
 numbers_on row ops = map (number_on row) (expressions ops)
+
+-- The value is the truth of an atom on the row whose numbers these are, whichever instructions gave them: that of the
+-- atom which instruction i has.
+abbrev pub IsTruthIn : List ℤ → ℕ → Bool → Type 0
+IsTruthIn numbers i v =
+    (row : Row) (ops : List BzOp) (atom : Atom) → numbers ≡ numbers_on row ops
+    → slice_get (expressions ops) i ≡ Some (truth atom) → v ≡ holds atom row
 
 -- the value of the whole number at a place, over the expressions of the instructions before
 abbrev pub value_at : Row → List Expression → ℕ → ℤ

@@ -1,10 +1,8 @@
 //! The state of the Booleanizer.
 
-ghost use Rattle.std.specs.Prelude.{◌≡◌, ◌<◌, Some, List, length, slice_get, IfOk};
-ghost use Rattle.mltl_base.specs.declared.operators.BzOp.{BzOp};
-ghost use Rattle.mltl_base.specs.Atoms.{Row, Atom, holds};
-ghost use Rattle.mltl_base.specs.Programs.{IsFit, expressions, truth};
-ghost use Rattle.booleanizer.specs.Evaluation.{numbers_on};
+ghost use Rattle.std.specs.Prelude.{◌≡◌, ◌<◌, length, IfOk};
+ghost use Rattle.mltl_base.specs.Programs.{IsFit};
+ghost use Rattle.booleanizer.specs.Evaluation.{IsTruthIn, numbers_on};
 
 use crate::evaluation::evaluate;
 use obs_verify::Checked;
@@ -49,8 +47,7 @@ impl Bz {
     /// The truth of an instruction on the last row.
     pub fn truth(&self, i: u32) -> bool
         requires { i < length self.now }
-        ensures { (row : Row) (ops : List BzOp) (atom : Atom) → self.now ≡ numbers_on row ops
-            → slice_get (expressions ops) i ≡ Some (truth atom) → result ≡ holds atom row }
+        ensures { IsTruthIn self.now i result }
     {
         self.numbers[i as usize] == 1
     }

@@ -14,19 +14,6 @@ use mltl_base::limits::MAX_SIGNALS;
 use mltl_base::{List, Name};
 use std::alloc::Global;
 
-impl Declarations {
-    /// What stands before the first item. It takes no memory.
-    pub fn new(alloc: Global) -> Self
-        ensures { result ≡ nothing }
-    {
-        Declarations {
-            names: NameTable::new(alloc),
-            structs: List::new(alloc),
-            signals: List::new(alloc),
-        }
-    }
-}
-
 /// The name of the type of whole numbers.
 const INT: &[u8] = b"int";
 
@@ -60,23 +47,23 @@ fn written_kind(line: u32, declared: &Declarations, tree: &TypeTree) -> Result<K
     }
 }
 
-/// One more field after those before.
-fn with_field(
+/// Puts one more field after those before.
+fn add_field(
     alloc: Global,
     declared: &Declarations,
     line: u32,
-    fields: NameTable<Kind>,
+    fields: &mut NameTable<Kind>,
     field: &FieldDecl,
-) -> Result<NameTable<Kind>, TypeFault>
-    ensures { Gives (λ t. t) result (with_field line declared.now (field_shape field.now) fields) }
+) -> Result<(), TypeFault>
+    ensures { Gives (λ _. fields.new) result
+        (with_field line declared.now (field_shape field.now) fields.old) }
 {
-    let mut fields = fields;
     if fields.contains(&field.name) {
         return Err(TypeFault::Twice(line));
     }
     let kind = written_kind(line, declared, &field.kind)?;
     fields.add(alloc, &field.name, kind)?;
-    Ok(fields)
+    Ok(())
 }
 
 /// The fields of a struct.
@@ -91,33 +78,9 @@ fn fields_of(
 {
     let mut fields = NameTable::new(alloc);
     for decl in decls {
-        fields = with_field(alloc, declared, line, fields, decl)?;
+        add_field(alloc, declared, line, &mut fields, decl)?;
     }
     Ok(fields)
-}
-
-/// The declarations with one more struct; they are dropped on a refusal.
-pub fn declare_struct(
-    alloc: Global,
-    declared: Declarations,
-    line: u32,
-    name: &Name,
-    fields: &List<FieldDecl>,
-) -> Result<Declarations, TypeFault>
-    ensures { Gives (λ d. d) result
-        (with_struct line name.now (map field_shape fields.now) declared) }
-{
-    let mut declared = declared;
-    if declared.names.contains(name) {
-        return Err(TypeFault::Twice(line));
-    }
-    let table = fields_of(alloc, &declared, line, fields.as_slice())?;
-    let Ok(number) = u32::try_from(declared.structs.len()) else {
-        return Err(TypeFault::Memory);
-    };
-    declared.names.add(alloc, name, Meaning::Struct(number))?;
-    declared.structs.push(table)?;
-    Ok(declared)
 }
 
 /// Whether a signal of a kind is a truth.
@@ -133,63 +96,108 @@ fn is_truth(line: u32, kind: Kind) -> Result<bool, TypeFault>
     Err(TypeFault::Kind(line))
 }
 
-/// The declarations with one more signal.
-fn declare_signal(
-    alloc: Global,
-    declared: Declarations,
-    line: u32,
-    truth: bool,
-    name: &Name,
-) -> Result<Declarations, TypeFault>
-    ensures { Gives (λ d. d) result (with_signal line truth name.now declared) }
-{
-    let mut declared = declared;
-    if declared.names.contains(name) {
-        return Err(TypeFault::Twice(line));
+impl Declarations {
+    /// What stands before the first item. It takes no memory.
+    pub fn new(alloc: Global) -> Self
+        ensures { result ≡ nothing }
+    {
+        Declarations {
+            names: NameTable::new(alloc),
+            structs: List::new(alloc),
+            signals: List::new(alloc),
+        }
     }
-    if declared.signals.len() >= MAX_SIGNALS as usize {
-        return Err(TypeFault::Signals(line));
-    }
-    let kind = if truth { TRUTH } else { WHOLE };
-    declared.names.add(alloc, name, Meaning::Value(kind))?;
-    let signal = Signal {
-        name: name.copy(),
-        truth,
-    };
-    declared.signals.push(signal)?;
-    Ok(declared)
-}
 
-/// The declarations with more signals.
-fn declare_signals(
-    alloc: Global,
-    declared: Declarations,
-    line: u32,
-    truth: bool,
-    names: &[Name],
-) -> Result<Declarations, TypeFault>
-    ensures { Gives (λ d. d) result (in_turn (with_signal line truth) names.now declared) }
-{
-    let mut declared = declared;
-    for name in names {
-        declared = declare_signal(alloc, declared, line, truth, name)?;
+    /// Declares one more struct.
+    pub fn declare_struct(
+        &mut self,
+        alloc: Global,
+        line: u32,
+        name: &Name,
+        fields: &List<FieldDecl>,
+    ) -> Result<(), TypeFault>
+        ensures { Gives (λ _. self.new) result
+            (with_struct line name.now (map field_shape fields.now) self.old) }
+    {
+        if self.names.contains(name) {
+            return Err(TypeFault::Twice(line));
+        }
+        let table = fields_of(alloc, self, line, fields.as_slice())?;
+        let Ok(number) = u32::try_from(self.structs.len()) else {
+            return Err(TypeFault::Memory);
+        };
+        self.names.add(alloc, name, Meaning::Struct(number))?;
+        self.structs.push(table)?;
+        Ok(())
     }
-    Ok(declared)
-}
 
-/// The declarations with the signals of an item; they are dropped on a refusal.
-pub fn declare_input(
-    alloc: Global,
-    declared: Declarations,
-    line: u32,
-    names: &List<Name>,
-    tree: &TypeTree,
-) -> Result<Declarations, TypeFault>
-    ensures { Gives (λ d. d) result (with_input line names.now (type_shape tree.now) declared) }
-{
-    let kind = written_kind(line, &declared, tree)?;
-    let truth = is_truth(line, kind)?;
-    declare_signals(alloc, declared, line, truth, names.as_slice())
+    /// Declares one more signal.
+    fn declare_signal(
+        &mut self,
+        alloc: Global,
+        line: u32,
+        truth: bool,
+        name: &Name,
+    ) -> Result<(), TypeFault>
+        ensures { Gives (λ _. self.new) result (with_signal line truth name.now self.old) }
+    {
+        if self.names.contains(name) {
+            return Err(TypeFault::Twice(line));
+        }
+        if self.signals.len() >= MAX_SIGNALS as usize {
+            return Err(TypeFault::Signals(line));
+        }
+        let kind = if truth { TRUTH } else { WHOLE };
+        self.names.add(alloc, name, Meaning::Value(kind))?;
+        let signal = Signal {
+            name: name.copy(),
+            truth,
+        };
+        self.signals.push(signal)?;
+        Ok(())
+    }
+
+    /// Declares signals of one kind.
+    fn declare_signals(
+        &mut self,
+        alloc: Global,
+        line: u32,
+        truth: bool,
+        names: &[Name],
+    ) -> Result<(), TypeFault>
+        ensures { Gives (λ _. self.new) result
+            (in_turn (with_signal line truth) names.now self.old) }
+    {
+        for name in names {
+            self.declare_signal(alloc, line, truth, name)?;
+        }
+        Ok(())
+    }
+
+    /// Declares the signals of an item.
+    pub fn declare_input(
+        &mut self,
+        alloc: Global,
+        line: u32,
+        names: &List<Name>,
+        tree: &TypeTree,
+    ) -> Result<(), TypeFault>
+        ensures { Gives (λ _. self.new) result
+            (with_input line names.now (type_shape tree.now) self.old) }
+    {
+        let kind = written_kind(line, self, tree)?;
+        let truth = is_truth(line, kind)?;
+        self.declare_signals(alloc, line, truth, names.as_slice())
+    }
+
+    /// Declares one more defined value, whose name isn't among those declared.
+    pub fn declare_value(&mut self, alloc: Global, name: &Name, kind: Kind) -> Result<(), TypeFault>
+        requires { is_named name.now self.old.names ≡ false }
+        ensures { Gives (λ _. self.new) result (Ok (with_value name.now kind self.old)) }
+    {
+        self.names.add(alloc, name, Meaning::Value(kind))?;
+        Ok(())
+    }
 }
 
 /// The kind of a definition, whose name isn't visible in it.
@@ -210,39 +218,23 @@ pub fn check_define(
     Ok(kind)
 }
 
-/// The declarations with one more defined value, whose name isn't among them; they are dropped on a refusal.
-pub fn declare_value(
-    alloc: Global,
-    declared: Declarations,
-    name: &Name,
-    kind: Kind,
-) -> Result<Declarations, TypeFault>
-    requires { is_named name.now declared.names ≡ false }
-    ensures { Gives (λ d. d) result (Ok (with_value name.now kind declared)) }
-{
-    let mut declared = declared;
-    declared.names.add(alloc, name, Meaning::Value(kind))?;
-    Ok(declared)
-}
-
-/// The labels of outputs with one more, where an output has one; they are dropped on a refusal.
+/// Puts one more label of an output after those before, where the output has one.
 pub fn declare_label(
     alloc: Global,
-    labels: NameTable<()>,
+    labels: &mut NameTable<()>,
     line: u32,
     label: &Option<Name>,
-) -> Result<NameTable<()>, TypeFault>
-    ensures { Gives (λ t. t) result (with_label line label.now labels) }
+) -> Result<(), TypeFault>
+    ensures { Gives (λ _. labels.new) result (with_label line label.now labels.old) }
 {
-    let mut labels = labels;
     let Some(name) = label else {
-        return Ok(labels);
+        return Ok(());
     };
     if labels.contains(name) {
         return Err(TypeFault::Twice(line));
     }
     labels.add(alloc, name, ())?;
-    Ok(labels)
+    Ok(())
 }
 
 /// Whether the formula of an output is a truth.

@@ -16,10 +16,7 @@ pub mod scope;
 pub use declarations::Declarations;
 pub use expression::kind_of;
 pub use fault::TypeFault;
-pub use items::{
-    check_contract, check_define, check_formula, declare_input, declare_label, declare_struct,
-    declare_value,
-};
+pub use items::{check_contract, check_define, check_formula, declare_label};
 pub use kind::{Base, Kind, Meaning};
 pub use mltl_base::Signal;
 pub use name_table::NameTable;

@@ -1,5 +1,7 @@
 -- What the check of all items comes to.
-use Rattle.std.proofs.Common.{◌≡◌, ◌≢◌, ℕ, suc, ◌+◌, ◌<◌, ◌≤◌, List, [], map, length, drop, get_or, None, Some, Ok, refl, sym, ap, ◌∙◌}
+use Rattle.std.proofs.Common.{◌≡◌, ◌≢◌, ℕ, suc, ◌+◌, ◌<◌, ◌≤◌, ◌^◌, List, [], map, length, drop, get_or, None, Some, Ok, refl, sym, ap, subst, ◌∙◌}
+use Rattle.std.specs.Prelude.{All}
+use Rattle.std.proofs.lemmas.List.{append-nil}
 use Rattle.std.proofs.Math.ListN.{drop_of_length-le}
 use Rattle.std.proofs.Math.Numerals.{suc-eq-add-one}
 use Rattle.c2po_tree.specs.ItemShape.{ItemShape, item_shape}
@@ -15,6 +17,15 @@ use Rattle.c2po_types.specs.declared.progress.Progress.{Progress}
 use Rattle.c2po_types.specs.Reaching.{state_of}
 use Rattle.unfold.specs.Environment.{Env, no_names, declare, value, signal_value}
 use Rattle.c2po_types.specs.FirstFault.{State, start, item_step, checked, fault_of, first_fault, with_signals}
+use Rattle.mltl_base.specs.Subformulas.{IsTensed}
+use Rattle.plain_nodes.specs.declared.nodes.Expanded.{Expanded}
+use Rattle.plain_nodes.specs.Nodes.{trees, AreSound}
+use Rattle.plain_nodes.specs.Outputs.{NamesFormulas, asked_by, asked, IsSound}
+use Rattle.unfold.specs.Holding.{nodes_of}
+use Rattle.c2po_types.specs.Outputs.{asked_from, outputs_of}
+use Rattle.c2po_types.specs.Signals.{signals_of}
+use Rattle.c2po_types.specs.Unfolded.{Leaves}
+use Rattle.c2po_types.proofs.Faultless.{faultless-tensed}
 
 -- no fault is found
 pub no-fault : (items : List ItemShape) (s : State) → checked items ≡ Ok s → first_fault items ≡ None
@@ -46,3 +57,26 @@ checked-from items p declared labels total =
     ∙ ap (λ (ls : Labels). in_turn (λ i. item_step (item_shape i)) items (record { declared = nothing; labels = ls; values = no_names; total = p.total })) labels
     ∙ ap (λ (n : ℕ). in_turn (λ i. item_step (item_shape i)) items (record { declared = nothing; labels = []; values = no_names; total = n })) total
     ∙ turn-map item_step item_shape items start
+
+-- what is made of all that is unfolded
+pub record Makes (p : Progress) (items : List ItemShape) (made : Expanded) : Type 0 where
+  pub all : Leaves p [] items
+  pub nodes : made.nodes ≡ nodes_of p.values
+  pub outs : made.outs ≡ p.outs
+
+pub made-asked : (p : Progress) (items : List ItemShape) (made : Expanded) → Makes p items made → asked made ≡ outputs_of items
+unfolding asked_from
+made-asked p items made h =
+    ap (λ nodes. map (asked_by (trees nodes)) made.outs) h.nodes ∙ (ap (map (asked_by (trees (nodes_of p.values)))) h.outs
+    ∙ (h.all.stands.asked.asked ∙ (sym (append-nil h.all.told) ∙ h.all.outputs)))
+
+pub made-sound : (p : Progress) (items : List ItemShape) (made : Expanded) → Makes p items made → first_fault items ≡ None
+    → length p.declared.signals ≡ length (signals_of items) → length made.nodes < 2 ^ 32 → length made.outs < 2 ^ 32 → IsSound made (length (signals_of items))
+made-sound p items made h faultless count nodes outs = record {
+  few_nodes = nodes;
+  few_outs = outs;
+  nodes = subst (AreSound (length (signals_of items))) (sym h.nodes) (subst (λ n. AreSound n (nodes_of p.values)) count h.all.stands.sound);
+  outs = subst (λ ns. All (NamesFormulas (trees ns)) made.outs) (sym h.nodes)
+      (subst (All (NamesFormulas (trees (nodes_of p.values)))) (sym h.outs) h.all.stands.asked.formulas);
+  tensed = subst (All IsTensed) (sym (made-asked p items made h)) (faultless-tensed items faultless);
+}

@@ -3,13 +3,18 @@ use Rattle.std.proofs.Common.{◌≡◌, Bool, true, false, Result, Ok, Err, ref
 use Rattle.std.proofs.Common.{ℕ, Option, Some, None}
 use Rattle.std.specs.Result.{MatchResult, IsErrAnd}
 use Rattle.mltl_base.specs.Ranges.{NoRange}
-use Rattle.c2po_types.specs.FirstFault.{State, when_ranged}
+use Rattle.c2po_types.specs.FirstFault.{State, when_ranged, fault_of}
 use Rattle.c2po_kinds.specs.declared.fault.TypeFault.{TypeFault}
 use Rattle.c2po_kinds.specs.Checking.{Checked, ◌>>=◌, Fails}
 use Rattle.c2po_kinds.proofs.Turns.{fails-bind}
 
 pub ok-inj : {X : Type 0} (x y : X) → ◌≡◌ {A = Checked X} (Ok x) (Ok y) → x ≡ y
 ok-inj x y h = cc
+
+-- a check without a fault
+pub is-ok : (m : Checked State) → fault_of m ≡ None → (t : State) × (m ≡ Ok t)
+is-ok (Ok t) h = (t, refl)
+is-ok (Err fault) h = absurd (cc)
 
 pub bind-ok : {X Y : Type 0} (m : Checked X) (f : X → Checked Y) (y : Y) → (m >>= f) ≡ Ok y → (x : X) × (m ≡ Ok x) × (f x ≡ Ok y)
 bind-ok (Ok x) f y h = (x, refl, h)

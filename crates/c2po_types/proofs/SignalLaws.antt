@@ -29,7 +29,7 @@ new-ok : {X V : Type 0} (line : ℕ) (x : List ℕ) (names : Table V) (m : Check
 new-ok line x names m e h = unless-ok (is_named x names) (Twice line) m e h
 
 -- a struct declares none
-struct-signals : (line : ℕ) (x : List ℕ) (fs : List FieldShape) (d e : Declarations) → with_struct line x fs d ≡ Ok e → e.signals ≡ d.signals
+pub struct-signals : (line : ℕ) (x : List ℕ) (fs : List FieldShape) (d e : Declarations) → with_struct line x fs d ≡ Ok e → e.signals ≡ d.signals
 struct-signals line x fs d e h =
     let step = in_turn (with_field line d) fs [] in
     let p = bind-ok step _ e (new-ok line x d.names (step >>= λ fields. Ok (record {
@@ -112,7 +112,7 @@ is_truth line d (set_of t) k b h e =
     let p = bind-ok (type_kind line d t) (λ j. Ok (set_kind j)) k h in
     absurd (no_set line p.0 b (ap (signal_truth line) (ok-inj (set_kind p.0) k p.2) ∙ e))
 
-input-signals : (line : ℕ) (xs : List (List ℕ)) (t : TypeShape) (d e : Declarations) → with_input line xs t d ≡ Ok e
+pub input-signals : (line : ℕ) (xs : List (List ℕ)) (t : TypeShape) (d e : Declarations) → with_input line xs t d ≡ Ok e
     → e.signals ≡ d.signals ++ map (λ (x : List ℕ). record { name = x; truth = is_bool t }) xs
 input-signals line xs t d e h =
     let p = bind-ok (type_kind line d t >>= signal_truth line) (λ b. in_turn (with_signal line b) xs d) e h in
@@ -126,7 +126,7 @@ defined-signals line x d v s t h = ap (λ (r : State). r.declared.signals) (sym 
 out-signals : (line : ℕ) (labels : Labels) (w : ℕ) (why : Option NoRange) (mixed : Bool) (s t : State) → with_out line labels w why mixed s ≡ Ok t → t.declared.signals ≡ s.declared.signals
 out-signals line labels w why mixed s t h = ap (λ (r : State). r.declared.signals) (sym (ok-inj _ t (unless-ok mixed _ _ t (when_ranged-ok line why _ t (when-ok _ _ _ t h)))))
 
-body-signals : (line : ℕ) (body : BodyShape) (s t : State) → body_step line body s ≡ Ok t → t.declared.signals ≡ s.declared.signals ++ body_signals body
+pub body-signals : (line : ℕ) (body : BodyShape) (s t : State) → body_step line body s ≡ Ok t → t.declared.signals ≡ s.declared.signals ++ body_signals body
 body-signals line (structure x fs) s t h =
     let p = bind-ok (with_struct line x fs s.declared) _ t h in
     ap (λ (r : State). r.declared.signals) (sym (ok-inj _ t p.2)) ∙ struct-signals line x fs s.declared p.0 p.1 ∙ sym (append-nil s.declared.signals)

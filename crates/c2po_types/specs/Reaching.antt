@@ -1,6 +1,6 @@
 -- How far the check has come.
 
-use Rattle.std.specs.Prelude.{◌≡◌, ℕ, Ok, Err}
+use Rattle.std.specs.Prelude.{◌≡◌, ℕ, Ok, Err, ⊤}
 use Rattle.unfold.specs.declared.fault.UnfoldFault.{UnfoldFault}
 use Rattle.unfold.specs.declared.fault.UnfoldFault.TheVariants as unfolded
 use Rattle.unfold.specs.declared.fault.UnfoldFault.TheVariants.{Heavy}
@@ -17,9 +17,14 @@ abbrev pub state_of : Progress → Env → State
 state_of p env = record { declared = p.declared; labels = p.labels; values = env; total = p.total }
 
 -- the check comes as far as the definition, or to its fault
-abbrev pub Reaches : Checked Progress → Checked State → Type 0
-Reaches (Ok p) found = (env : Env) × StandsFor p.values env × (found ≡ Ok (state_of p env))
-Reaches (Err fault) found = Fails fault found
+abbrev pub Reaches : Checked ⊤ → Progress → Checked State → Type 0
+Reaches (Ok done) p found = (env : Env) × StandsFor p.values env × (found ≡ Ok (state_of p env))
+Reaches (Err fault) p found = Fails fault found
+
+-- the same of all items
+abbrev pub Comes : Checked Progress → Checked State → Type 0
+Comes (Ok p) found = Reaches (Ok tt) p found
+Comes (Err fault) found = Fails fault found
 
 -- the fault of an item that isn't unfolded
 abbrev pub unfold_fault : ℕ → UnfoldFault → TypeFault

@@ -1,31 +1,35 @@
 //! The check of a whole specification.
 
-ghost use Rattle.std.specs.Prelude.{◌≡◌, ◌≢◌, None, Some, map, IfOk, IfErr, OnOk};
+ghost use Rattle.std.specs.Prelude.{◌≡◌, ◌≢◌, [], None, Some, map, IfOk, IfErr, OnOk};
 ghost use Rattle.c2po_tree.specs.Names.{ArePlainItems};
 ghost use Rattle.c2po_tree.specs.ItemShape.{item_shape, spec_shape};
 ghost use Rattle.c2po_types.specs.FirstFault.{checked, first_fault};
-ghost use Rattle.c2po_types.specs.Reaching.{Reaches};
+ghost use Rattle.c2po_types.specs.Reaching.{Comes};
+ghost use Rattle.c2po_types.specs.Unfolded.{Leaves};
 
 use crate::TypedSpec;
 use crate::progress::Progress;
-use crate::steps::step;
 use c2po_kinds::{Declarations, NameTable, TypeFault};
 use c2po_tree::{Item, SpecTree, copy_tree};
+use mltl_base::List;
+use plain_nodes::Expanded;
 use std::alloc::Global;
 use unfold::Unfolding;
 
 /// What is known after all items.
 fn run(alloc: Global, items: &[Item]) -> Result<Progress, TypeFault>
-    ensures { Reaches result (checked (map item_shape items.now)) }
+    ensures reached { Comes result (checked (map item_shape items.now)) }
+    ensures unfolded { IfOk result (λ p. Leaves p [] (map item_shape items.now)) }
 {
     let mut progress = Progress {
         declared: Declarations::new(alloc),
         labels: NameTable::new(alloc),
         values: Unfolding::new(alloc),
         total: 0,
+        outs: List::new(alloc),
     };
     for item in items {
-        progress = step(alloc, progress, item)?;
+        progress.step(alloc, item)?;
     }
     Ok(progress)
 }
@@ -35,7 +39,8 @@ fn run(alloc: Global, items: &[Item]) -> Result<Progress, TypeFault>
 /// Items are taken in the order of the text. Within an item names and kinds come first, operands before operators and
 /// from left to right; then the weight of what it unfolds to, divisors and ranges, and tenses.
 ///
-/// Errors: the first fault with its line; `Memory` when out of memory.
+/// Errors: the first fault with its line; `Memory` when out of memory, as it also is at 4,194,304 nodes and at 2^32
+/// outputs.
 pub fn check(alloc: Global, tree: &SpecTree) -> Result<TypedSpec, TypeFault>
     requires plain { ArePlainItems (spec_shape tree.now) }
     ensures unchanged { IfOk result (λ spec. spec_shape spec ≡ spec_shape tree.now) }
@@ -43,7 +48,16 @@ pub fn check(alloc: Global, tree: &SpecTree) -> Result<TypedSpec, TypeFault>
     ensures first { IfErr result
         (λ fault. fault ≢ TypeFault.Memory → first_fault (spec_shape tree.now) ≡ Some fault) }
 {
-    let Progress { declared, .. } = run(alloc, tree.items.as_slice())?;
+    let Progress {
+        declared,
+        values,
+        outs,
+        ..
+    } = run(alloc, tree.items.as_slice())?;
+    let Ok(_count) = u32::try_from(outs.len()) else {
+        return Err(TypeFault::Memory);
+    };
+    let nodes = values.into_nodes();
     let copy = copy_tree(alloc, tree)?;
-    Ok(TypedSpec::of(copy, declared.signals))
+    Ok(TypedSpec::of(copy, declared.signals, Expanded { nodes, outs }))
 }

@@ -11,6 +11,8 @@
 #![tactic(auto)]
 
 pub mod checking;
+pub mod laws;
+pub mod names;
 pub mod progress;
 pub mod steps;
 pub mod typed;

@@ -1,14 +1,20 @@
 //! Specifications without a fault.
 
-ghost use Rattle.std.specs.Prelude.{◌≡◌, None};
+ghost use Rattle.std.specs.Prelude.{◌≡◌, ◌≤◌, None, All, length};
+ghost use Rattle.mltl_base.specs.declared.limits.TheConstants.{MAX_SIGNALS};
+ghost use Rattle.mltl_base.specs.Kinds.{HaveOwnNames};
 ghost use Rattle.c2po_tree.specs.ItemShape.{spec_shape};
 ghost use Rattle.c2po_tree.specs.Names.{ArePlainItems};
+ghost use Rattle.plain_nodes.specs.Faults.{HasRanges};
+ghost use Rattle.plain_nodes.specs.Outputs.{IsSound, asked};
 ghost use Rattle.c2po_types.specs.FirstFault.{first_fault};
+ghost use Rattle.c2po_types.specs.Outputs.{HasPlainName, outputs_of};
 ghost use Rattle.c2po_types.specs.Signals.{signals_of};
 
 use c2po_kinds::Signal;
 use c2po_tree::SpecTree;
 use mltl_base::List;
+use plain_nodes::Expanded;
 use std::marker::Model;
 
 /// A specification without a fault, which contracts see as its tree.
@@ -16,6 +22,7 @@ use std::marker::Model;
 pub struct TypedSpec {
     tree: SpecTree,
     signals: List<Signal>,
+    expanded: Expanded,
 }
 
 impl Model for TypedSpec {
@@ -32,18 +39,24 @@ impl Model for TypedSpec {
 
     ghost view = { λ spec. spec.tree };
 
-    ghost invariant = { λ spec. IsFaultless (spec_shape spec.tree) spec.signals };
+    ghost invariant = { λ spec. IsFaultless (spec_shape spec.tree) spec.signals spec.expanded };
 }
 
 impl TypedSpec {
-    /// The specification of a tree without a fault, with its signals.
-    pub(crate) fn of(tree: SpecTree, signals: List<Signal>) -> TypedSpec
+    /// The specification of a tree without a fault, with its signals and what it is unfolded to.
+    pub(crate) fn of(tree: SpecTree, signals: List<Signal>, expanded: Expanded) -> TypedSpec
         requires faultless { first_fault (spec_shape tree) ≡ None }
         requires plain { ArePlainItems (spec_shape tree) }
         requires signals { signals ≡ signals_of (spec_shape tree) }
+        requires unfolds { asked expanded ≡ outputs_of (spec_shape tree) }
+        requires sound { IsSound expanded (length (signals_of (spec_shape tree))) }
         ensures { result ≡ tree }
     {
-        TypedSpec { tree, signals }
+        TypedSpec {
+            tree,
+            signals,
+            expanded,
+        }
     }
 
     /// The tree, which has no fault.
@@ -55,10 +68,22 @@ impl TypedSpec {
         &self.tree
     }
 
-    /// The signals in the order of declaration.
+    /// The signals in the order of declaration, which have names of their own.
     pub fn signals(&self) -> &List<Signal>
-        ensures { result.now ≡ signals_of (spec_shape self.now) }
+        ensures signals { result.now ≡ signals_of (spec_shape self.now) }
+        ensures named { HaveOwnNames result.now }
+        ensures few { length result.now ≤ MAX_SIGNALS }
+        ensures plain { ArePlainItems (spec_shape self.now) }
     {
         &self.signals
+    }
+    /// The nodes and the outputs that the specification is unfolded to.
+    pub fn expanded(&self) -> &Expanded
+        ensures unfolds { asked result.now ≡ outputs_of (spec_shape self.now) }
+        ensures sound { IsSound result.now (length (signals_of (spec_shape self.now))) }
+        ensures ranged { All HasRanges (asked result.now) }
+        ensures named { All HasPlainName (asked result.now) }
+    {
+        &self.expanded
     }
 }

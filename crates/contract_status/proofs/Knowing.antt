@@ -69,7 +69,7 @@ future_shows program rows ft i from (Run last value) stands exists kept shows =
     }
 future_shows program rows ft i from Nothing stands exists kept shows =
     let inside : i < length program.ft = omega (arith, stands.count) in
-    omega (arith, stands.fronts i inside, shows)
+    omega (arith, stands.frontiers i inside, shows)
 
 -- the last row's verdict of the past engine
 pub past_shows : (program : Program) (rows : List Row) (pt : Pt) (i from : ℕ) (value : Bool) → past.Stands program rows pt → i < past.instruction_count pt → length rows ≤ from + 1 → from < length rows

@@ -25,13 +25,13 @@ impl Model for Outs {
 }
 
 impl Outs {
-    ghost use Rattle.std.specs.Prelude.{◌≡◌, ℕ, ◌^◌, ◌≤◌, ◌↔◌, List, [], length, replicate, IfOk, IfSome, IsNone, IsTrue, Some, OnSome};
+    ghost use Rattle.std.specs.Prelude.{◌≡◌, ◌^◌, ◌≤◌, ◌↔◌, List, [], length, replicate, IfOk, IsTrue};
     ghost use Rattle.mltl_base.specs.declared.report.Style.{Style as Form};
     ghost use Rattle.mltl_base.specs.declared.report.Style.TheVariants.{Each as each, Runs as runs};
     ghost use Rattle.mltl_base.specs.Atoms.{Row};
     ghost use Rattle.contract_status.specs.Cursors.{FitsCursor};
-    ghost use Rattle.contract_status.specs.Open.{ArePlaced, GivesFirst, IsGiven, known_counts_of, open_of};
-    ghost use Rattle.contract_status.specs.Standing.{StandFor};
+    ghost use Rattle.contract_status.specs.Open.{ArePlaced, known_counts_of, open_of};
+    ghost use Rattle.contract_status.specs.Standing.{GivesNext, StandFor};
 
     /// The outputs of a program before the first row, with 0 for each next time. It takes all its memory at once.
     pub fn make(alloc: Global, checked: &Checked) -> Result<Outs, AllocError>
@@ -47,12 +47,7 @@ impl Outs {
     pub fn next(&mut self, checked: &Checked, ft: &Ft, pt: &Pt, n: u64) -> Option<Report>
         requires early { n ≤ 2 ^ 40 }
         requires stands { (rows : List Row) × StandFor checked.now rows n ft.now pt.now self.old }
-        ensures first { (rows : List Row) → StandFor checked.now rows n ft.now pt.now self.old
-            → GivesFirst each checked.now rows self.old self.new result }
-        ensures placed { (rows : List Row) → StandFor checked.now rows n ft.now pt.now self.old
-            → ArePlaced checked.now rows self.new }
-        ensures none { IsNone result → self.new ≡ self.old }
-        ensures given { IfSome result (λ report. IsGiven checked.now n report self.old self.new) }
+        ensures { GivesNext each checked.now n ft.now pt.now result self.old self.new }
     {
         self.next_at(Style::Each, &mut Cursor::start(), checked, ft, pt, n)
     }
@@ -62,12 +57,7 @@ impl Outs {
     pub fn next_run(&mut self, checked: &Checked, ft: &Ft, pt: &Pt, n: u64) -> Option<Report>
         requires early { n ≤ 2 ^ 40 }
         requires stands { (rows : List Row) × StandFor checked.now rows n ft.now pt.now self.old }
-        ensures first { (rows : List Row) → StandFor checked.now rows n ft.now pt.now self.old
-            → GivesFirst runs checked.now rows self.old self.new result }
-        ensures placed { (rows : List Row) → StandFor checked.now rows n ft.now pt.now self.old
-            → ArePlaced checked.now rows self.new }
-        ensures none { IsNone result → self.new ≡ self.old }
-        ensures given { IfSome result (λ report. IsGiven checked.now n report self.old self.new) }
+        ensures { GivesNext runs checked.now n ft.now pt.now result self.old self.new }
     {
         self.next_at(Style::Runs, &mut Cursor::start(), checked, ft, pt, n)
     }
@@ -86,13 +76,8 @@ impl Outs {
         requires early { n ≤ 2 ^ 40 }
         requires stands { (rows : List Row) × StandFor checked.now rows n ft.now pt.now self.old }
         requires cursor { FitsCursor checked.now n ft.now pt.now self.old cursor.old }
-        ensures first { (rows : List Row) → StandFor checked.now rows n ft.now pt.now self.old
-            → GivesFirst style checked.now rows self.old self.new result }
-        ensures placed { (rows : List Row) → StandFor checked.now rows n ft.now pt.now self.old
-            → ArePlaced checked.now rows self.new }
+        ensures gives { GivesNext style checked.now n ft.now pt.now result self.old self.new }
         ensures cursor { FitsCursor checked.now n ft.now pt.now self.new cursor.new }
-        ensures none { IsNone result → self.new ≡ self.old }
-        ensures given { IfSome result (λ report. IsGiven checked.now n report self.old self.new) }
     {
         let engines = Engines { ft, pt, rows: n };
         tell_first(style, checked, &engines, &mut self.times, cursor)

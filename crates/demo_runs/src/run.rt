@@ -2,8 +2,7 @@
 
 ghost use Rattle.std.specs.Prelude.{◌≡◌, ◌≢◌, Err, ◌+◌, ◌≤◌, ◌<◌, ◌^◌, ◌++◌, ◌∷◌, [], length, List as Seq, None, Ok, IfOk};
 ghost use Rattle.mltl_base.specs.Atoms.{Row};
-ghost use Rattle.mltl_base.specs.Programs.{IsFit};
-ghost use Rattle.mltl_monitor.specs.Monitoring.{IsDrained, Stands, TakesRow, program_of, taken_by};
+ghost use Rattle.mltl_monitor.specs.Monitoring.{IsDrained, Stands, program_of, taken_by};
 ghost use Rattle.spec_compile.specs.Compiled.{image_of_text};
 ghost use Rattle.demo_runs.specs.Played.{Played};
 ghost use Rattle.demo_runs.specs.Summary.{demo_rows, demo_summary};
@@ -14,11 +13,8 @@ use crate::summary::summary_of;
 use crate::tally::Tally;
 use crate::text::DEMO_TEXT;
 use mltl_monitor::Monitor;
-use scq_ring::steps::Steps;
 use spec_compile::{CompileFault, compile};
 use std::alloc::{AllocError, Global};
-use std::marker::Brand;
-use std::sync::ledger::{Blank, Ledger};
 
 /// A demo that ran: its monitor, and how many reports each output has of each word.
 #[derive(Drop)]
@@ -82,7 +78,7 @@ fn play_row(monitor: &mut Monitor, tallies: &mut [Tally], seed: u32, k: u32)
     requires before { Played tallies.old monitor.old seed k }
     ensures after { Played tallies.new monitor.new seed (k + 1) }
 {
-    take_row(monitor, &demo_row(seed, u64::from(k)));
+    monitor.take(&demo_row(seed, u64::from(k))).unwrap();
     drain(monitor, tallies);
 }
 
@@ -102,27 +98,4 @@ fn drain(monitor: &mut Monitor, tallies: &mut [Tally])
         let out = report.out as usize;
         tallies[out] = tallies[out].with(report.word);
     }
-}
-
-/// Lets a monitor take a row, and counts no steps.
-fn take_row(monitor: &mut Monitor, fields: &[i64])
-    requires drained { IsDrained monitor.old }
-    requires early { taken_by monitor.old < 2 ^ 40 }
-    requires fit { IsFit (program_of monitor.old) fields.now }
-    ensures takes { TakesRow fields.now monitor.old monitor.new }
-{
-    advance::<Brand>(monitor, fields, Blank::new(1));
-}
-
-/// Lets a monitor take a row over a counter of its own.
-fn advance<L: Ledger>(monitor: &mut Monitor, fields: &[i64], blank: Blank)
-    requires name { blank.name ≡ L.name }
-    requires parts { blank.parts ≡ L.parts }
-    requires some_parts { 0 < blank.parts }
-    requires drained { IsDrained monitor.old }
-    requires early { taken_by monitor.old < 2 ^ 40 }
-    requires fit { IsFit (program_of monitor.old) fields.now }
-    ensures takes { TakesRow fields.now monitor.old monitor.new }
-{
-    monitor.advance(fields, &mut Steps::<L>::start(blank));
 }

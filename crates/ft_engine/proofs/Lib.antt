@@ -1,4 +1,11 @@
+pub mod Going
+pub mod KleeneLaws
+pub mod Making
 pub mod Planning
-pub mod Tabled
-pub mod Unfolded
+pub mod Rules
 pub mod Standings
+pub mod Tabled
+pub mod Taking
+pub mod Telling
+pub mod Turning
+pub mod Unfolded

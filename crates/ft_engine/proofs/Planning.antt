@@ -8,10 +8,8 @@ use Rattle.mltl_base.specs.declared.program.Out.{Out}
 use Rattle.mltl_base.specs.Queues.{AreInOrder, HasBounds, IsAfterOperands, best_of, worst_of, best_delays, worst_delays, operands, reported, readers, queue_length, queue_lengths, widest as widest_of}
 use Rattle.delay_sizes.proofs.DelayLaws.{best_at, worst_at, best_below}
 use Rattle.delay_sizes.proofs.QueueLaws.{widest_covers}
-use Rattle.ft_slab.specs.Nodes.{op_at}
-use Rattle.ft_slab.specs.Plans.{IsSeated}
-use Rattle.ft_slab.specs.State.{IsPlannedFor}
-use Rattle.ft_engine.specs.DelayPlan.{plan_of}
+use Rattle.ft_engine.specs.Queues.{op_at}
+use Rattle.ft_engine.specs.Plans.{IsPlannedFor, IsSeated, plan_of}
 
 module _ (ops : List FtOp) (outs : List Out) where
   -- instruction i as a reader

@@ -15,10 +15,9 @@ use Rattle.mltl_base.specs.Settled.{IsPrefix}
 use Rattle.mltl_base.proofs.Leaves.{truth_verdicts, atom_verdicts}
 use Rattle.mltl_base.proofs.Longest.{verdicts_longest}
 use Rattle.mltl_base.proofs.Prefixes.{verdicts_begin}
-use Rattle.ft_slab.specs.Nodes.{op_at}
-use Rattle.ft_slab.specs.Plans.{Plan, IsPlanned}
-use Rattle.ft_slab.specs.Tables.{Extends, IsTable, value_of}
-use Rattle.ft_engine.specs.KnownTable.{known_table, truth_at}
+use Rattle.ft_engine.specs.Queues.{op_at}
+use Rattle.ft_engine.specs.Plans.{Plan, IsPlanned}
+use Rattle.ft_engine.specs.Tables.{Extends, IsTable, known_table, truth_at, value_of}
 use Rattle.ft_engine.proofs.Unfolded.{seated_before, unfolds_at}
 
 -- a list of all n values is the longest

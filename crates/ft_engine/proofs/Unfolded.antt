@@ -7,8 +7,8 @@ use Rattle.mltl_base.specs.declared.operators.FtOp.TheVariants.{True, Load, Not,
 use Rattle.mltl_base.specs.Atoms.{Atom}
 use Rattle.mltl_base.specs.Formula.{Core, ctrue, cnot, cand, cuntil}
 use Rattle.mltl_base.specs.Programs.{core_at, formula_of, formulas_after, formulas}
-use Rattle.ft_slab.specs.Nodes.{op_at}
-use Rattle.ft_slab.specs.Plans.{Plan, IsSeated}
+use Rattle.ft_engine.specs.Queues.{op_at}
+use Rattle.ft_engine.specs.Plans.{Plan, IsSeated}
 
 -- operands stand before index i
 abbrev pub IsBefore : ℕ → FtOp → Type 0

@@ -1,5 +1,8 @@
-pub mod DelayPlan
-pub mod KnownTable
+pub mod Decisions
+pub mod Plans
+pub mod Queues
 pub mod Running
+pub mod Scans
 pub mod Sound
 pub mod Standing
+pub mod Tables

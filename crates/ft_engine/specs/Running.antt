@@ -1,7 +1,7 @@
 -- What a row costs.
 use Rattle.std.specs.Prelude.{ℕ, length, slice_index}
 use Rattle.mltl_base.specs.declared.program.Program.{Program}
-use Rattle.ft_slab.specs.Nodes.{work_before}
+use Rattle.ft_engine.specs.Queues.{work_before}
 
 -- the most steps of one row: of each instruction four times the greatest size of an operand, its own size, and two
 abbrev pub row_work : Program → ℕ

@@ -4,8 +4,8 @@ use Rattle.std.proofs.Props.{props}
 use Rattle.scq_ring.specs.declared.Ring.{Ring}
 use Rattle.scq_ring.specs.declared.Slot.{Slot}
 use Rattle.scq_ring.specs.Runs.{Belongs, Spans}
-use Rattle.ft_slab.specs.declared.slab.Queues.{Queues}
-use Rattle.ft_slab.specs.State.{AreSound}
+use Rattle.ft_engine.specs.declared.queue.Queue.{Queue}
+use Rattle.ft_engine.specs.Queues.{AreSound}
 
 -- that runs follow one another without a gap has one proof at most
 pub Spans-prop : (low : ℕ) (runs : List Slot) (end : ℕ) → IsProp (Spans low runs end)
@@ -17,5 +17,5 @@ pub Belongs-prop : (ring : Ring) (slots : List Slot) → IsProp (Belongs ring sl
 Belongs-prop ring slots = hlevel (props, Spans-prop)
 
 -- that each ring of the queues has its own slots has one proof at most
-pub AreSound-prop : (queues : Queues) → IsProp (AreSound queues)
-AreSound-prop queues = hlevel (props, Belongs-prop)
+pub AreSound-prop : (queues : List Queue) (slab : List Slot) → IsProp (AreSound queues slab)
+AreSound-prop queues slab = hlevel (props, Belongs-prop)

@@ -11,44 +11,47 @@ use Rattle.mltl_base.specs.Queues.{readers, worst_delays, widest}
 use Rattle.mltl_base.specs.Verdicts.{verdicts}
 use Rattle.scq_ring.specs.declared.Seen.{Seen}
 use Rattle.scq_ring.specs.declared.Seen.TheVariants.{Run, Nothing}
-use Rattle.ft_slab.specs.Nodes.{op_at, ReadsAhead}
-use Rattle.ft_slab.specs.State.{HasTable, IsPacedAfter, front_at, low_at, place_at, queue_count, size_at, slab_length, verdict_in}
-use Rattle.ft_engine.specs.DelayPlan.{plan_of}
-use Rattle.ft_engine.specs.KnownTable.{known_table}
+use Rattle.scq_ring.specs.Runs.{frontier_of, low_of, verdict_at}
+use Rattle.scq_ring.specs.Seats.{part}
 use Rattle.ft_engine.specs.declared.engine.Ft.{Ft}
+use Rattle.ft_engine.specs.Plans.{IsPaced, plan_of}
+use Rattle.ft_engine.specs.Queues.{ReadsAhead, op_at, queue_at, reads_from}
+use Rattle.ft_engine.specs.Tables.{HaveVerdicts, known_table}
 
 -- how many instructions there are
 unfoldable pub instruction_count : Ft → ℕ
-instruction_count ft = queue_count ft.queues
+instruction_count ft = length ft.queues.items
 
 -- the first time at which instruction i has no verdict yet
 unfoldable pub frontier_at : Ft → ℕ → ℕ
-frontier_at ft i = front_at ft.queues i
+frontier_at ft i = frontier_of (queue_at ft.queues.items i).ring
 
 -- the first time whose verdict it keeps
 unfoldable pub lowest_at : Ft → ℕ → ℕ
-lowest_at ft i = low_at ft.queues i
+lowest_at ft i = low_of (queue_at ft.queues.items i).ring
 
 -- its verdict at a time that it keeps
 unfoldable pub kept_verdict : Ft → ℕ → ℕ → Bool
-kept_verdict ft i t = verdict_in ft.queues i t
+kept_verdict ft i t =
+    verdict_at (queue_at ft.queues.items i).ring (part ft.slab.items (queue_at ft.queues.items i).seat) t
 
 -- its slots
 unfoldable pub slots_at : Ft → ℕ → ℕ
-slots_at ft i = size_at ft.queues i
+slots_at ft i = (queue_at ft.queues.items i).seat.size
 
 -- the slots of all instructions together
 unfoldable pub slot_total : Ft → ℕ
-slot_total ft = slab_length ft.queues
+slot_total ft = length ft.slab.items
 
 -- a run of the verdicts of instruction i from time `from` on; nothing exactly at or past its frontier
 abbrev pub ShowsFrom : Ft → ℕ → ℕ → Seen → Type 0
-ShowsFrom ft i from (Run end v) = (from ≤ end) × (end < frontier_at ft i) × ((t : ℕ) → from ≤ t → t ≤ end → kept_verdict ft i t ≡ v)
+ShowsFrom ft i from (Run end v) =
+    (from ≤ end) × (end < frontier_at ft i) × ((t : ℕ) → from ≤ t → t ≤ end → kept_verdict ft i t ≡ v)
 ShowsFrom ft i from Nothing = frontier_at ft i ≤ from
 
 -- where an instruction of these reads its operands next
 unfoldable pub place_of : List FtOp → Ft → ℕ → ℕ
-place_of ops ft i = place_at ops ft.queues i
+place_of ops ft i = reads_from (op_at ops i) (queue_at ft.queues.items i)
 
 -- the reading time lies at or past so early a time of each operand
 abbrev pub ReadsFrom : FtOp → (ℕ → ℕ) → ℕ → Type 0
@@ -68,18 +71,22 @@ width_of program i = widest (worst_delays program.ft) (readers program.ft progra
 
 -- the engine has taken the rows of this program
 pub record Stands (program : Program) (rows : List Row) (ft : Ft) : Type 0 where
-  pub paced : IsPacedAfter (plan_of program.ft program.outs) program.ft ft.queues (length rows)
-  pub table : HasTable program.ft (known_table rows (atoms program.bz) program.ft) ft.queues
+  pub paced : IsPaced (plan_of program.ft program.outs) program.ft ft.queues.items ft.slab.items (length rows)
+  pub table : HaveVerdicts program.ft (known_table rows (atoms program.bz) program.ft) ft.queues.items ft.slab.items
   -- the frontier is the number of known verdicts, and each verdict from the low time on is kept
   pub count : instruction_count ft ≡ length program.ft
-  pub fronts : (i : ℕ) → i < length program.ft → frontier_at ft i ≡ length (known_of program rows i)
-  pub verdicts : (i t : ℕ) → i < length program.ft → lowest_at ft i ≤ t → t < frontier_at ft i → slice_get (known_of program rows i) t ≡ Some (kept_verdict ft i t)
+  pub frontiers : (i : ℕ) → i < length program.ft → frontier_at ft i ≡ length (known_of program rows i)
+  pub verdicts : (i t : ℕ) → i < length program.ft → lowest_at ft i ≤ t → t < frontier_at ft i
+      → slice_get (known_of program rows i) t ≡ Some (kept_verdict ft i t)
   -- the frontier lies between n less the worst and n less the best delay
-  pub at_least : (i : ℕ) → i < length program.ft → length rows ≤ frontier_at ft i + core_wpd (formula_at program future i)
+  pub at_least : (i : ℕ) → i < length program.ft
+      → length rows ≤ frontier_at ft i + core_wpd (formula_at program future i)
   pub at_most : (i : ℕ) → i < length program.ft → frontier_at ft i ≤ length rows - bpd (formula_at program future i)
   -- an instruction reads on from the least frontier of its operands, at least, and so from n less the width of each
-  pub ahead : (i : ℕ) → i < length program.ft → ReadsAhead (op_at program.ft i) (frontier_at ft) (place_of program.ft ft i)
-  pub reads : (i : ℕ) → i < length program.ft → ReadsFrom (op_at program.ft i) (λ g. length rows - width_of program g) (place_of program.ft ft i)
+  pub ahead : (i : ℕ) → i < length program.ft
+      → ReadsAhead (op_at program.ft i) (frontier_at ft) (place_of program.ft ft i)
+  pub reads : (i : ℕ) → i < length program.ft
+      → ReadsFrom (op_at program.ft i) (λ g. length rows - width_of program g) (place_of program.ft ft i)
   -- the low time is 0 or at most n - 1 less the width, and the slots are those of the program
   pub lows : (i : ℕ) → i < length program.ft → lowest_at ft i ≤ length rows - 1 - width_of program i
   pub sizes : (i : ℕ) → i < length program.ft → slots_at ft i ≡ slice_index program.sizes.ft i

@@ -1,26 +1,31 @@
 //! The future-time engine of a checked program.
 
-ghost use Rattle.ft_slab.specs.State.{AreSound};
+ghost use Rattle.std.specs.Prelude.{◌≡◌};
+ghost use Rattle.obs_verify.specs.Running.{RunsFuture};
+ghost use Rattle.ft_engine.specs.Queues.{AreSound};
 ghost use Rattle.ft_engine.specs.Sound.{AreSound-prop};
 
-use crate::loaded::Loaded;
+use crate::queue::{Queue, first_read, operand};
+use crate::rows::row_of;
 use booleanizer::Bz;
-use ft_slab::Queues;
+use mltl_base::Program;
 use obs_verify::Checked;
-use scq_ring::Seen;
 use scq_ring::steps::Steps;
+use scq_ring::{Ring, Seat, Seen, Slot};
 use std::alloc::{AllocError, Global};
-use std::sync::ledger::Ledger;
+use std::marker::Brand;
+use std::sync::ledger::{Blank, Ledger};
 
-/// The queues of a program's future-time instructions.
+/// The queues of a program's future-time instructions. Their rings share one slab of slots; no two have a slot in common.
 #[derive(Drop)]
 pub struct Ft {
-    queues: Queues,
-    ghost sound: { AreSound queues } by { AreSound-prop queues },
+    queues: Vec<Queue>,
+    slab: Vec<Slot>,
+    ghost sound: { AreSound queues.items slab.items } by { AreSound-prop queues.items slab.items },
 }
 
 impl Ft {
-    ghost use Rattle.std.specs.Prelude.{◌≡◌, ℕ, ◌+◌, ◌^◌, ◌<◌, ◌≤◌, List, [], ◌∷◌, ◌++◌, length, IfOk, MatchOption};
+    ghost use Rattle.std.specs.Prelude.{ℕ, ◌+◌, ◌^◌, ◌<◌, ◌≤◌, List, [], ◌∷◌, ◌++◌, length, IfOk, MatchOption};
     ghost use Rattle.mltl_base.specs.Atoms.{Row};
     ghost use Rattle.booleanizer.specs.Evaluation.{numbers_on};
     ghost use Rattle.ft_engine.specs.Running.{row_work};
@@ -30,9 +35,22 @@ impl Ft {
     pub fn make(alloc: Global, checked: &Checked) -> Result<Ft, AllocError>
         ensures stands { IfOk result (Stands checked.now []) }
     {
-        let program = checked.program();
-        let queues = Queues::make(alloc, program.ft.as_slice(), program.sizes.ft.as_slice())?;
-        Ok(Ft { queues })
+        let program = program_of(checked);
+        let ops = program.ft.as_slice();
+        let sizes = program.sizes.ft.as_slice();
+        let mut queues = Vec::new(alloc);
+        let mut start = 0;
+        for (i, op) in ops.iter().enumerate() {
+            let size = sizes[i] as usize;
+            queues.push(Queue {
+                ring: Ring::make(),
+                reads_at: first_read(*op),
+                seat: Seat { start, size },
+            })?;
+            start += size;
+        }
+        let slab = vec![in alloc; Slot::clear(); start]?;
+        Ok(Ft { queues, slab })
     }
 
     /// Takes the row that the Booleanizer took last. It takes no memory.
@@ -45,38 +63,43 @@ impl Ft {
             → Stands checked.now (rows ++ row ∷ []) self.new }
         ensures counted { steps.new ≤ steps.old + row_work checked.now }
     {
-        let program = checked.program();
-        self.queues
-            .row(program.ft.as_slice(), &Loaded { bz }, steps);
+        let program = program_of(checked);
+        row_of(
+            program.ft.as_slice(),
+            bz,
+            &mut self.queues,
+            &mut self.slab,
+            steps,
+        );
     }
 
     /// The first time at which instruction `i` has no verdict yet.
-    #[tactic(auto, unfolding(crate::specs::Standing::instruction_count, crate::specs::Standing::frontier_at))]
     pub fn front(&self, i: u32) -> u64
         requires exists { i < instruction_count self.now }
         ensures front { result ≡ frontier_at self.now i }
     {
-        self.queues.front(i)
+        self.queues[i as usize].ring.frontier()
     }
 
     /// The first time whose verdict instruction `i` keeps.
-    #[tactic(auto, unfolding(crate::specs::Standing::instruction_count, crate::specs::Standing::lowest_at))]
     pub fn low(&self, i: u32) -> u64
         requires exists { i < instruction_count self.now }
         ensures low { result ≡ lowest_at self.now i }
     {
-        self.queues.low(i)
+        self.queues[i as usize].ring.low()
     }
 
     /// The verdict of instruction `i` at time `t`: none exactly at or past its frontier.
-    #[tactic(auto, unfolding(crate::specs::Standing::instruction_count, crate::specs::Standing::frontier_at, crate::specs::Standing::lowest_at, crate::specs::Standing::kept_verdict))]
     pub fn verdict(&self, i: u32, t: u64) -> Option<bool>
         requires exists { i < instruction_count self.now }
         requires kept { lowest_at self.now i ≤ t }
         ensures verdict { MatchOption result (frontier_at self.now i ≤ t)
             (λ v. (t < frontier_at self.now i) × (kept_verdict self.now i t ≡ v)) }
     {
-        self.queues.verdict(i, t)
+        match self.run_from(i, t) {
+            Seen::Nothing => None,
+            Seen::Run(_, value) => Some(value),
+        }
     }
 
     /// The verdict of instruction `i` at time `from`, and a time up to which it stays the same; nothing exactly at or
@@ -86,6 +109,29 @@ impl Ft {
         requires kept { lowest_at self.now i ≤ from }
         ensures shows { ShowsFrom self.now i from result }
     {
-        self.queues.run_from(i, from)
+        self.look::<Brand>(i, from, Blank::new(1))
     }
+
+    /// What `run_from` shows, on a count of its own.
+    fn look<L: Ledger>(&self, i: u32, from: u64, blank: Blank) -> Seen
+        requires exists { i < instruction_count self.now }
+        requires kept { lowest_at self.now i ≤ from }
+        requires name { blank.name ≡ L.name }
+        requires parts { blank.parts ≡ L.parts }
+        requires some_parts { 0 < blank.parts }
+        ensures shows { ShowsFrom self.now i from result }
+    {
+        let mut steps = Steps::<L>::start(blank);
+        let queue = operand(&self.queues, &self.slab, i);
+        queue.ring.read(queue.slots, from, &mut steps)
+    }
+}
+
+/// The program of a checked one, which the engine can run.
+#[tactic(auto, using(obs_verify::proofs::RunLaws::runs_future))]
+fn program_of(checked: &Checked) -> &Program
+    ensures program { result.now ≡ checked.now }
+    ensures runs { RunsFuture checked.now }
+{
+    checked.program()
 }

@@ -8,12 +8,9 @@ ghost use Rattle.mltl_base.specs.declared.operators.FtOp.{FtOp};
 ghost use Rattle.mltl_base.specs.declared.program.Out.{Out};
 ghost use Rattle.mltl_base.specs.Atoms.{Row, Atom, holds, is_true};
 ghost use Rattle.mltl_base.specs.Queues.{AreInOrder, HasBounds, queue_lengths};
-ghost use Rattle.ft_slab.specs.Nodes.{op_at};
-ghost use Rattle.ft_slab.specs.Plans.{Plan, IsPlanned};
-ghost use Rattle.ft_slab.specs.State.{IsPlannedFor};
-ghost use Rattle.ft_slab.specs.Tables.{Extends, IsTable};
-ghost use Rattle.ft_engine.specs.DelayPlan.{plan_of};
-ghost use Rattle.ft_engine.specs.KnownTable.{known_table, truth_at};
+ghost use Rattle.ft_engine.specs.Plans.{IsPlanned, IsPlannedFor, Plan, plan_of};
+ghost use Rattle.ft_engine.specs.Queues.{op_at};
+ghost use Rattle.ft_engine.specs.Tables.{Extends, IsTable, known_table, truth_at};
 
 /// The known verdicts of the formulas of a program's instructions are what queues of these instructions are to show.
 #[tactic(auto, using(crate::proofs::Tabled::extends, crate::proofs::Tabled::nothing, crate::proofs::Tabled::truth_of_last))]

@@ -1,8 +1,20 @@
 //! The future-time engine: the verdicts of all future-time instructions of a program, row by row.
+//!
+//! Each instruction has a queue. An operator decides a run of times at once: the strong Kleene value of the operator over what
+//! is known of its operands, so it answers as early as that value is known.
 #![tactic(auto)]
 
+mod conjunction;
 mod engine;
 pub mod laws;
-mod loaded;
+mod negation;
+mod operand;
+mod queue;
+mod rows;
+mod until;
 
+pub use conjunction::and_row;
 pub use engine::Ft;
+pub use negation::not_row;
+pub use operand::Operand;
+pub use until::{Until, until_row};

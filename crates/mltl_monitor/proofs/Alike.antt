@@ -37,8 +37,8 @@ same_verdict : (running : Running) (rows other : List Row) (i t : ℕ) → HasTa
 same_verdict running rows other i t taken taken' inside kept = elim (cases_lt t (future.frontier_at running.ft i)) [
   | inl below ↦ taken.stand.future.verdicts i t inside kept below ∙ sym (taken'.stand.future.verdicts i t inside kept below)
   | inr past ↦
-      slice_get_past (future.known_of running.checked rows i) t (omega (arith, past, taken.stand.future.fronts i inside))
-      ∙ sym (slice_get_past (future.known_of running.checked other i) t (omega (arith, past, taken'.stand.future.fronts i inside)))
+      slice_get_past (future.known_of running.checked rows i) t (omega (arith, past, taken.stand.future.frontiers i inside))
+      ∙ sym (slice_get_past (future.known_of running.checked other i) t (omega (arith, past, taken'.stand.future.frontiers i inside)))
 ]
 
 -- where all known words of an output were told after some rows, no more are known after others
@@ -51,8 +51,8 @@ no_more running rows other k (out.TheVariants.Formula engine.TheVariants.Ft i na
       arith,
       length-map (future.known_of running.checked rows i) word_of,
       length-map (future.known_of running.checked other i) word_of,
-      taken.stand.future.fronts i exists,
-      taken'.stand.future.fronts i exists,
+      taken.stand.future.frontiers i exists,
+      taken'.stand.future.frontiers i exists,
     )
 no_more running rows other k (out.TheVariants.Formula engine.TheVariants.Pt i name) taken taken' there told =
     let output = out.TheVariants.Formula engine.TheVariants.Pt i name in

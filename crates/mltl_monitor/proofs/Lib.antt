@@ -4,3 +4,4 @@ pub mod Telling
 pub mod Keeping
 pub mod Settled
 pub mod Alike
+pub mod Fitting

@@ -83,8 +83,8 @@ open_head style rows k (o ∷ outs) (next_time ∷ next_times) report more is = 
         (0, o, refl, subst (λ (n : ℕ). IsHead n next_time (drop next_time (words rows o)) report) number (words_head style k next_time (drop next_time (words rows o)) report reports (e ∙ ap (λ (x : Report). x ∷ reports) first)))
 
 -- a member after an index
-behind : (ws : List Word) (next_time d : ℕ) (w : Word) → slice_get (drop next_time ws) d ≡ Some w → slice_get ws (next_time + d) ≡ Some w
-behind ws next_time d w there =
+drop_at : (ws : List Word) (next_time d : ℕ) (w : Word) → slice_get (drop next_time ws) d ≡ Some w → slice_get ws (next_time + d) ≡ Some w
+drop_at ws next_time d w there =
     let within : d < length (drop next_time ws) = slice_get_within (drop next_time ws) d w there in
     slice_get-get_or ws (next_time + d) w (omega (arith, within, length-drop next_time ws))
     ∙ ap Some (sym (get_or-drop next_time ws d w) ∙ get_or_from_slice_get (drop next_time ws) d w w there)
@@ -109,5 +109,5 @@ first_is_settled style monitor rows report more o t is named from upto =
     let here : next_time ≡ slice_index next_times report.out = ap (λ (n : ℕ). slice_index next_times n) number in
     let same : first.1 ≡ o = let there : slice_get outs first.0 ≡ Some o = ap (λ (n : ℕ). slice_get outs n) number ∙ named in let given : slice_get outs first.0 ≡ Some first.1 = first.2 in cc in
     let time : next_time + (t - next_time) ≡ t = omega (arith, here, from) in
-    let there : slice_get (words rows first.1) (next_time + (t - next_time)) ≡ Some report.word = behind (words rows first.1) next_time (t - next_time) report.word (first.3.tells (t - next_time) (omega (arith, here, from, upto))) in
+    let there : slice_get (words rows first.1) (next_time + (t - next_time)) ≡ Some report.word = drop_at (words rows first.1) next_time (t - next_time) report.word (first.3.tells (t - next_time) (omega (arith, here, from, upto))) in
     word_settled rows o t report.word (subst (λ (x : Output). slice_get (words rows x) t ≡ Some report.word) same (ap (λ (n : ℕ). slice_get (words rows first.1) n) (sym time) ∙ there))

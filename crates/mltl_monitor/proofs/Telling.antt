@@ -1,7 +1,7 @@
 -- What an answer says of the reports that were open.
 
 use Rattle.std.proofs.Common.{◌≡◌, ◌↔◌, ℕ, ◌^◌, ◌≤◌, Bool, Option, None, Some, List, [], ◌∷◌, refl, ap, sym, subst, ◌∙◌, arith}
-use Rattle.std.specs.Prelude.{IfNone, IsNone, IsTrue}
+use Rattle.std.specs.Prelude.{IfNone, IfSome, IsNone, IsTrue}
 use Rattle.mltl_base.specs.declared.program.Program.{Program}
 use Rattle.mltl_base.specs.declared.report.Report.{Report}
 use Rattle.mltl_base.specs.declared.report.Style.{Style}
@@ -57,6 +57,34 @@ pub none_leaves_drained : (style : Style) (result : Option Report) (before after
     → (IsNone result → after ≡ before) → IfNone result (IsDrained after)
 none_leaves_drained style None before after gives same = subst IsDrained (sym (same refl)) (drained_in_all before style gives)
 none_leaves_drained style (Some report) before after gives same = tt
+
+-- so what runs gives a report, the monitor does
+pub gives_next : (style : Style) (result : Option Report) (before : State) (after : Running) → (rows : List Row) × HasTaken before.running rows → before.running.taken ≤ 2 ^ 40
+    → ((rows : List Row) → HasTaken before.running rows → GivesFirst style result before.running after rows) → ((rows : List Row) → HasTaken before.running rows → HasTaken after rows)
+    → (IsNone result → after ≡ before.running) → IfSome result (λ report. IsGiven report before.running after)
+    → monitor.GivesNext style result before (record before { running = after })
+gives_next style None before after some early first stands none given =
+    let same : after ≡ before.running = none refl in
+    record {
+      first = λ rows stood. first rows stood.taken;
+      stands = λ rows stood. record { taken = stands rows stood.taken; last = stood.last };
+      none = none_where_drained style None before.running after first some;
+      same = ap (λ (running : Running). record before { running = running }) same;
+      drained = none_leaves_drained style None before.running after first none;
+      given = tt;
+      program = ap (λ (running : Running). running.checked) same;
+      as_many = ap (λ (running : Running). running.taken) same;
+    }
+gives_next style (Some report) before after some early first stands none given = record {
+  first = λ rows stood. first rows stood.taken;
+  stands = λ rows stood. record { taken = stands rows stood.taken; last = stood.last };
+  none = none_where_drained style (Some report) before.running after first some;
+  same = tt;
+  drained = tt;
+  given = given_of_running before after report early given;
+  program = ap (λ (running : Running). running.checked) given.moved;
+  as_many = ap (λ (running : Running). running.taken) given.moved;
+}
 
 -- an answer that tells of one list of rows tells of each
 pub tells_drained : (answer : Bool) (running : Running) → ((style : Style) (rows : List Row) → HasTaken running rows → IsTrue answer ↔ (open_of style running rows ≡ []))

@@ -1,6 +1,6 @@
 -- What a monitor stands for.
 
-use Rattle.std.specs.Prelude.{◌≡◌, ℕ, ◌+◌, ◌^◌, ◌<◌, ◌≤◌, Option, List, [], ◌∷◌, ◌++◌, length, map, vec_len}
+use Rattle.std.specs.Prelude.{◌≡◌, ◌↔◌, ℕ, ◌+◌, ◌^◌, ◌<◌, ◌≤◌, Option, List, [], ◌∷◌, ◌++◌, length, map, vec_len, IfNone, IfSome, IsNone}
 use Rattle.std.specs.List.{range_with_len}
 use Rattle.mltl_base.specs.declared.program.Program.{Program}
 use Rattle.mltl_base.specs.declared.report.Report.{Report}
@@ -72,14 +72,26 @@ pub record HasGiven (report : Report) (before after : State) : Type 0 where
   pub last : last_of after ≡ last_of before
   pub read : read_of after ≡ read_of before
 
--- A report was given: it is of an output that there is, at a time that was taken, one of the first 2 ^ 40. Nothing else changed, and
--- fewer times are left to tell.
+-- A report was given: it is of an output that there is, at a time that was taken, one of the first 2 ^ 40. Nothing else
+-- changed, and fewer times are left to tell.
 pub record IsGiven (report : Report) (before after : State) : Type 0 where
   pub moved : HasGiven report before after
   pub exists : report.out < length (program_of before).outs
   pub taken : report.time < taken_by before
   pub early : report.time < 2 ^ 40
   pub fewer : left_to_tell after < left_to_tell before
+
+-- The first report that was still to be given in a style was given, and the others still are; where there was none,
+-- nothing changed. The monitor stands for the same rows.
+pub record GivesNext (style : Style) (result : Option Report) (before after : State) : Type 0 where
+  pub first : (rows : List Row) → Stands before rows → GivesFirst style result before after rows
+  pub stands : (rows : List Row) → Stands before rows → Stands after rows
+  pub none : IsNone result ↔ IsDrained before
+  pub same : IfNone result (after ≡ before)
+  pub drained : IfNone result (IsDrained after)
+  pub given : IfSome result (λ report. IsGiven report before after)
+  pub program : program_of after ≡ program_of before
+  pub as_many : taken_by after ≡ taken_by before
 
 -- nothing changed of what the monitor stands for
 pub record IsSame (before after : State) : Type 0 where
@@ -92,7 +104,8 @@ pub record TakesRow (row : Row) (before after : State) : Type 0 where
   pub taken : taken_by after ≡ taken_by before + 1
   pub last : last_of after ≡ row
   pub stands : (rows : List Row) → Stands before rows → Stands after (rows ++ row ∷ [])
-  pub opens : (style : Style) (rows : List Row) → Stands before rows → open_of style after (rows ++ row ∷ []) ≡ of_row style 0 (outputs (program_of before)) rows row
+  pub opens : (style : Style) (rows : List Row) → Stands before rows
+      → open_of style after (rows ++ row ∷ []) ≡ of_row style 0 (outputs (program_of before)) rows row
 
 -- what holds of each monitor: it stands for some rows, at most 2 ^ 40 of them, and has room for a row
 pub record IsSound (monitor : State) : Type 0 where

@@ -41,8 +41,8 @@ left_to_tell running = status.times_left running.taken running.outs
 abbrev pub after_report : Report → Running → Running
 after_report report running = record running { outs = slice_set running.outs report.out (report.time + 1) }
 
--- A report was given: it is of an output that there is, at a time that was taken. Nothing but the next time of this output moved, so
--- fewer times are left.
+-- A report was given: it is of an output that there is, at a time that was taken. Nothing but the next time of this
+-- output moved, so fewer times are left.
 pub record IsGiven (report : Report) (before after : Running) : Type 0 where
   pub exists : report.out < length before.checked.outs
   pub taken : report.time < before.taken
@@ -63,7 +63,8 @@ pub record TakesRow (row : Row) (before after : Running) : Type 0 where
   pub program : after.checked ≡ before.checked
   pub taken : after.taken ≡ before.taken + 1
   pub stands : (rows : List Row) → HasTaken before rows → HasTaken after (rows ++ row ∷ [])
-  pub opens : (style : Style) (rows : List Row) → HasTaken before rows → open_of style after (rows ++ row ∷ []) ≡ of_row style 0 (outputs before.checked) rows row
+  pub opens : (style : Style) (rows : List Row) → HasTaken before rows
+      → open_of style after (rows ++ row ∷ []) ≡ of_row style 0 (outputs before.checked) rows row
 
 -- the most steps of one row, in both engines
 abbrev pub row_work : Program → ℕ

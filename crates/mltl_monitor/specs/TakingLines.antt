@@ -10,8 +10,10 @@ use Rattle.mltl_monitor.specs.Monitoring.{IsSame, TakesRow, program_of}
 
 -- the line is a row, which the monitor has taken, or it is none, and nothing changed
 abbrev pub TakesLine : RowAnswer → List ℕ → State → State → Type 0
-TakesLine Good line before after = (row : Row) × (line_meaning (program_of before) line ≡ row_of row) × TakesRow row before after
+TakesLine Good line before after =
+    (row : Row) × (line_meaning (program_of before) line ≡ row_of row) × TakesRow row before after
 TakesLine Blank line before after = (line_meaning (program_of before) line ≡ blank) × IsSame before after
 TakesLine Width line before after = (line_meaning (program_of before) line ≡ too_few) × IsSame before after
 TakesLine (NotWhole c) line before after = (line_meaning (program_of before) line ≡ not_whole c) × IsSame before after
-TakesLine (OutOfRange c) line before after = (line_meaning (program_of before) line ≡ out_of_range c) × IsSame before after
+TakesLine (OutOfRange c) line before after =
+    (line_meaning (program_of before) line ≡ out_of_range c) × IsSame before after

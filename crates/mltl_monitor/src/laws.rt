@@ -1,17 +1,20 @@
 //! What the definitions of a monitor say together: each law is the contract of a function with an empty body.
 
-ghost use Rattle.std.specs.Prelude.{◌≡◌, ◌↔◌, ℕ, ◌+◌, ◌≤◌, List, [], ◌∷◌, Some, Contains, length, slice_get, slice_index, sum};
+ghost use Rattle.std.specs.Prelude.{◌≡◌, ◌↔◌, ℕ, ◌+◌, ◌<◌, ◌≤◌, List, [], ◌∷◌, Some, Contains, length, slice_get, slice_index, sum};
 ghost use Rattle.mltl_base.specs.declared.program.Out.{Out as Reported};
+ghost use Rattle.mltl_base.specs.declared.program.Program.{Program as Observer};
 ghost use Rattle.mltl_base.specs.declared.report.Report.{Report as Given};
 ghost use Rattle.mltl_base.specs.declared.report.Style.{Style as Form};
 ghost use Rattle.mltl_base.specs.Atoms.{Row};
-ghost use Rattle.mltl_base.specs.Programs.{outputs};
+ghost use Rattle.mltl_base.specs.Programs.{IsFit, outputs};
 ghost use Rattle.mltl_base.specs.Queues.{queue_lengths, reported, slot_count};
 ghost use Rattle.mltl_base.specs.Reports.{IsSettled, Output, delay};
 ghost use Rattle.ft_engine.specs.Standing.{lowest_at, width_of};
 ghost use Rattle.contract_status.specs.Open.{known_counts_of};
+ghost use Rattle.trace_feed.specs.Rows.{reading_of};
 ghost use Rattle.mltl_monitor.specs.declared.state.State.{State as Shown};
 ghost use Rattle.mltl_monitor.specs.Monitoring.{IsDrained, Stands, open_of, places_of, program_of, room_total_of, slot_total_of, slots_of};
+ghost use Rattle.mltl_monitor.specs.RowFaults.{FitsColumn};
 
 /// Each future-time instruction has the slots that are stored for it, which are as many as it needs.
 #[tactic(auto, using(crate::proofs::Keeping::slots_needed))]
@@ -81,4 +84,16 @@ pub fn reports_come_in_time()
         Stands monitor rows → IsDrained monitor
         → slice_get (outputs (program_of monitor)) k ≡ Some o
         → length rows ≤ slice_index (places_of monitor) k + delay o }
+{}
+
+/// Numbers are a row of a program exactly where there is one for each column, and each column can hold its number.
+#[tactic(auto, using(crate::proofs::Fitting::fit_from_columns))]
+pub fn fit_rows_fit_each_column()
+    ensures wide { (program : Observer) (row : Row) → IsFit program row
+        → length row ≡ program.width }
+    ensures holds { (program : Observer) (row : Row) (c : ℕ) → IsFit program row
+        → FitsColumn (reading_of program.bz) row c }
+    ensures fits { (program : Observer) (row : Row) → length row ≡ program.width
+        → ((c : ℕ) → c < length row → FitsColumn (reading_of program.bz) row c)
+        → IsFit program row }
 {}

@@ -1,9 +1,20 @@
 //! The monitor of a checked program: it takes rows one by one, and gives the reports that each row brings.
+//!
+//! What a program that embeds a monitor names is here: the [`Monitor`] with its rows, faults and reports, the [`Checked`]
+//! program that it is loaded with, and the calls that bind a program to the columns of a header, [`header_of`] and
+//! [`rebind`].
 #![tactic(auto)]
 
 pub mod laws;
 mod monitor;
+mod row_fault;
 mod running;
 mod state;
+mod unfit;
 
+pub use mltl_base::{Report, Style, Word};
 pub use monitor::Monitor;
+pub use obs_verify::{Checked, rebind};
+pub use row_fault::RowFault;
+pub use scq_ring::steps::Steps;
+pub use trace_feed::{HeaderFault, RowAnswer, header_of};

@@ -1,16 +1,20 @@
 //! The monitor.
 
+use crate::row_fault::RowFault;
 use crate::running::Running;
 use crate::state::State;
-use contract_status::Cursor;
+use crate::unfit::unfit_column;
+use arrayvec::ArrayVec;
+use contract_status::{Cursor, line_of};
+use mltl_base::limits::MAX_MISSION;
 use mltl_base::{Report, Style};
 use obs_verify::Checked;
 use scq_ring::steps::Steps;
 use std::alloc::{AllocError, Global};
-use std::marker::Model;
+use std::marker::{Brand, Model};
 use std::mem;
-use std::sync::ledger::Ledger;
-use trace_feed::{Readings, RowAnswer, row_fields};
+use std::sync::ledger::{Blank, Ledger};
+use trace_feed::{Readings, RowAnswer, row_fields_by};
 
 /// A monitor of a checked program. It takes rows one by one, and gives the reports that each row brings before it takes
 /// the next. All its memory is taken by `load`. Contracts see its state.
@@ -43,15 +47,18 @@ impl Model for Monitor {
 }
 
 impl Monitor {
-    ghost use Rattle.std.specs.Prelude.{◌≡◌, ◌+◌, ◌^◌, ◌<◌, ◌≤◌, ◌↔◌, List, [], IfOk, IfNone, IfSome, IsNone, IsTrue};
+    ghost use Rattle.std.specs.Prelude.{◌≡◌, ◌+◌, ◌^◌, ◌<◌, ◌≤◌, ◌↔◌, List, [], IfErr, IfOk, IsOk, IsTrue, MatchOption, OnErr, OnOk, length};
+    ghost use Rattle.arrayvec.specs.ArrayVec.{array_vec_len};
     ghost use Rattle.mltl_base.specs.declared.report.Style.{Style as Form};
     ghost use Rattle.mltl_base.specs.declared.report.Style.TheVariants.{Each, Runs};
     ghost use Rattle.mltl_base.specs.Atoms.{Row};
-    ghost use Rattle.mltl_base.specs.Programs.{IsFit};
+    ghost use Rattle.mltl_base.specs.Lines.{line};
+    ghost use Rattle.mltl_base.specs.Programs.{IsFit, output_names};
     ghost use Rattle.mltl_monitor.specs.Running.{row_work};
     ghost use Rattle.trace_feed.specs.Rows.{Tells, line_meaning};
     ghost use Rattle.mltl_monitor.specs.TakingLines.{TakesLine};
-    ghost use Rattle.mltl_monitor.specs.Monitoring.{GivesFirst, IsDrained, IsGiven, IsSame, Stands, TakesRow, last_of, open_of, program_of, read_of, taken_by};
+    ghost use Rattle.mltl_monitor.specs.Monitoring.{GivesNext, IsDrained, IsSame, Stands, TakesRow, last_of, open_of, program_of, read_of, taken_by};
+    ghost use Rattle.mltl_monitor.specs.RowFaults.{IsReady, IsRowCause, IsUnfitAt};
 
     /// A monitor that has taken no rows. All its memory is taken here.
     pub fn load(alloc: Global, checked: Checked) -> Result<Monitor, AllocError>
@@ -91,6 +98,47 @@ impl Monitor {
         self.state.running.taken
     }
 
+    /// Takes the next row, of one number for each column, if it is one and the monitor is ready for it. Otherwise nothing
+    /// changes, and the first cause is told. It takes no memory.
+    #[tactic(auto, using(crate::proofs::Fitting::unready))]
+    pub fn take(&mut self, row: &[i64]) -> Result<(), RowFault>
+        ensures takes { OnOk result (TakesRow row.now self.old self.new) }
+        ensures ready { IsOk result ↔ IsReady self.old row.now }
+        ensures cause { IfErr result (λ fault. IsRowCause fault self.old row.now) }
+        ensures same { OnErr result (self.new ≡ self.old) }
+    {
+        if !self.is_drained() {
+            return Err(RowFault::ReportsLeft);
+        }
+        if let Some(column) = self.unfit_column(row) {
+            return Err(RowFault::NotARow(column));
+        }
+        if self.rows_taken() >= MAX_MISSION {
+            return Err(RowFault::TooManyRows);
+        }
+        self.take_fit::<Brand>(row, Blank::new(1));
+        Ok(())
+    }
+
+    /// The first column from which the numbers aren't a row of the program. None where they are one.
+    fn unfit_column(&self, row: &[i64]) -> Option<u32>
+        ensures { MatchOption result (IsFit (program_of self.now) row.now)
+            (λ column. IsUnfitAt (program_of self.now) row.now column) }
+    {
+        unfit_column(&self.state.running.checked, &self.readings, row)
+    }
+
+    /// Takes a row over a counter of its own.
+    fn take_fit<L: Ledger>(&mut self, row: &[i64], blank: Blank)
+        requires name { blank.name ≡ L.name }
+        requires parts { blank.parts ≡ L.parts }
+        requires some_parts { 0 < blank.parts }
+        requires ready { IsReady self.old row.now }
+        ensures { TakesRow row.now self.old self.new }
+    {
+        self.advance(row, &mut Steps::<L>::start(blank));
+    }
+
     /// Takes the next row, of one number for each column. Its steps are the reads and writes of queues and boxes.
     pub fn advance<L: Ledger>(&mut self, fields: &[i64], steps: &mut Steps<L>)
         requires drained { IsDrained self.old }
@@ -127,7 +175,7 @@ impl Monitor {
         ensures same { IsSame self.old self.new }
     {
         let state = &mut self.state;
-        row_fields(
+        row_fields_by(
             line,
             &state.running.checked,
             &self.readings,
@@ -164,30 +212,14 @@ impl Monitor {
     /// The next report of the last row, in a style. `None`, and no change, where none is left.
     #[inline(always)]
     pub fn next(&mut self, style: Style) -> Option<Report>
-        ensures first { (rows : List Row) → Stands self.old rows
-            → GivesFirst style result self.old self.new rows }
-        ensures stands { (rows : List Row) → Stands self.old rows → Stands self.new rows }
-        ensures none { IsNone result ↔ IsDrained self.old }
-        ensures same { IfNone result (self.new ≡ self.old) }
-        ensures drained { IfNone result (IsDrained self.new) }
-        ensures given { IfSome result (λ report. IsGiven report self.old self.new) }
-        ensures program { program_of self.new ≡ program_of self.old }
-        ensures as_many { taken_by self.new ≡ taken_by self.old }
+        ensures { GivesNext style result self.old self.new }
     {
         self.state.running.next(style, &mut self.cursor)
     }
 
     /// The next report of the last row, one for each newly known time. `None`, and no change, where none is left.
     pub fn next_report(&mut self) -> Option<Report>
-        ensures first { (rows : List Row) → Stands self.old rows
-            → GivesFirst Each result self.old self.new rows }
-        ensures stands { (rows : List Row) → Stands self.old rows → Stands self.new rows }
-        ensures none { IsNone result ↔ IsDrained self.old }
-        ensures same { IfNone result (self.new ≡ self.old) }
-        ensures drained { IfNone result (IsDrained self.new) }
-        ensures given { IfSome result (λ report. IsGiven report self.old self.new) }
-        ensures program { program_of self.new ≡ program_of self.old }
-        ensures as_many { taken_by self.new ≡ taken_by self.old }
+        ensures { GivesNext Each result self.old self.new }
     {
         self.next(Style::Each)
     }
@@ -195,17 +227,19 @@ impl Monitor {
     /// The next report of the last row, one for each longest stretch of newly known times with one word, with its last
     /// time. `None`, and no change, where none is left.
     pub fn next_run(&mut self) -> Option<Report>
-        ensures first { (rows : List Row) → Stands self.old rows
-            → GivesFirst Runs result self.old self.new rows }
-        ensures stands { (rows : List Row) → Stands self.old rows → Stands self.new rows }
-        ensures none { IsNone result ↔ IsDrained self.old }
-        ensures same { IfNone result (self.new ≡ self.old) }
-        ensures drained { IfNone result (IsDrained self.new) }
-        ensures given { IfSome result (λ report. IsGiven report self.old self.new) }
-        ensures program { program_of self.new ≡ program_of self.old }
-        ensures as_many { taken_by self.new ≡ taken_by self.old }
+        ensures { GivesNext Runs result self.old self.new }
     {
         self.next(Style::Runs)
+    }
+
+    /// The line of a report that was given: the name of its output, its time and its word, with a newline.
+    pub fn line_of(&self, report: &Report) -> ArrayVec<u8, 128>
+        requires exists { report.now.out < length (program_of self.now).outs }
+        requires early { report.now.time < 2 ^ 41 }
+        ensures line { result.items ≡ line (output_names (program_of self.now)) report.now }
+        ensures short { array_vec_len result ≤ 88 }
+    {
+        line_of(report, self.checked())
     }
 
     /// Whether all reports were given.

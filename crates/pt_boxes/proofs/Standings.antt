@@ -1,13 +1,15 @@
 -- What nodes that have taken rows, and have their table, say of the engine.
-use Rattle.std.proofs.Common.{◌≡◌, ℕ, List, length, sum, drop, arith, refl, subst, sym, ◌∙◌, length-drop, length-take-le}
+use Rattle.std.proofs.Common.{◌≡◌, ℕ, List, length, sum, arith, refl, subst, sym, ◌∙◌}
 use Rattle.mltl_base.specs.declared.interval.Interval.{Interval}
 use Rattle.mltl_base.specs.declared.operators.PtOp.{PtOp}
 use Rattle.mltl_base.specs.declared.operators.PtOp.TheVariants.{True, Load, Not, And, Since}
 use Rattle.mltl_base.specs.declared.program.Program.{Program}
 use Rattle.mltl_base.specs.Atoms.{Row}
+use Rattle.scq_ring.specs.Seats.{part}
+use Rattle.scq_ring.proofs.Seats.{length-part}
 use Rattle.pt_boxes.specs.declared.boxes.Span.{Span}
 use Rattle.pt_boxes.specs.declared.engine.Pt.{Pt}
-use Rattle.pt_boxes.specs.Nodes.{AreKept, HasBoxes, boxes_in, node_at, op_at, part}
+use Rattle.pt_boxes.specs.Nodes.{AreKept, HasBoxes, boxes_in, node_at, op_at}
 use Rattle.pt_boxes.specs.Spans.{Tells}
 use Rattle.pt_boxes.specs.Standing.{Stands, boxes_at, instruction_count, meaning_of, now_at, room_at, room_total, row_count}
 use Rattle.pt_boxes.specs.Tables.{HasTable, IsTold, Table}
@@ -25,15 +27,11 @@ stands_with program rows pt kept taken has total =
       taken = taken;
       count = same;
       now = λ i h some. has.truths i h some;
-      rooms = λ i h.
-          let node = node_at nodes i in
-          let within = kept.laid.within i (omega arith) in
-          let long : length (part slab node) ≡ node.size = length-take-le node.size (drop node.start slab) (omega (arith, length-drop node.start slab)) in
-          sym long ∙ (kept.kept i (omega arith)).room;
+      rooms = λ i h. sym (length-part slab (node_at nodes i).seat (kept.laid.within i (omega arith))) ∙ (kept.kept i (omega arith)).room;
       few = λ i h.
           let node = node_at nodes i in
           let k = kept.kept i (omega arith) in
-          let used : length (boxes_in slab node) ≡ node.boxes.used = length-kept node.boxes (part slab node) k.belongs in
+          let used : length (boxes_in slab node) ≡ node.boxes.used = length-kept node.boxes (part slab node.seat) k.belongs in
           omega (arith, k.room, k.belongs.used_in);
       total = total;
       apart = λ i l r window h is. subst (λ (op : PtOp). HasBoxes op (length rows) (boxes_in slab (node_at nodes i))) is (kept.kept i (omega arith)).apart;

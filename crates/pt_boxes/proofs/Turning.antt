@@ -1,19 +1,20 @@
 -- The middle of a row: the instructions before one index have taken it, those from there on have not.
 use Rattle.std.proofs.Common.{◌≡◌, ◌≢◌, ℕ, ◌+◌, ◌-◌, ◌<◌, ◌≤◌, ℤ, List, ◌++◌, length, take, arith, sym, ap, ◌∙◌}
 use Rattle.mltl_base.specs.declared.operators.PtOp.{PtOp}
-use Rattle.ft_slab.proofs.Seats.{Stepped, each_kept, each_on, here_kept, node_before, other_kept, seated_on, sizes_are}
+use Rattle.scq_ring.specs.Seats.{part}
+use Rattle.scq_ring.proofs.Seats.{Stepped, each_kept, each_on, here_kept, node_before, other_kept, seated_on, sizes_are}
 use Rattle.pt_boxes.specs.declared.boxes.Span.{Span}
 use Rattle.pt_boxes.specs.declared.rows.Node.{Node}
 use Rattle.pt_boxes.specs.Boxes.{kept}
-use Rattle.pt_boxes.specs.Nodes.{AreKept, AreLaid, IsKept, boxes_in, no_node, node_at, op_at, part}
+use Rattle.pt_boxes.specs.Nodes.{AreKept, AreLaid, IsKept, boxes_in, no_node, node_at, op_at}
 use Rattle.pt_boxes.specs.Tables.{AgreeOnLoads, HasTable, IsTable, IsTold, IsTurn, Table}
 
 -- the first i instructions have taken n + 1 rows, the others n
 pub record Turned (ops : List PtOp) (n : ℕ) (nodes : List Node) (slab : List Span) (i : ℕ) : Type 0 where
   pub same_length : length nodes ≡ length ops
   pub laid : AreLaid nodes slab
-  pub done : (j : ℕ) → j < i → IsKept (op_at ops j) (n + 1) (node_at nodes j).boxes (part slab (node_at nodes j))
-  pub todo : (j : ℕ) → i ≤ j → j < length nodes → IsKept (op_at ops j) n (node_at nodes j).boxes (part slab (node_at nodes j))
+  pub done : (j : ℕ) → j < i → IsKept (op_at ops j) (n + 1) (node_at nodes j).boxes (part slab (node_at nodes j).seat)
+  pub todo : (j : ℕ) → i ≤ j → j < length nodes → IsKept (op_at ops j) n (node_at nodes j).boxes (part slab (node_at nodes j).seat)
 
 -- and so it is told
 pub record Retold (ops : List PtOp) (table : Table) (n : ℕ) (nodes : List Node) (slab : List Span) (i : ℕ) : Type 0 where
@@ -22,7 +23,7 @@ pub record Retold (ops : List PtOp) (table : Table) (n : ℕ) (nodes : List Node
   pub todo : (j : ℕ) → i ≤ j → j < length nodes → IsTold (op_at ops j) table n (boxes_in slab (node_at nodes j))
 
 module _ (nodes : List Node) (slab : List Span) (i : ℕ) (new : Node) (own : List Span) (nodes' : List Node) (slab' : List Span)
-    (st : Stepped no_node (λ node. node.start) (λ node. node.size) nodes slab i new own nodes' slab') where
+    (st : Stepped no_node (λ node. node.seat) nodes slab i new own nodes' slab') where
   -- one more instruction has taken the row
   pub turned_on : (ops : List PtOp) (n : ℕ) → Turned ops n nodes slab i → i < length nodes → IsKept (op_at ops i) (n + 1) new.boxes own → Turned ops n nodes' slab' (i + 1)
   turned_on ops n t i_in here = record {
@@ -42,15 +43,15 @@ module _ (nodes : List Node) (slab : List Span) (i : ℕ) (new : Node) (own : Li
   }
 
 module _ (ops : List PtOp) (n : ℕ) (nodes : List Node) (slab : List Span) (before rest : List Node) (low high : List Span) (node : Node)
-    (nodes_are : nodes ≡ before ++ rest) (slab_is : slab ≡ low ++ high) (some : 0 < length rest) (node_is : node ≡ node_at nodes (length before)) (low_is : length low ≡ node.start)
+    (nodes_are : nodes ≡ before ++ rest) (slab_is : slab ≡ low ++ high) (some : 0 < length rest) (node_is : node ≡ node_at nodes (length before)) (low_is : length low ≡ node.seat.start)
     (turned : Turned ops n nodes slab (length before)) where
   -- what the instruction meets
-  pub ready_here : IsKept (op_at ops (length before)) n node.boxes (take node.size high)
+  pub ready_here : IsKept (op_at ops (length before)) n node.boxes (take node.seat.size high)
   ready_here = here_kept before rest low high node turned.laid nodes_are slab_is some node_is low_is (λ m xs. IsKept (op_at ops (length before)) n m.boxes xs) (turned.todo (length before) (omega arith) (omega (arith, sizes_are before rest low high node turned.laid nodes_are slab_is some node_is low_is)))
 
   -- and what it is told
   pub turn_here : (numbers : List ℤ) (loaded table : Table) → length before < length ops → IsTable ops loaded (n + 1) table → AgreeOnLoads ops numbers loaded n → Retold ops table n nodes slab (length before)
-      → IsTurn (op_at ops (length before)) numbers loaded table n before (kept node.boxes (take node.size high))
+      → IsTurn (op_at ops (length before)) numbers loaded table n before (kept node.boxes (take node.seat.size high))
   turn_here numbers loaded table in_ops is_table agree retold = record {
     operands = λ g h. ap (λ (m : Node). m.truth) (sym (node_before before rest low high node turned.laid nodes_are slab_is some node_is low_is g h)) ∙ retold.truths g h;
     told = here_kept before rest low high node turned.laid nodes_are slab_is some node_is low_is (λ m xs. IsTold (op_at ops (length before)) table n (kept m.boxes xs)) (retold.todo (length before) (omega arith) (omega (arith, sizes_are before rest low high node turned.laid nodes_are slab_is some node_is low_is)));

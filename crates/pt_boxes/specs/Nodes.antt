@@ -1,11 +1,11 @@
 -- Past-time instructions, their truths and their parts of the slab of boxes.
 
-use Rattle.std.specs.Prelude.{◌≡◌, ℕ, ◌<◌, false, List, length, take, drop, slice_index_or, ⊤}
+use Rattle.std.specs.Prelude.{◌≡◌, ℕ, ◌<◌, false, List, length, slice_index_or, ⊤}
 use Rattle.mltl_base.specs.declared.interval.Interval.{Interval}
 use Rattle.mltl_base.specs.declared.operators.PtOp.{PtOp}
 use Rattle.mltl_base.specs.declared.operators.PtOp.TheVariants.{True, Since}
 use Rattle.mltl_base.specs.Queues.{boxes as box_count, boxes_of}
-use Rattle.ft_slab.specs.Seats.{AreSeated}
+use Rattle.scq_ring.specs.Seats.{AreSeated, no_seat, part}
 use Rattle.pt_boxes.specs.declared.boxes.Boxes.{Boxes}
 use Rattle.pt_boxes.specs.declared.boxes.Span.{Span}
 use Rattle.pt_boxes.specs.declared.rows.Node.{Node}
@@ -18,23 +18,19 @@ op_at ops i = slice_index_or ops i True
 
 -- a node without boxes, which stands past the end of a list of nodes
 abbrev pub no_node : Node
-no_node = record { boxes = no_boxes; truth = false; start = 0; size = 0 }
+no_node = record { boxes = no_boxes; truth = false; seat = no_seat }
 
 -- node i, one without boxes past the last one
 abbrev pub node_at : List Node → ℕ → Node
 node_at nodes i = slice_index_or nodes i no_node
 
--- the part of the slab that belongs to a node
-abbrev pub part : List Span → Node → List Span
-part slab node = take node.size (drop node.start slab)
-
 -- the boxes of a node, oldest first
 abbrev pub boxes_in : List Span → Node → List Span
-boxes_in slab node = kept node.boxes (part slab node)
+boxes_in slab node = kept node.boxes (part slab node.seat)
 
 -- the parts of the slab follow one another and end within it
 abbrev pub AreLaid : List Node → List Span → Type 0
-AreLaid nodes slab = AreSeated no_node (λ node. node.start) (λ node. node.size) nodes (length slab) (length nodes)
+AreLaid nodes slab = AreSeated no_node (λ node. node.seat) nodes (length slab) (length nodes)
 
 -- the boxes of a Since lie apart after n rows; of another instruction nothing is asked
 abbrev pub HasBoxes : PtOp → ℕ → List Span → Type 0
@@ -57,4 +53,4 @@ pub record IsKept (op : PtOp) (n : ℕ) (boxes : Boxes) (own : List Span) : Type
 pub record AreKept (ops : List PtOp) (n : ℕ) (nodes : List Node) (slab : List Span) : Type 0 where
   pub same_length : length nodes ≡ length ops
   pub laid : AreLaid nodes slab
-  pub kept : (i : ℕ) → i < length nodes → IsKept (op_at ops i) n (node_at nodes i).boxes (part slab (node_at nodes i))
+  pub kept : (i : ℕ) → i < length nodes → IsKept (op_at ops i) n (node_at nodes i).boxes (part slab (node_at nodes i).seat)

@@ -33,7 +33,7 @@ boxes_at pt i = boxes_in pt.slab.items (node_at pt.nodes.items i)
 
 -- how many boxes it has room for
 unfoldable pub room_at : Pt → ℕ → ℕ
-room_at pt i = (node_at pt.nodes.items i).size
+room_at pt i = (node_at pt.nodes.items i).seat.size
 
 -- the room of all instructions together
 unfoldable pub room_total : Pt → ℕ

@@ -1,13 +1,10 @@
 -- The truths of past-time instructions by time, and the nodes that hold them.
 
-use Rattle.std.specs.Prelude.{◌≡◌, ℕ, ◌+◌, ◌-◌, ◌<◌, Bool, true, not, ◌&&◌, List, length, ℤ, slice_get, Some, ⊤}
-use Rattle.mltl_base.specs.declared.operators.BzOp.{BzOp}
+use Rattle.std.specs.Prelude.{◌≡◌, ℕ, ◌+◌, ◌-◌, ◌<◌, Bool, true, not, ◌&&◌, List, length, ℤ, ⊤}
 use Rattle.mltl_base.specs.declared.operators.PtOp.{PtOp}
 use Rattle.mltl_base.specs.declared.operators.PtOp.TheVariants.{True, Load, Not, And, Since}
-use Rattle.mltl_base.specs.Atoms.{Row, Atom, holds}
 use Rattle.mltl_base.specs.Meaning.{since_at}
-use Rattle.mltl_base.specs.Programs.{expressions, truth as truth_expression}
-use Rattle.booleanizer.specs.Evaluation.{numbers_on}
+use Rattle.booleanizer.specs.Evaluation.{IsTruthIn}
 use Rattle.pt_boxes.specs.declared.boxes.Span.{Span}
 use Rattle.pt_boxes.specs.declared.rows.Node.{Node}
 use Rattle.pt_boxes.specs.Nodes.{op_at, node_at, boxes_in}
@@ -38,10 +35,6 @@ IsTold op table n boxes = ⊤
 pub record HasTable (ops : List PtOp) (table : Table) (n : ℕ) (nodes : List Node) (slab : List Span) : Type 0 where
   pub told : (i : ℕ) → i < length ops → IsTold (op_at ops i) table n (boxes_in slab (node_at nodes i))
   pub truths : (i : ℕ) → i < length ops → 0 < n → (node_at nodes i).truth ≡ table i (n - 1)
-
--- the value is the truth of an atom on the row whose numbers these are, whichever instructions gave them
-abbrev pub IsTruthIn : List ℤ → ℕ → Bool → Type 0
-IsTruthIn numbers k v = (row : Row) (ops : List BzOp) (atom : Atom) → numbers ≡ numbers_on row ops → slice_get (expressions ops) k ≡ Some (truth_expression atom) → v ≡ holds atom row
 
 -- what instructions load is what the table of loaded truths has at time t
 abbrev pub AgreeOnLoads : List PtOp → List ℤ → Table → ℕ → Type 0

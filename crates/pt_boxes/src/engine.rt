@@ -7,7 +7,8 @@ use crate::boxes::{Boxes, Span};
 use crate::rows::{Node, row_of};
 use booleanizer::Bz;
 use mltl_base::Program;
-use obs_verify::{Checked, well_formed_programs_run};
+use obs_verify::Checked;
+use scq_ring::Seat;
 use scq_ring::steps::Steps;
 use std::alloc::{AllocError, Global};
 use std::sync::ledger::Ledger;
@@ -39,8 +40,7 @@ impl Pt {
             nodes.push(Node {
                 boxes: Boxes::none(),
                 truth: false,
-                start,
-                size,
+                seat: Seat { start, size },
             })?;
             start += size;
         }
@@ -89,6 +89,5 @@ fn program_of(checked: &Checked) -> &Program
     ensures program { result.now ≡ checked.now }
     ensures runs { RunsPast checked.now }
 {
-    well_formed_programs_run();
     checked.program()
 }

@@ -13,6 +13,7 @@ use crate::since::since_row;
 use booleanizer::Bz;
 use mltl_base::PtOp;
 use mltl_base::limits::MAX_BOUND;
+use scq_ring::Seat;
 use scq_ring::steps::Steps;
 use std::sync::ledger::Ledger;
 
@@ -21,8 +22,7 @@ use std::sync::ledger::Ledger;
 pub struct Node {
     pub boxes: Boxes,
     pub truth: bool,
-    pub start: usize,
-    pub size: usize,
+    pub seat: Seat,
 }
 
 /// Whether instruction `i` holds at the row.
@@ -98,8 +98,8 @@ pub fn row_of<L: Ledger>(
     for (i, op) in ops.iter().enumerate() {
         let (before, rest) = nodes.split_at_mut(i);
         let node = &mut rest[0];
-        let (_, high) = slab.split_at_mut(node.start);
-        let own = &mut high[..node.size];
+        let (_, high) = slab.split_at_mut(node.seat.start);
+        let own = &mut high[..node.seat.size];
         node.truth = step(*op, bz, now, before, &mut node.boxes, own, steps);
     }
 }

@@ -1,17 +1,18 @@
 -- What the calls of C tell, from what their parts do.
 
 use Rattle.std.specs.Prelude.{⊤}
-use Rattle.std.proofs.Common.{◌≡◌, ℕ, true, false, Option, Some, Result, Ok, Err, IfOk, IfErr, IsSomeAnd, Contains, [], ◌∷◌, sym, ap, subst, lit<, arith, ◌∙◌}
+use Rattle.std.proofs.Common.{◌≡◌, ◌<◌, ◌≤◌, ℕ, true, false, Option, Some, Result, Ok, Err, IfOk, IfErr, IsSomeAnd, Contains, [], ◌∷◌, refl, sym, ap, subst, lit<, arith, ◌∙◌}
 use Rattle.mltl_base.specs.declared.report.Style.{Style}
 use Rattle.mltl_base.specs.Atoms.{Row}
 use Rattle.mltl_monitor.specs.declared.state.State.{State}
+use Rattle.mltl_monitor.specs.declared.row_fault.RowFault.{RowFault}
+use Rattle.mltl_monitor.specs.declared.row_fault.RowFault.TheVariants.{ReportsLeft, NotARow, TooManyRows}
 use Rattle.mltl_monitor.specs.Monitoring.{IsDrained}
+use Rattle.mltl_monitor.specs.RowFaults.{IsRowCause}
 use Rattle.r2u2_c.specs.declared.codes.TheConstants.{DONE, NOT_OPEN, REPORTS_LEFT, NOT_A_ROW, TOO_MANY_ROWS, NO_REPORT}
 use Rattle.r2u2_c.specs.declared.report.Told.{Told}
-use Rattle.r2u2_c.specs.declared.rows.RowFault.{RowFault}
-use Rattle.r2u2_c.specs.declared.rows.RowFault.TheVariants.{ReportsLeft, NotARow, TooMany}
-use Rattle.r2u2_c.specs.Exports.{HoldsBack, TellsFirst, Tells, row_code}
-use Rattle.r2u2_c.specs.Rows.{IsRowCause}
+use Rattle.r2u2_c.specs.declared.row_why.RowWhy.{RowWhy}
+use Rattle.r2u2_c.specs.Exports.{HoldsBack, TellsFirst, TellsWhy, Tells, why_of}
 
 -- the monitor after a box is the one that was open
 pub is_open_as : (m box : State) (before : Option State) → before ≡ Some box → m ≡ box → before ≡ Some m
@@ -29,18 +30,65 @@ undrained m before is gone = (
   (λ (d : IsSomeAnd before IsDrained). absurd (let wrong : true ≡ false = gone (subst (λ (o : Option State). IsSomeAnd o IsDrained) is d) in cc)),
 )
 
--- the code of a row that isn't taken before the reports are given
-pub left_first : (taken : Result ⊤ RowFault) (code : ℕ) (row : Row) (m : State) (before : Option State) → before ≡ Some m
-    → IfErr taken (λ why. IsRowCause why m row) → IfOk taken (λ _. code ≡ DONE) → IfErr taken (λ why. code ≡ row_code why) → code ≡ REPORTS_LEFT → HoldsBack ReportsLeft row before
-left_first (Ok t) code row m before is cause done fault e = absurd (let d : code ≡ 0 = done in let f : code ≡ 5 = e in omega (arith, d, f))
-left_first (Err ReportsLeft) code row m before is cause done fault e = subst (λ (o : Option State). HoldsBack ReportsLeft row o) (sym is) cause
-left_first (Err NotARow) code row m before is cause done fault e = absurd (let d : code ≡ 6 = fault in let f : code ≡ 5 = e in omega (arith, d, f))
-left_first (Err TooMany) code row m before is cause done fault e = absurd (let d : code ≡ 7 = fault in let f : code ≡ 5 = e in omega (arith, d, f))
+-- what a call answers to a row, and what C reads
+abbrev pub Answers : Result ⊤ RowFault → ℕ → RowWhy → RowWhy → Type 0
+Answers taken code before after =
+    IfOk taken (λ _. (code ≡ DONE) × (after ≡ before)) × IfErr taken (λ fault. (after ≡ why_of fault) × (code ≡ after.why))
+
+-- the code of a fault
+fault_code : (fault : RowFault) (code : ℕ) (after : RowWhy) → after ≡ why_of fault → code ≡ after.why → code ≡ (why_of fault).why
+fault_code fault code after is e = e ∙ ap (λ (why : RowWhy). why.why) is
+
+-- the answer to a row that isn't taken before the reports are given
+pub left_first : (taken : Result ⊤ RowFault) (code : ℕ) (row : Row) (m : State) (open_before : Option State) (before after : RowWhy) → open_before ≡ Some m
+    → IfErr taken (λ fault. IsRowCause fault m row) → Answers taken code before after → code ≡ REPORTS_LEFT → HoldsBack ReportsLeft row open_before
+left_first (Ok t) code row m o before after is cause answers e = absurd (let done : code ≡ 0 = answers.0.0 in let left : code ≡ 5 = e in omega (arith, done, left))
+left_first (Err ReportsLeft) code row m o before after is cause answers e = subst (HoldsBack ReportsLeft row) (sym is) cause
+left_first (Err (NotARow column)) code row m o before after is cause answers e =
+    absurd (let unfit : code ≡ 6 = fault_code (NotARow column) code after answers.1.0 answers.1.1 in let left : code ≡ 5 = e in omega (arith, unfit, left))
+left_first (Err TooManyRows) code row m o before after is cause answers e =
+    absurd (let late : code ≡ 7 = fault_code TooManyRows code after answers.1.0 answers.1.1 in let left : code ≡ 5 = e in omega (arith, late, left))
+
+-- to one that isn't a row
+pub unfit_then : (taken : Result ⊤ RowFault) (code : ℕ) (row : Row) (m : State) (open_before : Option State) (before after : RowWhy) → open_before ≡ Some m
+    → IfErr taken (λ fault. IsRowCause fault m row) → Answers taken code before after → code ≡ NOT_A_ROW → HoldsBack (NotARow after.column) row open_before
+unfit_then (Ok t) code row m o before after is cause answers e = absurd (let done : code ≡ 0 = answers.0.0 in let unfit : code ≡ 6 = e in omega (arith, done, unfit))
+unfit_then (Err ReportsLeft) code row m o before after is cause answers e =
+    absurd (let left : code ≡ 5 = fault_code ReportsLeft code after answers.1.0 answers.1.1 in let unfit : code ≡ 6 = e in omega (arith, left, unfit))
+unfit_then (Err (NotARow column)) code row m o before after is cause answers e =
+    subst (HoldsBack (NotARow after.column) row) (sym is) (subst (λ (c : ℕ). IsRowCause (NotARow c) m row) (sym (ap (λ (why : RowWhy). why.column) answers.1.0)) cause)
+unfit_then (Err TooManyRows) code row m o before after is cause answers e =
+    absurd (let late : code ≡ 7 = fault_code TooManyRows code after answers.1.0 answers.1.1 in let unfit : code ≡ 6 = e in omega (arith, late, unfit))
+
+-- and to one after too many
+pub late_last : (taken : Result ⊤ RowFault) (code : ℕ) (row : Row) (m : State) (open_before : Option State) (before after : RowWhy) → open_before ≡ Some m
+    → IfErr taken (λ fault. IsRowCause fault m row) → Answers taken code before after → code ≡ TOO_MANY_ROWS → HoldsBack TooManyRows row open_before
+late_last (Ok t) code row m o before after is cause answers e = absurd (let done : code ≡ 0 = answers.0.0 in let late : code ≡ 7 = e in omega (arith, done, late))
+late_last (Err ReportsLeft) code row m o before after is cause answers e =
+    absurd (let left : code ≡ 5 = fault_code ReportsLeft code after answers.1.0 answers.1.1 in let late : code ≡ 7 = e in omega (arith, left, late))
+late_last (Err (NotARow column)) code row m o before after is cause answers e =
+    absurd (let unfit : code ≡ 6 = fault_code (NotARow column) code after answers.1.0 answers.1.1 in let late : code ≡ 7 = e in omega (arith, unfit, late))
+late_last (Err TooManyRows) code row m o before after is cause answers e = subst (HoldsBack TooManyRows row) (sym is) cause
+
+-- a fault is told with its code and its column
+fault_told : (fault : RowFault) (before : RowWhy) → TellsWhy (why_of fault).why before (why_of fault)
+fault_told ReportsLeft before = record { untold = λ small. absurd (let few : 5 ≤ 1 = small in omega (arith, few)); why = λ _. refl; nowhere = λ _ other. refl }
+fault_told (NotARow column) before = record { untold = λ small. absurd (let few : 6 ≤ 1 = small in omega (arith, few)); why = λ _. refl; nowhere = λ _ other. absurd (other refl) }
+fault_told TooManyRows before = record { untold = λ small. absurd (let few : 7 ≤ 1 = small in omega (arith, few)); why = λ _. refl; nowhere = λ _ other. refl }
+
+pub why_told : (taken : Result ⊤ RowFault) (code : ℕ) (before after : RowWhy) → Answers taken code before after → TellsWhy code before after
+why_told (Ok t) code before after answers =
+    let done : code ≡ 0 = answers.0.0 in
+    record { untold = λ _. answers.0.1; why = λ more. absurd (let big : 1 < code = more in omega (arith, big, done)); nowhere = λ more other. absurd (let big : 1 < code = more in omega (arith, big, done)) }
+why_told (Err fault) code before after answers =
+    let why : after ≡ why_of fault = answers.1.0 in
+    subst (λ (read : RowWhy). TellsWhy code before read) (sym why)
+    (subst (λ (n : ℕ). TellsWhy n before (why_of fault)) (sym (fault_code fault code after why answers.1.1)) (fault_told fault before))
 
 -- the codes of rows
-pub row_codes : (taken : Result ⊤ RowFault) (code : ℕ) → IfOk taken (λ _. code ≡ DONE) → IfErr taken (λ why. code ≡ row_code why)
+pub row_codes : (taken : Result ⊤ RowFault) (code : ℕ) (before after : RowWhy) → Answers taken code before after
     → Contains (DONE ∷ NOT_OPEN ∷ REPORTS_LEFT ∷ NOT_A_ROW ∷ TOO_MANY_ROWS ∷ []) code
-row_codes (Ok t) code done fault = (0, lit< tt, sym done)
-row_codes (Err ReportsLeft) code done fault = (2, lit< tt, sym fault)
-row_codes (Err NotARow) code done fault = (3, lit< tt, sym fault)
-row_codes (Err TooMany) code done fault = (4, lit< tt, sym fault)
+row_codes (Ok t) code before after answers = (0, lit< tt, sym answers.0.0)
+row_codes (Err ReportsLeft) code before after answers = (2, lit< tt, sym (fault_code ReportsLeft code after answers.1.0 answers.1.1))
+row_codes (Err (NotARow column)) code before after answers = (3, lit< tt, sym (fault_code (NotARow column) code after answers.1.0 answers.1.1))
+row_codes (Err TooManyRows) code before after answers = (4, lit< tt, sym (fault_code TooManyRows code after answers.1.0 answers.1.1))

@@ -1,6 +1,6 @@
 -- What the calls of C tell, over what C keeps: the state of a monitor, if one is open.
 
-use Rattle.std.specs.Prelude.{ℕ, ◌≡◌, Option, Some, None, Result, Ok, Err, List, [], ◌∷◌}
+use Rattle.std.specs.Prelude.{ℕ, ◌≡◌, ◌≢◌, ◌<◌, ◌≤◌, Option, Some, None, Result, Ok, Err, List, [], ◌∷◌}
 use Rattle.mltl_base.specs.declared.program.Program.{Program}
 use Rattle.mltl_base.specs.declared.report.Report.{Report}
 use Rattle.mltl_base.specs.declared.report.Style.{Style}
@@ -8,16 +8,17 @@ use Rattle.mltl_base.specs.Atoms.{Row}
 use Rattle.mltl_base.specs.Programs.{output_names}
 use Rattle.mltl_monitor.specs.declared.state.State.{State}
 use Rattle.mltl_monitor.specs.Monitoring.{HasGiven, Stands, TakesRow, open_of, program_of}
-use Rattle.r2u2_c.specs.declared.codes.TheConstants.{NOT_A_ROW, REPORTS_LEFT, TOO_MANY_ROWS}
+use Rattle.mltl_monitor.specs.declared.row_fault.RowFault.{RowFault}
+use Rattle.mltl_monitor.specs.declared.row_fault.RowFault.TheVariants.{ReportsLeft, NotARow, TooManyRows}
+use Rattle.mltl_monitor.specs.RowFaults.{IsRowCause}
+use Rattle.r2u2_c.specs.declared.codes.TheConstants.{NOT_A_ROW, NOT_OPEN, REPORTS_LEFT, TOO_MANY_ROWS}
 use Rattle.r2u2_c.specs.declared.fault.Fault.{Fault}
 use Rattle.r2u2_c.specs.declared.opening.Refusal.{Refusal}
 use Rattle.r2u2_c.specs.declared.report.Told.{Told}
-use Rattle.r2u2_c.specs.declared.rows.RowFault.{RowFault}
-use Rattle.r2u2_c.specs.declared.rows.RowFault.TheVariants.{ReportsLeft, NotARow, TooMany}
+use Rattle.r2u2_c.specs.declared.row_why.RowWhy.{RowWhy}
 use Rattle.r2u2_c.specs.Faults.{fault_of}
 use Rattle.r2u2_c.specs.Opening.{Starts}
 use Rattle.r2u2_c.specs.Reports.{shown}
-use Rattle.r2u2_c.specs.Rows.{IsRowCause}
 
 -- none was open, and now a fresh monitor of the program that was found is
 abbrev pub Opens : Result Program Refusal → Option State → Option State → Type 0
@@ -51,11 +52,17 @@ abbrev pub HoldsBack : RowFault → Row → Option State → Type 0
 HoldsBack why row (Some monitor) = IsRowCause why monitor row
 HoldsBack why row None = ⊥
 
--- the code of each cause
-abbrev pub row_code : RowFault → ℕ
-row_code ReportsLeft = REPORTS_LEFT
-row_code NotARow = NOT_A_ROW
-row_code TooMany = TOO_MANY_ROWS
+-- each cause as C reads it: its code, and the column of numbers that aren't a row
+abbrev pub why_of : RowFault → RowWhy
+why_of ReportsLeft = record { why = REPORTS_LEFT; column = 0 }
+why_of (NotARow column) = record { why = NOT_A_ROW; column = column }
+why_of TooManyRows = record { why = TOO_MANY_ROWS; column = 0 }
+
+-- why a row isn't taken is told with its code, and with a column where it isn't a row; else nothing is told
+pub record TellsWhy (code : ℕ) (before after : RowWhy) : Type 0 where
+  pub untold : code ≤ NOT_OPEN → after ≡ before
+  pub why : NOT_OPEN < code → after.why ≡ code
+  pub nowhere : NOT_OPEN < code → code ≢ NOT_A_ROW → after.column ≡ 0
 
 -- what C reads is the first report that was open, and the others still are, after the same rows
 pub record TellsFirst (style : Style) (read : Told) (before after : State) : Type 0 where

@@ -1,5 +1,4 @@
 pub mod Handles
-pub mod Rows
 pub mod Reports
 pub mod Opening
 pub mod Faults

@@ -4,8 +4,8 @@ ghost use Rattle.std.specs.Prelude.{◌≡◌, ◌≢◌, ◌↔◌, ◌<◌, �
 ghost use Rattle.mltl_base.specs.Programs.{name_of};
 ghost use Rattle.mltl_monitor.specs.Monitoring.{IsDrained};
 ghost use Rattle.r2u2_c.specs.declared.opening.Refusal.TheVariants.{Memory};
-ghost use Rattle.r2u2_c.specs.declared.rows.RowFault.TheVariants.{NotARow, ReportsLeft, TooMany};
-ghost use Rattle.r2u2_c.specs.Exports.{HoldsBack, Opens, Refuses, Takes, Tells, names_of, row_code, width_of};
+ghost use Rattle.mltl_monitor.specs.declared.row_fault.RowFault.TheVariants.{NotARow, ReportsLeft, TooManyRows};
+ghost use Rattle.r2u2_c.specs.Exports.{HoldsBack, Opens, Refuses, Takes, Tells, TellsWhy, names_of, why_of, width_of};
 ghost use Rattle.r2u2_c.specs.Faults.{fault_of};
 ghost use Rattle.r2u2_c.specs.Opening.{program_by, program_under};
 ghost use Rattle.r2u2_c.specs.Reports.{style_of};
@@ -18,9 +18,9 @@ use crate::fault::{Fault, fill_front};
 use crate::handle::R2u2;
 use crate::opening::{Refusal, open_monitor, open_under};
 use crate::report::{Told, next_of};
-use crate::rows::{RowFault, take_row};
+use crate::row_why::RowWhy;
 use mltl_base::Out;
-use mltl_monitor::Monitor;
+use mltl_monitor::{Monitor, RowFault};
 use std::alloc::Global;
 
 /// Opens the program that these bytes spell. Rows have the columns that it was compiled for.
@@ -140,37 +140,41 @@ pub extern "C" fn r2u2_name(it: &mut R2u2, alloc: Global, k: u32, buffer: &mut [
     }
 }
 
-/// Takes the next row, of one number for each column.
+/// Takes the next row, of one number for each column, or tells why it isn't taken.
 #[unsafe(no_mangle)]
-pub extern "C" fn r2u2_row(it: &mut R2u2, alloc: Global, fields: &[i64]) -> u32
+pub extern "C" fn r2u2_row(it: &mut R2u2, alloc: Global, fields: &[i64], why: &mut RowWhy) -> u32
     ensures takes { result ≡ DONE → Takes fields.now it.old.value it.new.value }
     ensures not_open { (result ≡ NOT_OPEN) ↔ (it.old.value ≡ None) }
     ensures left { result ≡ REPORTS_LEFT → HoldsBack ReportsLeft fields.now it.old.value }
-    ensures unfit { result ≡ NOT_A_ROW → HoldsBack NotARow fields.now it.old.value }
-    ensures late { result ≡ TOO_MANY_ROWS → HoldsBack TooMany fields.now it.old.value }
+    ensures unfit { result ≡ NOT_A_ROW
+        → HoldsBack (NotARow why.new.column) fields.now it.old.value }
+    ensures late { result ≡ TOO_MANY_ROWS → HoldsBack TooManyRows fields.now it.old.value }
     ensures kept { 0 < result → it.new.value ≡ it.old.value }
+    ensures told { TellsWhy result why.old why.new }
     ensures codes { Contains
         (DONE ∷ NOT_OPEN ∷ REPORTS_LEFT ∷ NOT_A_ROW ∷ TOO_MANY_ROWS ∷ []) result }
 {
     match it.take(alloc) {
         None => NOT_OPEN,
         Some(mut monitor) => {
-            let taken = take_row(&mut monitor, fields);
+            let taken = monitor.take(fields);
             it.put(monitor);
-            code_of(taken)
+            tell_taken(taken, why)
         }
     }
 }
 
-fn code_of(taken: Result<(), RowFault>) -> u32
-    ensures done { IfOk taken (λ _. result ≡ DONE) }
-    ensures fault { IfErr taken (λ why. result ≡ row_code why) }
+/// Tells whether a row was taken, and why not.
+fn tell_taken(taken: Result<(), RowFault>, why: &mut RowWhy) -> u32
+    ensures done { IfOk taken (λ _. (result ≡ DONE) × (why.new ≡ why.old)) }
+    ensures fault { IfErr taken (λ fault. (why.new ≡ why_of fault) × (result ≡ why.new.why)) }
 {
     match taken {
         Ok(()) => DONE,
-        Err(RowFault::ReportsLeft) => REPORTS_LEFT,
-        Err(RowFault::NotARow) => NOT_A_ROW,
-        Err(RowFault::TooMany) => TOO_MANY_ROWS,
+        Err(fault) => {
+            *why = RowWhy::of(fault);
+            why.why
+        }
     }
 }
 

@@ -13,7 +13,7 @@ mod fault_text;
 mod handle;
 mod opening;
 mod report;
-mod rows;
+mod row_why;
 
 pub use exports::{
     r2u2_close, r2u2_name, r2u2_next, r2u2_open, r2u2_open_under, r2u2_outputs, r2u2_row,
@@ -23,3 +23,4 @@ pub use fault::Fault;
 pub use handle::R2u2;
 pub use opening::Refusal;
 pub use report::Told;
+pub use row_why::RowWhy;

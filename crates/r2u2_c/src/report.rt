@@ -1,8 +1,7 @@
 //! Reports as C reads them.
 
-ghost use Rattle.std.specs.Prelude.{◌≡◌, ◌↔◌, IfNone, IfSome, IsNone, List};
-ghost use Rattle.mltl_base.specs.Atoms.{Row};
-ghost use Rattle.mltl_monitor.specs.Monitoring.{HasGiven, GivesFirst, IsDrained, Stands};
+ghost use Rattle.std.specs.Prelude.{◌≡◌};
+ghost use Rattle.mltl_monitor.specs.Monitoring.{GivesNext};
 ghost use Rattle.r2u2_c.specs.Reports.{shown, style_of, word_number};
 
 use mltl_base::{Report, Word};
@@ -45,12 +44,7 @@ fn number_of(word: Word) -> u32
 
 /// The next report: of each time where `runs` is 0, and else of each longest stretch of one word.
 pub(crate) fn next_of(monitor: &mut Monitor, runs: u32) -> Option<Report>
-    ensures first { (rows : List Row) → Stands monitor.old rows
-        → GivesFirst (style_of runs) result monitor.old monitor.new rows }
-    ensures stands { (rows : List Row) → Stands monitor.old rows → Stands monitor.new rows }
-    ensures none { IsNone result ↔ IsDrained monitor.old }
-    ensures kept { IfNone result (monitor.new ≡ monitor.old) }
-    ensures gives { IfSome result (λ report. HasGiven report monitor.old monitor.new) }
+    ensures { GivesNext (style_of runs) result monitor.old monitor.new }
 {
     if runs == 0 {
         monitor.next_report()

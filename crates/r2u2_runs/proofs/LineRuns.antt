@@ -19,8 +19,7 @@ use Rattle.mltl_monitor.specs.declared.state.State.{State}
 use Rattle.trace_feed.specs.Header.{begins_header}
 use Rattle.trace_watch.specs.declared.status.TraceWhy.TheVariants.{LongLine}
 use Rattle.trace_watch.specs.declared.status.Watched as watched
-use Rattle.trace_watch.specs.Trace.{TraceRows, trace_rows, due}
-use Rattle.trace_watch.specs.Stamped.{stamped_rows}
+use Rattle.trace_watch.specs.Trace.{TraceRows, stamped_rows, trace_rows, due}
 use Rattle.trace_watch.specs.Watch.{OnlyRun, IsTold, Outcome}
 use Rattle.trace_watch.proofs.LineLaws.{reads_prompt, OnlyRun-append, OnlyRun-reads, row_line}
 use Rattle.tool_runs.specs.declared.status.Status as status

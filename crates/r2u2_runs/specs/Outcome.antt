@@ -7,8 +7,7 @@ use Rattle.tool_io.specs.Log.{IsProperFront}
 use Rattle.tool_io.specs.Cutting.{lines_of}
 use Rattle.tool_words.specs.R2u2Words.{RunAsked}
 use Rattle.mltl_monitor.specs.declared.state.State.{State}
-use Rattle.trace_watch.specs.Trace.{TraceRows, Stop, Clean, Past, Bad, trace_rows, due}
-use Rattle.trace_watch.specs.Stamped.{stamped_rows}
+use Rattle.trace_watch.specs.Trace.{TraceRows, Stop, Clean, Past, Bad, stamped_rows, trace_rows, due}
 use Rattle.trace_watch.specs.Watch.{HasTold, HasFront}
 use Rattle.tool_runs.specs.declared.status.Status.{Status}
 use Rattle.tool_runs.specs.declared.status.Status.TheVariants.{Done, Refused, BadProgram, BadTrace, TooLong, ReadFault, WriteFault, Memory}

@@ -19,22 +19,24 @@ use tool_io::Host;
 use tool_runs::{Status, Tool, give_help, read_file, tell_user};
 use tool_words::{R2u2Ask, Run, Words, r2u2_ask};
 
-/// Opens the bytes of the file, and runs over the trace.
+/// Opens the bytes of the file, lets them go, and runs over the trace.
 fn run_bytes<H: Host>(
     alloc: Global,
     asked: &Run<'_>,
-    bytes: &[u8],
+    bytes: Vec<u8>,
     host: &mut H,
     kept: &mut Option<Monitor>,
 ) -> Status
-    requires within { length bytes.now ≤ file_limit asked.now.kind }
+    requires within { length bytes.items ≤ file_limit asked.now.kind }
     requires mission { asked.now.mission ≤ 2 ^ 40 }
     requires none_kept { kept.old ≡ None }
     ensures cause { RunCause result (H.faults host.old) (H.faults host.new) }
     ensures log { OnLog (H.log host.old) (H.log host.new)
-        (RanFile (run_of asked.now) bytes.now result kept.new) }
+        (RanFile (run_of asked.now) bytes.items result kept.new) }
 {
-    match open_file(alloc, asked.kind, bytes) {
+    let opened = open_file(alloc, asked.kind, &bytes);
+    drop(bytes);
+    match opened {
         Ok(opened) => run_trace(alloc, asked, opened, host, kept),
         Err(status) => status,
     }
@@ -54,7 +56,7 @@ fn run_file<H: Host>(
         (Ran (run_over (run_of asked.now)) result kept.new) }
 {
     match read_file(alloc, asked.kind, asked.file, host) {
-        Ok(bytes) => run_bytes(alloc, asked, &bytes, host, kept),
+        Ok(bytes) => run_bytes(alloc, asked, bytes, host, kept),
         Err(status) => status,
     }
 }

@@ -1,2 +1,4 @@
-pub mod Windows
+pub mod Pieces
 pub mod RunLemmas
+pub mod Seats
+pub mod Windows

@@ -1,9 +1,2 @@
 pub mod ReadValues
 pub mod Signalling
-pub mod Tensing
-pub mod Faultless
-pub mod Asking
-pub mod Labelling
-pub mod OwnNames
-pub mod Stepping
-pub mod Ending

@@ -1,3 +1,1 @@
-pub mod Outputs
-pub mod Weights
-pub mod Reached
+pub use Rattle.c2po_types.specs.Outputs

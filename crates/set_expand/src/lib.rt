@@ -11,10 +11,6 @@
 #![tactic(auto)]
 
 pub mod expanding;
-pub mod laws;
-pub mod names;
-pub mod progress;
-pub mod steps;
 
 pub use expanding::expand;
 pub use plain_nodes::{Expanded, Plain, PlainOut};

@@ -27,7 +27,7 @@ use Rattle.obs_build.proofs.Parts.{InTerm, InOperands, AtCore, fold_expressions_
 use Rattle.obs_build.proofs.Cores.{each_then}
 use Rattle.obs_show.specs.Weight.{term_weight, atom_weight, formula_weight, output_weight, weight}
 use Rattle.obs_show.specs.Weighing.{expression_weight}
-use Rattle.set_expand.proofs.OwnNames as own
+use Rattle.c2po_types.proofs.OwnNames as own
 use Rattle.spec_compile.specs.Front.{items_in, first_refusal}
 use Rattle.spec_compile.specs.Compiled.{signals_in, outputs_in}
 use Rattle.spec_compile.specs.Image.{image}

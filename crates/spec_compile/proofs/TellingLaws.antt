@@ -17,7 +17,7 @@ use Rattle.c2po_kinds.specs.declared.fault.TypeFault.{TypeFault}
 use Rattle.mltl_base.specs.declared.signal.Signal.{Signal}
 use Rattle.c2po_types.specs.FirstFault.{first_fault}
 use Rattle.trace_feed.specs.declared.header_fault.HeaderFault.{HeaderFault}
-use Rattle.set_expand.proofs.Faultless.{faultless-tensed}
+use Rattle.c2po_types.proofs.Faultless.{faultless-tensed}
 use Rattle.obs_build.proofs.Tenses.{image_unfolds, image_names, image_tells}
 use Rattle.spec_compile.specs.declared.fault.CompileFault.{CompileFault}
 use Rattle.spec_compile.specs.Refusals.{token_refusal, tree_refusal, check_refusal}

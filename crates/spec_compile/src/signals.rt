@@ -9,7 +9,6 @@ ghost use Rattle.mltl_base.specs.Kinds.{HaveOwnNames};
 use c2po_types::TypedSpec;
 use mltl_base::limits::MAX_SIGNALS;
 use mltl_base::{List, Signal};
-use set_expand::laws::signals_are_told_apart;
 
 /// The signals in order of declaration, which have names of their own. All names are made of letters, digits and `_`.
 pub fn signals_of(spec: &TypedSpec) -> &List<Signal>
@@ -18,8 +17,5 @@ pub fn signals_of(spec: &TypedSpec) -> &List<Signal>
     ensures few { length result.now ≤ MAX_SIGNALS }
     ensures plain { ArePlainItems (spec_shape spec.now) }
 {
-    signals_are_told_apart();
-    // It has no fault, and plain names.
-    let _tree = spec.tree();
     spec.signals()
 }

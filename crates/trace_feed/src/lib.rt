@@ -19,4 +19,4 @@ pub use fields::{FieldFault, Reading};
 pub use header_fault::HeaderFault;
 pub use laws::rows_are_fit;
 pub use readings::Readings;
-pub use rows::{RowAnswer, row_fields};
+pub use rows::{RowAnswer, row_fields, row_fields_by};

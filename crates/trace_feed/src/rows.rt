@@ -1,17 +1,18 @@
 //! Rows of a trace.
 
 ghost use Rattle.std.specs.Prelude.{◌≡◌, ◌<◌, ℕ, Err, count_by, length};
-ghost use Rattle.std.specs.List.{before_first};
+ghost use Rattle.std.specs.List.{before_first, list_any};
 ghost use Rattle.mltl_base.specs.Atoms.{Row};
 ghost use Rattle.mltl_base.specs.Programs.{IsFit};
 ghost use Rattle.trace_feed.specs.declared.fields.Reading.{Reading as Way};
 ghost use Rattle.trace_feed.specs.Readings.{AreReadings, fields_meaning, readings_of};
-ghost use Rattle.trace_feed.specs.Rows.{Tells, fields_of, is_comma, line_meaning, value_of};
+ghost use Rattle.trace_feed.specs.Rows.{Tells, fields_of, is_comma, line_meaning, reading_of, reads_truth, reads_whole, value_of};
 
 use crate::blanks::is_blank_line;
 use crate::fields::{FieldFault, Reading, first_field};
 use crate::passing::{Spot, pass_unread};
 use crate::readings::Readings;
+use mltl_base::BzOp;
 use obs_verify::Checked;
 
 /// What a line is to a program. Columns count from 0.
@@ -85,6 +86,57 @@ fn read_fields(line: &[u8], width: u32, readings: &[Reading], fields: &mut [i64]
     RowAnswer::Good
 }
 
+/// Whether some instruction reads this column as a truth.
+fn is_truth(ops: &[BzOp], c: u32) -> bool
+    ensures { result ≡ list_any (reads_truth c) ops.now }
+{
+    ops.iter()
+        .any(|op| matches!(*op, BzOp::IsTrue(d) if d == c))
+}
+
+/// Whether some instruction reads this column as a whole number.
+fn is_whole(ops: &[BzOp], c: u32) -> bool
+    ensures { result ≡ list_any (reads_whole c) ops.now }
+{
+    ops.iter()
+        .any(|op| matches!(*op, BzOp::Column(d) if d == c))
+}
+
+/// How the instructions read this column.
+fn reading_in(ops: &[BzOp], c: u32) -> Reading
+    ensures { result ≡ reading_of ops.now c }
+{
+    if is_truth(ops, c) {
+        Reading::Truth
+    } else if is_whole(ops, c) {
+        Reading::Whole
+    } else {
+        Reading::Unread
+    }
+}
+
+/// Reads the fields of a line from left to right, and looks for each column among the instructions.
+fn search_fields(line: &[u8], width: u32, ops: &[BzOp], fields: &mut [i64]) -> RowAnswer
+    requires wide { length fields.old ≡ width }
+    ensures { Tells result fields.new
+        (fields_meaning (reading_of ops.now) 0 width (fields_of line.now)) }
+{
+    let mut at = 0;
+    'columns: for c in 0..width {
+        if line.len() < at {
+            return RowAnswer::Width;
+        }
+        let rest = &line[at..];
+        let field = first_field(reading_in(ops, c), rest);
+        match field.value {
+            Ok(value) => fields[c as usize] = value,
+            Err(fault) => return fault_at(c, fault, rest, width - c),
+        }
+        at += field.size + 1;
+    }
+    RowAnswer::Good
+}
+
 /// Reads a line into a number for each column: the columns that the program's instructions read, and 0 for the others.
 /// It takes no memory. Where the answer isn't `Good`, the numbers have no meaning.
 ///
@@ -92,7 +144,22 @@ fn read_fields(line: &[u8], width: u32, readings: &[Reading], fields: &mut [i64]
 /// that is read is one or more decimal digits, which one sign may lead: 0 or 1 where some instruction reads its column as
 /// a truth, else from -2,147,483,648 to 2,147,483,647. Of several faults the first is told: too few fields, then the
 /// columns from left to right.
-pub fn row_fields(
+///
+/// Each column is looked for among the instructions. Who reads many lines keeps `Readings`, and calls `row_fields_by`.
+pub fn row_fields(line: &[u8], checked: &Checked, fields: &mut [i64]) -> RowAnswer
+    requires wide { length fields.old ≡ checked.now.width }
+    ensures told { Tells result fields.new (line_meaning checked.now line.now) }
+    ensures fit { result ≡ RowAnswer.Good → IsFit checked.now fields.new }
+{
+    if is_blank_line(line) {
+        return RowAnswer::Blank;
+    }
+    let program = checked.program();
+    search_fields(line, program.width, program.bz.as_slice(), fields)
+}
+
+/// Reads a line as `row_fields` does, by the readings of the program, which were found once.
+pub fn row_fields_by(
     line: &[u8],
     checked: &Checked,
     readings: &Readings,

@@ -2,5 +2,5 @@ pub mod TellLaws
 pub mod LineLaws
 pub mod WatchLaws
 pub mod WatchEnds
-pub mod RowTurns
-pub mod StampedTurns
+pub mod FoundLaws
+pub mod LineTurns

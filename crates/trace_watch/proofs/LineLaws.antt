@@ -11,9 +11,9 @@ use Rattle.tool_io.specs.Log.{Event, Took, Gave, meets_end}
 use Rattle.tool_io.specs.Cutting.{Cutting, HasNoNewline, IsLastRow, IsRow, lines_of, line_text, is_long, OnlyWhereNeeded, CutsLine}
 use Rattle.tool_io.proofs.CutLaws.{lines_of-row, lines_of-last}
 use Rattle.tool_io.proofs.Prompting.{PromptBy}
-use Rattle.trace_feed.specs.Rows.{line_meaning}
 use Rattle.trace_watch.specs.declared.status.TraceWhy.TheVariants.{LongLine}
-use Rattle.trace_watch.specs.Trace.{Meaning, IsPast, IsFaulty, meaning_of_text, meaning, is_marked, is_header, after_header}
+use Rattle.trace_watch.specs.Feed.{Feed, IsPast, IsFaulty, text_meaning, meaning}
+use Rattle.trace_watch.specs.Trace.{is_marked, is_header, after_header}
 use Rattle.trace_watch.specs.Watch.{OnlyRun, first_of}
 
 -- a header, and another line, in front of lines
@@ -40,25 +40,26 @@ is_header-short number raw false short is = ap (λ b. b && not (is_long raw)) is
 pub marked_first : (number : ℕ) (text : List ℕ) → is_marked number text ≡ true → number ≡ 1
 marked_first number text is = grind (arith, nat_tests, is)
 
--- what a line is that is neither past the mission time nor too long
-pub meaning-text : (program : Program) (mission before : ℕ) (raw : List ℕ) (what : Meaning) → before < mission → is_long raw ≡ false → meaning_of_text (line_meaning program (line_text raw)) ≡ what → meaning program mission before raw ≡ what
-meaning-text program mission before raw what within short is =
+-- what a line is that is neither past the mission time by its number nor too long, that is too long, that is past it
+pub meaning-text : (program : Program) (mission before : ℕ) (feed : Feed) (raw : List ℕ) → before < mission → is_long raw ≡ false
+    → meaning program mission before feed raw ≡ text_meaning program mission feed (line_text raw)
+meaning-text program mission before feed raw within short =
     let early : nat_lt before mission ≡ true = grind (arith, nat_tests, within) in
-    ap (λ v. if v then (if is_long raw then IsFaulty LongLine else meaning_of_text (line_meaning program (line_text raw))) else IsPast) early
-    ∙ ap (λ v. if v then IsFaulty LongLine else meaning_of_text (line_meaning program (line_text raw))) short
-    ∙ is
+    ap (λ v. if v then (if is_long raw then IsFaulty LongLine else text_meaning program mission feed (line_text raw)) else IsPast) early
+    ∙ ap (λ v. if v then IsFaulty LongLine else text_meaning program mission feed (line_text raw)) short
 
--- a line that is too long, and one past the mission time
-pub meaning-long : (program : Program) (mission before : ℕ) (raw : List ℕ) → before < mission → is_long raw ≡ true → meaning program mission before raw ≡ IsFaulty LongLine
-meaning-long program mission before raw within long =
+pub meaning-long : (program : Program) (mission before : ℕ) (feed : Feed) (raw : List ℕ) → before < mission → is_long raw ≡ true
+    → meaning program mission before feed raw ≡ IsFaulty LongLine
+meaning-long program mission before feed raw within long =
     let early : nat_lt before mission ≡ true = grind (arith, nat_tests, within) in
-    ap (λ v. if v then (if is_long raw then IsFaulty LongLine else meaning_of_text (line_meaning program (line_text raw))) else IsPast) early
-    ∙ ap (λ v. if v then IsFaulty LongLine else meaning_of_text (line_meaning program (line_text raw))) long
+    ap (λ v. if v then (if is_long raw then IsFaulty LongLine else text_meaning program mission feed (line_text raw)) else IsPast) early
+    ∙ ap (λ v. if v then IsFaulty LongLine else text_meaning program mission feed (line_text raw)) long
 
-pub meaning-past : (program : Program) (mission before : ℕ) (raw : List ℕ) → before ≡ mission → meaning program mission before raw ≡ IsPast
-meaning-past program mission before raw at_end =
+pub meaning-past : (program : Program) (mission before : ℕ) (feed : Feed) (raw : List ℕ) → before ≡ mission
+    → meaning program mission before feed raw ≡ IsPast
+meaning-past program mission before feed raw at_end =
     let late : nat_lt before mission ≡ false = grind (arith, nat_tests, at_end) in
-    ap (λ v. if v then (if is_long raw then IsFaulty LongLine else meaning_of_text (line_meaning program (line_text raw))) else IsPast) late
+    ap (λ v. if v then (if is_long raw then IsFaulty LongLine else text_meaning program mission feed (line_text raw)) else IsPast) late
 
 -- the first number is at most 2
 pub first_early : (start : Cutting) → start.number ≤ 1 → first_of start ≤ 2

@@ -1,12 +1,9 @@
 -- The lines of reports, told one after another.
 
-use Rattle.std.specs.Prelude.{⊤}
-use Rattle.std.proofs.Common.{◌≡◌, ℕ, ◌+◌, ◌-◌, ◌≤◌, arith, replicate, List, [], ◌∷◌, ◌++◌, Bool, true, false, map, Option, Some, refl, sym, ◌∙◌, ap, subst, append_assoc, inr}
+use Rattle.std.proofs.Common.{◌≡◌, ℕ, ◌+◌, ◌-◌, ◌≤◌, arith, replicate, List, [], ◌∷◌, ◌++◌, Bool, true, false, map, refl, sym, ◌∙◌, ap, subst, append_assoc}
 use Rattle.std.specs.List.{concat}
 use Rattle.std.proofs.lemmas.List.{append-nil, map-append, replicate-append-replicate}
 use Rattle.std.proofs.lemmas.List.Folds.{concat-append}
-use Rattle.std.specs.declared.ops.ControlFlow.{ControlFlow}
-use Rattle.std.specs.declared.ops.ControlFlow.TheVariants.{Continue, Break}
 use Rattle.mltl_base.specs.Programs.{outputs, output_names}
 use Rattle.mltl_base.specs.Reports.{Output, of_row, reports_after}
 use Rattle.mltl_base.proofs.Telling.{after_append}
@@ -15,22 +12,14 @@ use Rattle.mltl_base.specs.Lines.{line, lines_of_reports}
 use Rattle.mltl_base.specs.declared.report.Style.{Style}
 use Rattle.mltl_base.specs.declared.program.Program.{Program}
 use Rattle.mltl_base.specs.Atoms.{Row}
-use Rattle.tool_io.specs.declared.host.Place.TheVariants.{Out, Trace}
-use Rattle.tool_io.specs.declared.line_cut.Line as line_answer
-use Rattle.tool_io.specs.Cutting.{Cutting, CutsLine}
-use Rattle.tool_io.specs.Log.{Event, OnLog, Writes, WritesFront}
+use Rattle.tool_io.specs.declared.host.Place.TheVariants.{Out}
+use Rattle.tool_io.specs.Log.{Event, Writes, WritesFront}
 use Rattle.tool_io.proofs.ListLaws.{some-append}
-use Rattle.tool_io.proofs.LogLaws.{Appends-then, Writes-none, Writes-then, WritesFront-then}
+use Rattle.tool_io.proofs.LogLaws.{Writes-none, Writes-then, WritesFront-then}
 use Rattle.mltl_monitor.specs.declared.state.State.{State}
-use Rattle.trace_watch.specs.declared.status.Watched as watched
 use Rattle.mltl_monitor.specs.Monitoring.{program_of, open_of, Stands, TakesRow}
 use Rattle.trace_watch.specs.Watch.{HasTold, HasFront}
-use Rattle.trace_watch.specs.Telling.{SendsText, IsDrainedIf, TellsAll, TellsFront, RowSteps, Turns}
-use Rattle.trace_watch.specs.declared.timed_loop.Clock.{Clock}
-use Rattle.trace_feed.specs.Rows.{LineMeaning}
-use Rattle.trace_feed.specs.Rows as feed
-use Rattle.trace_watch.specs.Stamped.{StampedLine, HoldsFrom, Empty, Faulty, OverTime, fields_at, held}
-use Rattle.trace_watch.specs.StampedTelling.{Brings, StampedSteps, TellsRows, line_of, time_after}
+use Rattle.trace_watch.specs.Telling.{SendsText, IsDrainedIf, TellsAll, TellsFront, TellsRows}
 
 -- of the lines that were due, these bytes went out and those are left
 pub record HasSent (due left : List ℕ) (events : List Event) : Type 0 where
@@ -72,31 +61,6 @@ pub next_line : (names now : List (List ℕ)) (all rest : List Report) (report :
 next_line names now all rest report text piece first same written sent =
     let is : piece ≡ line names report = sent ∙ written ∙ ap (λ (ns : List (List ℕ)). line ns report) same in
     ap (lines_of_reports names) first ∙ ap (λ bytes. bytes ++ lines_of_reports names rest) (sym is)
-
--- an answer to a line that was cut
-abbrev pub IsStep : {T : Type 0} → ControlFlow watched.Watched T → Type 0
-IsStep (Break watched.TheVariants.Done) = ⊥
-IsStep (Break watched.TheVariants.ReadFault) = ⊥
-IsStep answer = ⊤
-
--- a line was cut, and then its step
-pub Turns-step : {T : Type 0} (result : ControlFlow watched.Watched T) (before between now : Option (List Event)) (program : Program) (mission lines : ℕ) (rows : List Row) (start cut : Cutting) (monitor : State) (Step : List Event → Type 0) → IsStep result → OnLog before between (CutsLine Trace start cut line_answer.TheVariants.Row) → OnLog between now Step → OnLog before now (Turns result program mission lines rows start cut monitor Step)
-Turns-step (Break watched.TheVariants.Done) before between now program mission lines rows start cut monitor Step is cuts steps = absurd is
-Turns-step (Break watched.TheVariants.ReadFault) before between now program mission lines rows start cut monitor Step is cuts steps = absurd is
-Turns-step result before between now program mission lines rows start cut monitor Step is cuts steps = record {
-  events = cuts.events ++ steps.events;
-  appended = Appends-then before between now cuts.events steps.events cuts.appended steps.appended;
-  holds = inr (record { first = cuts.events; second = steps.events; split = refl; cuts = cuts.holds; next = steps.holds });
-}
-
--- the line of a plain row is a step
-pub IsStep-row : (result : ControlFlow watched.Watched ℕ) (program : Program) (style : Style) (mission lines : ℕ) (rows : List Row) (cut : Cutting) (monitor : State) (events : List Event) → RowSteps result program style mission lines rows cut monitor events → IsStep result
-IsStep-row (Continue now) program style mission lines rows cut monitor events steps = tt
-IsStep-row (Break watched.TheVariants.Done) program style mission lines rows cut monitor events steps = steps.1
-IsStep-row (Break watched.TheVariants.ReadFault) program style mission lines rows cut monitor events steps = steps.1
-IsStep-row (Break watched.TheVariants.TooLong) program style mission lines rows cut monitor events steps = tt
-IsStep-row (Break (watched.TheVariants.BadTrace number why)) program style mission lines rows cut monitor events steps = tt
-IsStep-row (Break watched.TheVariants.WriteFault) program style mission lines rows cut monitor events steps = tt
 
 -- what is due for one more row
 pub due_row : (style : Style) (rows : List Row) (row : Row) (before between : State) → TakesRow row before between → Stands before rows → lines_of_reports (output_names (program_of between)) (open_of style between (rows ++ row ∷ [])) ≡ lines_of_reports (output_names (program_of before)) (reports_after style (outputs (program_of before)) rows (row ∷ []))
@@ -160,21 +124,6 @@ TellsRows-tell false style rows row before between after events took stands send
   kept = record { program_kept = kept ∙ took.program; front = rows ++ row ∷ []; is_front = record { rest = []; split = sym (append-nil (rows ++ row ∷ [])) }; stands = told (took.stands rows stands) };
 }
 
--- the line of a stamped row is a step
-pub IsStep-stamped : (result : ControlFlow watched.Watched Clock) (program : Program) (style : Style) (mission : ℕ) (clock : Clock) (rows : List Row) (last : Option (ℕ × Row)) (cut : Cutting) (monitor : State) (events : List Event) → StampedSteps result program style mission clock rows last cut monitor events → IsStep result
-IsStep-stamped (Continue now) program style mission clock rows last cut monitor events steps = tt
-IsStep-stamped (Break watched.TheVariants.Done) program style mission clock rows last cut monitor events steps = no_answer (line_of program mission clock.last cut) steps.1
-  where
-    no_answer : (what : StampedLine) → Brings (Break watched.TheVariants.Done) what program style rows (held last) cut.number monitor events → ⊥
-    no_answer what brings = absurd brings
-IsStep-stamped (Break watched.TheVariants.ReadFault) program style mission clock rows last cut monitor events steps = no_answer (line_of program mission clock.last cut) steps.1
-  where
-    no_answer : (what : StampedLine) → Brings (Break watched.TheVariants.ReadFault) what program style rows (held last) cut.number monitor events → ⊥
-    no_answer what brings = absurd brings
-IsStep-stamped (Break watched.TheVariants.TooLong) program style mission clock rows last cut monitor events steps = tt
-IsStep-stamped (Break (watched.TheVariants.BadTrace number why)) program style mission clock rows last cut monitor events steps = tt
-IsStep-stamped (Break watched.TheVariants.WriteFault) program style mission clock rows last cut monitor events steps = tt
-
 -- one more row was taken, and then told
 pub TellsRows-one : (whole : Bool) (program : Program) (style : Style) (rows more : List Row) (row : Row) (before between after : State) (first second : List Event) → TellsAll program style rows more before first → TakesRow row before between
     → SendsText whole (lines_of_reports (output_names (program_of between)) (open_of style between ((rows ++ more) ++ row ∷ []))) second → program_of after ≡ program_of between
@@ -188,28 +137,3 @@ pub TellsFront-held : (program : Program) (style : Style) (rows : List Row) (row
 TellsFront-held program style rows row done times monitor events within a =
     let sum : done + (times - done) ≡ times = omega (arith, within) in
     subst (λ all. TellsFront program style rows all monitor events) (replicate-append-replicate done (times - done) row ∙ ap (λ n. replicate n row) sum) (TellsFront-more program style rows (replicate done row) (replicate (times - done) row) monitor events a)
-
--- copies that are the same bring the same
-pub Brings-copies : (result : ControlFlow watched.Watched ⊤) (what : StampedLine) (program : Program) (style : Style) (rows : List Row) (copies others : ℕ → List Row) (number : ℕ) (monitor : State) (events : List Event) → ((time : ℕ) (values : Row) → what ≡ HoldsFrom time values → copies time ≡ others time) → Brings result what program style rows copies number monitor events → Brings result what program style rows others number monitor events
-Brings-copies (Continue u) (HoldsFrom time values) program style rows copies others number monitor events same brings = subst (λ held. TellsAll program style rows (held ++ values ∷ []) monitor events) (same time values refl) brings
-Brings-copies (Continue u) Empty program style rows copies others number monitor events same brings = brings
-Brings-copies (Break watched.TheVariants.WriteFault) (HoldsFrom time values) program style rows copies others number monitor events same brings = subst (λ held. TellsFront program style rows (held ++ values ∷ []) monitor events) (same time values refl) brings
-Brings-copies (Break (watched.TheVariants.BadTrace line why)) (Faulty cause) program style rows copies others number monitor events same brings = brings
-Brings-copies (Break watched.TheVariants.TooLong) OverTime program style rows copies others number monitor events same brings = brings
-Brings-copies result what program style rows copies others number monitor events same brings = absurd brings
-
--- fields after a stamp hold from its time, or from none
-pub fields_at-time : (time then_ : ℕ) (meaning : LineMeaning) (values : Row) → fields_at time meaning ≡ HoldsFrom then_ values → then_ ≡ time
-fields_at-time time then_ (feed.row row) values is = cc
-fields_at-time time then_ feed.blank values is = cc
-fields_at-time time then_ feed.too_few values is = cc
-fields_at-time time then_ (feed.not_whole column) values is = cc
-fields_at-time time then_ (feed.out_of_range column) values is = cc
-
--- fields that were taken hold from their time
-pub time_after-fields : (last : Option ℕ) (time : ℕ) (meaning : LineMeaning) (program : Program) (style : Style) (rows : List Row) (copies : ℕ → List Row) (number : ℕ) (monitor : State) (events : List Event) → Brings (Continue tt) (fields_at time meaning) program style rows copies number monitor events → Some time ≡ time_after last (fields_at time meaning)
-time_after-fields last time (feed.row row) program style rows copies number monitor events brings = refl
-time_after-fields last time feed.blank program style rows copies number monitor events brings = absurd brings
-time_after-fields last time feed.too_few program style rows copies number monitor events brings = absurd brings
-time_after-fields last time (feed.not_whole column) program style rows copies number monitor events brings = absurd brings
-time_after-fields last time (feed.out_of_range column) program style rows copies number monitor events brings = absurd brings

@@ -20,7 +20,8 @@ use Rattle.tool_io.proofs.Prompting.{PromptBy-append, Prompt-from_by, Writes-pro
 use Rattle.mltl_monitor.specs.declared.state.State.{State}
 use Rattle.trace_watch.specs.declared.status.Watched as watched
 use Rattle.trace_watch.specs.Trace.{TraceRows, Stop, Clean, ends_by, after_header, due}
-use Rattle.trace_watch.specs.Telling.{CutsNone, TellsFront}
+use Rattle.trace_watch.specs.Telling.{TellsFront}
+use Rattle.trace_watch.specs.Turns.{CutsNone}
 use Rattle.trace_watch.specs.Watch.{OnlyRun, HasTold, IsTold, Outcome, IsWatch}
 use Rattle.trace_watch.proofs.LineLaws.{row_line, OnlyRun-append, OnlyRun-writes}
 use Rattle.trace_watch.proofs.WatchLaws.{HasWatched, IsLedBy, IsLedBy-same, IsLedBy-then, line_bytes, line_ended, line_no_more, prompt_then, line_follows, line_given, line_only, lines_append}

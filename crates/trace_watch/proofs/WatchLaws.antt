@@ -21,7 +21,8 @@ use Rattle.tool_io.proofs.CutLaws.{lines_of-none, is_long-row}
 use Rattle.tool_io.proofs.Prompting.{PromptBy, PromptBy-append, Writes-prompt}
 use Rattle.mltl_monitor.specs.declared.state.State.{State}
 use Rattle.trace_watch.specs.Trace.{TraceRows, Clean, ends_by, is_marked, is_header, after_header, due}
-use Rattle.trace_watch.specs.Telling.{TellsAll, WritesNone, text_of}
+use Rattle.trace_watch.specs.Telling.{TellsAll, WritesNone}
+use Rattle.trace_watch.specs.Turns.{text_of}
 use Rattle.trace_watch.specs.Watch.{OnlyRun, ReadsNoMore, HasTold, first_of}
 use Rattle.trace_watch.proofs.LineLaws.{is_header-short, first_early, OnlyRun-reads, OnlyRun-writes, OnlyRun-append, Follows, reads_prompt, no_reads, true_false, row_follows, row_line}
 
@@ -45,9 +46,6 @@ IsLedBy-then all mid rest first second a b = record {
 
 pub IsLedBy-same : (all same rest : TraceRows) (first : List Row) → all ≡ same → IsLedBy same first rest → IsLedBy all first rest
 IsLedBy-same all same rest first is a = subst (λ t. IsLedBy t first rest) (sym is) a
-
-pub IsLedBy-rest : (all rest same : TraceRows) (first : List Row) → rest ≡ same → IsLedBy all first rest → IsLedBy all first same
-IsLedBy-rest all rest same first is a = subst (IsLedBy all first) is a
 
 -- After some lines, of which so many stand after the header, each with its lines told. `rows_in` are the rows of all
 -- lines, `rest` of those after the header that follow.

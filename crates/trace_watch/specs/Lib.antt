@@ -1,5 +1,5 @@
+pub mod Feed
 pub mod Trace
 pub mod Watch
 pub mod Telling
-pub mod Stamped
-pub mod StampedTelling
+pub mod Turns

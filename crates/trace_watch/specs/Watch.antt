@@ -35,22 +35,28 @@ pub record HasFront (program : Program) (monitor : State) (rows : List Row) : Ty
   pub stands : Stands monitor front
 
 -- all lines that are due are out, and the monitor has the rows
-pub record IsTold (program : Program) (style : Style) (rows_in : List (List ℕ) → TraceRows) (ended : Bool) (bytes out : List ℕ) (monitor : State) : Type 0 where
+pub record IsTold (program : Program) (style : Style) (rows_in : List (List ℕ) → TraceRows) (ended : Bool)
+    (bytes out : List ℕ) (monitor : State) : Type 0 where
   pub told : out ≡ due program style rows_in ended bytes
   pub kept : HasTold program monitor (rows_in (lines_of ended bytes)).rows
 
 -- how the answer follows from the bytes that were taken, and what is out, by the rows of lines
-abbrev pub Outcome : watched.Watched → Program → Style → (List (List ℕ) → TraceRows) → Bool → List ℕ → List ℕ → State → Type 0
+abbrev pub Outcome : watched.Watched → Program → Style → (List (List ℕ) → TraceRows) → Bool → List ℕ → List ℕ → State
+    → Type 0
 Outcome watched.TheVariants.Done program style rows_in ended bytes out monitor =
-    (ended ≡ true) × ((rows_in (lines_of ended bytes)).stop ≡ Clean) × IsTold program style rows_in ended bytes out monitor
+    (ended ≡ true) × ((rows_in (lines_of ended bytes)).stop ≡ Clean)
+    × IsTold program style rows_in ended bytes out monitor
 Outcome watched.TheVariants.TooLong program style rows_in ended bytes out monitor =
     ((rows_in (lines_of ended bytes)).stop ≡ Past) × IsTold program style rows_in ended bytes out monitor
 Outcome (watched.TheVariants.BadTrace number why) program style rows_in ended bytes out monitor =
-    ((rows_in (lines_of ended bytes)).stop ≡ Bad number why) × IsTold program style rows_in ended bytes out monitor
+    ((rows_in (lines_of ended bytes)).stop ≡ Bad number why)
+    × IsTold program style rows_in ended bytes out monitor
 Outcome watched.TheVariants.ReadFault program style rows_in ended bytes out monitor =
-    (ended ≡ false) × ((rows_in (lines_of false bytes)).stop ≡ Clean) × IsTold program style rows_in false bytes out monitor
+    (ended ≡ false) × ((rows_in (lines_of false bytes)).stop ≡ Clean)
+    × IsTold program style rows_in false bytes out monitor
 Outcome watched.TheVariants.WriteFault program style rows_in ended bytes out monitor =
-    IsProperFront out (due program style rows_in ended bytes) × HasFront program monitor (rows_in (lines_of ended bytes)).rows
+    IsProperFront out (due program style rows_in ended bytes)
+    × HasFront program monitor (rows_in (lines_of ended bytes)).rows
 
 -- a trace can be watched: the monitor has taken no rows and has nothing to tell, no more than one line was cut, and the
 -- mission time is within its limit
@@ -69,9 +75,11 @@ abbrev pub ReadsNoMore : Cutting → Cutting → List Event → Type 0
 ReadsNoMore start cut events = start.ended ≡ true → (cut.ended ≡ true) × (taken Trace events ≡ [])
 
 -- the log of a run that began with this cut and ended with that one
-pub record IsWatch (program : Program) (style : Style) (rows_in : List (List ℕ) → TraceRows) (start cut : Cutting) (monitor : State) (answer : watched.Watched) (events : List Event) : Type 0 where
+pub record IsWatch (program : Program) (style : Style) (rows_in : List (List ℕ) → TraceRows) (start cut : Cutting)
+    (monitor : State) (answer : watched.Watched) (events : List Event) : Type 0 where
   pub prompt : Prompt (due program style rows_in false) start.pending events
-  pub outcome : Outcome answer program style rows_in cut.ended (start.pending ++ taken Trace events) (given Out events) monitor
+  pub outcome :
+      Outcome answer program style rows_in cut.ended (start.pending ++ taken Trace events) (given Out events) monitor
   pub ended : cut.ended ≡ ended_from start.ended Trace events
   pub no_more : ReadsNoMore start cut events
   pub only : OnlyRun events

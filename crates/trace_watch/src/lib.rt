@@ -2,10 +2,10 @@
 #![tactic(auto)]
 
 pub mod laws;
+mod reader;
 mod status;
-mod timed_loop;
+mod telling;
 mod trace_loop;
 
 pub use status::{TraceWhy, Watched};
-pub use timed_loop::watch_timed;
-pub use trace_loop::watch;
+pub use trace_loop::{watch, watch_timed};

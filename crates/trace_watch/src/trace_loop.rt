@@ -2,157 +2,180 @@
 
 ghost use Rattle.std.specs.Prelude.{◌≡◌, ◌≤◌, ◌<◌, ◌^◌, IsSome, List};
 ghost use Rattle.mltl_base.specs.Atoms.{Row};
-ghost use Rattle.mltl_base.specs.Lines.{lines_of_reports};
-ghost use Rattle.mltl_base.specs.Programs.{output_names};
 ghost use Rattle.tool_io.specs.Log.{OnLog};
-ghost use Rattle.mltl_monitor.specs.Monitoring.{program_of, taken_by, last_of, read_of, IsDrained, Stands, open_of};
-ghost use Rattle.trace_watch.specs.Trace.{is_marked, trace_rows};
+ghost use Rattle.mltl_monitor.specs.Monitoring.{program_of, taken_by, IsDrained, IsSame, Stands};
+ghost use Rattle.trace_watch.specs.Feed.{Feed, text_meaning};
+ghost use Rattle.trace_watch.specs.Trace.{is_marked, fed_rows, trace_rows, stamped_rows};
 ghost use Rattle.trace_watch.specs.Watch.{CanWatch, IsWatch, WatchCause, first_of};
-ghost use Rattle.trace_watch.specs.Telling.{TellCause, StepCause, SendsText, IsDrainedIf, TakesIt, RowSteps, Turns, text_of};
+ghost use Rattle.trace_watch.specs.Telling.{StepCause};
+ghost use Rattle.trace_watch.specs.Turns.{CanTake, Finds, IfRow, IsAtStart, IsCounted, LineSteps, MovesReader, StandsAt, TakesLine, Turns, begins_at, text_of};
 
+use crate::reader::{Found, Reader, read_fields, read_stamped};
+use crate::telling::take_after;
 use crate::{TraceWhy, Watched};
-use arrayvec::ArrayVec;
-use contract_status::put_line;
 use mltl_base::Style;
 use mltl_monitor::Monitor;
 use scq_ring::steps::Steps;
 use std::marker::Brand;
 use std::ops::ControlFlow::{self, Break, Continue};
 use std::sync::ledger::{Blank, Ledger};
-use tool_io::{Host, Line, LineCut, Place, Put, put_all};
-use trace_feed::RowAnswer;
-
-/// Writes the lines of all reports that are still to be given. Answers whether all went out.
-pub(crate) fn tell<H: Host>(monitor: &mut Monitor, host: &mut H, style: Style) -> bool
-    ensures cause { TellCause result (H.faults host.old) (H.faults host.new) }
-    ensures log { (rows : List Row) → Stands monitor.old rows
-        → OnLog (H.log host.old) (H.log host.new) (SendsText result
-        (lines_of_reports (output_names (program_of monitor.old))
-        (open_of style monitor.old rows))) }
-    ensures stands { (rows : List Row) → Stands monitor.old rows → Stands monitor.new rows }
-    ensures program { program_of monitor.new ≡ program_of monitor.old }
-    ensures as_many { taken_by monitor.new ≡ taken_by monitor.old }
-    ensures last { last_of monitor.new ≡ last_of monitor.old }
-    ensures read { read_of monitor.new ≡ read_of monitor.old }
-    ensures drained { IsDrainedIf result monitor.new }
-{
-    let mut line = ArrayVec::new();
-    while let Some(report) = monitor.next(style) {
-        put_line(&mut line, &report, monitor.checked());
-        if let Put::Failed = put_all(host, Place::Out, &line) {
-            return false;
-        }
-    }
-    true
-}
-
-/// Takes the line of the last Row, and tells what it brings: nothing where it is blank.
-fn take<H: Host, L: Ledger>(
-    monitor: &mut Monitor,
-    cut: &LineCut,
-    host: &mut H,
-    style: Style,
-    steps: &mut Steps<L>,
-) -> ControlFlow<Watched, ()>
-    requires row { IsSome cut.now.row }
-    requires drained { IsDrained monitor.old }
-    requires early { taken_by monitor.old < 2 ^ 40 }
-    ensures cause { StepCause result (H.faults host.old) (H.faults host.new) }
-    ensures log { (rows : List Row) → Stands monitor.old rows
-        → OnLog (H.log host.old) (H.log host.new)
-        (TakesIt result (program_of monitor.old) style rows cut.now monitor.new) }
-    ensures program { program_of monitor.new ≡ program_of monitor.old }
-{
-    let number = cut.number();
-    match monitor.take_line(cut.line(), steps) {
-        RowAnswer::Good => {
-            if tell(monitor, host, style) {
-                Continue(())
-            } else {
-                Break(Watched::WriteFault)
-            }
-        }
-        RowAnswer::Blank => Continue(()),
-        RowAnswer::Width => Break(Watched::BadTrace(number, TraceWhy::Width)),
-        RowAnswer::NotWhole(column) => {
-            Break(Watched::BadTrace(number, TraceWhy::NotWhole(column)))
-        }
-        RowAnswer::OutOfRange(column) => {
-            Break(Watched::BadTrace(number, TraceWhy::OutOfRange(column)))
-        }
-    }
-}
+use tool_io::{Host, Line, LineCut, Place};
 
 /// Whether the line of the last Row is the first of the trace and begins with `#`.
-pub(crate) fn is_header(cut: &LineCut) -> bool
+fn is_header(cut: &LineCut) -> bool
     requires row { IsSome cut.now.row }
     ensures { result ≡ is_marked cut.now.number (text_of cut.now) }
 {
     cut.number() == 1 && matches!(cut.line(), [b'#', ..])
 }
 
-/// Takes the line of the last Row, where `before` lines after the header stand before it. Answers how many stand
-/// after it, or how the loop ends.
-fn step<H: Host, L: Ledger>(
-    monitor: &mut Monitor,
-    cut: &LineCut,
-    host: &mut H,
+/// How a trace is watched, and how far it was taken.
+#[derive(Drop)]
+struct Course {
+    /// How many lines after the header are taken at most, and which times.
     mission: u64,
-    before: u64,
     style: Style,
-    steps: &mut Steps<L>,
-) -> ControlFlow<Watched, u64>
-    requires row { IsSome cut.now.row }
-    requires drained { IsDrained monitor.old }
-    requires counted { taken_by monitor.old ≤ before }
-    requires within { before ≤ mission }
-    requires mission { mission ≤ 2 ^ 40 }
-    ensures cause { StepCause result (H.faults host.old) (H.faults host.new) }
-    ensures log { (rows : List Row) → Stands monitor.old rows
-        → OnLog (H.log host.old) (H.log host.new)
-        (RowSteps result (program_of monitor.old) style mission before rows cut.now monitor.new) }
-    ensures program { program_of monitor.new ≡ program_of monitor.old }
-{
-    if is_header(cut) {
-        return Continue(before);
-    }
-    if before == mission {
-        return Break(Watched::TooLong);
-    }
-    take(monitor, cut, host, style, steps)?;
-    Continue(before + 1)
+    /// How many lines after the header were taken.
+    lines: u64,
+    /// How rows stand in the next.
+    reader: Reader,
 }
 
-/// Cuts one more line, where `before` lines after the header stand before it, and takes it. Answers how many stand
-/// after it, or how the loop ends.
-fn turn<H: Host, L: Ledger>(
-    monitor: &mut Monitor,
-    cut: &mut LineCut,
-    host: &mut H,
-    mission: u64,
-    before: u64,
-    style: Style,
-    steps: &mut Steps<L>,
-) -> ControlFlow<Watched, u64>
-    requires drained { IsDrained monitor.old }
-    requires counted { taken_by monitor.old ≤ before }
-    requires within { before ≤ mission }
-    requires mission { mission ≤ 2 ^ 40 }
-    ensures cause { StepCause result (H.faults host.old) (H.faults host.new) }
-    ensures log { (rows : List Row) → Stands monitor.old rows
-        → OnLog (H.log host.old) (H.log host.new)
-        (Turns result (program_of monitor.old) mission before rows cut.old cut.new monitor.new
-        (RowSteps result (program_of monitor.old) style mission before rows cut.new monitor.new)) }
-    ensures program { program_of monitor.new ≡ program_of monitor.old }
-{
-    match cut.next_line(host, Place::Trace) {
-        Line::Row => step(monitor, cut, host, mission, before, style, steps),
-        Line::End => Break(Watched::Done),
-        Line::ReadFault => Break(Watched::ReadFault),
-        Line::LongLine if before == mission => Break(Watched::TooLong),
-        Line::LongLine => {
-            let number = cut.number().saturating_add(1);
-            Break(Watched::BadTrace(number, TraceWhy::LongLine))
+impl Course {
+    /// The course of a trace of which no line was taken.
+    fn new(mission: u64, style: Style, reader: Reader) -> Course
+        ensures mission { result.mission ≡ mission }
+        ensures style { result.style ≡ style }
+        ensures lines { result.lines ≡ 0 }
+        ensures reader { result.reader ≡ reader }
+    {
+        Course {
+            mission,
+            style,
+            lines: 0,
+            reader,
+        }
+    }
+
+    /// Reads a line, and keeps its row aside. Nothing else of the monitor changes.
+    fn read(&self, monitor: &mut Monitor, line: &[u8]) -> Found
+        requires drained { IsDrained monitor.old }
+        requires counted { IsCounted self.now.reader self.now.lines (taken_by monitor.old) }
+        requires within { self.now.lines < self.now.mission }
+        requires mission { self.now.mission ≤ 2 ^ 40 }
+        ensures told { (rows : List Row) (feed : Feed) → Stands monitor.old rows
+            → StandsAt feed self.now.reader self.now.lines rows
+            → Finds result feed
+            (text_meaning (program_of monitor.old) self.now.mission feed line.now)
+            self.now.lines rows monitor.old monitor.new }
+        ensures ready { IfRow result (λ copies. CanTake copies monitor.new) }
+        ensures same { IsSame monitor.old monitor.new }
+        ensures drained { IsDrained monitor.new }
+    {
+        match self.reader {
+            Reader::Plain => read_fields(monitor, line, 0, Reader::Plain),
+            Reader::Stamped(last) => read_stamped(monitor, line, last, self.mission),
+        }
+    }
+
+    /// Takes the line of the last Row, and tells what it brings.
+    fn take<H: Host, L: Ledger>(
+        &mut self,
+        monitor: &mut Monitor,
+        cut: &LineCut,
+        host: &mut H,
+        steps: &mut Steps<L>,
+    ) -> ControlFlow<Watched, ()>
+        requires row { IsSome cut.now.row }
+        requires drained { IsDrained monitor.old }
+        requires counted { IsCounted self.old.reader self.old.lines (taken_by monitor.old) }
+        requires within { self.old.lines < self.old.mission }
+        requires mission { self.old.mission ≤ 2 ^ 40 }
+        ensures cause { StepCause result (H.faults host.old) (H.faults host.new) }
+        ensures log { (rows : List Row) (feed : Feed) → Stands monitor.old rows
+            → StandsAt feed self.old.reader self.old.lines rows
+            → OnLog (H.log host.old) (H.log host.new)
+            (TakesLine result (program_of monitor.old) self.old self.new feed rows
+            cut.now monitor.new) }
+        ensures program { program_of monitor.new ≡ program_of monitor.old }
+        ensures moves { MovesReader self.old self.new }
+    {
+        match self.read(monitor, cut.line()) {
+            Found::Row(copies, reader) => {
+                self.reader = reader;
+                if take_after(monitor, host, copies, self.style, steps) {
+                    Continue(())
+                } else {
+                    Break(Watched::WriteFault)
+                }
+            }
+            Found::Blank => Continue(()),
+            Found::Bad(why) => Break(Watched::BadTrace(cut.number(), why)),
+            Found::Past => Break(Watched::TooLong),
+        }
+    }
+
+    /// Takes the line of the last Row, unless it is the header or past the mission time.
+    fn step<H: Host, L: Ledger>(
+        &mut self,
+        monitor: &mut Monitor,
+        cut: &LineCut,
+        host: &mut H,
+        steps: &mut Steps<L>,
+    ) -> ControlFlow<Watched, ()>
+        requires row { IsSome cut.now.row }
+        requires drained { IsDrained monitor.old }
+        requires counted { IsCounted self.old.reader self.old.lines (taken_by monitor.old) }
+        requires within { self.old.lines ≤ self.old.mission }
+        requires mission { self.old.mission ≤ 2 ^ 40 }
+        ensures cause { StepCause result (H.faults host.old) (H.faults host.new) }
+        ensures log { (rows : List Row) (feed : Feed) → Stands monitor.old rows
+            → StandsAt feed self.old.reader self.old.lines rows
+            → OnLog (H.log host.old) (H.log host.new)
+            (LineSteps result (program_of monitor.old) self.old self.new feed rows
+            cut.now monitor.new) }
+        ensures program { program_of monitor.new ≡ program_of monitor.old }
+    {
+        if is_header(cut) {
+            return Continue(());
+        }
+        if self.lines == self.mission {
+            return Break(Watched::TooLong);
+        }
+        self.take(monitor, cut, host, steps)?;
+        self.lines += 1;
+        Continue(())
+    }
+
+    /// Cuts one more line, and takes it.
+    fn turn<H: Host, L: Ledger>(
+        &mut self,
+        monitor: &mut Monitor,
+        cut: &mut LineCut,
+        host: &mut H,
+        steps: &mut Steps<L>,
+    ) -> ControlFlow<Watched, ()>
+        requires drained { IsDrained monitor.old }
+        requires counted { IsCounted self.old.reader self.old.lines (taken_by monitor.old) }
+        requires within { self.old.lines ≤ self.old.mission }
+        requires mission { self.old.mission ≤ 2 ^ 40 }
+        ensures cause { StepCause result (H.faults host.old) (H.faults host.new) }
+        ensures log { (rows : List Row) (feed : Feed) → Stands monitor.old rows
+            → StandsAt feed self.old.reader self.old.lines rows
+            → OnLog (H.log host.old) (H.log host.new)
+            (Turns result (program_of monitor.old) self.old self.new feed rows
+            cut.old cut.new monitor.new) }
+        ensures program { program_of monitor.new ≡ program_of monitor.old }
+    {
+        match cut.next_line(host, Place::Trace) {
+            Line::Row => self.step(monitor, cut, host, steps),
+            Line::End => Break(Watched::Done),
+            Line::ReadFault => Break(Watched::ReadFault),
+            Line::LongLine if self.lines == self.mission => Break(Watched::TooLong),
+            Line::LongLine => {
+                let number = cut.number().saturating_add(1);
+                Break(Watched::BadTrace(number, TraceWhy::LongLine))
+            }
         }
     }
 }
@@ -162,26 +185,25 @@ fn turns<H: Host, L: Ledger>(
     monitor: &mut Monitor,
     cut: &mut LineCut,
     host: &mut H,
-    mission: u64,
-    style: Style,
+    mut course: Course,
     blank: Blank,
 ) -> Watched
     requires name { blank.name ≡ L.name }
     requires parts { blank.parts ≡ L.parts }
     requires some_parts { 0 < blank.parts }
-    requires ready { CanWatch monitor.old cut.old mission }
+    requires ready { CanWatch monitor.old cut.old course.mission }
+    requires start { IsAtStart course }
     ensures cause { WatchCause result (H.faults host.old) (H.faults host.new) }
-    ensures log { OnLog (H.log host.old) (H.log host.new) (IsWatch (program_of monitor.old) style
-        (trace_rows (program_of monitor.old) mission (first_of cut.old))
-        cut.old cut.new monitor.new result) }
+    ensures log { OnLog (H.log host.old) (H.log host.new)
+        (IsWatch (program_of monitor.old) course.style
+        (fed_rows (begins_at course.reader) (program_of monitor.old) course.mission
+        (first_of cut.old)) cut.old cut.new monitor.new result) }
     ensures program { program_of monitor.new ≡ program_of monitor.old }
 {
     let mut steps = Steps::<L>::start(blank);
-    let mut before = 0;
     loop {
-        match turn(monitor, cut, host, mission, before, style, &mut steps) {
-            Continue(now) => before = now,
-            Break(watched) => return watched,
+        if let Break(watched) = course.turn(monitor, cut, host, &mut steps) {
+            return watched;
         }
     }
 }
@@ -207,5 +229,26 @@ pub fn watch<H: Host>(
         cut.old cut.new monitor.new result) }
     ensures program { program_of monitor.new ≡ program_of monitor.old }
 {
-    turns::<H, Brand>(monitor, cut, host, mission, style, Blank::new(1))
+    let course = Course::new(mission, style, Reader::Plain);
+    turns::<H, Brand>(monitor, cut, host, course, Blank::new(1))
+}
+
+/// Watches a trace of stamped rows: as `watch`, but each row holds from the time of its stamp until that of the next.
+/// The mission time counts times too, and a row of that time or a later one ends the loop before its gap is filled.
+pub fn watch_timed<H: Host>(
+    monitor: &mut Monitor,
+    cut: &mut LineCut,
+    host: &mut H,
+    mission: u64,
+    style: Style,
+) -> Watched
+    requires { CanWatch monitor.old cut.old mission }
+    ensures cause { WatchCause result (H.faults host.old) (H.faults host.new) }
+    ensures log { OnLog (H.log host.old) (H.log host.new) (IsWatch (program_of monitor.old) style
+        (stamped_rows (program_of monitor.old) mission (first_of cut.old))
+        cut.old cut.new monitor.new result) }
+    ensures program { program_of monitor.new ≡ program_of monitor.old }
+{
+    let course = Course::new(mission, style, Reader::Stamped(None));
+    turns::<H, Brand>(monitor, cut, host, course, Blank::new(1))
 }

@@ -11,11 +11,11 @@ loop-decl-init c = rw c.new-fields.ensures (turn-map (with_field c.args.line c.a
 
 pub loop-decl-preserved : goal.loop-decl-preserved
 loop-decl-preserved c = sym (turn-more (λ f. with_field c.args.line c.args.declared.now (field_shape f)) c.args.decls.now c.loop-decl.decl-index c.decl-item.result c.loop-decl.fields
-    c.loop-decl-test.true c.decl-item.is c.in_ok-fields.fields c.in_ok-fields.ensures) ∙ c.loop-decl.invariant
+    c.loop-decl-test.true c.decl-item.is c.add_field.new.fields c.in_ok-add_field.ensures) ∙ c.loop-decl.invariant
 
-pub returns-in_err-fields : goal.returns-in_err-fields
-returns-in_err-fields c =
+pub returns-in_err-add_field : goal.returns-in_err-add_field
+returns-in_err-add_field c =
     let p = err_from_is_err_and c.from_residual.result c.from_residual.ensures.1 in
-    rw (p.1, p.2) (subst (Fails c.in_err-fields.field-0.0) c.loop-decl.invariant
+    rw (p.1, p.2) (subst (Fails c.in_err-add_field.field-0.0) c.loop-decl.invariant
     (turn-fails (λ f. with_field c.args.line c.args.declared.now (field_shape f)) c.args.decls.now c.loop-decl.decl-index c.decl-item.result c.loop-decl.fields
-    c.loop-decl-test.true c.decl-item.is _ c.in_err-fields.ensures))
+    c.loop-decl-test.true c.decl-item.is _ c.in_err-add_field.ensures))

@@ -1,46 +1,62 @@
-use Rattle.std.proofs.Common.{◌∙◌, refl, sym, subst, arith}
+use Rattle.std.proofs.Common.{◌∙◌, ◌+◌, refl, sym, ap, subst, arith, length, map, drop}
 use Rattle.std.proofs.lemmas.Result.{err_from_is_err_and}
 use Rattle.c2po_tree.specs.ItemShape.{item_shape}
+use Rattle.c2po_kinds.specs.declared.declarations.Declarations.{Declarations}
 use Rattle.c2po_kinds.specs.Checking.{Fails}
 use Rattle.c2po_kinds.proofs.Turns.{turn-more, turn-fails, turn-end}
 use Rattle.unfold.specs.Environment.{no_names}
 use Rattle.c2po_types.specs.FirstFault.{item_step}
 use Rattle.c2po_types.specs.Reaching.{state_of}
+use Rattle.c2po_types.specs.Unfolded.{Leaves}
 use Rattle.c2po_types.proofs.Outcome.{checked-from}
+use Rattle.c2po_types.proofs.Stepping.{leaves-all, leaves-less, left-first, left-none}
 use Rattle.c2po_types.proofs.checking.run.Goals as goal
 
 pub loop-item-init : goal.loop-item-init
-loop-item-init c = (
-  omega arith,
-  (
-    no_names,
-    c.new-3.ensures.stands,
-    checked-from c.args.items.now (record { declared = c.new.result; labels = c.new-2.result; values = c.new-3.result; total = 0 }) c.new.ensures c.new-2.ensures refl,
-  ),
-)
+loop-item-init c =
+    let items = c.args.items.now in record {
+      light = omega arith;
+      reached = (
+        no_names,
+        c.new-3.ensures.stands,
+        checked-from items (record { declared = c.new.result; labels = c.new-2.result; values = c.new-3.result; total = 0; outs = c.new-4.result }) c.new.ensures c.new-2.ensures refl,
+      );
+      unfolded = leaves-all _ (map item_shape items) (ap (λ (d : Declarations). length d.signals) c.new.ensures) c.new-4.ensures c.new-3.ensures.stands c.new-3.ensures.sound;
+    }
 
 pub loop-item-preserved : goal.loop-item-preserved
 loop-item-preserved c =
-    let p = c.loop-item.invariant.1 in
-    let q = c.in_ok-progress.ensures.reached p.0 p.1 in (
-      c.in_ok-progress.ensures.light,
-      (
+    let items = c.args.items.now in
+    let k = c.loop-item.item-index in
+    let item = c.item-item.result in
+    let old = c.loop-item.progress in
+    let new = c.step.new.self in
+    let p = c.loop-item.invariant.reached in
+    let q = c.in_ok-step.ensures.reached p.0 p.1 in
+    let here = subst (λ left. Leaves old left (map item_shape items)) (left-first items k item c.loop-item-test.true c.item-item.is) c.loop-item.invariant.unfolded in record {
+      light = c.in_ok-step.ensures.light;
+      reached = (
         q.0,
         q.1,
-        sym (turn-more (λ i. item_step (item_shape i)) c.args.items.now c.loop-item.item-index c.item-item.result (state_of c.loop-item.progress p.0)
-            c.loop-item-test.true c.item-item.is (state_of c.in_ok-progress.progress q.0) q.2) ∙ p.2,
-      ),
-    )
+        sym (turn-more (λ i. item_step (item_shape i)) items k item (state_of old p.0) c.loop-item-test.true c.item-item.is (state_of new q.0) q.2) ∙ p.2,
+      );
+      unfolded = leaves-less old new (item_shape item) (map item_shape (drop (k + 1) items)) (map item_shape items) here (c.in_ok-step.ensures.puts here.place here.told here.stands);
+    }
 
-pub returns-in_err-progress : goal.returns-in_err-progress
-returns-in_err-progress c =
+pub returns-in_err-step-clause-reached : goal.returns-in_err-step-clause-reached
+returns-in_err-step-clause-reached c =
     let e = err_from_is_err_and c.from_residual.result c.from_residual.ensures.1 in
-    let p = c.loop-item.invariant.1 in
-    rw (e.1, e.2) (subst (Fails c.in_err-progress.field-0.0) p.2
+    let p = c.loop-item.invariant.reached in
+    rw (e.1, e.2) (subst (Fails c.in_err-step.field-0.0) p.2
     (turn-fails (λ i. item_step (item_shape i)) c.args.items.now c.loop-item.item-index c.item-item.result (state_of c.loop-item.progress p.0)
-    c.loop-item-test.true c.item-item.is c.in_err-progress.field-0.0 (c.in_err-progress.ensures.reached p.0 p.1)))
+    c.loop-item-test.true c.item-item.is c.in_err-step.field-0.0 (c.in_err-step.ensures.reached p.0 p.1)))
 
-pub returns : goal.returns
-returns c =
-    let p = c.loop-item.invariant.1 in
+pub returns-clause-reached : goal.returns-clause-reached
+returns-clause-reached c =
+    let p = c.loop-item.invariant.reached in
     (p.0, p.1, sym p.2 ∙ turn-end (λ i. item_step (item_shape i)) c.args.items.now c.loop-item.item-index (state_of c.loop-item.progress p.0) c.loop-item-test.false)
+
+pub returns-clause-unfolded : goal.returns-clause-unfolded
+returns-clause-unfolded c =
+    let items = c.args.items.now in
+    subst (λ left. Leaves c.loop-item.progress left (map item_shape items)) (left-none items c.loop-item.item-index c.loop-item-test.false) c.loop-item.invariant.unfolded

@@ -1,10 +1,15 @@
 use Rattle.std.proofs.Common.{◌≡◌, drop}
+use Rattle.plain_nodes.specs.Nodes.{AreSound, Grows}
 use Rattle.unfold.specs.Environment.{Env}
-use Rattle.unfold.specs.Holding.{StandsFor}
+use Rattle.unfold.specs.Holding.{StandsFor, nodes_of}
 use Rattle.c2po_types.specs.FirstFault.{with_signals}
 use Rattle.c2po_types.proofs.steps.add_signals.Given as goal
 
 -- the signals so far stand for their numbers, and those that are left make the whole
 abbrev pub invariant-loop-number : goal.invariant-loop-number
-invariant-loop-number l = (env : Env) → StandsFor l.fn.values env
-    → (now : Env) × StandsFor l.values now × (with_signals l.number (drop l.number l.signals) now ≡ with_signals l.from (drop l.from l.signals) env)
+invariant-loop-number l = record {
+  stand : (env : Env) → StandsFor l.fn.values env
+      → (now : Env) × StandsFor l.values now × (with_signals l.number (drop l.number l.signals) now ≡ with_signals l.from (drop l.from l.signals) env);
+  sound : AreSound l.from (nodes_of l.fn.values) → AreSound l.number (nodes_of l.values);
+  grows : Grows (nodes_of l.fn.values) (nodes_of l.values);
+}

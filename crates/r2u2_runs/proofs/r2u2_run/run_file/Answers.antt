@@ -1,14 +1,12 @@
-use Rattle.std.proofs.Common.{subst}
 use Rattle.tool_words.specs.R2u2Words.{run_of}
 use Rattle.tool_io.proofs.LogLaws.{OnLog-map, OnLog-then}
-use Rattle.r2u2_runs.specs.Phases.{RanFile}
 use Rattle.r2u2_runs.proofs.FileRuns.{run_unread, run_file_ran}
 use Rattle.r2u2_runs.proofs.r2u2_run.run_file.Goals as goal
 
 pub returns-in-Ok-clause-log : goal.returns-in-Ok-clause-log
 returns-in-Ok-clause-log g c =
     OnLog-then _ _ _ _ c.in-Ok.ensures.log c.run_bytes.ensures.log
-    (λ first second read ran. run_file_ran (run_of c.args.asked.now) c.in-Ok.bytes _ _ first second read (subst (λ bytes. RanFile (run_of c.args.asked.now) bytes c.run_bytes.result c.run_bytes.new.kept second) c.deref.ensures.value ran))
+    (λ first second read ran. run_file_ran (run_of c.args.asked.now) c.in-Ok.bytes _ _ first second read ran)
 
 pub returns-in-Err-clause-log : goal.returns-in-Err-clause-log
 returns-in-Err-clause-log g c =

@@ -1,8 +1,7 @@
 use Rattle.std.proofs.Common.{ℕ, Bool, if◌then◌else◌, List, subst, sym}
 use Rattle.mltl_monitor.specs.Monitoring.{program_of}
 use Rattle.tool_io.proofs.LogLaws.{OnLog-map}
-use Rattle.trace_watch.specs.Trace.{trace_rows}
-use Rattle.trace_watch.specs.Stamped.{stamped_rows}
+use Rattle.trace_watch.specs.Trace.{stamped_rows, trace_rows}
 use Rattle.trace_watch.specs.Watch.{IsWatch, first_of}
 use Rattle.r2u2_runs.proofs.running.watch_asked.Goals as goal
 

@@ -1,49 +1,38 @@
-use Rattle.std.proofs.Common.{◌<◌, ◌^◌, length, map, ap, sym, subst, ◌∙◌, arith}
-use Rattle.c2po_tree.specs.declared.item.SpecTree.{SpecTree}
-use Rattle.c2po_tree.specs.ItemShape.{item_shape, spec_shape}
-use Rattle.set_expand.specs.Outputs.{before}
-use Rattle.set_expand.specs.Weights.{AreLight}
-use Rattle.set_expand.proofs.Ending.{makes, made-asked, made-sound, made-ranged, made-read, made-named}
-use Rattle.set_expand.proofs.Faultless.{faultless-light}
+use Rattle.std.proofs.Common.{◌≡◌, Ok, Err, Result, length, sym, subst}
+use Rattle.std.specs.Prelude.{All, IfOk}
+use Rattle.mltl_base.specs.Kinds.{ReadsSignals, kinds_of}
+use Rattle.c2po_tree.specs.ItemShape.{spec_shape}
+use Rattle.c2po_types.specs.Signals.{signals_of}
+use Rattle.plain_nodes.specs.declared.nodes.Expanded.{Expanded}
+use Rattle.plain_nodes.specs.Faults.{HasRanges}
+use Rattle.plain_nodes.specs.Outputs.{IsSound, asked}
+use Rattle.unfold.proofs.Meaning.{counting_means}
+use Rattle.set_expand.specs.Outputs.{HasPlainName, outputs_of}
+use Rattle.set_expand.proofs.Signalling.{outputs-read}
 use Rattle.set_expand.proofs.expanding.expand.Goals as goal
 
-pub run-requires : goal.run-requires
-run-requires c =
-    subst (λ items. AreLight items before) (sym (ap (map item_shape) c.as_slice.ensures ∙ ap spec_shape c.tree.ensures.tree))
-    (faultless-light (spec_shape c.args.spec.now) c.tree.ensures.faultless)
+-- what holds of a specification holds of its copy
+of_copy : {E : Type 0} (made : Result Expanded E) (kept : Expanded) (P : Expanded → Type 0) → IfOk made (λ copy. copy ≡ kept) → P kept → IfOk made P
+of_copy (Ok copy) kept P same h = subst P (sym same) h
+of_copy (Err e) kept P same h = tt
 
 pub returns-clause-unfolds : goal.returns-clause-unfolds
-returns-clause-unfolds c =
-    made-asked c.in-Ok.progress (spec_shape c.args.spec.now) _
-    (makes c.in-Ok.progress c.as_slice.result.now c.args.spec.now c.into_nodes-nodes.result c.in-Ok.ensures.done
-    (c.as_slice.ensures ∙ ap (λ (tree : SpecTree). tree.items) c.tree.ensures.tree) c.into_nodes-nodes.ensures.nodes)
+returns-clause-unfolds c = of_copy c.copy_expanded.result c.expanded.result.now (λ made. asked made ≡ outputs_of (spec_shape c.args.spec.now)) c.copy_expanded.ensures c.expanded.ensures.unfolds
 
 pub returns-clause-sound : goal.returns-clause-sound
-returns-clause-sound c =
-    let nodes : length c.into_nodes-nodes.result < 2 ^ 32 = omega (arith, ap length c.into_nodes-nodes.ensures.nodes, c.into_nodes-nodes.ensures.few) in
-    let outs : length c.in-Ok.progress.outs < 2 ^ 32 = omega (arith, c.len.ensures, c.in-Ok-try_from.ensures) in
-    made-sound c.in-Ok.progress (spec_shape c.args.spec.now) _
-    (makes c.in-Ok.progress c.as_slice.result.now c.args.spec.now c.into_nodes-nodes.result c.in-Ok.ensures.done
-    (c.as_slice.ensures ∙ ap (λ (tree : SpecTree). tree.items) c.tree.ensures.tree) c.into_nodes-nodes.ensures.nodes)
-    c.tree.ensures.faultless nodes outs
+returns-clause-sound c = of_copy c.copy_expanded.result c.expanded.result.now (λ made. IsSound made (length (signals_of (spec_shape c.args.spec.now)))) c.copy_expanded.ensures c.expanded.ensures.sound
 
 pub returns-clause-ranged : goal.returns-clause-ranged
-returns-clause-ranged c =
-    made-ranged c.in-Ok.progress (spec_shape c.args.spec.now) _
-    (makes c.in-Ok.progress c.as_slice.result.now c.args.spec.now c.into_nodes-nodes.result c.in-Ok.ensures.done
-    (c.as_slice.ensures ∙ ap (λ (tree : SpecTree). tree.items) c.tree.ensures.tree) c.into_nodes-nodes.ensures.nodes)
-    c.tree.ensures.faultless
+returns-clause-ranged c = of_copy c.copy_expanded.result c.expanded.result.now (λ made. All HasRanges (asked made)) c.copy_expanded.ensures c.expanded.ensures.ranged
 
 pub returns-clause-kinds : goal.returns-clause-kinds
 returns-clause-kinds c =
-    made-read c.in-Ok.progress (spec_shape c.args.spec.now) _
-    (makes c.in-Ok.progress c.as_slice.result.now c.args.spec.now c.into_nodes-nodes.result c.in-Ok.ensures.done
-    (c.as_slice.ensures ∙ ap (λ (tree : SpecTree). tree.items) c.tree.ensures.tree) c.into_nodes-nodes.ensures.nodes)
+    let reads = ReadsSignals (kinds_of (signals_of (spec_shape c.args.spec.now))) in
+    of_copy c.copy_expanded.result c.expanded.result.now (λ made. All reads (asked made)) c.copy_expanded.ensures
+    (subst (All reads) (sym c.expanded.ensures.unfolds) (outputs-read (spec_shape c.args.spec.now)))
 
 pub returns-clause-named : goal.returns-clause-named
-returns-clause-named c =
-    let outs : length c.in-Ok.progress.outs < 2 ^ 32 = omega (arith, c.len.ensures, c.in-Ok-try_from.ensures) in
-    made-named c.in-Ok.progress (spec_shape c.args.spec.now) _
-    (makes c.in-Ok.progress c.as_slice.result.now c.args.spec.now c.into_nodes-nodes.result c.in-Ok.ensures.done
-    (c.as_slice.ensures ∙ ap (λ (tree : SpecTree). tree.items) c.tree.ensures.tree) c.into_nodes-nodes.ensures.nodes)
-    c.tree.ensures.plain outs
+returns-clause-named c = of_copy c.copy_expanded.result c.expanded.result.now (λ made. All HasPlainName (asked made)) c.copy_expanded.ensures c.expanded.ensures.named
+
+pub returns-clause-counting : goal.returns-clause-counting
+returns-clause-counting c = counting_means

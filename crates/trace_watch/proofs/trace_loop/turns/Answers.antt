@@ -1,50 +1,80 @@
-use Rattle.std.proofs.Common.{◌++◌, ◌∙◌, ℕ, subst, refl, arith}
+use Rattle.std.proofs.Common.{◌++◌, ◌∙◌, subst, refl, arith}
 use Rattle.std.specs.declared.ops.ControlFlow.TheVariants.{Continue, Break}
 use Rattle.tool_io.proofs.HostLaws.{NoFault-then}
 use Rattle.tool_io.proofs.LogLaws.{OnLog-none, Appends-then}
-use Rattle.trace_watch.specs.Telling.{RowSteps, Turns}
-use Rattle.trace_watch.proofs.RowTurns.{HasRows-none, turn_goes, turn_ends}
+use Rattle.mltl_base.specs.declared.report.Style.{Style}
+use Rattle.mltl_monitor.specs.Monitoring.{program_of}
+use Rattle.trace_watch.specs.Trace.{fed_rows}
+use Rattle.trace_watch.specs.Turns.{IsCounted, Turns, begins_at}
+use Rattle.trace_watch.specs.Watch.{IsWatch, first_of}
+use Rattle.trace_watch.proofs.FoundLaws.{is_counted}
+use Rattle.trace_watch.proofs.LineTurns.{HasLines-none, turn_goes, turn_ends}
 use Rattle.trace_watch.proofs.trace_loop.turns.Goals as goal
 
-pub loop-now-init : goal.loop-now-init
-loop-now-init g c = record {
-  within = omega arith;
+pub loop-watched-init : goal.loop-watched-init
+loop-watched-init g c = record {
+  mission = refl;
+  style = refl;
+  within = omega (arith, c.requires.start.no_lines);
   program = refl;
   no_fault = λ place. refl;
-  log = OnLog-none _ _ (HasRows-none _ _ _ _ _ c.requires.ready.numbered (record { program_kept = refl; stands = c.requires.ready.no_rows; drained = c.requires.ready.drained }));
+  feed = begins_at c.args.course.reader;
+  log = OnLog-none _ _ (HasLines-none (program_of c.args.monitor.now) c.args.course (begins_at c.args.course.reader) c.args.cut.now c.args.monitor.now c.requires.ready.numbered
+      (record { program_kept = refl; stands = c.requires.ready.no_rows; drained = c.requires.ready.drained }) c.requires.start.no_lines c.requires.start.no_rows);
 }
 
-pub loop-now-preserved : goal.loop-now-preserved
-loop-now-preserved g c =
-    let was = c.loop-now.invariant in
+pub turn-requires-clause-counted : goal.turn-requires-clause-counted
+turn-requires-clause-counted g c =
+    let was = c.loop-watched.invariant in
     let has = was.log.holds in
-    let turn = c.in-Continue.ensures.log has.rows has.kept.stands in
-    let goes = turn_goes _ _ _ _ _ _ _ _ _ was.log.events has c.in-Continue.now turn.events was.within c.requires.ready.within (subst (λ program. Turns (Continue c.in-Continue.now) program c.args.mission c.loop-now.before has.rows c.loop-now.cut c.turn.new.cut c.turn.new.monitor (RowSteps (Continue c.in-Continue.now) program c.args.style c.args.mission c.loop-now.before has.rows c.turn.new.cut c.turn.new.monitor) turn.events) has.kept.program_kept turn.holds) in
+    let course = c.loop-watched.course in
+    subst (IsCounted course.reader course.lines) has.kept.stands.taken.stand.count (is_counted was.feed course.reader course.lines has.rows has.keeps)
+
+pub turn-requires-clause-mission : goal.turn-requires-clause-mission
+turn-requires-clause-mission g c = omega (arith, c.loop-watched.invariant.mission, c.requires.ready.within)
+
+pub loop-watched-preserved : goal.loop-watched-preserved
+loop-watched-preserved g c =
+    let was = c.loop-watched.invariant in
+    let has = was.log.holds in
+    let course = c.loop-watched.course in
+    let turn = c.in_default.ensures.log has.rows was.feed has.kept.stands has.keeps in
+    let goes = turn_goes _ _ _ _ _ _ _ course was.feed was.log.events has tt c.turn.new.self turn.events was.within (omega (arith, was.mission, c.requires.ready.within))
+    (subst (λ program. Turns (Continue tt) program course c.turn.new.self was.feed has.rows c.loop-watched.cut c.turn.new.cut c.turn.new.monitor turn.events) has.kept.program_kept turn.holds) in
     record {
+      mission = goes.same_mission ∙ was.mission;
+      style = goes.same_style ∙ was.style;
       within = goes.within;
       program = c.turn.ensures.program ∙ was.program;
-      no_fault = NoFault-then _ _ _ was.no_fault c.in-Continue.ensures.cause;
+      no_fault = NoFault-then _ _ _ was.no_fault c.in_default.ensures.cause;
+      feed = goes.next;
       log = record {
         events = was.log.events ++ turn.events;
         appended = Appends-then _ _ _ was.log.events turn.events was.log.appended turn.appended;
-        holds = goes.has_rows;
+        holds = goes.has_lines;
       };
     }
 
-pub loop-now-smaller : goal.loop-now-smaller
-loop-now-smaller g c =
-    let was = c.loop-now.invariant in
+pub loop-watched-smaller : goal.loop-watched-smaller
+loop-watched-smaller g c =
+    let was = c.loop-watched.invariant in
     let has = was.log.holds in
-    let turn = c.in-Continue.ensures.log has.rows has.kept.stands in
-    (turn_goes _ _ _ _ _ _ _ _ _ was.log.events has c.in-Continue.now turn.events was.within c.requires.ready.within (subst (λ program. Turns (Continue c.in-Continue.now) program c.args.mission c.loop-now.before has.rows c.loop-now.cut c.turn.new.cut c.turn.new.monitor (RowSteps (Continue c.in-Continue.now) program c.args.style c.args.mission c.loop-now.before has.rows c.turn.new.cut c.turn.new.monitor) turn.events) has.kept.program_kept turn.holds)).fewer
+    let course = c.loop-watched.course in
+    let turn = c.in_default.ensures.log has.rows was.feed has.kept.stands has.keeps in
+    (turn_goes _ _ _ _ _ _ _ course was.feed was.log.events has tt c.turn.new.self turn.events was.within (omega (arith, was.mission, c.requires.ready.within))
+    (subst (λ program. Turns (Continue tt) program course c.turn.new.self was.feed has.rows c.loop-watched.cut c.turn.new.cut c.turn.new.monitor turn.events) has.kept.program_kept turn.holds)).fewer
 
 pub returns-in-Break-clause-log : goal.returns-in-Break-clause-log
 returns-in-Break-clause-log g c =
-    let was = c.loop-now.invariant in
+    let was = c.loop-watched.invariant in
     let has = was.log.holds in
-    let turn = c.in-Break.ensures.log has.rows has.kept.stands in
+    let course = c.loop-watched.course in
+    let program = program_of c.args.monitor.now in
+    let turn = c.in-Break.ensures.log has.rows was.feed has.kept.stands has.keeps in
     record {
       events = was.log.events ++ turn.events;
       appended = Appends-then _ _ _ was.log.events turn.events was.log.appended turn.appended;
-      holds = turn_ends _ _ _ _ _ _ _ _ _ was.log.events has c.in-Break.watched turn.events (subst (λ program. Turns {T = ℕ} (Break c.in-Break.watched) program c.args.mission c.loop-now.before has.rows c.loop-now.cut c.turn.new.cut c.turn.new.monitor (RowSteps (Break c.in-Break.watched) program c.args.style c.args.mission c.loop-now.before has.rows c.turn.new.cut c.turn.new.monitor) turn.events) has.kept.program_kept turn.holds);
+      holds = subst (λ (style : Style). IsWatch program style (fed_rows (begins_at c.args.course.reader) program c.args.course.mission (first_of c.args.cut.now)) c.args.cut.now c.turn.new.cut c.turn.new.monitor c.in-Break.watched (was.log.events ++ turn.events)) was.style
+          (turn_ends _ _ _ _ _ _ _ course was.feed was.log.events has c.in-Break.watched c.turn.new.self turn.events
+          (subst (λ p. Turns (Break c.in-Break.watched) p course c.turn.new.self was.feed has.rows c.loop-watched.cut c.turn.new.cut c.turn.new.monitor turn.events) has.kept.program_kept turn.holds));
     }

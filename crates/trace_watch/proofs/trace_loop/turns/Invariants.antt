@@ -3,17 +3,27 @@ use Rattle.tool_io.specs.Log.{OnLog}
 use Rattle.tool_io.specs.Host.{NoFault}
 use Rattle.tool_io.specs.Cutting.{next_number}
 use Rattle.mltl_monitor.specs.Monitoring.{program_of}
-use Rattle.trace_watch.proofs.RowTurns.{HasRows}
+use Rattle.trace_watch.specs.Feed.{Feed}
+use Rattle.trace_watch.specs.Trace.{fed_rows}
+use Rattle.trace_watch.specs.Turns.{begins_at}
+use Rattle.trace_watch.specs.Watch.{first_of}
+use Rattle.trace_watch.proofs.LineTurns.{HasLines}
 use Rattle.trace_watch.proofs.trace_loop.turns.Given as goal
 
-abbrev pub invariant-loop-now : goal.invariant-loop-now
-invariant-loop-now g l = record {
-  within : l.before ≤ l.mission;
+abbrev pub invariant-loop-watched : goal.invariant-loop-watched
+invariant-loop-watched g l = record {
+  mission : l.course.mission ≡ l.initial.course.mission;
+  style : l.course.style ≡ l.initial.course.style;
+  within : l.course.lines ≤ l.course.mission;
   program : program_of l.monitor ≡ program_of l.initial.monitor;
   no_fault : NoFault (g.H.Host.faults l.initial.host) (g.H.Host.faults l.host);
-  log : OnLog (g.H.Host.log l.initial.host) (g.H.Host.log l.host) (HasRows (program_of l.initial.monitor) l.style l.mission l.initial.cut l.cut l.monitor l.before);
+  feed : Feed;
+  log : OnLog (g.H.Host.log l.initial.host) (g.H.Host.log l.host)
+      (HasLines (program_of l.initial.monitor)
+      (fed_rows (begins_at l.initial.course.reader) (program_of l.initial.monitor) l.initial.course.mission (first_of l.initial.cut))
+      l.initial.cut l.cut l.monitor l.course feed);
 }
 
 -- the lines that are left, one of which may be the header
-abbrev pub decreases-loop-now : goal.decreases-loop-now
-decreases-loop-now g l = (l.mission - l.before) + (2 - next_number l.cut)
+abbrev pub decreases-loop-watched : goal.decreases-loop-watched
+decreases-loop-watched g l = (l.course.mission - l.course.lines) + (2 - next_number l.cut)

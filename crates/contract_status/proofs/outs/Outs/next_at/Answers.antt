@@ -4,8 +4,8 @@ use Rattle.contract_status.specs.declared.engines.Engines.{Engines}
 use Rattle.contract_status.proofs.Moving.{taken_by}
 use Rattle.contract_status.proofs.outs.Outs.next_at.Goals as goal
 
-pub returns-clause-first : goal.returns-clause-first
-returns-clause-first c = λ rows stands.
+pub returns-clause-gives : goal.returns-clause-gives
+returns-clause-gives c =
     let engines : Engines = record { ft = c.args.ft; pt = c.args.pt; rows = c.args.n } in
     let times = c.self.inside.times in
     let new : List ℕ = c.tell_first.new.next_times in
@@ -13,7 +13,14 @@ returns-clause-first c = λ rows stands.
     let whole : times.len ≡ length new = omega (arith, c.tell_first.auto.next_times, ap length c.deref_mut.ensures.value, times.ok.0) in
     let written : take times.len (new ++ drop (length new) times.items) ≡ new = ap (λ n. take n (new ++ drop (length new) times.items)) whole ∙ take-append_seam new (drop (length new) times.items) in
     let first = rw next_times at c.tell_first.ensures.first in
-    rw written (first rows (taken_by c.args.checked.now rows engines c.args.self.now stands) stands.placed)
+    let placed = rw next_times at c.tell_first.ensures.placed in
+    let given = rw next_times at c.tell_first.ensures.given in
+    rw written (record {
+      first = λ rows stands. first rows (taken_by c.args.checked.now rows engines c.args.self.now stands) stands.placed;
+      placed = λ rows stands. placed rows (taken_by c.args.checked.now rows engines c.args.self.now stands) stands.placed;
+      none = λ none. c.tell_first.ensures.none none ∙ next_times;
+      given = given;
+    })
 
 pub returns-clause-cursor : goal.returns-clause-cursor
 returns-clause-cursor c = λ rows future past count.
@@ -22,13 +29,3 @@ returns-clause-cursor c = λ rows future past count.
     let whole : times.len ≡ length new = omega (arith, c.tell_first.auto.next_times, ap length c.deref_mut.ensures.value, times.ok.0) in
     let written : take times.len (new ++ drop (length new) times.items) ≡ new = ap (λ n. take n (new ++ drop (length new) times.items)) whole ∙ take-append_seam new (drop (length new) times.items) in
     rw written (c.tell_first.ensures.cursor rows (record { future = future; past = past; count = count }))
-
-pub returns-clause-given : goal.returns-clause-given
-returns-clause-given c =
-    let times = c.self.inside.times in
-    let new : List ℕ = c.tell_first.new.next_times in
-    let next_times : c.deref_mut.result.now ≡ c.args.self.now = c.deref_mut.ensures.value ∙ c.self.view_is in
-    let whole : times.len ≡ length new = omega (arith, c.tell_first.auto.next_times, ap length c.deref_mut.ensures.value, times.ok.0) in
-    let written : take times.len (new ++ drop (length new) times.items) ≡ new = ap (λ n. take n (new ++ drop (length new) times.items)) whole ∙ take-append_seam new (drop (length new) times.items) in
-    let given = rw next_times at c.tell_first.ensures.given in
-    rw written given

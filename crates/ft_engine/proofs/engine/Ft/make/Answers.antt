@@ -1,49 +1,75 @@
-use Rattle.std.proofs.Common.{◌≡◌, ℕ, ◌≤◌, List, [], length, sum, arith, ap, subst, sym, ◌∙◌}
-use Rattle.mltl_base.specs.declared.limits.TheConstants.{MAX_SLOTS}
+use Rattle.std.proofs.Common.{◌≡◌, ℕ, ◌+◌, List, [], ◌∷◌, ◌++◌, length, get_or, sum, arith, refl, ap, subst, sym, ◌∙◌}
+use Rattle.std.proofs.lemmas.Grind.{common_steps}
+use Rattle.std.proofs.lemmas.List.{take_all}
 use Rattle.mltl_base.specs.declared.operators.FtOp.{FtOp}
 use Rattle.mltl_base.specs.declared.program.Program.{Program}
-use Rattle.mltl_base.specs.Programs.{atoms}
-use Rattle.obs_verify.proofs.RunLaws.{runs_future}
-use Rattle.ft_slab.specs.State.{HasTable, IsPacedAfter}
-use Rattle.ft_slab.proofs.StateLaws.{paced_sound}
-use Rattle.ft_engine.specs.DelayPlan.{plan_of}
-use Rattle.ft_engine.specs.KnownTable.{known_table}
-use Rattle.ft_engine.proofs.Tabled.{nothing}
-use Rattle.ft_engine.proofs.Standings.{planned_with, stands_with}
+use Rattle.scq_ring.proofs.Seats.{none_seated}
+use Rattle.ft_engine.specs.declared.queue.Queue.{Queue}
+use Rattle.ft_engine.specs.Queues.{no_queue}
+use Rattle.ft_engine.proofs.Making.{Started, made_sound, made_stands, started_as, started_more}
+use Rattle.ft_engine.proofs.Standings.{sizes_count}
 use Rattle.ft_engine.proofs.engine.Ft.make.Goals as goal
 
-pub make-requires-clause-same_length : goal.make-requires-clause-same_length
-make-requires-clause-same_length c =
-    let sizes : c.as_slice-2.result.now ≡ c.args.checked.now.sizes.ft = c.as_slice-2.ensures ∙ ap (λ (p : Program). p.sizes.ft) c.program-program.ensures.program in
-    let ops : c.as_slice.result.now ≡ c.args.checked.now.ft = c.as_slice.ensures ∙ ap (λ (p : Program). p.ft) c.program-program.ensures.program in
-    ap (λ (ns : List ℕ). length ns) sizes ∙ c.program-program.ensures.layout.ft_sizes ∙ sym (ap (λ (xs : List FtOp). length xs) ops)
+pub loop-i-init : goal.loop-i-init
+loop-i-init c = record {
+  count = grind (arith, common_steps);
+  total = grind (arith, common_steps);
+  started = record { fresh = λ j h. absurd (omega arith); seated = none_seated no_queue (λ queue. queue.seat) c.new-queues.result.items };
+}
 
-pub make-requires-clause-few : goal.make-requires-clause-few
-make-requires-clause-few c =
-    let sizes : c.as_slice-2.result.now ≡ c.args.checked.now.sizes.ft = c.as_slice-2.ensures ∙ ap (λ (p : Program). p.sizes.ft) c.program-program.ensures.program in
-    let most : sum c.as_slice-2.result.now ≤ MAX_SLOTS = subst (λ (ns : List ℕ). sum ns ≤ MAX_SLOTS) (sym sizes) (runs_future c.args.checked.now c.program-program.ensures.layout c.program-program.ensures.well_formed).few in
-    omega arith
+pub loop-i-preserved : goal.loop-i-preserved
+loop-i-preserved c =
+    let ops : List FtOp = c.as_slice-ops.result.now in
+    let sizes : List ℕ = c.as_slice-sizes.result.now in
+    let queues : List Queue = c.loop-i.queues.items in
+    let size : ℕ = get_or sizes c.loop-i.i 0 in
+    let new : Queue = record { ring = c.make.result; reads_at = c.first_read.result; seat = record { start = c.loop-i.start; size = size } } in
+    let ok = c.loop-i.queues.ok.0 in
+    let count : length queues ≡ c.loop-i.i = omega (arith, c.loop-i.invariant.count) in
+    let items : c.push.new.self.items ≡ queues ++ new ∷ [] = c.in_ok-push.ensures.items in
+    record {
+      count = c.in_ok-push.ensures.len ∙ ap (λ (k : ℕ). k + 1) c.loop-i.invariant.count;
+      total = grind (arith, common_steps, c.loop-i.invariant.total);
+      started = subst (λ (qs : List Queue). Started ops sizes qs (c.loop-i.start + size) (c.loop-i.i + 1)) (sym items)
+          (started_more ops sizes queues c.loop-i.start c.loop-i.i new count c.loop-i.invariant.started
+          (record { frontier = c.make.ensures.frontier; low = c.make.ensures.low; belongs = c.make.ensures.belongs; reads_at = c.first_read.ensures; size = refl }) refl);
+    }
+
+pub bounds-sizes-i : goal.bounds-sizes-i
+bounds-sizes-i c =
+    let program : Program = c.args.checked.now in
+    let same = c.program_of-program.ensures.program in
+    let ops : c.as_slice-ops.result.now ≡ program.ft = c.as_slice-ops.ensures ∙ ap (λ (p : Program). p.ft) same in
+    let sizes : c.as_slice-sizes.result.now ≡ program.sizes.ft = c.as_slice-sizes.ensures ∙ ap (λ (p : Program). p.sizes.ft) same in
+    omega (arith, sizes_count program c.program_of-program.ensures.runs, ap (λ (xs : List FtOp). length xs) ops, ap (λ (ns : List ℕ). length ns) sizes)
 
 pub invariant_of-result : goal.invariant_of-result
 invariant_of-result c =
-    let program = c.args.checked.now in
-    let runs = runs_future program c.program-program.ensures.layout c.program-program.ensures.well_formed in
-    let ops : c.as_slice.result.now ≡ program.ft = c.as_slice.ensures ∙ ap (λ (p : Program). p.ft) c.program-program.ensures.program in
-    let sizes : c.as_slice-2.result.now ≡ program.sizes.ft = c.as_slice-2.ensures ∙ ap (λ (p : Program). p.sizes.ft) c.program-program.ensures.program in
-    let plan = plan_of program.ft program.outs in
-    record { sound = paced_sound plan c.as_slice.result.now c.in_ok-queues.queues 0 (c.in_ok-queues.ensures.paced plan (planned_with program _ _ runs ops sizes)) }
+    let program : Program = c.args.checked.now in
+    let runs = c.program_of-program.ensures.runs in
+    let same = c.program_of-program.ensures.program in
+    let ops : c.as_slice-ops.result.now ≡ program.ft = c.as_slice-ops.ensures ∙ ap (λ (p : Program). p.ft) same in
+    let sizes : c.as_slice-sizes.result.now ≡ program.sizes.ft = c.as_slice-sizes.ensures ∙ ap (λ (p : Program). p.sizes.ft) same in
+    let ok = c.loop-i.queues.ok.0 in
+    let slab_ok = c.in_ok-slab.slab.ok.0 in
+    let end : c.loop-i.i ≡ length program.ft = omega (arith, ap (λ (xs : List FtOp). length xs) ops) in
+    let long : c.loop-i.start ≡ length c.in_ok-slab.slab.items = omega (arith, c.in_ok-slab.ensures.len) in
+    record {
+      sound = made_sound program _ _ runs (omega (arith, c.loop-i.invariant.count, end)) (started_as ops sizes long end c.loop-i.invariant.started);
+    }
 
 pub returns : goal.returns
 returns c =
-    let program = c.args.checked.now in
-    let runs = runs_future program c.program-program.ensures.layout c.program-program.ensures.well_formed in
-    let ops : c.as_slice.result.now ≡ program.ft = c.as_slice.ensures ∙ ap (λ (p : Program). p.ft) c.program-program.ensures.program in
-    let sizes : c.as_slice-2.result.now ≡ program.sizes.ft = c.as_slice-2.ensures ∙ ap (λ (p : Program). p.sizes.ft) c.program-program.ensures.program in
-    let plan = plan_of program.ft program.outs in
-    let table = known_table [] (atoms program.bz) program.ft in
+    let program : Program = c.args.checked.now in
+    let runs = c.program_of-program.ensures.runs in
+    let same = c.program_of-program.ensures.program in
+    let ops : c.as_slice-ops.result.now ≡ program.ft = c.as_slice-ops.ensures ∙ ap (λ (p : Program). p.ft) same in
+    let sizes : c.as_slice-sizes.result.now ≡ program.sizes.ft = c.as_slice-sizes.ensures ∙ ap (λ (p : Program). p.sizes.ft) same in
+    let ok = c.loop-i.queues.ok.0 in
+    let slab_ok = c.in_ok-slab.slab.ok.0 in
+    let end : c.loop-i.i ≡ length program.ft = omega (arith, ap (λ (xs : List FtOp). length xs) ops) in
+    let long : c.loop-i.start ≡ length c.in_ok-slab.slab.items = omega (arith, c.in_ok-slab.ensures.len) in
     record {
-      stands = stands_with program [] _ runs
-          (subst (λ (xs : List FtOp). IsPacedAfter plan xs c.in_ok-queues.queues 0) ops (c.in_ok-queues.ensures.paced plan (planned_with program _ _ runs ops sizes)))
-          (subst (λ (xs : List FtOp). HasTable xs table c.in_ok-queues.queues) ops (c.in_ok-queues.ensures.empty table (λ i. nothing (atoms program.bz) program.ft i)))
-          (c.in_ok-queues.ensures.slots ∙ ap (λ (ns : List ℕ). sum ns) sizes);
+      stands = made_stands program _ runs (omega (arith, c.loop-i.invariant.count, end)) (started_as ops sizes long end c.loop-i.invariant.started)
+          (sym long ∙ c.loop-i.invariant.total ∙ ap (λ (ns : List ℕ). sum ns) (take_all c.loop-i.i c.as_slice-sizes.result.now (omega (arith, sizes_count program runs, ap (λ (ns : List ℕ). length ns) sizes, end)) ∙ sizes));
     }

@@ -19,7 +19,7 @@ loop-size-preserved c =
     let sizes : List ℕ = c.as_slice-size-items.result.now in
     let nodes : List Node = c.loop-size.nodes.items in
     let size : ℕ = get_or sizes c.loop-size.size-index 0 in
-    let new : Node = record { boxes = c.none.result; truth = false; start = c.loop-size.start; size = size } in
+    let new : Node = record { boxes = c.none.result; truth = false; seat = record { start = c.loop-size.start; size = size } } in
     let ok = c.loop-size.nodes.ok.0 in
     let count : length nodes ≡ c.loop-size.size-index = omega (arith, c.loop-size.invariant.count) in
     let items : c.push.new.self.items ≡ nodes ++ new ∷ [] = c.in_ok-push.ensures.items in

@@ -1,0 +1,44 @@
+-- What is unfolded of some items: nodes, and outputs over them.
+
+use Rattle.std.specs.Prelude.{ℕ, ◌≡◌, List, ◌++◌, length, map, All, OnOk, ⊤}
+use Rattle.mltl_base.specs.Subformulas.{Asked}
+use Rattle.plain_nodes.specs.declared.nodes.Plain.{Plain}
+use Rattle.plain_nodes.specs.declared.nodes.PlainOut.{PlainOut}
+use Rattle.plain_nodes.specs.Nodes.{trees, AreSound}
+use Rattle.plain_nodes.specs.Outputs.{asked_by, NamesFormulas}
+use Rattle.c2po_tree.specs.ItemShape.{BodyShape, ItemShape}
+use Rattle.c2po_kinds.specs.Checking.{Checked}
+use Rattle.unfold.specs.declared.unfolding.Unfolding.{Unfolding}
+use Rattle.unfold.specs.Holding.{StandsFor, nodes_of}
+use Rattle.c2po_types.specs.declared.progress.Progress.{Progress}
+use Rattle.c2po_types.specs.Outputs.{Place, behind, asked_at, asked_from, outputs_of}
+
+-- outputs over nodes name formulas, and ask for these
+pub record AskFor (nodes : List Plain) (outs : List PlainOut) (told : List Asked) : Type 0 where
+  pub formulas : All (NamesFormulas (trees nodes)) outs
+  pub asked : map (asked_by (trees nodes)) outs ≡ told
+
+-- what is unfolded over so many signals stands for a place, and its outputs ask for these
+pub record StandsAt (u : Unfolding) (signals : ℕ) (outs : List PlainOut) (place : Place) (told : List Asked) : Type 0 where
+  pub values : StandsFor u place.values
+  pub numbered : signals ≡ place.signals
+  pub counted : length outs ≡ place.outputs
+  pub sound : AreSound signals (nodes_of u)
+  pub asked : AskFor (nodes_of u) outs told
+
+-- the same of what the check has unfolded
+abbrev pub HasUnfolded : Progress → Place → List Asked → Type 0
+HasUnfolded p place told = StandsAt p.values (length p.declared.signals) p.outs place told
+
+-- where an item is put after what stands for a place, the result stands for what is known after the item, and its
+-- outputs are those of before and the item's
+abbrev pub Puts : BodyShape → Progress → Progress → Checked ⊤ → Type 0
+Puts body old new result = (place : Place) (told : List Asked) → HasUnfolded old place told
+    → OnOk result (HasUnfolded new (behind body place) (told ++ asked_at body place))
+
+-- of all items, so many are left to be unfolded
+pub record Leaves (p : Progress) (left all : List ItemShape) : Type 0 where
+  pub place : Place
+  pub told : List Asked
+  pub stands : HasUnfolded p place told
+  pub outputs : told ++ asked_from left place ≡ outputs_of all

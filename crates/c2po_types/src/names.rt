@@ -1,0 +1,29 @@
+//! The names of outputs.
+
+ghost use Rattle.std.specs.Prelude.{◌≡◌, decimal};
+ghost use Rattle.c2po_types.specs.Outputs.{name_of};
+
+use itoa::Buffer;
+use mltl_base::Name;
+
+/// The decimal text of a number.
+#[tactic(auto, using(std::proofs::lemmas::Fmt::decimal_nonempty))]
+fn numeral(number: usize) -> Name
+    ensures { result ≡ decimal number }
+{
+    let mut buffer = Buffer::new();
+    match Name::of(buffer.format(number).as_bytes()) {
+        Some(name) => name,
+        None => unreachable!(),
+    }
+}
+
+/// The name of the output with a number: its label, or the decimal text of the number.
+pub fn output_name(number: usize, label: &Option<Name>) -> Name
+    ensures { result ≡ name_of number label.now }
+{
+    match label {
+        Some(name) => name.copy(),
+        None => numeral(number),
+    }
+}

@@ -1,0 +1,17 @@
+use Rattle.std.proofs.Common.{◌≡◌, arith, ap, ◌∙◌}
+use Rattle.std.proofs.lemmas.List.{get_or_read}
+use Rattle.scq_ring.specs.Runs.{low_of}
+use Rattle.ft_engine.specs.declared.queue.Queue.{Queue}
+use Rattle.ft_engine.specs.Queues.{no_queue, queue_at}
+use Rattle.ft_engine.specs.Standing.{instruction_count, lowest_at}
+use Rattle.ft_engine.proofs.engine.Ft.low.Goals as goal
+
+pub index-requires : goal.index-requires
+unfolding instruction_count
+index-requires c = let ok = c.args.self.now.queues.ok.0 in omega arith
+
+pub returns : goal.returns
+unfolding instruction_count lowest_at
+returns c =
+    let queue_is : c.index.result.now ≡ queue_at c.args.self.now.queues.items c.args.i = get_or_read c.args.self.now.queues.items c.args.i c.index.result.now c.requires.exists c.index.ensures no_queue in
+    record { low = c.low.ensures.low ∙ ap (λ (m : Queue). low_of m.ring) queue_is }

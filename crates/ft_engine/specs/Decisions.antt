@@ -1,0 +1,58 @@
+-- What is known of an operand, and what an operator has decided.
+use Rattle.std.specs.Prelude.{◌≡◌, ℕ, ◌-◌, ◌<◌, ◌≤◌, max, min, List, length, Some, None, IsSome, ⊤}
+use Rattle.mltl_base.specs.Verdicts.{Known}
+use Rattle.scq_ring.specs.declared.Ring.{Ring}
+use Rattle.scq_ring.specs.declared.Slot.{Slot}
+use Rattle.scq_ring.specs.declared.Seen.{Seen}
+use Rattle.scq_ring.specs.declared.Seen.TheVariants.{Run, Nothing}
+use Rattle.scq_ring.specs.Runs.{Belongs, frontier_of, low_of, verdict_at}
+use Rattle.ft_engine.specs.declared.operand.Operand.{Operand}
+
+-- what is known ends at the ring's frontier, and from the low time on the ring has it
+pub record Shown (ring : Ring) (slots : List Slot) (known : Known) : Type 0 where
+  pub kept : (t : ℕ) → low_of ring ≤ t → t < frontier_of ring → known t ≡ Some (verdict_at ring slots t)
+  pub ends : (t : ℕ) → frontier_of ring ≤ t → known t ≡ None
+
+-- an operand can be read from a time on
+pub record IsReadable (operand : Operand) (from : ℕ) : Type 0 where
+  pub belongs : Belongs operand.ring.now operand.slots.now
+  pub kept : low_of operand.ring.now ≤ from
+
+-- the operand's queue shows what is known
+abbrev pub ShownBy : Operand → Known → Type 0
+ShownBy operand known = Shown operand.ring.now operand.slots.now known
+
+-- the ring goes on over its slots: no verdict that is kept changes, and the low time rises no further than they ask
+pub record GoesOn (old : Ring) (old_slots : List Slot) (new : Ring) (new_slots : List Slot) : Type 0 where
+  pub belongs : Belongs new new_slots
+  pub onward : frontier_of old ≤ frontier_of new
+  pub rises : low_of old ≤ low_of new
+  pub bounded : low_of new ≤ max (low_of old) (frontier_of new - length old_slots)
+  pub kept : (t : ℕ) → low_of new ≤ t → t < frontier_of old → verdict_at new new_slots t ≡ verdict_at old old_slots t
+
+-- the ring goes as far as both operands do, and no further than one of them
+pub record GoesAsFar (left right : Operand) (old new : Ring) : Type 0 where
+  pub enough : min (frontier_of left.ring.now) (frontier_of right.ring.now) ≤ frontier_of new
+  pub no_further : frontier_of new
+      ≤ max (frontier_of old) (max (frontier_of left.ring.now) (frontier_of right.ring.now))
+
+-- from time `start` on the ring has the values, and there is none at its frontier: it has decided all that can be known
+pub record Decides (value : Known) (ring : Ring) (slots : List Slot) (start : ℕ) : Type 0 where
+  pub known : (t : ℕ) → start ≤ t → t < frontier_of ring → IsSome (value t)
+  pub verdicts : (t : ℕ) → start ≤ t → low_of ring ≤ t → t < frontier_of ring → value t ≡ Some (verdict_at ring slots t)
+  pub stuck : value (frontier_of ring) ≡ None
+
+-- a run of the value from time `from` on, or that it isn't known there
+abbrev pub IsStretch : Known → ℕ → Seen → Type 0
+IsStretch value from (Run end v) = (t : ℕ) → from ≤ t → t ≤ end → value t ≡ Some v
+IsStretch value from Nothing = value from ≡ None
+
+-- a run takes in its first time and ends before `end`
+abbrev pub IsWithin : ℕ → ℕ → Seen → Type 0
+IsWithin from end (Run upto v) = (from ≤ upto) × (upto < end)
+IsWithin from end Nothing = ⊤
+
+-- nothing is shown only where the first operand that ends has ended
+abbrev pub IsStoppedAfter : ℕ → ℕ → Seen → Type 0
+IsStoppedAfter end from (Run upto v) = ⊤
+IsStoppedAfter end from Nothing = end ≤ from

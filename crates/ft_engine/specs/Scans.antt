@@ -1,0 +1,102 @@
+-- What an until knows of its operands between two decisions.
+use Rattle.std.specs.Prelude.{◌≡◌, ℕ, ◌+◌, ◌*◌, ◌^◌, ◌-◌, ◌<◌, ◌≤◌, ◌⊎◌, max, min, true, false, List, Some, None}
+use Rattle.mltl_base.specs.declared.interval.Interval.{Interval}
+use Rattle.mltl_base.specs.Verdicts.{Known, k_until}
+use Rattle.scq_ring.specs.declared.Ring.{Ring}
+use Rattle.scq_ring.specs.declared.Slot.{Slot}
+use Rattle.scq_ring.specs.Runs.{frontier_of}
+use Rattle.ft_engine.specs.declared.until.Reading.{Reading}
+use Rattle.ft_engine.specs.declared.until.Turn.{Turn}
+use Rattle.ft_engine.specs.declared.until.Turn.TheVariants.{Look, Decide, Stop}
+use Rattle.ft_engine.specs.declared.until.Until.{Until}
+use Rattle.ft_engine.specs.Decisions.{Decides, IsReadable, ShownBy}
+
+-- From the lower end of the window of time t on, the right operand is false before `seen`, and the left one true before
+-- `reads_at`.
+pub record Scan (i : Interval) (p q : Known) (t reads_at seen : ℕ) : Type 0 where
+  pub reach : t + i.lo ≤ reads_at
+  pub order : reads_at ≤ seen
+  pub left : (k : ℕ) → t + i.lo ≤ k → k < reads_at → p k ≡ Some true
+  pub right : (k : ℕ) → t + i.lo ≤ k → k < seen → q k ≡ Some false
+
+-- an until whose queue ends at time t can be taken on from its reading time
+pub record CanScan (until : Until) (t reads_at : ℕ) : Type 0 where
+  pub left : IsReadable until.left reads_at
+  pub right : IsReadable until.right reads_at
+  pub right_in_time : frontier_of until.right.ring.now ≤ 2 ^ 41
+  pub ordered : until.window.lo ≤ until.window.hi
+  pub reach : t + until.window.lo ≤ reads_at
+  pub in_time : reads_at ≤ 2 ^ 41
+
+-- what is seen of the right operand goes ahead of the reading time, no further than that operand does
+pub record IsReadingOf (until : Until) (at : Reading) : Type 0 where
+  pub order : at.reads_at ≤ at.seen
+  pub in_time : at.seen ≤ 2 ^ 41
+
+-- with a queue up to time t, as much is decided as the operand that ends first allows
+abbrev pub HasEnough : Until → ℕ → Type 0
+HasEnough until t = min (frontier_of until.left.ring.now) (frontier_of until.right.ring.now) ≤ t + until.window.hi
+
+-- The reading time at which an until reads next, with a queue up to time t: it moved on from its old one, to where an
+-- operand ends at least, and not past the right one's end.
+pub record IsNextRead (until : Until) (t reads_at reads_at' : ℕ) : Type 0 where
+  pub reach : t + until.window.lo ≤ reads_at'
+  pub onward : reads_at ≤ reads_at'
+  pub ahead : min (frontier_of until.left.ring.now) (frontier_of until.right.ring.now) ≤ reads_at'
+  pub in_time : reads_at' ≤ max reads_at (frontier_of until.right.ring.now)
+
+-- The most steps of a row: three for each time of the right operand from the reading time on, one for each decided time,
+-- and two.
+abbrev pub row_steps : Until → ℕ → Ring → Ring → ℕ
+row_steps until reads_at old new =
+    3 * (max reads_at (frontier_of until.right.ring.now) - reads_at) + (frontier_of new - frontier_of old) + 2
+
+-- the until is decided as far as it can be: at its reading time one operand is unknown, and up to there it is scanned
+pub record DecidesUntil (i : Interval) (p q : Known) (ring : Ring) (own : List Slot) (start reads_at : ℕ) : Type 0 where
+  pub decides : Decides (k_until i p q) ring own start
+  pub scanned : Scan i p q (frontier_of ring) reads_at reads_at
+  pub reached : (p reads_at ≡ None) ⊎ (q reads_at ≡ None)
+
+-- an until that was scanned up to its reading time is decided from the old frontier on, over what its operands show
+abbrev pub DecidesFrom : Until → Ring → ℕ → Ring → List Slot → ℕ → Type 0
+DecidesFrom until old reads_at new slots reads_at' =
+    (p q : Known) → ShownBy until.left p → ShownBy until.right q
+    → Scan until.window p q (frontier_of old) reads_at reads_at
+    → DecidesUntil until.window p q new slots (frontier_of old) reads_at'
+
+-- the reading moves on, up to the end of the right operand
+pub record MovesOn (at next : Reading) (end : ℕ) : Type 0 where
+  pub onward : at.reads_at ≤ next.reads_at
+  pub sees_on : at.seen ≤ next.seen
+  pub order : next.reads_at ≤ next.seen
+  pub in_time : next.seen ≤ max at.seen end
+
+-- how far a turn leads
+abbrev pub Leads : Until → ℕ → Reading → Turn → Type 0
+Leads until t at (Look next) =
+    MovesOn at next (frontier_of until.right.ring.now)
+    × (t + until.window.lo ≤ next.reads_at) × (at.reads_at + at.seen < next.reads_at + next.seen)
+Leads until t at (Decide upto value next) =
+    MovesOn at next (frontier_of until.right.ring.now) × (t ≤ upto) × (upto + 1 + until.window.lo ≤ next.reads_at)
+Leads until t at Stop =
+    (min (frontier_of until.left.ring.now) (frontier_of until.right.ring.now) ≤ at.reads_at)
+    × (at.seen ≤ t + until.window.hi)
+
+-- the steps that a turn may take: two where it stops, else as many as the reading moves on, what is seen counted twice
+abbrev pub reads_of : Reading → Turn → ℕ
+reads_of at (Look next) = (next.reads_at - at.reads_at) + 2 * (next.seen - at.seen)
+reads_of at (Decide upto value next) = (next.reads_at - at.reads_at) + 2 * (next.seen - at.seen)
+reads_of at Stop = 2
+
+-- what a turn finds out about the until at time t
+abbrev pub Finds : Interval → Known → Known → ℕ → ℕ → Turn → Type 0
+Finds i p q t reads_at (Look next) = Scan i p q t next.reads_at next.seen
+Finds i p q t reads_at (Decide upto value next) =
+    ((x : ℕ) → t ≤ x → x ≤ upto → k_until i p q x ≡ Some value) × Scan i p q (upto + 1) next.reads_at next.seen
+Finds i p q t reads_at Stop = (k_until i p q t ≡ None) × ((p reads_at ≡ None) ⊎ (q reads_at ≡ None))
+
+-- where it was scanned up to what is read, over what the operands show
+abbrev pub TurnFinds : Until → ℕ → Reading → Turn → Type 0
+TurnFinds until t at turn =
+    (p q : Known) → ShownBy until.left p → ShownBy until.right q → Scan until.window p q t at.reads_at at.seen
+    → Finds until.window p q t at.reads_at turn

@@ -1,4 +1,0 @@
-use Rattle.ft_slab.proofs.slab.Queues.run_from.Given as goal
-
-abbrev pub ghosts-look : goal.ghosts-look
-ghosts-look a = record { name = a.blank.name; parts = a.blank.parts }

@@ -1,0 +1,38 @@
+//! Why a row isn't taken, as C reads it.
+
+ghost use Rattle.std.specs.Prelude.{◌≡◌};
+ghost use Rattle.r2u2_c.specs.Exports.{why_of};
+
+use crate::codes::{NOT_A_ROW, REPORTS_LEFT, TOO_MANY_ROWS};
+use mltl_monitor::RowFault;
+
+/// Why a row isn't taken, as C reads it: the code that is answered, and of `NOT_A_ROW` the column, counted from 0.
+#[repr(C)]
+#[derive(Clone, Copy)]
+pub struct RowWhy {
+    pub why: u32,
+    /// 0 at every other code.
+    pub column: u32,
+}
+
+impl RowWhy {
+    /// A fault of a row as C reads it.
+    pub(crate) fn of(fault: RowFault) -> RowWhy
+        ensures { result ≡ why_of fault }
+    {
+        match fault {
+            RowFault::ReportsLeft => RowWhy {
+                why: REPORTS_LEFT,
+                column: 0,
+            },
+            RowFault::NotARow(column) => RowWhy {
+                why: NOT_A_ROW,
+                column,
+            },
+            RowFault::TooManyRows => RowWhy {
+                why: TOO_MANY_ROWS,
+                column: 0,
+            },
+        }
+    }
+}

@@ -1,0 +1,1 @@
+autocmd BufRead,BufNewFile *.c2po setfiletype c2po

@@ -1,0 +1,118 @@
+/* Tests the arena: by blocks, and by monitors over arrays of every size up to the one that is enough. */
+#include <stdbool.h>
+#include <stdint.h>
+#include <stdio.h>
+#include <string.h>
+
+#include "arena.h"
+#include "r2u2.h"
+
+struct found {
+    bool ok;
+    void *at;
+};
+
+struct found rattle_alloc(size_t size, size_t align);
+struct found rattle_realloc(void *old, size_t kept, size_t size, size_t align);
+void rattle_dealloc(void *old);
+
+static int checks, failed;
+
+#define CHECK(claim) check(claim, #claim, __LINE__)
+
+static void check(bool holds, const char *claim, int line) {
+    checks++;
+    if (holds) return;
+    failed++;
+    fprintf(stderr, "arena_test.c:%d: not so: %s\n", line, claim);
+}
+
+static _Alignas(64) uint8_t memory[1 << 16];
+
+/* Blocks are aligned, stand in the array, and don't meet. */
+static void aligned_blocks(size_t from) {
+    r2u2_arena(memory + from, 4096);
+    uint8_t *end = memory + from;
+    for (size_t align = 1; align <= 64; align *= 2) {
+        struct found block = rattle_alloc(3 * align, align);
+        CHECK(block.ok && (uintptr_t)block.at % align == 0 && (uint8_t *)block.at >= end);
+        end = (uint8_t *)block.at + 3 * align;
+        memset(block.at, 0xa5, 3 * align);
+    }
+    CHECK(end <= memory + from + r2u2_arena_used());
+    CHECK(r2u2_arena_most() == r2u2_arena_used());
+}
+
+/* The last block grows where it is; another one moves, with what it holds. */
+static void growing_blocks(void) {
+    r2u2_arena(memory, 256);
+    struct found first = rattle_alloc(8, 8), last = rattle_alloc(8, 8);
+    memcpy(first.at, "abcdefgh", 8);
+    struct found grown = rattle_realloc(last.at, 8, 64, 8);
+    CHECK(grown.ok && grown.at == last.at);
+    struct found moved = rattle_realloc(first.at, 8, 16, 8);
+    CHECK(moved.ok && moved.at != first.at && memcmp(moved.at, "abcdefgh", 8) == 0);
+    struct found smaller = rattle_realloc(grown.at, 64, 32, 8);
+    CHECK(smaller.ok && smaller.at == grown.at);
+    struct found refused = rattle_realloc(moved.at, 16, 4096, 8);
+    CHECK(!refused.ok && refused.at && memcmp(moved.at, "abcdefgh", 8) == 0);
+    CHECK(!rattle_realloc(smaller.at, 32, 4096, 8).ok);
+    rattle_dealloc(smaller.at);
+    CHECK(r2u2_arena_used() > 0);
+    rattle_dealloc(moved.at);
+    CHECK(r2u2_arena_used() == 0 && r2u2_arena_most() > 0);
+}
+
+static void no_room(void) {
+    r2u2_arena(memory, 64);
+    CHECK(!rattle_alloc(SIZE_MAX, 8).ok && !rattle_alloc(64, 8).ok && !rattle_alloc(1, 4096).ok);
+    struct found all = rattle_alloc(48, 16);
+    CHECK(all.ok && r2u2_arena_used() == 64 && !rattle_alloc(0, 1).ok);
+    rattle_dealloc(all.at);
+    CHECK(rattle_alloc(0, 1).ok);
+    r2u2_arena(NULL, 0);
+    CHECK(!rattle_alloc(0, 1).ok);
+}
+
+/* Opens a program, takes one row of zeros, and closes. */
+static uint32_t run(const uint8_t *program, size_t count, const char *header) {
+    static const int64_t zeros[64];
+    struct r2u2 it = {0};
+    struct r2u2_fault fault = {0};
+    struct r2u2_row_fault why = {0};
+    uint32_t code = header ? r2u2_open_under(&it, program, count, header, strlen(header), &fault)
+                           : r2u2_open(&it, program, count, &fault);
+    if (code) return code;
+    size_t used = r2u2_arena_used();
+    code = r2u2_row(&it, zeros, r2u2_width(&it), &why);
+    CHECK(r2u2_arena_used() == used);
+    r2u2_close(&it);
+    return code;
+}
+
+/* An array of as many bytes as were used at most is enough, and one of fewer bytes is not. */
+static void least_array(const uint8_t *program, size_t count, const char *header) {
+    r2u2_arena(memory, sizeof memory);
+    CHECK(run(program, count, header) == R2U2_DONE && r2u2_arena_used() == 0);
+    size_t most = r2u2_arena_most();
+    for (size_t size = 0; size <= most; size++) {
+        r2u2_arena(memory, size);
+        CHECK(run(program, count, header) == (size < most ? R2U2_NO_MEMORY : R2U2_DONE));
+        CHECK(r2u2_arena_used() == 0);
+    }
+    printf("bytes of an arena%s: %zu\n", header ? " under a header" : "", most);
+}
+
+int main(int count, char **words) {
+    static uint8_t program[4096];
+    FILE *file = count == 2 ? fopen(words[1], "rb") : NULL;
+    size_t size = file ? fread(program, 1, sizeof program, file) : 0;
+    if (!file || fclose(file)) return fprintf(stderr, "usage: arena_test examples/embed/grant.bin\n"), 1;
+    for (size_t from = 0; from < 64; from++) aligned_blocks(from);
+    growing_blocks();
+    no_room();
+    least_array(program, size, NULL);
+    least_array(program, size, "#request,grant");
+    printf("%d checks, %d failed\n", checks, failed);
+    return failed != 0;
+}

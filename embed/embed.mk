@@ -1,0 +1,160 @@
+# The library for other languages; the Makefile includes this file.
+# make embed                  proves and builds the library into build/x86_64/: archives, headers and arena
+# make embed TARGET=aarch64   the same for that processor, into build/aarch64/
+# make check-embed            builds and runs what lies in embed/ and examples/embed/, for TARGET
+# make python                 build/libr2u2.so, which embed/python/r2u2.py calls
+# make deb                    a Debian package of all that `make install` installs
+#
+# LIBRARY=FILE takes an archive that was built before in the place of proving and building one.
+
+TARGET ?= x86_64
+EMBED = build/$(TARGET)
+TRIES = $(EMBED)/tries
+GRANT = examples/embed/grant.bin
+EXPECTED = examples/embed/grant.expected
+WARNED = -std=c11 -Wall -Wextra -Iinclude -Iembed
+STRICT = -fsanitize=address,undefined -fno-sanitize-recover=all -g
+KIT = $(dir $(realpath $(shell command -v rt)))..
+
+ifeq ($(TARGET),x86_64)
+TARGET_CC = $(CC)
+TARGET_AR = $(AR)
+else
+RT_TARGET = --target $(TARGET)-unknown-linux-gnu
+TARGET_CC = $(TARGET)-linux-gnu-gcc -static
+TARGET_AR = $(TARGET)-linux-gnu-ar
+RUN = qemu-$(TARGET)
+endif
+
+.PHONY: embed check-embed python install-embed uninstall-embed deb
+.PHONY: $(addprefix check-,installed misuse arena flight grants stack cpp rust python)
+
+embed:
+	@mkdir -p $(EMBED)
+ifdef LIBRARY
+	cp $(LIBRARY) $(EMBED)/libr2u2.a
+else
+	cd crates/r2u2_c && rt lib $(RT_TARGET) > ../../$(EMBED)/lib.log 2>&1 || { cat ../../$(EMBED)/lib.log; exit 1; }
+	cp crates/r2u2_c/out/libr2u2_c.a $(EMBED)/libr2u2.a
+endif
+ifeq ($(TARGET),x86_64)
+	cp $(KIT)/c/liblibc_c.a $(EMBED)/libr2u2_heap.a
+else
+	$(TARGET_CC) $(WARNED) -O2 -c embed/heap.c -o $(EMBED)/heap.o
+	rm -f $(EMBED)/libr2u2_heap.a
+	$(TARGET_AR) rcs $(EMBED)/libr2u2_heap.a $(EMBED)/heap.o
+endif
+	cp include/r2u2.h embed/r2u2_checked.h embed/arena.h embed/arena.c $(EMBED)
+
+# Only what isn't there is built before an installation.
+$(EMBED)/libr2u2.a:
+	$(MAKE) embed
+
+ifeq ($(TARGET),x86_64)
+check-embed: embed check-misuse check-arena check-flight check-stack check-grants check-cpp check-rust check-python check-installed
+	@echo 'check-embed: all passed for $(TARGET)'
+else
+check-embed:
+	@if command -v $(firstword $(TARGET_CC)) > /dev/null && command -v $(RUN) > /dev/null; then \
+	  $(MAKE) embed check-arena check-flight check-stack check-grants && echo 'check-embed: all passed for $(TARGET)'; \
+	else echo 'check-embed: no $(firstword $(TARGET_CC)) or no $(RUN), so $(TARGET) is passed over'; fi
+endif
+
+$(TRIES):
+	@mkdir -p $@
+
+check-misuse: | $(TRIES)
+	$(TARGET_CC) $(WARNED) -O1 $(STRICT) -o $(TRIES)/misuse embed/misuse.c $(EMBED)/libr2u2.a -lpthread
+	$(TRIES)/misuse $(GRANT)
+
+check-arena: | $(TRIES)
+	$(TARGET_CC) $(WARNED) -O1 $(if $(RUN),,$(STRICT)) -o $(TRIES)/arena embed/arena_test.c embed/arena.c $(EMBED)/libr2u2.a
+	$(RUN) $(TRIES)/arena $(GRANT)
+
+# The part that flies, linked as one object with all that it needs, asks for these names and no others; and the map of the
+# whole program has no malloc.
+check-flight: | $(TRIES)
+	embed/constant grant_program $(GRANT) > $(TRIES)/grant_program.h
+	$(TARGET_CC) $(WARNED) -I$(TRIES) -O2 -ffreestanding -nostdlib -r -o $(TRIES)/flight.o embed/flight/flight.c embed/arena.c $(EMBED)/libr2u2.a -lgcc
+	@nm -u $(TRIES)/flight.o | grep -vwE 'memcpy|memmove|memset' | grep -v '^$$' && { echo 'flight: asks for more'; exit 1; } || true
+	$(TARGET_CC) $(WARNED) -Iembed/flight -O2 $(if $(RUN),,-Wl$(comma)-Map=$(TRIES)/flight.map) -o $(TRIES)/flight embed/flight/ground.c $(TRIES)/flight.o
+	@[ -n '$(RUN)' ] || { test -s $(TRIES)/flight.map && ! grep -wE 'malloc|calloc|realloc|free|printf' $(TRIES)/flight.map; }
+	$(if $(RUN),$(RUN),env -i sh -c 'ulimit -s 64; exec "$$0"') $(TRIES)/flight > $(TRIES)/flight.out
+	cmp $(TRIES)/flight.out $(EXPECTED)
+
+comma = ,
+
+check-stack: | $(TRIES)
+	$(TARGET_CC) $(WARNED) -O2 $(if $(RUN),,-Wl$(comma)-z$(comma)now) -o $(TRIES)/stack embed/stack.c $(EMBED)/libr2u2.a $(EMBED)/libr2u2_heap.a
+	$(RUN) $(TRIES)/stack $(GRANT)
+
+check-grants:
+	$(MAKE) -C examples/embed clean check CC='$(TARGET_CC)' RUN='$(RUN)' LIBRARY=$(abspath $(EMBED)/libr2u2.a) HEAP=$(abspath $(EMBED)/libr2u2_heap.a)
+
+check-cpp: | $(TRIES)
+	@if command -v $(firstword $(CXX)) > /dev/null; then set -ex; \
+	  $(CXX) -std=c++17 -Wall -Wextra $(STRICT) -Iinclude -Iembed -o $(TRIES)/grants_cpp embed/cpp/grants.cpp $(EMBED)/libr2u2.a $(EMBED)/libr2u2_heap.a; \
+	  $(TRIES)/grants_cpp $(GRANT) > $(TRIES)/cpp.out; cmp $(TRIES)/cpp.out $(EXPECTED); \
+	else echo 'check-embed: no compiler of C++, so its example is passed over'; fi
+
+check-rust: | $(TRIES)
+	@if command -v cargo > /dev/null; then set -ex; \
+	  R2U2_LIBRARIES=$(abspath $(EMBED)) cargo run --quiet --offline --manifest-path embed/rust/Cargo.toml --target-dir $(TRIES)/rust -- $(GRANT) > $(TRIES)/rust.out; \
+	  cmp $(TRIES)/rust.out $(EXPECTED); \
+	else echo 'check-embed: no cargo, so the example in Rust is passed over'; fi
+
+python: build/libr2u2.so
+
+build/libr2u2.so: $(EMBED)/libr2u2.a
+	$(CC) -shared -Wl,--whole-archive $(EMBED)/libr2u2.a -Wl,--no-whole-archive $(EMBED)/libr2u2_heap.a -o $@
+
+check-python: python | $(TRIES)
+	@if command -v python3 > /dev/null; then set -ex; \
+	  R2U2_LIBRARY=$(abspath build/libr2u2.so) PYTHONDONTWRITEBYTECODE=1 python3 embed/python/grants.py $(GRANT) > $(TRIES)/python.out; \
+	  cmp $(TRIES)/python.out $(EXPECTED); \
+	else echo 'check-embed: no python3, so the example in Python is passed over'; fi
+
+INSTALLED_LIBRARIES = libr2u2.a libr2u2_heap.a
+INSTALLED_HEADERS = include/r2u2.h embed/r2u2_checked.h
+INSTALLED_SOURCES = embed/arena.c embed/arena.h embed/constant embed/cpp/r2u2.hpp embed/python/r2u2.py examples/embed/grants.c
+
+install: install-embed
+uninstall: uninstall-embed
+
+install-embed: $(EMBED)/libr2u2.a
+	install -d $(INTO)/lib/pkgconfig $(INTO)/include $(INTO)/share/man/man3 $(INTO)/share/r2u2/embed
+	install -m 644 $(INSTALLED_LIBRARIES:%=$(EMBED)/%) $(INTO)/lib
+	install -m 644 $(INSTALLED_HEADERS) $(INTO)/include
+	install -m 644 $(INSTALLED_SOURCES) $(INTO)/share/r2u2/embed
+	chmod 755 $(INTO)/share/r2u2/embed/constant
+	cp -R embed/rust $(INTO)/share/r2u2/embed
+	install -m 644 docs/man/r2u2.3 $(INTO)/share/man/man3
+	sed 's|@PREFIX@|$(PREFIX)|; s|@VERSION@|$(VERSION)|' embed/r2u2.pc.in > $(INTO)/lib/pkgconfig/r2u2.pc
+
+uninstall-embed:
+	rm -f $(INSTALLED_LIBRARIES:%=$(INTO)/lib/%) $(addprefix $(INTO)/include/,$(notdir $(INSTALLED_HEADERS)))
+	rm -f $(INTO)/share/man/man3/r2u2.3 $(INTO)/lib/pkgconfig/r2u2.pc
+	rm -rf $(INTO)/share/r2u2/embed
+
+# The example builds and runs outside the repository, by what was installed alone.
+check-installed: | $(TRIES)
+	rm -rf $(TRIES)/root
+	$(MAKE) install-embed DESTDIR= PREFIX=$(abspath $(TRIES)/root)
+	@if command -v pkg-config > /dev/null; then set -ex; cd $(TRIES)/root; \
+	  export PKG_CONFIG_PATH=$$PWD/lib/pkgconfig; \
+	  $(CC) share/r2u2/embed/grants.c $$(pkg-config --cflags --libs r2u2) -o grants; \
+	  ./grants $(abspath $(GRANT)) $(abspath examples/grant.csv) | cmp - $(abspath $(EXPECTED)); \
+	else echo 'check-embed: no pkg-config, so it is passed over'; fi
+	$(MAKE) uninstall-embed DESTDIR= PREFIX=$(abspath $(TRIES)/root)
+	@rm -f $(TRIES)/root/grants; ! find $(TRIES)/root -type f | grep .
+
+DEB = build/r2u2_$(VERSION)_$(shell dpkg --print-architecture 2>/dev/null)
+
+deb:
+	rm -rf $(DEB)
+	$(MAKE) install DESTDIR=$(abspath $(DEB)) PREFIX=/usr
+	mkdir -p $(DEB)/DEBIAN
+	sed 's|@VERSION@|$(VERSION)|; s|@PROCESSOR@|$(shell dpkg --print-architecture)|' embed/control.in > $(DEB)/DEBIAN/control
+	dpkg-deb --root-owner-group --build $(DEB) > /dev/null
+	rm -rf $(DEB)
+	@echo $(DEB).deb

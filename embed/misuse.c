@@ -1,0 +1,305 @@
+/* The edge of what a caller may do: each code, each fault, each allocation refused, calls in any order. Run it with the
+ * compiler's sanitizers; the last line says how many checks held. Not every code: 2^40 rows take too long. */
+#include <pthread.h>
+#include <stdatomic.h>
+#include <stdio.h>
+#include <stdlib.h>
+
+#include "faulty.h"
+#include "r2u2_checked.h"
+
+/* The heap, which counts, and refuses the block that it is told to. */
+struct found {
+    bool ok;
+    void *at;
+};
+
+static atomic_long asked, held, refused = -1;
+
+struct found rattle_alloc(size_t size, size_t align);
+struct found rattle_realloc(void *old, size_t kept, size_t size, size_t align);
+void rattle_dealloc(void *old);
+
+static struct found found(void *at) {
+    static char nothing;
+    return at ? (struct found){true, at} : (struct found){false, &nothing};
+}
+
+struct found rattle_alloc(size_t size, size_t align) {
+    if (asked++ == refused) return found(NULL);
+    void *at = malloc(size ? size : align);
+    if (at) held++;
+    return found(at);
+}
+
+struct found rattle_realloc(void *old, size_t kept, size_t size, size_t align) {
+    (void)kept;
+    if (asked++ == refused) return found(NULL);
+    return found(realloc(old, size ? size : align));
+}
+
+void rattle_dealloc(void *old) {
+    held--;
+    free(old);
+}
+
+static atomic_int checks, failed;
+
+#define CHECK(claim) check(claim, #claim, __LINE__)
+
+static void check(bool holds, const char *claim, int line) {
+    checks++;
+    if (holds) return;
+    failed++;
+    fprintf(stderr, "misuse.c:%d: not so: %s\n", line, claim);
+}
+
+static struct image grant;
+static const char HEADER[] = "# request,grant";
+static const int64_t ROWS[6][2] = {{1, 0}, {0, 1}, {1, 0}, {0, 0}, {0, 0}, {0, 0}};
+
+static uint32_t open_grant(struct r2u2 *it) {
+    struct r2u2_fault fault = {0};
+    return r2u2_open(it, grant.bytes, grant.count, &fault);
+}
+
+static uint32_t take(struct r2u2 *it, const int64_t *numbers, size_t count) {
+    struct r2u2_row_fault fault = {0};
+    return r2u2_row(it, numbers, count, &fault);
+}
+
+/* The reports of the six rows, as one number for each time; 1 is true. */
+static void watch_six(struct r2u2 *it) {
+    struct r2u2_report report = {0};
+    uint64_t time = 0;
+    for (size_t i = 0; i < 6; i++) {
+        CHECK(take(it, ROWS[i], 2) == R2U2_DONE);
+        while (r2u2_next(it, R2U2_EACH, &report) == R2U2_DONE) {
+            CHECK(report.time == time && report.output == 0);
+            CHECK(report.word == (time == 2 ? R2U2_FALSE : R2U2_TRUE));
+            time++;
+        }
+    }
+    CHECK(time == 6);
+}
+
+static void closed_ones_answer(struct r2u2 *it) {
+    struct r2u2_report report = {7, 8, 9};
+    struct r2u2_row_fault fault = {5, 6};
+    char name[64] = "x";
+    CHECK(r2u2_row(it, ROWS[0], 2, &fault) == R2U2_NOT_OPEN && fault.why == 5 && fault.column == 6);
+    CHECK(r2u2_next(it, R2U2_EACH, &report) == R2U2_NOT_OPEN);
+    CHECK(report.time == 7 && report.output == 8 && report.word == 9);
+    CHECK(r2u2_width(it) == 0 && r2u2_outputs(it) == 0);
+    CHECK(r2u2_name(it, 0, name, sizeof name) == 0 && name[0] == 'x');
+}
+
+static void calls_of_a_closed_one(void) {
+    struct r2u2 it = {0};
+    closed_ones_answer(&it);
+    r2u2_close(&it);
+    CHECK(open_grant(&it) == R2U2_DONE);
+    r2u2_close(&it);
+    CHECK(it.at == NULL);
+    closed_ones_answer(&it);
+    r2u2_close(&it);
+    CHECK(it.at == NULL && held == 0);
+}
+
+static void opened_twice(void) {
+    struct r2u2 it = {0};
+    struct r2u2_fault fault = {0};
+    CHECK(open_grant(&it) == R2U2_DONE);
+    long before = asked;
+    CHECK(open_grant(&it) == R2U2_ALREADY_OPEN);
+    CHECK(r2u2_open_under(&it, grant.bytes, grant.count, HEADER, strlen(HEADER), &fault) == R2U2_ALREADY_OPEN);
+    CHECK(fault.kind == 0 && asked == before);
+    watch_six(&it);
+    r2u2_close(&it);
+    CHECK(held == 0);
+}
+
+/* What takes no row leaves the monitor as it was. */
+static void rows_that_dont_fit(void) {
+    static const struct {
+        int64_t numbers[3];
+        size_t count;
+        uint32_t column;
+    } all[] = {{{0}, 0, 0},    {{1}, 1, 1},      {{1, 0, 0}, 3, 2},
+               {{2, 0}, 2, 0}, {{0, -1}, 2, 1},  {{INT64_MAX, INT64_MIN}, 2, 0}};
+    struct r2u2 it = {0};
+    CHECK(open_grant(&it) == R2U2_DONE);
+    for (size_t i = 0; i < sizeof all / sizeof *all; i++) {
+        struct r2u2_row_fault fault = {0};
+        CHECK(r2u2_row(&it, all[i].numbers, all[i].count, &fault) == R2U2_NOT_A_ROW);
+        CHECK(fault.why == R2U2_NOT_A_ROW && fault.column == all[i].column);
+    }
+    watch_six(&it);
+    r2u2_close(&it);
+}
+
+static void reports_left(void) {
+    struct r2u2 it = {0};
+    struct r2u2_report report = {0};
+    struct r2u2_row_fault fault = {0};
+    CHECK(open_grant(&it) == R2U2_DONE);
+    CHECK(r2u2_next(&it, R2U2_EACH, &report) == R2U2_NO_REPORT);
+    CHECK(take(&it, ROWS[0], 2) == R2U2_DONE && take(&it, ROWS[1], 2) == R2U2_DONE);
+    CHECK(r2u2_row(&it, ROWS[2], 2, &fault) == R2U2_REPORTS_LEFT);
+    CHECK(fault.why == R2U2_REPORTS_LEFT && fault.column == 0);
+    CHECK(r2u2_next(&it, R2U2_RUNS, &report) == R2U2_DONE && report.time == 1);
+    CHECK(r2u2_next(&it, R2U2_RUNS, &report) == R2U2_NO_REPORT);
+    CHECK(take(&it, ROWS[2], 2) == R2U2_DONE);
+    r2u2_close(&it);
+    CHECK(held == 0);
+}
+
+/* A buffer that is too short is left alone; a longer one keeps its rest. */
+static void names(void) {
+    struct r2u2 it = {0};
+    char name[8] = "........";
+    CHECK(open_grant(&it) == R2U2_DONE);
+    CHECK(r2u2_width(&it) == 2 && r2u2_outputs(&it) == 1);
+    CHECK(r2u2_name(&it, 0, name, 6) == 0 && r2u2_name(&it, 1, name, 8) == 0 && r2u2_name(&it, 0, name, 0) == 0);
+    CHECK(memcmp(name, "........", 8) == 0);
+    CHECK(r2u2_name(&it, 0, name, 8) == 7 && memcmp(name, "granted.", 8) == 0);
+    r2u2_close(&it);
+}
+
+static void each_kind_of_fault(void) {
+    static struct faulty all[32];
+    size_t count = faulty_ones(&grant, all);
+    CHECK(count == R2U2_FAULT_TWICE);
+    for (size_t i = 0; i < count; i++) {
+        struct r2u2 it = {0};
+        struct r2u2_fault fault = {0};
+        const struct faulty *one = &all[i];
+        uint32_t code = one->is_under ? r2u2_open_under(&it, one->image.bytes, one->image.count, one->header,
+                                                        one->header_count, &fault)
+                                      : r2u2_open(&it, one->image.bytes, one->image.count, &fault);
+        CHECK(code == R2U2_REFUSED && it.at == NULL && held == 0);
+        CHECK(one->kind == i + 1 && fault.kind == one->kind);
+        CHECK(fault.part == one->part && fault.place == one->place);
+        CHECK(fault.text[0] && memchr(fault.text, 0, sizeof fault.text));
+        if (fault.kind != one->kind || fault.part != one->part || fault.place != one->place)
+            fprintf(stderr, "kind %u: told %u, part %u, place %llu: %s\n", one->kind, fault.kind, fault.part,
+                    (unsigned long long)fault.place, fault.text);
+    }
+}
+
+/* Each program that differs from the first example in one byte, and each that is cut, is opened or refused. */
+static void any_byte(void) {
+    static const uint8_t others[] = {1, 0x80, 0xff};
+    for (size_t at = 0; at < 3 * grant.count; at++) {
+        struct image image = grant;
+        struct r2u2 it = {0};
+        struct r2u2_fault fault = {0};
+        image.bytes[at / 3] ^= others[at % 3];
+        uint32_t code = r2u2_open(&it, image.bytes, image.count, &fault);
+        CHECK(code == R2U2_DONE || (code == R2U2_REFUSED && fault.kind));
+        r2u2_close(&it);
+        CHECK(r2u2_open(&it, grant.bytes, at / 3, &fault) == R2U2_REFUSED && fault.kind == R2U2_FAULT_SHORT);
+        CHECK(it.at == NULL && held == 0);
+    }
+}
+
+/* Each block in turn is refused: opening says so, holds nothing, and works afterward. */
+static void each_block_refused(bool is_under) {
+    struct r2u2 it = {0};
+    struct r2u2_fault fault = {0};
+    uint32_t code = R2U2_NO_MEMORY;
+    long k = 0;
+    for (; code == R2U2_NO_MEMORY; k++) {
+        refused = asked + k;
+        code = is_under ? r2u2_open_under(&it, grant.bytes, grant.count, HEADER, strlen(HEADER), &fault)
+                        : open_grant(&it);
+        CHECK(code == R2U2_DONE || (code == R2U2_NO_MEMORY && it.at == NULL && held == 0));
+    }
+    refused = -1;
+    CHECK(code == R2U2_DONE && fault.kind == 0);
+    long before = asked;
+    watch_six(&it);
+    CHECK(asked == before);
+    r2u2_close(&it);
+    CHECK(held == 0);
+    printf("blocks asked for%s: %ld\n", is_under ? " under a header" : "", k - 1);
+}
+
+static void moved(void) {
+    struct r2u2 here = {0}, there;
+    CHECK(open_grant(&here) == R2U2_DONE);
+    CHECK(take(&here, ROWS[0], 2) == R2U2_DONE);
+    there = here;
+    memset(&here, 0, sizeof here);
+    CHECK(take(&there, ROWS[1], 2) == R2U2_DONE);
+    r2u2_close(&there);
+    r2u2_close(&here);
+    CHECK(held == 0);
+}
+
+static void *in_a_thread(void *unused) {
+    for (int i = 0; i < 200; i++) {
+        struct r2u2 it = {0};
+        CHECK(open_grant(&it) == R2U2_DONE);
+        watch_six(&it);
+        r2u2_close(&it);
+    }
+    return unused;
+}
+
+static void two_threads(void) {
+    pthread_t threads[2];
+    for (int i = 0; i < 2; i++) CHECK(pthread_create(&threads[i], NULL, in_a_thread, NULL) == 0);
+    for (int i = 0; i < 2; i++) CHECK(pthread_join(threads[i], NULL) == 0);
+    CHECK(held == 0);
+}
+
+/* The checked wrappers say of each bad argument that it is one, and else do what they wrap. */
+static void wrappers(void) {
+    struct r2u2 it = {0};
+    struct r2u2_report report = {0};
+    struct r2u2_row_fault fault = {0};
+    char name[16];
+    memset(name, '.', sizeof name);
+    CHECK(r2u2_checked_open(NULL, grant.bytes, grant.count, NULL) == R2U2_BAD_ARGUMENT);
+    CHECK(r2u2_checked_open(&it, NULL, 1, NULL) == R2U2_BAD_ARGUMENT);
+    CHECK(r2u2_checked_open(&it, grant.bytes, SIZE_MAX, NULL) == R2U2_BAD_ARGUMENT);
+    CHECK(r2u2_checked_open(&it, NULL, 0, NULL) == R2U2_REFUSED);
+    CHECK(r2u2_checked_open_under(&it, grant.bytes, grant.count, NULL, 1, NULL) == R2U2_BAD_ARGUMENT);
+    CHECK(r2u2_checked_open_under(&it, grant.bytes, grant.count, HEADER, strlen(HEADER), NULL) == R2U2_DONE);
+    CHECK(r2u2_checked_row(NULL, ROWS[0], 2, NULL) == R2U2_BAD_ARGUMENT);
+    CHECK(r2u2_checked_row(&it, NULL, 2, NULL) == R2U2_BAD_ARGUMENT);
+    CHECK(r2u2_checked_row(&it, (const int64_t *)(const void *)((const char *)ROWS + 1), 1, NULL) == R2U2_BAD_ARGUMENT);
+    CHECK(r2u2_checked_row(&it, NULL, 0, &fault) == R2U2_NOT_A_ROW && fault.column == 0);
+    CHECK(r2u2_checked_row(&it, ROWS[1], 2, NULL) == R2U2_DONE);
+    CHECK(r2u2_checked_next(&it, 2, &report) == R2U2_BAD_ARGUMENT);
+    CHECK(r2u2_checked_next(&it, R2U2_EACH, NULL) == R2U2_BAD_ARGUMENT);
+    CHECK(r2u2_checked_next(&it, R2U2_EACH, &report) == R2U2_DONE && report.word == R2U2_TRUE);
+    CHECK(r2u2_checked_name(&it, 0, NULL, 9) == 0 && r2u2_checked_name(&it, 0, name, 7) == 0 && name[0] == '.');
+    CHECK(r2u2_checked_name(&it, 0, name, sizeof name) == 7 && memcmp(name, "granted", 8) == 0);
+    CHECK(r2u2_checked_width(NULL) == 0 && r2u2_checked_outputs(NULL) == 0);
+    CHECK(r2u2_checked_width(&it) == 2 && r2u2_checked_outputs(&it) == 1);
+    r2u2_checked_close(&it);
+    r2u2_checked_close(NULL);
+    CHECK(held == 0);
+}
+
+int main(int count, char **words) {
+    FILE *file = count == 2 ? fopen(words[1], "rb") : NULL;
+    grant.count = file ? fread(grant.bytes, 1, sizeof grant.bytes, file) : 0;
+    if (!file || fclose(file)) return fprintf(stderr, "usage: misuse examples/embed/grant.bin\n"), 1;
+    calls_of_a_closed_one();
+    opened_twice();
+    rows_that_dont_fit();
+    reports_left();
+    names();
+    each_kind_of_fault();
+    any_byte();
+    each_block_refused(false);
+    each_block_refused(true);
+    moved();
+    two_threads();
+    wrappers();
+    printf("%d checks, %d failed\n", (int)checks, (int)failed);
+    return failed != 0;
+}

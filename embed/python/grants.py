@@ -1,0 +1,34 @@
+"""Watches the rows of the first example: grants.py PROGRAM prints the lines of r2u2."""
+
+import sys
+
+from r2u2 import Error, Monitor, NOT_A_ROW, REFUSED
+
+ROWS = [[1, 0], [0, 1], [1, 0], [0, 0], [0, 0], [0, 0]]
+
+
+def refused(call, code):
+    """The error of a call that ends with this code."""
+    try:
+        call()
+    except Error as error:
+        assert error.code == code, error.code
+        return error
+    raise AssertionError("no error")
+
+
+def main():
+    with open(sys.argv[1], "rb") as file:
+        program = file.read()
+    with Monitor(program, "# request,grant") as monitor:
+        assert (monitor.width, monitor.names) == (2, ["granted"])
+        assert refused(lambda: monitor.row([0, 2]), NOT_A_ROW).column == 1
+        for report in monitor.watch(ROWS):
+            print(report)
+    with Monitor(program) as monitor:
+        assert monitor.table(ROWS) == {"granted": ["T", "T", "F", "T", "T", "T"]}
+    assert refused(lambda: Monitor(program[:-1]), REFUSED).fault.text == "short"
+
+
+if __name__ == "__main__":
+    main()

@@ -1,0 +1,237 @@
+//! The proved monitor of Mission-time LTL: a safe wrapper of its C library, without dependencies.
+//!
+//! A [`Monitor`] is closed when it is dropped. It is neither `Send` nor `Sync`: it stays with the thread that opened it.
+
+use std::ffi::c_void;
+use std::fmt;
+
+#[repr(C)]
+struct Struct {
+    at: *mut c_void,
+}
+
+#[repr(C)]
+struct RawFault {
+    kind: u32,
+    part: u32,
+    place: u64,
+    text: [u8; 96],
+}
+
+#[repr(C)]
+#[derive(Default)]
+struct RawRowFault {
+    why: u32,
+    column: u32,
+}
+
+#[repr(C)]
+#[derive(Default)]
+struct RawReport {
+    time: u64,
+    output: u32,
+    word: u32,
+}
+
+extern "C" {
+    fn r2u2_open(it: *mut Struct, program: *const u8, count: usize, fault: *mut RawFault) -> u32;
+    fn r2u2_open_under(
+        it: *mut Struct,
+        program: *const u8,
+        count: usize,
+        header: *const u8,
+        header_count: usize,
+        fault: *mut RawFault,
+    ) -> u32;
+    fn r2u2_width(it: *mut Struct) -> u32;
+    fn r2u2_outputs(it: *mut Struct) -> u32;
+    fn r2u2_name(it: *mut Struct, k: u32, buffer: *mut u8, count: usize) -> u32;
+    fn r2u2_row(it: *mut Struct, numbers: *const i64, count: usize, fault: *mut RawRowFault) -> u32;
+    fn r2u2_next(it: *mut Struct, style: u32, report: *mut RawReport) -> u32;
+    fn r2u2_close(it: *mut Struct);
+}
+
+/// Why a call wasn't done.
+#[derive(Clone, Debug, PartialEq, Eq)]
+pub enum Error {
+    /// The program or the header has this fault: kind, part and place as `r2u2.h` has them, and the text.
+    Refused { kind: u32, part: u32, place: u64, text: String },
+    /// Out of memory.
+    NoMemory,
+    /// Ask for the reports of the last row first.
+    ReportsLeft,
+    /// The number of this column, counted from 0, doesn't fit, or it is the first that is missing or too many.
+    NotARow { column: u32 },
+    /// 1,099,511,627,776 rows were taken.
+    TooManyRows,
+}
+
+impl fmt::Display for Error {
+    fn fmt(&self, out: &mut fmt::Formatter<'_>) -> fmt::Result {
+        match self {
+            Error::Refused { text, .. } => out.write_str(text),
+            Error::NoMemory => out.write_str("out of memory"),
+            Error::ReportsLeft => out.write_str("reports left"),
+            Error::NotARow { column } => write!(out, "no number that fits in column {}", column + 1),
+            Error::TooManyRows => out.write_str("too many rows"),
+        }
+    }
+}
+
+impl std::error::Error for Error {}
+
+/// The word of an output at a time.
+#[derive(Clone, Copy, Debug, PartialEq, Eq)]
+pub enum Word {
+    False,
+    True,
+    Inactive,
+    Invalid,
+    Verified,
+}
+
+impl fmt::Display for Word {
+    fn fmt(&self, out: &mut fmt::Formatter<'_>) -> fmt::Result {
+        out.write_str(match self {
+            Word::False => "F",
+            Word::True => "T",
+            Word::Inactive => "inactive",
+            Word::Invalid => "invalid",
+            Word::Verified => "verified",
+        })
+    }
+}
+
+/// An output, a time and a word.
+#[derive(Clone, Copy, Debug, PartialEq, Eq)]
+pub struct Report {
+    pub output: u32,
+    pub time: u64,
+    pub word: Word,
+}
+
+/// How times are told: one by one, or one report for each longest stretch of one word.
+#[derive(Clone, Copy, Debug, PartialEq, Eq)]
+pub enum Style {
+    Each = 0,
+    Runs = 1,
+}
+
+/// A monitor that is open.
+pub struct Monitor {
+    it: Struct,
+}
+
+impl Monitor {
+    /// Opens the program that these bytes spell.
+    pub fn open(program: &[u8]) -> Result<Monitor, Error> {
+        // SAFETY: the struct is all zero, the fault was written, and both pointers have their true counts.
+        Monitor::by(|it, fault| unsafe { r2u2_open(it, program.as_ptr(), program.len(), fault) })
+    }
+
+    /// The same with the program's signals in the columns that a header names, as `#request,grant`.
+    pub fn open_under(program: &[u8], header: &[u8]) -> Result<Monitor, Error> {
+        // SAFETY: as above.
+        Monitor::by(|it, fault| unsafe {
+            r2u2_open_under(it, program.as_ptr(), program.len(), header.as_ptr(), header.len(), fault)
+        })
+    }
+
+    fn by(call: impl FnOnce(*mut Struct, *mut RawFault) -> u32) -> Result<Monitor, Error> {
+        let mut monitor = Monitor { it: Struct { at: std::ptr::null_mut() } };
+        let mut fault = RawFault { kind: 0, part: 0, place: 0, text: [0; 96] };
+        match call(&mut monitor.it, &mut fault) {
+            0 => Ok(monitor),
+            3 => Err(Error::Refused {
+                kind: fault.kind,
+                part: fault.part,
+                place: fault.place,
+                text: text_of(&fault.text),
+            }),
+            _ => Err(Error::NoMemory),
+        }
+    }
+
+    /// How many numbers a row has.
+    pub fn width(&mut self) -> u32 {
+        // SAFETY: the struct is that of an open monitor, here and below.
+        unsafe { r2u2_width(&mut self.it) }
+    }
+
+    /// How many outputs there are.
+    pub fn outputs(&mut self) -> u32 {
+        unsafe { r2u2_outputs(&mut self.it) }
+    }
+
+    /// The name of an output, if there is one of this number.
+    pub fn name(&mut self, output: u32) -> Option<String> {
+        let mut buffer = [0; 64];
+        let length = unsafe { r2u2_name(&mut self.it, output, buffer.as_mut_ptr(), buffer.len()) };
+        (length > 0).then(|| text_of(&buffer[..length as usize]))
+    }
+
+    /// Takes a row, and gives the reports that it brings. Those that the caller doesn't ask for are left, and the next row
+    /// isn't taken before.
+    pub fn row(&mut self, numbers: &[i64]) -> Result<Reports<'_>, Error> {
+        let mut fault = RawRowFault::default();
+        // SAFETY: the pointer of a slice is aligned and not null, even of an empty one.
+        match unsafe { r2u2_row(&mut self.it, numbers.as_ptr(), numbers.len(), &mut fault) } {
+            0 => Ok(self.reports(Style::Each)),
+            5 => Err(Error::ReportsLeft),
+            6 => Err(Error::NotARow { column: fault.column }),
+            _ => Err(Error::TooManyRows),
+        }
+    }
+
+    /// The reports that are left.
+    pub fn reports(&mut self, style: Style) -> Reports<'_> {
+        Reports { monitor: self, style }
+    }
+}
+
+impl Drop for Monitor {
+    fn drop(&mut self) {
+        unsafe { r2u2_close(&mut self.it) }
+    }
+}
+
+/// The reports of the rows so far.
+pub struct Reports<'a> {
+    monitor: &'a mut Monitor,
+    style: Style,
+}
+
+impl Reports<'_> {
+    /// The same in this style.
+    pub fn by(self, style: Style) -> Self {
+        Reports { style, ..self }
+    }
+}
+
+impl Iterator for Reports<'_> {
+    type Item = Report;
+
+    fn next(&mut self) -> Option<Report> {
+        let mut report = RawReport::default();
+        match unsafe { r2u2_next(&mut self.monitor.it, self.style as u32, &mut report) } {
+            0 => Some(Report { output: report.output, time: report.time, word: word_of(report.word) }),
+            _ => None,
+        }
+    }
+}
+
+fn word_of(number: u32) -> Word {
+    match number {
+        0 => Word::False,
+        1 => Word::True,
+        2 => Word::Inactive,
+        3 => Word::Invalid,
+        _ => Word::Verified,
+    }
+}
+
+/// The text before the first zero byte.
+fn text_of(bytes: &[u8]) -> String {
+    let end = bytes.iter().position(|byte| *byte == 0).unwrap_or(bytes.len());
+    String::from_utf8_lossy(&bytes[..end]).into_owned()
+}

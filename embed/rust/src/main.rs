@@ -1,0 +1,22 @@
+//! Watches the rows of the first example: `r2u2 PROGRAM` prints the lines of the monitor.
+
+use r2u2::{Error, Monitor};
+
+const ROWS: [[i64; 2]; 6] = [[1, 0], [0, 1], [1, 0], [0, 0], [0, 0], [0, 0]];
+
+fn main() -> Result<(), Box<dyn std::error::Error>> {
+    let path = std::env::args().nth(1).ok_or("usage: r2u2 PROGRAM")?;
+    let program = std::fs::read(path)?;
+    let mut monitor = Monitor::open_under(&program, b"# request,grant")?;
+    let name = monitor.name(0).ok_or("no output")?;
+    assert_eq!((monitor.width(), monitor.outputs()), (2, 1));
+    assert_eq!(monitor.row(&[0, 2]).err(), Some(Error::NotARow { column: 1 }));
+    for row in ROWS {
+        for report in monitor.row(&row)? {
+            println!("{name}:{},{}", report.time, report.word);
+        }
+    }
+    let cut = Monitor::open(&program[1..]).err();
+    assert!(matches!(cut, Some(Error::Refused { kind: 2, .. })), "{cut:?}");
+    Ok(())
+}

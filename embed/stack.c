@@ -1,0 +1,119 @@
+/* Measures the stack of each call: runs it on an array of its own, and counts the bytes that it wrote.
+ * stack PROGRAM.. gives the most over these programs; a program of version 2 is opened under a header too. */
+#include <stdio.h>
+#include <stdlib.h>
+#include <string.h>
+#include <ucontext.h>
+
+#include "r2u2.h"
+
+enum { STACK = 1 << 20, MOST_COLUMNS = 65536, PAINT = 0xa5 };
+
+static _Alignas(64) uint8_t stack[STACK];
+static ucontext_t here, there;
+static void (*running)(void);
+
+static struct r2u2 it;
+static struct r2u2_fault fault;
+static struct r2u2_row_fault row_fault;
+static struct r2u2_report report;
+static uint8_t *program;
+static size_t count;
+static char header[1 << 16], name[64];
+static size_t header_count;
+static int64_t numbers[MOST_COLUMNS];
+static uint32_t width, code;
+
+static void nothing(void) {}
+static void open_it(void) { code = r2u2_open(&it, program, count, &fault); }
+static void open_under(void) { code = r2u2_open_under(&it, program, count, header, header_count, &fault); }
+static void widths(void) { width = r2u2_width(&it); }
+static void outputs(void) { code = r2u2_outputs(&it); }
+static void names(void) { code = r2u2_name(&it, 0, name, sizeof name); }
+static void row(void) { code = r2u2_row(&it, numbers, width, &row_fault); }
+static void next(void) { code = r2u2_next(&it, R2U2_EACH, &report); }
+static void next_run(void) { code = r2u2_next(&it, R2U2_RUNS, &report); }
+static void close_it(void) { r2u2_close(&it); }
+
+static void run(void) { running(); }
+
+/* How many bytes of the stack this call writes. */
+static size_t stack_of(void (*call)(void)) {
+    size_t free_bytes = 0;
+    memset(stack, PAINT, sizeof stack);
+    running = call;
+    getcontext(&there);
+    there.uc_stack.ss_sp = stack;
+    there.uc_stack.ss_size = sizeof stack;
+    there.uc_link = &here;
+    makecontext(&there, run, 0);
+    swapcontext(&here, &there);
+    while (free_bytes < STACK && stack[free_bytes] == PAINT) free_bytes++;
+    return STACK - free_bytes;
+}
+
+enum { OPEN, OPEN_UNDER, WIDTH, OUTPUTS, NAME, ROW, NEXT, CLOSE, CALLS };
+static const char *const NAMES[CALLS] = {"r2u2_open", "r2u2_open_under", "r2u2_width", "r2u2_outputs",
+                                         "r2u2_name", "r2u2_row",        "r2u2_next",  "r2u2_close"};
+static size_t most[CALLS], base;
+
+static void measure(int which, void (*call)(void)) {
+    size_t bytes = stack_of(call) - base;
+    if (bytes > most[which]) most[which] = bytes;
+}
+
+/* The header that names the stored signals in their order, which is that of their columns. */
+static void make_header(void) {
+    uint32_t words[10];
+    memcpy(words, program, sizeof words);
+    size_t at = 40 + 24 * ((size_t)words[3] + words[4] + words[5] + words[6]);
+    size_t names_at = at + 8 * (size_t)words[8] + words[7];
+    header_count = 1;
+    header[0] = '#';
+    for (uint32_t i = 0; i < words[8]; i++) {
+        size_t length = program[at + 8 * i + 5];
+        if (i) header[header_count++] = ',';
+        memcpy(header + header_count, program + names_at, length);
+        header_count += length;
+        names_at += length;
+    }
+}
+
+static void watch(void) {
+    measure(WIDTH, widths);
+    measure(OUTPUTS, outputs);
+    measure(NAME, names);
+    for (uint32_t i = 0; i < 200; i++) {
+        for (uint32_t k = 0; k < width; k++) numbers[k] = (int64_t)(i * 7 + k * 3) % 5 == 0;
+        measure(ROW, row);
+        if (code) exit(fprintf(stderr, "stack: row %u: code %u\n", i, code) > 0);
+        do measure(NEXT, i % 2 ? next : next_run);
+        while (code == R2U2_DONE);
+    }
+    measure(CLOSE, close_it);
+}
+
+static int read_program(const char *path) {
+    static uint8_t bytes[1 << 24];
+    FILE *file = fopen(path, "rb");
+    program = bytes;
+    count = file ? fread(bytes, 1, sizeof bytes, file) : 0;
+    return file ? fclose(file) : -1;
+}
+
+int main(int words, char **paths) {
+    base = stack_of(nothing);
+    for (int i = 1; i < words; i++) {
+        if (read_program(paths[i])) return fprintf(stderr, "stack: cannot read %s\n", paths[i]), 6;
+        measure(OPEN, open_it);
+        if (code) return fprintf(stderr, "stack: %s: code %u %s\n", paths[i], code, fault.text), (int)code;
+        watch();
+        if (program[4] != 2) continue;
+        make_header();
+        measure(OPEN_UNDER, open_under);
+        if (code) return fprintf(stderr, "stack: %s: code %u %s\n", paths[i], code, fault.text), (int)code;
+        watch();
+    }
+    for (int i = 0; i < CALLS; i++) printf("%-16s %6zu bytes\n", NAMES[i], most[i]);
+    return 0;
+}

@@ -1,0 +1,74 @@
+"""What the tests of the tools share: where things are, and how a tool is run."""
+
+import os
+import resource
+import subprocess
+import sys
+import tempfile
+import unittest
+from pathlib import Path
+
+ROOT = Path(__file__).resolve().parent.parent.parent
+TOOLS = ROOT / "tools"
+sys.path.insert(0, str(TOOLS / "lib"))
+
+
+def program(name):
+    """The path of r2u2 or c2po; a test that asks for one that isn't there is skipped."""
+    path = os.environ.get(name.upper()) or str(ROOT / "build" / name)
+    if not os.access(path, os.X_OK):
+        raise unittest.SkipTest(f"no {path}: make builds it, and {name.upper()} may name another")
+    return os.path.abspath(path)
+
+
+def tool(name, *words, give="", env=None):
+    """A run of a tool: its status, its output and its error output, as texts."""
+    ran = subprocess.run(
+        [sys.executable, str(TOOLS / name), *map(str, words)],
+        input=give,
+        stdout=subprocess.PIPE,
+        stderr=subprocess.PIPE,
+        encoding="utf-8",
+        env={**os.environ, **(env or {})},
+    )
+    return ran.returncode, ran.stdout, ran.stderr
+
+
+def shell(line, **names):
+    """A line of bash, in which TOOLS is the folder of the tools and any further name is a variable."""
+    env = {**os.environ, "TOOLS": str(TOOLS), **{key: str(value) for key, value in names.items()}}
+    ran = subprocess.run(
+        ["bash", "-o", "pipefail", "-c", line],
+        stdin=subprocess.DEVNULL,
+        stdout=subprocess.PIPE,
+        stderr=subprocess.PIPE,
+        encoding="utf-8",
+        env=env,
+    )
+    return ran.returncode, ran.stdout, ran.stderr
+
+
+def spent():
+    """The processor's seconds of all children so far; those of the clock say little where other work runs beside."""
+    used = resource.getrusage(resource.RUSAGE_CHILDREN)
+    return used.ru_utime + used.ru_stime
+
+
+class Case(unittest.TestCase):
+    """A case with a folder of its own, and with checks of what a tool did."""
+
+    def setUp(self):
+        folder = tempfile.TemporaryDirectory()
+        self.addCleanup(folder.cleanup)
+        self.folder = Path(folder.name)
+
+    def file(self, name, text):
+        """A file of the case's folder; a text is written as UTF-8."""
+        path = self.folder / name
+        path.write_bytes(text if isinstance(text, bytes) else text.encode())
+        return path
+
+    def one_line(self, errors):
+        """An error is one line, and no traceback."""
+        self.assertEqual(errors.count("\n"), 1, errors)
+        self.assertNotIn("Traceback", errors)

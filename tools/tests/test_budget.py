@@ -1,0 +1,140 @@
+"""tools/budget: its figures are those of the table of c2po, of the whole and of each output, and its limits end a build."""
+
+import csv
+import io
+import json
+import random
+import subprocess
+
+import random_specs
+from support import ROOT, Case, program, tool
+
+SPECS = 40
+SHARED = """INPUT p, q: bool; x, y: int;
+DEFINE near := x - y < 3 && p; late := F[0,5] near;
+FTSPEC a: near -> late; b: q => late;
+PTSPEC d: O[2,9] (x - y < 3);
+"""
+TEXT = """       bz  ft  pt  slots  boxes          delay  steps
+whole   7   9   3     39      2  5 rows, 0.5 s    336
+a       6   8   0     33      0  5 rows, 0.5 s    296
+b       7   6   0     21      0  5 rows, 0.5 s    160
+d       5   0   3      0      2    0 rows, 0 s      8
+
+costliest             slots  boxes  steps    in
+late: F[0,5] near         6            56  a, b
+near -> late              6            56     a
+near: x - y < 3 && p      6            36  a, b
+O[2,9] (x - y < 3)               2      4     d
+
+shared, and there once
+  x - y < 3  by a, b, d
+  late: F[0,5] near  by a, b
+"""
+
+
+def table(spec):
+    """The table of c2po, as rows by name of column."""
+    out = subprocess.run([program("c2po"), "--table", str(spec)], stdout=subprocess.PIPE, check=True, encoding="ascii").stdout
+    return list(csv.DictReader(io.StringIO(out)))
+
+
+def sizes(rows, engine):
+    return sum(int(row["size"]) for row in rows if row["engine"] == engine)
+
+
+class Figures(Case):
+    def told(self, spec, *words):
+        status, out, errors = tool("budget", "--json", *words, spec)
+        self.assertEqual((status, errors), (0, ""))
+        return json.loads(out)
+
+    def check(self, spec):
+        """The whole has the sums of the table, and each output no more; together they have all of it."""
+        rows, found = table(spec), self.told(spec)
+        whole, outputs = found["whole"], found["outputs"]
+        self.assertEqual((whole["slots"], whole["boxes"]), (sizes(rows, "ft"), sizes(rows, "pt")))
+        for part in ("bz", "ft", "pt"):
+            self.assertEqual(whole[part], sum(row["engine"] == part for row in rows))
+        for key in ("bz", "ft", "pt", "slots", "boxes", "steps"):
+            self.assertTrue(all(it[key] <= whole[key] for it in outputs), key)
+            self.assertLessEqual(whole[key], sum(it[key] for it in outputs), key)
+        self.assertEqual(whole["delay"], max(it["delay"] for it in outputs))
+
+    def test_the_table_of_each_example(self):
+        program("c2po")
+        for spec in sorted((ROOT / "examples").glob("**/*.c2po")):
+            with self.subTest(spec=spec.name):
+                self.check(spec)
+
+    def test_the_table_of_random_specifications(self):
+        program("c2po")
+        for seed in range(SPECS):
+            self.check(self.file("spec.c2po", random_specs.spec(random.Random(seed))))
+
+    def test_steps_by_hand(self):
+        """Load, true, load, until, not, and, not with 4, 1, 1, 4, 4, 4 and 4 slots."""
+        program("c2po")
+        found = self.told(ROOT / "examples" / "grant.c2po")
+        work = [4 * (m + s + 2) for m, s in ((0, 4), (0, 1), (0, 1), (1, 4), (4, 4), (4, 4), (4, 4))]
+        self.assertEqual(found["whole"]["steps"], sum(work))
+
+    def test_text_with_names_and_shared_parts(self):
+        program("c2po")
+        spec = self.file("spec.c2po", SHARED)
+        self.assertEqual(tool("budget", "--rate", 10, spec), (0, TEXT, ""))
+
+    def test_a_program_has_the_figures_of_its_specification(self):
+        program("c2po")
+        spec, out = self.file("spec.c2po", SHARED), self.folder / "spec.obs"
+        header = self.file("header.csv", "# free,y,q,x,more,p\n")
+        subprocess.run([program("c2po"), "--header", str(header), "-o", str(out), str(spec)], check=True)
+        self.assertEqual(self.told(spec)["outputs"], self.told(out)["outputs"])
+
+    def test_a_program_of_version_1(self):
+        program("c2po")
+        spec, out = ROOT / "examples" / "grant.c2po", self.folder / "old.obs"
+        subprocess.run([program("c2po"), "-o", str(out), str(spec)], check=True)
+        raw = out.read_bytes()
+        names = b"requestgrant"
+        end = len(raw) - len(names) - 2 * 8 - len(b"granted")
+        old = raw[:4] + b"\1" + raw[5:32] + raw[40:end] + b"granted"
+        self.assertEqual(self.told(spec)["whole"], self.told(self.file("old.obs", old))["whole"])
+
+
+    def test_a_specification_without_outputs(self):
+        program("c2po")
+        self.assertEqual(self.told(self.file("none.c2po", ""))["whole"]["steps"], 0)
+
+
+class Limits(Case):
+    def setUp(self):
+        super().setUp()
+        program("c2po")
+        self.spec = ROOT / "examples" / "grant.c2po"
+
+    def over(self, *words):
+        status, _, errors = tool("budget", *words, self.spec)
+        return status, errors
+
+    def test_each_limit(self):
+        self.assertEqual(self.over("--max-slots", 22, "--max-steps", 196, "--max-delay", 3), (0, ""))
+        self.assertEqual(self.over("--max-slots", 21), (1, "budget: 22 slots and boxes, above 21\n"))
+        self.assertEqual(self.over("--max-steps", 195), (1, "budget: 196 steps in one row, above 195\n"))
+        self.assertEqual(self.over("--max-delay", 2), (1, "budget: granted: a delay of 3 rows, above 2\n"))
+
+    def test_delay_in_seconds(self):
+        self.assertEqual(self.over("--rate", 10, "--max-delay", "0.3s"), (0, ""))
+        self.assertEqual(self.over("--rate", 10, "--max-delay", "0.29s")[0], 1)
+        status, errors = self.over("--max-delay", "0.3s")
+        self.assertEqual(status, 2)
+        self.one_line(errors)
+
+    def test_what_cannot_be_read(self):
+        program("c2po")
+        texts = {"fault.c2po": "INPUT p: bool;\nFTSPEC f: p &&;\n", "no.obs": b"MLTL\2\0\0\0", "rows.csv": "1,0\n"}
+        for name, text in texts.items():
+            status, out, errors = tool("budget", self.file(name, text))
+            self.assertEqual((status, out), (2, ""), name)
+            self.one_line(errors)
+        self.one_line(tool("budget", self.folder / "nowhere")[2])

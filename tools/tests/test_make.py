@@ -1,0 +1,66 @@
+"""The goals of the Makefile, with an rt that only says how it was called."""
+
+import os
+import shutil
+
+from support import ROOT, Case, shell
+
+RT = '#!/bin/sh\necho "rt $* in ${PWD##*/}"\nexit "${RT_STATUS:-0}"\n'
+
+
+class Goals(Case):
+    def setUp(self):
+        super().setUp()
+        for folder in ("bin", "examples", "tools", *(f"crates/{name}/out" for name in ("r2u2", "c2po", "r2u2_c", "worked_cases"))):
+            (self.folder / folder).mkdir(parents=True)
+        for name in ("Makefile", "VERSION"):
+            shutil.copy(ROOT / name, self.folder)
+        self.program("bin/rt", RT)
+        self.program("tools/test", "#!/bin/sh\necho 3 passed, 0 failed\n")
+        self.file("crates/worked_cases/stdin", "")
+        for name in ("grant.c2po", "grant.csv"):
+            self.file(f"examples/{name}", "")
+        for path in ("r2u2/out/r2u2", "c2po/out/c2po", "r2u2_c/out/libr2u2_c.a"):
+            self.file(f"crates/{path}", path)
+
+    def program(self, name, text):
+        self.file(name, text).chmod(0o755)
+
+    def make(self, words, **names):
+        path = f"{self.folder}/bin:{os.environ['PATH']}"
+        return shell(f'make -s -C "$FOLDER" {words}', FOLDER=self.folder, PATH=path, **names)
+
+    def built(self):
+        return sorted(path.name for path in (self.folder / "build").glob("*"))
+
+    def test_try(self):
+        root = self.folder.resolve()
+        status, out, _ = self.make("try")
+        self.assertEqual(status, 0)
+        self.assertIn("Unproved", out)
+        self.assertIn(f"rt try -- --source {root}/examples/grant.c2po {root}/examples/grant.csv in r2u2\n", out)
+
+    def test_try_over_files_of_ones_own(self):
+        spec, trace = self.file("my own.c2po", ""), self.file("my.csv", "")
+        status, out, _ = self.make("try SPEC='my own.c2po' TRACE=\"$TRACE\"", TRACE=trace)
+        self.assertEqual(status, 0)
+        self.assertIn(f"--source {spec.resolve()} {trace.resolve()} in r2u2", out)
+
+    def test_test_ends_with_a_count(self):
+        status, out, _ = self.make("test")
+        self.assertEqual((status, out.splitlines()[-2:]), (0, ["rt try in worked_cases", "3 passed, 0 failed"]))
+        self.assertNotEqual(self.make("test", RT_STATUS=1)[0], 0)
+
+    def test_check_leaves_programs_and_library(self):
+        self.assertEqual(self.make("check")[:2], (0, "rt ci in " + self.folder.name + "\n"))
+        self.assertEqual(self.built(), ["c2po", "libr2u2_c.a", "r2u2"])
+
+    def test_a_gate_that_fails_leaves_nothing(self):
+        self.assertNotEqual(self.make("check", RT_STATUS=1)[0], 0)
+        self.assertEqual(self.built(), [])
+
+    def test_all(self):
+        status, out, _ = self.make("JOBS=3")
+        lines = ["rt all check --jobs 3 in r2u2", "rt run -- --help in r2u2", "rt run -- --help in c2po"]
+        self.assertEqual((status, out.splitlines()), (0, lines))
+        self.assertEqual(self.built(), ["c2po", "r2u2"])

@@ -1,0 +1,27 @@
+"""Each option of a tool stands in its man page, and each option of the page is one of the tool."""
+
+import re
+
+from support import ROOT, TOOLS, Case, shell, tool
+
+
+class Man(Case):
+    def pages(self):
+        for page in sorted((ROOT / "docs/man").glob("r2u2-*.1")):
+            if (TOOLS / page.stem.removeprefix("r2u2-")).exists():
+                yield page.stem.removeprefix("r2u2-"), page
+
+    def test_options(self):
+        self.assertTrue(list(self.pages()))
+        for name, page in self.pages():
+            with self.subTest(name):
+                helped = set(re.findall(r"^  +(?:-\w, )?(-[-\w]+)", tool(name, "--help")[1], re.M)) - {"--help", "-h"}
+                lists = "\n".join(re.findall(r"^\.(?:It|Op) .*$", page.read_text(encoding="utf-8"), re.M))
+                told = {f"-{word}" for word in re.findall(r"Fl (-?[a-z][-a-z]*)", lists)} - {"--help", "-h"}
+                self.assertEqual(helped, told)
+
+    def test_groff_takes_them(self):
+        if shell("command -v groff")[0]:
+            self.skipTest("no groff")
+        for name, page in self.pages():
+            self.assertEqual(shell('groff -Tutf8 -mdoc -ww "$PAGE" >/dev/null', PAGE=page), (0, "", ""), name)

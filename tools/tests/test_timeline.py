@@ -1,0 +1,322 @@
+"""tools/timeline: squares, bars, marks, the page in a browser, and quick answers."""
+
+import os
+import re
+import shutil
+import subprocess
+import sys
+import unittest
+import xml.etree.ElementTree as ElementTree
+
+from support import ROOT, TOOLS, Case, program, shell, spent, tool
+
+import timeline_html
+from timeline_model import Model, take_lines, take_trace
+from traces import Runs
+
+TICKS = """tick:0,T
+granted:0,T
+granted:1,T
+tick:1,T
+tick:2,T
+tick:3,T
+tick:4,T
+granted:2,F
+granted:3,T
+granted:4,T
+granted:5,T
+tick:5,T
+"""
+GRANT = ["--spec", ROOT / "examples/grant.c2po", "--trace", ROOT / "examples/grant.csv", "--ticks", "tick"]
+SVG = "{http://www.w3.org/2000/svg}"
+
+
+def browser():
+    """A chromium, or the test is skipped."""
+    for name in ("chromium", "chromium-browser", "google-chrome"):
+        if shutil.which(name):
+            return shutil.which(name)
+    raise unittest.SkipTest("no chromium: apt-get install chromium")
+
+
+class Pictures(Case):
+    def made(self, *words, give="", status=0):
+        code, out, errors = tool("timeline", *words, give=give)
+        self.assertEqual((code, errors), (status, ""), errors)
+        return out
+
+    def texts(self, *words, give=""):
+        """The texts of a picture, in their order."""
+        return [part.text for part in ElementTree.fromstring(self.made(*words, give=give)).iter(f"{SVG}text")]
+
+
+class Squares(Pictures):
+    def test_grant(self):
+        texts = self.texts(*GRANT, give=TICKS)
+        self.assertEqual(
+            texts,
+            ["granted: request -> F[0,3] grant", "request", "grant", "granted", *"TTFTTT", "row", *"012345"]
+            + ["T", "true", "F", "false", "told with this row"],
+        )
+
+    def test_marks(self):
+        """A line from each time to the row that told it, and a dot at rows 1 and 5."""
+        root = ElementTree.fromstring(self.made(*GRANT, give=TICKS))
+        dots = [float(dot.get("cx")) for dot in root.iter(f"{SVG}circle")][:2]
+        lines = next(path.get("d") for path in root.iter(f"{SVG}path") if path.get("d").count("M") == 6)
+        ends = [float(text) for text in re.findall(r"L([\d.]+)", lines)]
+        self.assertEqual(ends, [dots[0]] * 2 + [dots[1]] * 4)
+        self.assertEqual(dots[1] - dots[0], 4 * 26)
+
+    def test_no_marks_without_ticks(self):
+        lines = "".join(line + "\n" for line in TICKS.split() if not line.startswith("tick"))
+        self.assertNotIn("<circle", self.made(*GRANT[:4], give=lines))
+
+    def test_lanes_in_the_order_of_the_specification(self):
+        texts = self.texts("--spec", ROOT / "examples/valves.c2po", give="shut:1,T\n")
+        self.assertEqual([text for text in texts if text in ("filling", "shut")], ["filling", "shut"])
+        self.assertIn("undecided", texts)
+
+    def test_numbers(self):
+        """A column of an int is told in numbers, also where they are 0 and 1, and whole."""
+        spec = self.file("spec", "INPUT x, y: int; FTSPEC f: x > y;")
+        trace = self.file("trace", "0,-2147483648\n1,7\n")
+        texts = self.texts("--spec", spec, "--trace", trace, give="f:0,T\n")
+        self.assertEqual(texts[:7], ["f: x > y", "x", "0", "1", "y", "-2147483648", "7"])
+
+    def test_columns_that_no_requirement_reads(self):
+        words = ["--spec", ROOT / "examples/requests.c2po", "--trace", ROOT / "examples/requests.csv"]
+        self.assertNotIn("temperature", self.texts(*words))
+        self.assertIn("21.5", self.texts("--all-columns", *words))
+
+    def test_from_and_to(self):
+        texts = self.texts("--from", "2", "--to", "3", *GRANT, give=TICKS)
+        self.assertEqual(texts[4:9], ["F", "T", "row", "2", "3"])
+        status, _, errors = tool("timeline", "--from", "9", *GRANT, give=TICKS)
+        self.assertEqual((status, errors), (2, "timeline: no row and no verdict to show\n"))
+
+    def test_stamps_are_times(self):
+        trace = self.file("trace", "# p\n@0,1\n@3,0\n@5,1\n")
+        texts = self.texts("--trace", trace, "--ticks", "tick", give="tick:0,T\ntick:1,T\np:1,T\ntick:2,T\ntick:3,T\n")
+        self.assertIn("time", texts)
+        self.assertIn("told with this time", texts)
+        model = Model()
+        take_trace(model, trace, None, True)
+        with self.file("lines", "tick:0,T\np:0,T\np:1,T\ntick:1,T\np:4,F\ntick:4,T\n").open("rb") as lines:
+            take_lines(model, lines, "", "tick")
+        self.assertEqual(list(model.lanes["p"].told), [(0, 1, 3), (2, 4, 5)])
+
+
+class Bars(Pictures):
+    def long(self, count):
+        rows = "".join(f"{k // 7 % 2},{k}\n" for k in range(count))
+        lines = "".join(f"f:{k},{'F' if k % 50000 == 4000 else 'T'}\n" for k in range(count - 10))
+        return self.file("trace", "# p,x\n" + rows), self.file("lines", lines)
+
+    def test_a_long_trace_is_small(self):
+        trace, lines = self.long(200000)
+        out = self.made("--trace", trace, lines)
+        self.assertLess(len(out), 300000)
+        self.assertIn("200,000"[:3], out)
+        red = [rect for rect in ElementTree.fromstring(out).iter(f"{SVG}rect") if rect.get("fill") == "#d1495b"]
+        self.assertEqual(len(red), 4 + 1)
+
+    def test_numbers_where_there_is_room(self):
+        trace = self.file("trace", "# x\n" + "12\n" * 50 + "-3\n" * 50)
+        self.assertEqual(self.texts("--trace", trace, give="f:99,T\n")[:3], ["x", "12", "-3"])
+
+    def test_every_f_is_seen(self):
+        _, lines = self.long(1000)
+        root = ElementTree.fromstring(self.made(self.file("lines", "f:499,T\nf:500,F\nf:99999,T\n")))
+        self.assertEqual(len([rect for rect in root.iter(f"{SVG}rect") if rect.get("fill") == "#d1495b"]), 1 + 1)
+        del lines
+
+
+class Quick(Pictures):
+    def quick(self, seconds, *words, give=""):
+        before = spent()
+        out = self.made(*words, give=give)
+        self.assertLess(spent() - before, seconds)
+        return out
+
+    def test_a_long_gap(self):
+        trace = self.file("trace", "# p\n@0,1\n@5,0\n@3000000,1\n")
+        for words in ([], ["--html"]):
+            out = self.quick(10, *words, "--trace", trace, give="f:4,T\nf:2999999,F\n")
+            self.assertLess(len(out), 60000)
+
+    def test_many_lines(self):
+        lines = self.file("lines", "".join(f"f:{k},{'TF'[k % 2]}\n" for k in range(100000)))
+        self.assertLess(len(self.quick(20, lines)), 20000)
+        self.assertLess(len(self.quick(20, "--html", lines)), 400000)
+
+    def test_many_columns(self):
+        trace = self.file("trace", "# " + ",".join(f"c{k}" for k in range(500)) + "\n" + ("1," * 499 + "0\n") * 2000)
+        self.quick(30, "--trace", trace, give="f:1,T\n")
+
+    def test_faults(self):
+        for words, give, said in (
+            (["--trace", "none.csv"], "", "cannot open none.csv: No such file or directory"),
+            (["--spec", "none"], "", "cannot open none: No such file or directory"),
+            (["none.lines"], "", "cannot open none.lines: No such file or directory"),
+            ([], "f;1\n", "line 1: not a verdict line: f;1"),
+            ([], "", "no row and no verdict to show"),
+            (["--from", "x"], "", "argument --from: invalid count value: 'x' (--help tells more)"),
+            (["--from", "3", "--to", "2"], "", "--to is before --from (--help tells more)"),
+            (["-o", "no/such/file"], "f:0,T\n", "cannot write no/such/file: No such file or directory"),
+            (["--"], "", "no command after -- (--help tells more)"),
+            (["--trace", str(self.file("t", "1\n")), "--", "r2u2", "x"], "", None),
+            (["--", "cat", "x"], "", None),
+            (["--trace", str(self.file("t2", "# a,b\n1\n"))], "", f"{self.folder}/t2: line 2: too few fields"),
+        ):
+            status, out, errors = tool("timeline", *words, give=give)
+            self.assertEqual((status, out), (2, ""), words)
+            self.one_line(errors)
+            if said:
+                self.assertEqual(errors, f"timeline: {said}\n")
+
+    def test_pipes(self):
+        line = 'printf "f:3,T\\n" | "$TOOLS/timeline" | tail -1'
+        self.assertEqual(shell(line), (0, "</svg>\n", ""))
+        errors = shell('(printf "f:99999,T\\n" | "$TOOLS/timeline" --html; echo "ended $?" >&2) | head -c 10')[2]
+        self.assertRegex(errors, r"^ended (0|141)\n$")
+
+
+class Packing(Case):
+    def test_runs(self):
+        runs = Runs()
+        for last, value in ((3, "T"), (500, "F"), (70000, "T")):
+            runs.add(last, value)
+        kept = timeline_html.packed(runs, 2, 60000)
+        self.assertEqual(kept["values"], ["T", "F"])
+        numbers, value, weight = [], 0, 1
+        for part in __import__("base64").b64decode(kept["runs"]):
+            value, weight = value + (part & 127) * weight, weight * 128
+            if part < 128:
+                numbers.append(value)
+                value, weight = 0, 1
+        self.assertEqual(numbers, [2, 0, 497, 1, 59500, 0])
+
+
+class Page(Pictures):
+    """The page in a browser, over file:."""
+
+    def opened(self, path, place=""):
+        """The document as the browser has it after the page's start."""
+        command = [browser(), "--headless", "--no-sandbox", "--disable-gpu", f"--user-data-dir={self.folder}/profile"]
+        command += ["--window-size=1200,600", "--dump-dom", f"file://{path}{place}"]
+        return subprocess.run(command, stdout=subprocess.PIPE, stderr=subprocess.DEVNULL, encoding="utf-8", timeout=250).stdout
+
+    def told(self, document):
+        """What the page tells of the row under the pointer, without marks."""
+        return re.sub(r"<[^>]*>", " ", re.search(r'id="told">(.*?)</div>', document)[1]).split()
+
+    def ready(self, path):
+        """After how many thousandths of a second the page is drawn, and how many shapes it drew."""
+        document = self.opened(path)
+        return tuple(int(re.search(rf'data-{name}="(\d+)"', document)[1]) for name in ("ready", "shapes"))
+
+    def test_grant(self):
+        browser()
+        path = self.file("page.html", self.made("--html", *GRANT, give=TICKS))
+        document = self.opened(path, "#find=granted")
+        self.assertEqual(self.told(document), "row 2 request 1 grant 0 granted F, told with 5 (+3)".split())
+        self.assertEqual(self.told(self.opened(path, "#row=1"))[-5:], "granted T, told at once".split())
+        self.assertEqual(self.told(self.opened(path, "#row=3&find=granted")), "no F after this".split())
+        self.assertIn("granted: request -&gt; F[0,3] grant", document)
+
+    def test_names_that_look_like_a_page(self):
+        browser()
+        trace = self.file("trace", "# </script><b>x\n1\n")
+        path = self.file("page.html", self.made("--html", "--trace", trace, give="f:0,F\n"))
+        self.assertEqual(self.told(self.opened(path, "#row=0")), "row 0 &lt;/script&gt;&lt;b&gt;x 1 f F".split())
+
+    def test_a_million_rows_open_within_three_seconds(self):
+        browser()
+        trace = self.folder / "trace"
+        with trace.open("w") as file:
+            file.write("# p,q,x\n")
+            file.writelines(f"{k // 3 % 2},{k // 5 % 2},{k * 7919 % 4099}\n" for k in range(1000000))
+        lines = self.folder / "lines"
+        with lines.open("w") as file:
+            for k in range(1000000):
+                file.write(f"f:{k},{'TTF'[k % 3]}\ntick:{k},T\n" if k % 4 else f"tick:{k},T\n")
+        path = self.folder / "page.html"
+        self.made("--html", "--trace", trace, "--ticks", "tick", "-o", path, lines)
+        for _ in range(3):
+            ready, shapes = self.ready(path)
+            if ready < 3000 or os.getloadavg()[0] > os.cpu_count():
+                break
+        print(f"{path.stat().st_size / 1e6:.1f} MB, ready after {ready} ms ... ", end="", flush=True)
+        load, count = os.getloadavg()[0], os.cpu_count()
+        if ready >= 3000 and load > count:
+            self.skipTest(f"ready after {ready} ms, which says little: {load:.0f} processes want {count} processors")
+        self.assertLess(ready, 3000)
+        self.assertGreater(shapes, 1000)
+        told = self.told(self.opened(path, "#row=777777&find=f"))
+        self.assertEqual(told[:2], ["row", "777,779"])
+
+
+class Real(Pictures):
+    """With r2u2 and c2po."""
+
+    def run_over(self, *words, status=0, make=()):
+        env = {"R2U2": program("r2u2"), "C2PO": program("c2po")}
+        code, out, errors = tool("timeline", *make, "--", "r2u2", *words, env=env)
+        self.assertEqual((code, errors if not status else ""), (status, ""))
+        return out, errors
+
+    def test_the_same_with_a_run_as_with_ticks(self):
+        words = ROOT / "examples/grant.c2po", ROOT / "examples/grant.csv"
+        self.assertEqual(self.run_over("--source", *words)[0], self.made(*GRANT, give=TICKS))
+        self.assertEqual(self.run_over("--runs", "--source", *words)[0], self.made(*GRANT, give=TICKS))
+
+    def test_a_program(self):
+        obs = self.folder / "x.obs"
+        spec = self.file("spec", "INPUT tick, b: bool; FTSPEC one: tick -> F[0,2] b; two: b;")
+        subprocess.run([program("c2po"), "--header", self.file("h", "# z,b,tick\n"), "-o", obs, spec], check=True)
+        for trace in ("# b,tick\n0,1\n0,0\n1,0\n", "x,0,1\nx,0,0\nx,1,0\n"):
+            out = self.run_over(obs, self.file("trace", trace))[0]
+            texts = [part.text for part in ElementTree.fromstring(out).iter(f"{SVG}text")]
+            self.assertEqual([text for text in texts if text in ("b", "tick", "one", "two")], ["tick", "b", "one", "two"])
+            self.assertEqual([text for text in texts if text in ("T", "F")][:6], list("TTTFFT"))
+
+    def test_a_run_that_fails(self):
+        spec, trace = self.file("spec", "INPUT p: bool; FTSPEC f: p;"), self.file("trace", "1\n0\nx\n")
+        out, errors = self.run_over("--source", spec, trace, status=2)
+        self.assertEqual(errors, "timeline: r2u2: trace line 3: not a whole number in column 1\n")
+        self.assertIn("</svg>", out)
+
+    def test_a_long_gap(self):
+        spec, trace = self.file("spec", "INPUT p: bool; FTSPEC f: F[0,3] p;"), self.file("trace", "@0,1\n@200000,0\n@200009,1\n")
+        before = spent()
+        out, _ = self.run_over("--source", "--timed", spec, trace)
+        self.assertLess(spent() - before, 60)
+        self.assertLess(len(out), 60000)
+
+    def test_committed_pictures(self):
+        env = {"R2U2": program("r2u2"), "C2PO": program("c2po")}
+        self.assertEqual(tool("pictures", "--check", env=env), (0, "pictures: ok\n", ""))
+
+    def test_the_recipe_of_the_examples(self):
+        """The command that the page of examples gives makes the picture that it shows."""
+        text = (ROOT / "examples/README.md").read_text(encoding="utf-8")
+        recipes = re.findall(r"^tools/timeline .*-o (\S+\.svg) .*$", text, re.M)
+        self.assertTrue(recipes)
+        for line in re.findall(r"^tools/timeline .*\.svg .*$", text, re.M):
+            name = re.search(r"-o (\S+)", line)[1]
+            line = line.replace(f"-o {name}", '-o "$OUT"').replace("build/r2u2", '"$R2U2"')
+            names = {"OUT": self.folder / name, "R2U2": program("r2u2")}
+            self.assertEqual(shell(f'cd "{ROOT}" && {line}', **names), (0, "", ""))
+            shown = ROOT / "docs/pictures" / name
+            self.assertEqual((self.folder / name).read_text(), shown.read_text())
+
+
+class List(Case):
+    """The list of pictures, without a run."""
+
+    def test_all_pictures_are_listed(self):
+        text = (ROOT / "docs/pictures/LIST").read_text(encoding="utf-8")
+        listed = {line.partition(":")[0] for line in text.splitlines() if line and not line.startswith("#")}
+        lying = {str(path.relative_to(ROOT / "docs/pictures")) for path in (ROOT / "docs/pictures").rglob("*.svg")}
+        self.assertEqual(listed, lying)

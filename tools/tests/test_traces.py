@@ -1,0 +1,57 @@
+"""The reading of traces as runs."""
+
+import time
+
+from support import Case
+
+import traces
+from specs import Signal
+from tell import Trouble
+
+
+def runs(trace):
+    return {name: list(column) for name, column in zip(trace.names, trace.columns)}
+
+
+class Traces(Case):
+    def read(self, text, signals=None):
+        return traces.read_trace(self.file("trace", text), signals)
+
+    def test_header(self):
+        trace = self.read("# a, b \n1,5\n\n1,5\r\n0 , 5\n")
+        self.assertEqual(runs(trace), {"a": [(0, 1, "1"), (2, 2, "0")], "b": [(0, 2, "5")]})
+        self.assertEqual((trace.times, trace.stamps), (3, None))
+
+    def test_no_header(self):
+        self.assertEqual(runs(self.read("1,2\n3,4")), {"column 0": [(0, 0, "1"), (1, 1, "3")], "column 1": [(0, 0, "2"), (1, 1, "4")]})
+
+    def test_signals(self):
+        kept = [Signal("b", "int", 1), Signal("a", "bool", 0)]
+        self.assertEqual(runs(self.read("# x,a,b\n9,1,5\n", kept)), {"b": [(0, 0, "5")], "a": [(0, 0, "1")]})
+        self.assertEqual(runs(self.read("1,5\n", kept)), {"b": [(0, 0, "5")], "a": [(0, 0, "1")]})
+
+    def test_stamps(self):
+        trace = self.read("# a\n@0,1\n@3,0\n@9000000000,1\n")
+        self.assertEqual(runs(trace), {"a": [(0, 2, "1"), (3, 8999999999, "0"), (9000000000, 9000000000, "1")]})
+        self.assertEqual(list(trace.stamps), [0, 3, 9000000000])
+
+    def test_runs(self):
+        column = self.read("# a\n1\n1\n0\n0\n1\n").columns[0]
+        self.assertEqual(list(column.between(1, 3)), [(1, 1, "1"), (2, 3, "0")])
+        self.assertEqual([column.at(k) for k in range(6)], ["1", "1", "0", "0", "1", None])
+
+    def test_faults(self):
+        for text, said in [("# a,b\n1\n", "line 2: too few"), ("@0,1\n@0,1\n", "line 2: times"), ("@x,1\n", "line 1: bad time")]:
+            with self.assertRaises(Trouble) as caught:
+                self.read(text)
+            self.assertIn(said, str(caught.exception))
+        with self.assertRaises(Trouble) as caught:
+            traces.read_trace(self.folder / "nothing.csv")
+        self.assertEqual(str(caught.exception), f"cannot open {self.folder}/nothing.csv: No such file or directory")
+
+    def test_a_million_rows(self):
+        path = self.file("long.csv", "# a,b\n" + "0,1\n1,1\n" * 500000)
+        before = time.process_time()
+        trace = traces.read_trace(path)
+        self.assertLess(time.process_time() - before, 20)
+        self.assertEqual((trace.times, len(trace.columns[0]), len(trace.columns[1])), (1000000, 1000000, 1))

@@ -1,0 +1,259 @@
+"""tools/why: the cells that it names decide the verdict, and what it says of the examples."""
+
+import random
+import re
+import subprocess
+from concurrent.futures import ThreadPoolExecutor
+
+import random_specs
+from support import ROOT, Case, program, tool
+from compiled import compiled
+from reasons import reasons_for
+from specs import read_spec
+from traces import read_trace
+
+SPECS, TIMES, CHANGES = 200, 2, 2
+AHEAD = 25
+EXAMPLES = ROOT / "examples"
+GRANT = EXAMPLES / "grant.c2po", EXAMPLES / "grant.csv"
+
+
+def verdicts(spec, trace):
+    """The words of each output by time, as r2u2 tells them."""
+    words = [program("r2u2"), "--source", str(spec), str(trace)]
+    out = subprocess.run(words, stdout=subprocess.PIPE, check=True, encoding="ascii").stdout
+    found = {}
+    for line in out.splitlines():
+        name, _, told = line.partition(":")
+        time, _, word = told.partition(",")
+        found.setdefault(name, {})[int(time)] = word
+    return found
+
+
+class Watched:
+    """A specification over rows, in a folder of its own."""
+
+    def __init__(self, folder, text, signals, rows):
+        self.folder, self.signals, self.rows = folder, signals, rows
+        folder.mkdir()
+        self.spec, self.trace = folder / "spec.c2po", folder / "rows.csv"
+        self.spec.write_text(text)
+        self.trace.write_text(random_specs.text_of(rows))
+        self.made, self.told = compiled(self.spec, folder), verdicts(self.spec, self.trace)
+
+    def reasons(self, name, time):
+        told = self.made.shown.output(name)
+        return reasons_for(self.made, told, time, len(self.rows), self.trace, False, self.folder)
+
+    def word(self, name, time):
+        return self.told.get(name, {}).get(time)
+
+    def row(self, dice):
+        return [dice.randint(0, 1) if kind == "bool" else dice.randint(-3, 40) for kind in self.signals.values()]
+
+    def other_words(self, dice, rows, name, time, kept):
+        """The words over such rows with other fields in all cells but those kept, and rows after them that settle all."""
+        found = set()
+        for _ in range(CHANGES):
+            changed = [self.row(dice) for _ in range(len(rows) + AHEAD)]
+            for column, signal in enumerate(self.signals):
+                for at, fields in enumerate(rows):
+                    changed[at][column] = fields[column] if (signal, at) in kept else changed[at][column]
+            other = self.folder / "other.csv"
+            other.write_text(random_specs.text_of(changed))
+            found.add(verdicts(self.spec, other).get(name, {}).get(time))
+        return found
+
+
+class Deciding(Case):
+    """Over other cells the verdict stays; an open one depends on the cells that it waits for alone."""
+
+    def check(self, watched, dice, name, time):
+        """Checks one verdict; whether it was told."""
+        reasons = watched.reasons(name, time)
+        what = (watched.spec.read_text(), watched.rows, name, time)
+        self.assertEqual(reasons.word, watched.word(name, time), what)
+        if reasons.word is not None:
+            words = watched.other_words(dice, watched.rows, name, time, reasons.cells)
+            self.assertEqual(words, {reasons.word}, what)
+            return True
+        self.assertTrue(all(at >= len(watched.rows) for _, at in reasons.cells), what)
+        ahead = watched.rows + [watched.row(dice) for _ in range(AHEAD)]
+        there = {(signal, at) for signal in watched.signals for at in range(len(watched.rows))}
+        words = watched.other_words(dice, ahead, name, reasons.at, there | reasons.cells)
+        self.assertEqual(len(words), 1, what)
+        return False
+
+    def check_seed(self, seed):
+        dice = random.Random(seed)
+        text, rows = random_specs.spec(dice), [random_specs.row(dice) for _ in range(dice.randint(1, 12))]
+        watched = Watched(self.folder / str(seed), text, random_specs.SIGNALS, rows)
+        times = dice.sample(range(len(rows)), min(TIMES, len(rows)))
+        return [self.check(watched, dice, "f", time) for time in times]
+
+    def check_pattern(self, spec):
+        """Each verdict of a pattern over its own trace, those that are open too."""
+        dice, given = random.Random(spec.name), read_spec(spec)
+        trace = read_trace(spec.with_suffix(".csv"), given.signals)
+        rows = [[int(column.at(time)) for column in trace.columns] for time in range(trace.times)]
+        signals = {signal.name: signal.kind for signal in given.signals}
+        watched = Watched(self.folder / spec.stem, spec.read_text(), signals, rows)
+        return [self.check(watched, dice, told.name, time) for told in given.outputs for time in range(len(rows))]
+
+    def test_random_specifications(self):
+        program("r2u2"), program("c2po")
+        with ThreadPoolExecutor() as pool:
+            found = [told for each in pool.map(self.check_seed, range(SPECS)) for told in each]
+        self.assertGreater(sum(found), SPECS)
+        self.assertGreater(len(found) - sum(found), SPECS // 10)
+
+    def test_all_patterns(self):
+        program("r2u2"), program("c2po")
+        specs = sorted((EXAMPLES / "patterns").glob("*.c2po"))
+        with ThreadPoolExecutor() as pool:
+            found = [told for each in pool.map(self.check_pattern, specs) for told in each]
+        self.assertGreaterEqual(len(specs), 12)
+        self.assertGreater(sum(found), 80)
+
+
+class Spelled(Case):
+    """A formula that is spelled with the operators of the language compiles to the same program."""
+
+    def image(self, text):
+        spec, out = self.file("spec.c2po", text), self.folder / "out.obs"
+        subprocess.run([program("c2po"), "-o", str(out), str(spec)], check=True)
+        return out.read_bytes()
+
+    def test_random_specifications(self):
+        for seed in range(60):
+            text = random_specs.spec(random.Random(seed), simple=True)
+            made = compiled(self.file("spec.c2po", text), self.folder)
+            made.shown.called.clear()
+            told = made.shown.outputs[0]
+            formula = " => ".join(made.shown.text(ref) for ref in told.operands())
+            again = f"{random_specs.INPUTS}{told.section} f: {formula};\n"
+            self.assertEqual(self.image(text), self.image(again), (text, again))
+
+
+class Sentences(Case):
+    def setUp(self):
+        super().setUp()
+        program("r2u2"), program("c2po")
+
+    def told(self, *words, give=""):
+        status, out, errors = tool("why", *words, give=give)
+        self.assertEqual((status, errors), (0, ""))
+        return out.splitlines()
+
+    def first(self, *words, give=""):
+        return self.told(*words, give=give)[0]
+
+    def pattern(self, name, verdict):
+        return self.first(*(EXAMPLES / "patterns" / f"{name}.{end}" for end in ("c2po", "csv")), verdict)
+
+    def test_a_request_that_is_not_granted(self):
+        lines = [
+            "granted is F at 2: request holds at row 2; grant is false at rows 2, 3, 4 and 5",
+            "  request -> F[0,3] grant is false at time 2",
+            "    request holds at row 2",
+            "    F[0,3] grant is false at time 2",
+            "      grant is false at rows 2, 3, 4 and 5",
+        ]
+        self.assertEqual(self.told(*GRANT, "granted:2"), lines)
+        self.assertEqual(self.told(GRANT[0], "-", "granted:2", give=GRANT[1].read_text()), lines)
+
+    def test_an_open_verdict(self):
+        rows = self.file("rows.csv", "# request,grant\n" + "0,0\n" * 5 + "1,0\n")
+        self.assertEqual(self.first(GRANT[0], rows, "granted:5"), "granted is open at 5: waits for grant in rows 6 to 8")
+        past = "granted is open at 6: the trace ends with row 5"
+        self.assertEqual(self.told(GRANT[0], rows, "granted:6"), [past])
+
+    def test_a_line_that_waits_for_an_earlier_one(self):
+        rows = self.file("rows.csv", "1,0\n0,0\n")
+        line = "granted is open at 1: its line waits for that of time 0, which waits for grant in rows 2 and 3"
+        self.assertEqual(self.first(GRANT[0], rows, "granted:1"), line)
+
+    def test_a_contract(self):
+        line = "sensor is invalid at 4: power holds at row 4; valid is false at rows 4, 5 and 6"
+        self.assertEqual(self.pattern("assume_guarantee", "sensor:4"), line)
+        self.assertEqual(self.pattern("assume_guarantee", "sensor:0"), "sensor is inactive at 0: power is false at row 0")
+
+    def test_numbers(self):
+        line = "settling is F at 6: step holds at row 6; error <= 2 is false at rows 6, 7, 9 and 11 (error is 8, 3, 4 and 3)"
+        self.assertEqual(self.pattern("settling", "settling:6"), line)
+
+    def test_names_and_text_of_the_specification(self):
+        text = "INPUT a, b: bool;\nDEFINE calm := G[0,1] !b;\nFTSPEC\n f: a -- first\n  -> calm;\n"
+        spec, rows = self.file("spec.c2po", text), self.file("rows.csv", "1,0\n0,1\n")
+        lines = self.told(spec, rows, "f:0")
+        self.assertEqual(lines[1], "  a -> calm is false at time 0")
+        self.assertIn("    calm is false at time 0", lines)
+
+    def test_no_row_so_far_back(self):
+        spec, rows = self.file("spec.c2po", "INPUT p: bool;\nPTSPEC o: O[2,3] p;\n"), self.file("rows.csv", "1\n1\n")
+        lines = self.told(spec, rows, "o:1")
+        self.assertEqual(lines[0], "o is F at 1: whatever the rows hold")
+        self.assertEqual(lines[1], "  O[2,3] p is false at time 1: no row lies so far back")
+
+    def test_stamps(self):
+        line = "granted is F at 0: request holds at time 0; grant is false at times 0, 1, 2 and 3"
+        self.assertEqual(self.first("--timed", GRANT[0], EXAMPLES / "stamped.csv", "granted:0"), line)
+
+    def test_a_program_with_columns_of_its_own(self):
+        out, header = self.folder / "grant.obs", self.file("header.csv", "#grant,free,request\n")
+        subprocess.run([program("c2po"), "--header", str(header), "-o", str(out), str(GRANT[0])], check=True)
+        rows = self.file("rows.csv", "0,9,0\n0,9,1\n0,9,0\n0,9,0\n0,9,0\n")
+        line = "granted is F at 1: request holds at row 1; grant is false at rows 1, 2, 3 and 4"
+        self.assertEqual(self.first(out, rows, "granted:1"), line)
+
+    def test_a_program_of_version_1(self):
+        out = self.folder / "grant.obs"
+        subprocess.run([program("c2po"), "-o", str(out), str(GRANT[0])], check=True)
+        raw = out.read_bytes()
+        end = len(raw) - len(b"requestgrant") - 2 * 8 - len(b"granted")
+        old = self.file("old.obs", raw[:4] + b"\1" + raw[5:32] + raw[40:end] + b"granted")
+        self.assertRegex(self.first(old, GRANT[1], "granted:2"), r"granted is F at 2: \w+ holds at row 2; \w+ is false at rows 2, ")
+
+    def test_a_long_window(self):
+        text = "INPUT p, q: bool;\nFTSPEC f: G[0,20000] (p -> F[0,500] q);\n"
+        rows = "".join(f"{int(k % 50 == 0)},{int(k % 100 == 99)}\n" for k in range(30000))
+        line = self.first(self.file("spec.c2po", text), self.file("rows.csv", rows), "f:3000")
+        self.assertRegex(line, "^f is T at 3000: .*more stretches")
+
+    def test_a_page(self):
+        page = self.folder / "why.html"
+        self.told("--html", page, *GRANT, "granted:2")
+        text = page.read_text()
+        self.assertEqual(len(re.findall(r'class="[^"]*marked"', text)), 5)
+        self.assertIn("grant is false at rows 2, 3, 4 and 5", text)
+
+    def test_a_trace_without_rows(self):
+        empty = self.file("rows.csv", "")
+        self.assertEqual(self.told(GRANT[0], empty, "granted:0"), ["granted is open at 0: the trace has no rows"])
+
+    def test_a_deep_formula(self):
+        lines = [f"d{k} := F[0,1] (d{k - 1} && q);" if k % 2 else f"d{k} := !d{k - 1} || G[1,2] q;" for k in range(1, 1000)]
+        text = "INPUT p, q: bool;\nDEFINE d0 := p;\n" + "\n".join(lines) + "\nFTSPEC f: d999;\n"
+        rows = "".join(f"{k % 2},{int(k % 7 > 0)}\n" for k in range(3000))
+        line = self.first(self.file("spec.c2po", text), self.file("rows.csv", rows), "f:100")
+        self.assertRegex(line, "^f is [TF] at 100: [pq] ")
+
+    def test_faults(self):
+        nowhere = self.folder / "nowhere"
+        bad = self.file("bad.c2po", "INPUT p: bool;\nFTSPEC f: p &&;\n")
+        for words in (
+            (*GRANT, "granted"),
+            (*GRANT, "other:1"),
+            (nowhere, GRANT[1], "granted:1"),
+            (GRANT[0], nowhere, "granted:1"),
+            (GRANT[0], self.folder, "granted:1"),
+            (bad, GRANT[1], "f:1"),
+            (GRANT[0], EXAMPLES / "stamped.csv", "granted:1"),
+            ("--timed", *GRANT, "granted:1"),
+            (GRANT[0], self.file("short.csv", "1,0\n1\n"), "granted:0"),
+            (GRANT[0], self.file("other.csv", "# request\n1\n"), "granted:0"),
+            ("--html", nowhere / "page.html", *GRANT, "granted:2"),
+        ):
+            status, _, errors = tool("why", *words)
+            self.assertEqual(status, 2, words)
+            self.one_line(errors)
