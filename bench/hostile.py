@@ -1,104 +1,171 @@
 #!/usr/bin/env python3
-"""Measures c2po over texts of 1 MiB that ask for as much memory as a text can.
+"""Measures c2po and r2u2 over the inputs that ask for as much as the limits allow.
 
-    bench/hostile.py build/c2po               seconds, the peak of memory and the status of each text
-    bench/hostile.py build/c2po --only gates
+    bench/hostile.py build/c2po build/r2u2                   each text, and each program
+    bench/hostile.py build/c2po build/r2u2 --only iffs       those of this name
+    bench/hostile.py build/c2po build/r2u2 --plain           no options: c2po SPEC and r2u2 PROGRAM alone
+    bench/hostile.py build/c2po build/r2u2 --stack           the least stack too, within 16 KiB, by runs with less and less
+    bench/hostile.py --list
 
-It ends with status 1 where a peak is above 1 GB, or where a run isn't answered: the statuses of a program, of a refused
-text and of want of memory are 0, 2 and 8.
+Texts are compiled as they are, with --table, with --simplify, with a header, and run by r2u2 --source over an empty trace,
+so up to the first row. Programs are run by r2u2 and written anew by c2po --upgrade and --show. A line has the seconds of
+user time, the peak of memory and the code of a run. A run is past the bounds above 5 seconds, above 512 MB, of a program
+768 MB, where it needs more than 2 MiB of stack, and where it doesn't end within the limit (--seconds, of the processor's
+time). One that is refused at once shows nothing, and isn't counted.
+
+The status is 0 where all are within the bounds, 1 where one is past them or isn't counted.
 """
 import argparse
 import collections
 import os
+import resource
+import signal
 import subprocess
 import sys
 import tempfile
 
+import hostile_programs
+import hostile_texts
 from measure import measured
 
-BYTES = 1 << 20
-ANSWERS = (0, 2, 8)
-MOST = 1000
+MOST_SECONDS, MOST_FOR_TEXTS, MOST_FOR_PROGRAMS = 5, 512, 768
+STACK = 2048
+# Beyond this a run is stopped, so that the machine stays usable; it is above both bounds.
+ROOM = 8 << 30
+DONE, REFUSED, OUT_OF_MEMORY = 0, (1, 2, 3, 4, 5), 8
+AT_ONCE = 0.05
 
-Text = collections.namedtuple('Text', 'name shows head item tail')
-
-
-def numbered(form):
-    """Items of one form, each with its number in place of the sign #."""
-    return lambda number: form.replace('#', str(number))
+Run = collections.namedtuple('Run', 'words most')
 
 
-def members(count, form='p'):
-    return ', '.join(form.replace('#', str(number)) for number in range(count))
+def limited(seconds, stack):
+    """What a run's process takes on before it begins."""
+    def take_on():
+        resource.setrlimit(resource.RLIMIT_CPU, (seconds, seconds + 5))
+        resource.setrlimit(resource.RLIMIT_AS, (ROOM, ROOM))
+        resource.setrlimit(resource.RLIMIT_STACK, (stack << 10, stack << 10))
+    return take_on
 
 
-def pair(number):
-    """A definition that makes 43,000 nodes of its own."""
-    return 'h%d := foreach(v: s)(forsome(w: s)(F[0,%d](v)));\n' % (number, number)
+def taken_by(words, seconds, stack=STACK):
+    quiet = dict(stdin=subprocess.DEVNULL, stdout=subprocess.DEVNULL, stderr=subprocess.DEVNULL)
+    return measured(words, preexec_fn=limited(seconds, stack), **quiet)
 
 
-def nested(number):
-    return 'd%d := %sp%s;\n' % (number, '{' * 500, '}' * 500)
+def judged(taken, most):
+    """What is to be said of a run, if anything."""
+    if taken.status in REFUSED and taken.user < AT_ONCE:
+        return 'REFUSED AT ONCE'
+    if taken.status == 128 + signal.SIGXCPU:
+        return 'PAST THE LIMIT OF TIME'
+    if taken.status not in (DONE, *REFUSED, OUT_OF_MEMORY):
+        return 'ENDED BY A SIGNAL'
+    past = [what for what, over in [('TIME', taken.user > MOST_SECONDS), ('MEMORY', taken.peak > most)] if over]
+    return 'PAST ' + ' AND '.join(past) if past else ''
 
 
-SIGNALS = 'INPUT p, q: bool; x: int;\n'
-COUNTED = SIGNALS + 'STRUCT t: { a: bool; b: bool; };\nDEFINE s := {' + members(254) + '};\n'
-PAIRED = SIGNALS + 'DEFINE s := {' + members(147) + '};\n'
-
-TEXTS = [
-    Text('gates', 'unused definitions that count', COUNTED + 'DEFINE\n',
-         numbered('d# := forexactly(v: s, 127)(v);\n'), 'FTSPEC p;\n'),
-    Text('beside', 'definitions that count, left aside by a picked field', COUNTED,
-         numbered('DEFINE d# := t(p, forexactly(v: s, 127)(v)); FTSPEC d#.a;\n'), ''),
-    Text('pairs', 'unused definitions over pairs', PAIRED + 'DEFINE\n', pair, 'FTSPEC p;\n'),
-    Text('braces', 'sets within one another', SIGNALS + 'DEFINE\n', nested, 'FTSPEC p;\n'),
-    Text('both', 'sets within one another, then definitions over pairs', PAIRED + 'DEFINE\n', nested,
-         ''.join(map(pair, range(200))) + 'FTSPEC p;\n'),
-    Text('chain', 'small definitions, each over the one before', SIGNALS + 'DEFINE d0 := p;\n',
-         lambda number: 'd%d := d%d;\n' % (number + 1, number), 'FTSPEC p;\n'),
-    Text('prefixes', 'definitions of 1,000 prefixes', SIGNALS + 'DEFINE\n',
-         numbered('d# := ' + '!' * 1000 + 'p;\n'), 'FTSPEC p;\n'),
-    Text('members', 'sets of 500 members', SIGNALS + 'DEFINE\n',
-         numbered('d# := {' + members(500) + '};\n'), 'FTSPEC p;\n'),
-    Text('sums', 'sums of numbers', SIGNALS + 'DEFINE\n', numbered('d# := 1' + '+1' * 500 + ';\n'), 'FTSPEC p;\n'),
-    Text('structs', 'structs of one field', 'INPUT p: bool; STRUCT\n', numbered('t#: {a: bool;};\n'), 'FTSPEC p;\n'),
-    Text('signals', 'signals', 'INPUT\n', numbered('signal_#: bool;\n'), 'FTSPEC signal_0;\n'),
-    Text('labels', 'outputs', SIGNALS + 'FTSPEC\n', numbered('output_#: p;\n'), ''),
-    Text('items', 'items of two bytes', SIGNALS + 'FTSPEC\n', numbered('p;'), ''),
-]
+def least_stack(words, seconds):
+    """The least stack in KiB with which a run ends as it does with much."""
+    wanted = taken_by(words, seconds, STACK * 8).status
+    low, high = 0, STACK * 8
+    while high - low > 16:
+        middle = (low + high) // 2
+        if taken_by(words, seconds, middle).status == wanted:
+            high = middle
+        else:
+            low = middle
+    return high
 
 
-def write(text, folder):
-    """Writes as many items as 1 MiB holds between the head and the tail, and gives the path."""
-    pieces, room, number = [text.head], BYTES - len(text.head) - len(text.tail), 0
-    while len(item := text.item(number)) <= room:
-        pieces.append(item)
-        room -= len(item)
-        number += 1
-    path = os.path.join(folder, text.name + '.c2po')
-    with open(path, 'w') as file:
-        file.write(''.join(pieces + [text.tail]))
+def written(folder, name, content):
+    path = os.path.join(folder, name)
+    with open(path, 'wb') as file:
+        file.write(content if isinstance(content, bytes) else content.encode())
     return path
+
+
+def runs_of_text(asked, folder, path):
+    """The runs over a text; the header names what the first signals of all texts are named, and is refused where others are asked."""
+    made = [asked.compiler, '-o', os.path.join(folder, 'made')]
+    runs = [Run([*made, path], MOST_FOR_TEXTS)]
+    if not asked.plain:
+        empty = written(folder, 'empty', '')
+        runs += [Run([*made, option, path], MOST_FOR_TEXTS) for option in ('--table', '--simplify')]
+        runs.append(Run([*made, '--header', written(folder, 'columns', '# p,q,x\n'), path], MOST_FOR_TEXTS))
+        runs.append(Run([asked.monitor, '--source', path, empty], MOST_FOR_TEXTS))
+    return runs
+
+
+def runs_of_program(asked, folder, it, path):
+    trace = written(folder, 'trace', it.trace)
+    runs = [Run([asked.monitor, *it.words, path, trace], MOST_FOR_PROGRAMS)]
+    if not asked.plain and not it.words:
+        made = [asked.compiler, '-o', os.path.join(folder, 'made')]
+        runs += [Run([*made, option, path], MOST_FOR_PROGRAMS) for option in ('--upgrade', '--show')]
+    return runs
+
+
+def program_file(asked, folder, it):
+    """The program in a file; one that is made from a specification is compiled, for the trace's header where it has one."""
+    made = it.make()
+    if isinstance(made, bytes):
+        return written(folder, it.name + '.obs', made)
+    path, source = os.path.join(folder, it.name + '.obs'), written(folder, it.name + '.c2po', made)
+    if subprocess.run([asked.compiler, '-o', path, source]).returncode:
+        sys.exit('%s is refused' % it.name)
+    return path
+
+
+def shown_words(words):
+    """The words of a run without its files."""
+    return ' '.join([os.path.basename(words[0]), *(word for word in words[1:] if word.startswith('--'))])
+
+
+def show(asked, name, runs):
+    """Measures and prints runs, and says whether one was past a bound."""
+    past = False
+    for words, most in runs:
+        taken = taken_by(words, asked.seconds)
+        said = judged(taken, most)
+        past = past or bool(said)
+        stack = ' %6d' % least_stack(words, asked.seconds) if asked.stack else ''
+        print('%-17s %-18s %8.2f %8.1f %6d%s  %s' % (
+            name, shown_words(words), taken.user, taken.peak, taken.status, stack, said), flush=True)
+    return past
+
+
+def measure_all(asked, folder):
+    past = False
+    for text in hostile_texts.TEXTS:
+        if not asked.only or text.name in asked.only:
+            path = written(folder, text.name + '.c2po', text.make())
+            past = show(asked, text.name, runs_of_text(asked, folder, path)) or past
+    for it in hostile_programs.PROGRAMS:
+        if not asked.only or it.name in asked.only:
+            path = program_file(asked, folder, it)
+            past = show(asked, it.name, runs_of_program(asked, folder, it, path)) or past
+    return past
 
 
 def main():
     parser = argparse.ArgumentParser(description=__doc__, formatter_class=argparse.RawDescriptionHelpFormatter)
-    parser.add_argument('compiler')
-    parser.add_argument('--only', action='append')
+    parser.add_argument('compiler', nargs='?')
+    parser.add_argument('monitor', nargs='?')
+    parser.add_argument('--only', action='append', metavar='NAME')
+    parser.add_argument('--plain', action='store_true')
+    parser.add_argument('--stack', action='store_true')
+    parser.add_argument('--list', action='store_true')
+    parser.add_argument('--seconds', type=int, default=60)
     asked = parser.parse_args()
-    folder = tempfile.mkdtemp(prefix='hostile-')
-    failed = False
-    print('%-10s %8s %8s %7s' % ('text', 'seconds', 'peak MB', 'status'))
-    for text in TEXTS:
-        if asked.only and text.name not in asked.only:
-            continue
-        path = write(text, folder)
-        taken = measured([asked.compiler, '-o', path + '.bin', path], stderr=subprocess.DEVNULL)
-        wrong = taken.peak > MOST or taken.status not in ANSWERS
-        failed = failed or wrong
-        shown = '%-10s %8.2f %8.1f %7d  %s' % (text.name, taken.seconds, taken.peak, taken.status, text.shows)
-        print(shown + '   TOO MUCH' * wrong)
-    return failed
+    known = {it.name: it.shows for it in hostile_texts.TEXTS + hostile_programs.PROGRAMS}
+    if asked.list:
+        print('\n'.join('%-17s %s' % it for it in known.items()))
+        return 0
+    if not asked.monitor or not set(asked.only or ()) <= set(known):
+        parser.error('two programs are needed, and the names of --list')
+    print('%-17s %-18s %8s %8s %6s%s' % ('input', 'run', 'user s', 'peak MB', 'code', '  stack' * asked.stack))
+    with tempfile.TemporaryDirectory(prefix='hostile-') as folder:
+        return 1 if measure_all(asked, folder) else 0
 
 
 if __name__ == '__main__':

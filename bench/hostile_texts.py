@@ -1,0 +1,99 @@
+"""Specifications within the limits that ask for as much work, memory or stack as a text can."""
+import collections
+import functools
+
+import colliding
+import deepest
+
+BYTES = 1 << 20
+
+Text = collections.namedtuple('Text', 'name shows make')
+
+
+def numbered(form):
+    """Items of one form, each with its number in place of the sign #."""
+    return lambda number: form.replace('#', str(number))
+
+
+def members(count, form='p'):
+    return ', '.join(form.replace('#', str(number)) for number in range(count))
+
+
+def pair(number):
+    """A definition that makes 43,000 nodes of its own."""
+    return 'h%d := foreach(v: s)(forsome(w: s)(F[0,%d](v)));\n' % (number, number)
+
+
+def nested(number):
+    return 'd%d := %sp%s;\n' % (number, '{' * 500, '}' * 500)
+
+
+def full(head, item, tail):
+    """As many items as 1 MiB holds between the head and the tail."""
+    pieces, room, number = [head], BYTES - len(head) - len(tail), 0
+    while len(piece := item(number)) <= room:
+        pieces.append(piece)
+        room -= len(piece)
+        number += 1
+    return ''.join(pieces + [tail])
+
+
+def filled(name, shows, head, item, tail):
+    return Text(name, shows, functools.partial(full, head, item, tail))
+
+
+SIGNALS = 'INPUT p, q: bool; x: int;\n'
+COUNTED = SIGNALS + 'STRUCT t: { a: bool; b: bool; };\nDEFINE s := {' + members(254) + '};\n'
+PAIRED = SIGNALS + 'DEFINE s := {' + members(147) + '};\n'
+
+
+def structs_within(fields, depth, definitions):
+    """Definitions that pick through `depth` structs of so many fields, in bodies that count for nothing."""
+    names = ['f%c%c' % (97 + k // 26, 97 + k % 26) for k in range(fields - 1)]
+    kinds = ['STRUCT t%d: { %s: bool; zz: %s; };\n' % (k, ','.join(names), 't%d' % (k - 1) if k else 'bool')
+             for k in range(depth)]
+    values = ['d%d := t%d(%s,%s);\n' % (k, k, ','.join(['p'] * (fields - 1)), 'd%d' % (k - 1) if k else 'p')
+              for k in range(depth)]
+    sets = 's := {%s};\nu := {%s};\n' % (members(500), members(43))
+    body = 'foratleast(v: u, 0)(foratleast(w: s, 0)(d%d%s))' % (depth - 1, '.zz' * depth)
+    users = ['e%d := %s;\n' % (k, body) for k in range(definitions)]
+    return SIGNALS + ''.join(kinds) + 'DEFINE\n' + ''.join(values) + sets + ''.join(users) + 'FTSPEC p;\n'
+
+
+def equivalences():
+    items = ['d%d := foreach(v: s)(F[0,%d] v%s);\n' % (k, k, '<->p' * 126) for k in range(127)]
+    signals = 'INPUT p: bool; %s: bool;\n' % members(254, 'p#')
+    return signals + 'DEFINE s := {' + members(254, 'p#') + '};\n' + ''.join(items) + 'FTSPEC p;\n'
+
+
+def declared(names):
+    """Signals of these names, as many to an item as its words and signs allow."""
+    lists = (','.join(names[k:k + 500]) for k in range(0, len(names), 500))
+    return 'INPUT\n' + ''.join('%s: bool;\n' % names for names in lists) + 'FTSPEC %s;\n' % names[0]
+
+
+TEXTS = [
+    filled('gates', 'unused definitions that count', COUNTED + 'DEFINE\n',
+           numbered('d# := forexactly(v: s, 127)(v);\n'), 'FTSPEC p;\n'),
+    filled('beside', 'definitions that count, left aside by a picked field', COUNTED,
+           numbered('DEFINE d# := t(p, forexactly(v: s, 127)(v)); FTSPEC d#.a;\n'), ''),
+    filled('pairs', 'unused definitions over pairs', PAIRED + 'DEFINE\n', pair, 'FTSPEC p;\n'),
+    filled('braces', 'sets within one another', SIGNALS + 'DEFINE\n', nested, 'FTSPEC p;\n'),
+    filled('both', 'sets within one another, then definitions over pairs', PAIRED + 'DEFINE\n', nested,
+           ''.join(map(pair, range(200))) + 'FTSPEC p;\n'),
+    filled('chain', 'small definitions, each over the one before', SIGNALS + 'DEFINE d0 := p;\n',
+           lambda number: 'd%d := d%d;\n' % (number + 1, number), 'FTSPEC p;\n'),
+    filled('prefixes', 'definitions of 1,000 prefixes', SIGNALS + 'DEFINE\n',
+           numbered('d# := ' + '!' * 1000 + 'p;\n'), 'FTSPEC p;\n'),
+    filled('members', 'sets of 500 members', SIGNALS + 'DEFINE\n',
+           numbered('d# := {' + members(500) + '};\n'), 'FTSPEC p;\n'),
+    filled('sums', 'sums of numbers', SIGNALS + 'DEFINE\n', numbered('d# := 1' + '+1' * 500 + ';\n'), 'FTSPEC p;\n'),
+    filled('structs', 'structs of one field', 'INPUT p: bool; STRUCT\n', numbered('t#: {a: bool;};\n'), 'FTSPEC p;\n'),
+    filled('signals', 'signals', 'INPUT\n', numbered('signal_#: bool;\n'), 'FTSPEC signal_0;\n'),
+    filled('labels', 'outputs', SIGNALS + 'FTSPEC\n', numbered('output_#: p;\n'), ''),
+    filled('items', 'items of two bytes', SIGNALS + 'FTSPEC\n', numbered('p;'), ''),
+    Text('small-picks', 'picked fields in bodies that count for nothing, in 75 KB', lambda: structs_within(100, 100, 50)),
+    Text('picks', 'the same in 1 MiB, of structs of 500 fields', lambda: structs_within(500, 129, 1200)),
+    Text('iffs', 'equivalences in definitions that are not used, in 70 KB', equivalences),
+    Text('colliding', '65,536 signals whose names collide', lambda: declared(colliding.names(65_536))),
+] + [Text('deep-' + deep.name, deep.shows, lambda deep=deep: deep.text) for deep in deepest.TEXTS]
