@@ -92,13 +92,13 @@ check-grants:
 	$(MAKE) -C examples/embed clean check CC='$(TARGET_CC)' RUN='$(RUN)' LIBRARY=$(abspath $(EMBED)/libr2u2.a) HEAP=$(abspath $(EMBED)/libr2u2_heap.a)
 
 check-cpp: | $(TRIES)
-	@if command -v $(firstword $(CXX)) > /dev/null; then set -ex; \
+	@if command -v $(firstword $(CXX)) > /dev/null; then set -e; \
 	  $(CXX) -std=c++17 -Wall -Wextra $(STRICT) -Iinclude -Iembed -o $(TRIES)/grants_cpp embed/cpp/grants.cpp $(EMBED)/libr2u2.a $(EMBED)/libr2u2_heap.a; \
 	  $(TRIES)/grants_cpp $(GRANT) > $(TRIES)/cpp.out; cmp $(TRIES)/cpp.out $(EXPECTED); \
 	else echo 'check-embed: no compiler of C++, so its example is passed over'; fi
 
 check-rust: | $(TRIES)
-	@if command -v cargo > /dev/null; then set -ex; \
+	@if command -v cargo > /dev/null; then set -e; \
 	  R2U2_LIBRARIES=$(abspath $(EMBED)) cargo run --quiet --offline --manifest-path embed/rust/Cargo.toml --target-dir $(TRIES)/rust -- $(GRANT) > $(TRIES)/rust.out; \
 	  cmp $(TRIES)/rust.out $(EXPECTED); \
 	else echo 'check-embed: no cargo, so the example in Rust is passed over'; fi
@@ -109,7 +109,7 @@ build/libr2u2.so: $(EMBED)/libr2u2.a
 	$(CC) -shared -Wl,--whole-archive $(EMBED)/libr2u2.a -Wl,--no-whole-archive $(EMBED)/libr2u2_heap.a -o $@
 
 check-python: python | $(TRIES)
-	@if command -v python3 > /dev/null; then set -ex; \
+	@if command -v python3 > /dev/null; then set -e; \
 	  R2U2_LIBRARY=$(abspath build/libr2u2.so) PYTHONDONTWRITEBYTECODE=1 python3 embed/python/grants.py $(GRANT) > $(TRIES)/python.out; \
 	  cmp $(TRIES)/python.out $(EXPECTED); \
 	else echo 'check-embed: no python3, so the example in Python is passed over'; fi
@@ -127,7 +127,10 @@ install-embed: $(EMBED)/libr2u2.a
 	install -m 644 $(INSTALLED_HEADERS) $(INTO)/include
 	install -m 644 $(INSTALLED_SOURCES) $(INTO)/share/r2u2/embed
 	chmod 755 $(INTO)/share/r2u2/embed/constant
-	cp -R embed/rust $(INTO)/share/r2u2/embed
+	install -d $(INTO)/share/r2u2/embed/rust/src
+	install -m 644 embed/rust/build.rs $(INTO)/share/r2u2/embed/rust
+	install -m 644 embed/rust/src/lib.rs embed/rust/src/main.rs $(INTO)/share/r2u2/embed/rust/src
+	sed 's/"0.0.0"/"$(VERSION)"/' embed/rust/Cargo.toml > $(INTO)/share/r2u2/embed/rust/Cargo.toml
 	install -m 644 docs/man/r2u2.3 $(INTO)/share/man/man3
 	sed 's|@PREFIX@|$(PREFIX)|; s|@VERSION@|$(VERSION)|' embed/r2u2.pc.in > $(INTO)/lib/pkgconfig/r2u2.pc
 
@@ -140,7 +143,7 @@ uninstall-embed:
 check-installed: | $(TRIES)
 	rm -rf $(TRIES)/root
 	$(MAKE) install-embed DESTDIR= PREFIX=$(abspath $(TRIES)/root)
-	@if command -v pkg-config > /dev/null; then set -ex; cd $(TRIES)/root; \
+	@if command -v pkg-config > /dev/null; then set -e; cd $(TRIES)/root; \
 	  export PKG_CONFIG_PATH=$$PWD/lib/pkgconfig; \
 	  $(CC) share/r2u2/embed/grants.c $$(pkg-config --cflags --libs r2u2) -o grants; \
 	  ./grants $(abspath $(GRANT)) $(abspath examples/grant.csv) | cmp - $(abspath $(EXPECTED)); \

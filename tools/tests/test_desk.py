@@ -164,7 +164,9 @@ class Installed(Case):
     def make(self, goal):
         for name in ("r2u2", "c2po"):
             self.file(name, "#!/bin/sh\n").chmod(0o755)
-        line = 'make -C "$ROOT" -s "$GOAL" DESTDIR="$INTO" PREFIX=/usr BUILT="$FOLDER/r2u2 $FOLDER/c2po"'
+        for name in ("libr2u2.a", "libr2u2_heap.a"):
+            self.file(name, "")
+        line = 'make -C "$ROOT" -s "$GOAL" DESTDIR="$INTO" PREFIX=/usr BUILT="$FOLDER/r2u2 $FOLDER/c2po" EMBED="$FOLDER"'
         told = shell(line, ROOT=ROOT, GOAL=goal, INTO=self.folder / "into", FOLDER=self.folder)
         self.assertEqual(told, (0, "", ""))
         into = self.folder / "into/usr"
@@ -181,6 +183,12 @@ class Installed(Case):
             status, out, errors = shell('"$TOOL" --help', TOOL=self.folder / "into/usr/bin" / tool)
             self.assertEqual((status, errors), (0, ""))
             self.assertIn(f"usage: {tool} ", out)
+        for path in ("lib/libr2u2.a", "lib/libr2u2_heap.a", "include/r2u2.h", "include/r2u2_checked.h", "share/man/man3/r2u2.3"):
+            self.assertIn(path, found)
+        for path in ("lib/pkgconfig/r2u2.pc", "share/r2u2/embed/rust/Cargo.toml"):
+            text = (self.folder / "into/usr" / path).read_text(encoding="utf-8")
+            self.assertIn((ROOT / "VERSION").read_text(encoding="utf-8").strip(), text)
+            self.assertNotIn("@", text)
         lib = {path.name for path in (TOOLS / "lib").iterdir() if path.is_file()}
         self.assertEqual({path.rpartition("/")[2] for path in found if "/tools/lib/" in path}, lib)
         self.assertEqual(self.make("uninstall"), set())

@@ -8,7 +8,7 @@ import unittest
 from pathlib import Path
 
 ROOT = Path(__file__).resolve().parent.parent.parent
-PARTS = [".ci", "bench", "crates", "docs", "edits", "examples", "include", "tools"]
+PARTS = [".ci", "bench", "crates", "docs", "edits", "embed", "examples", "include", "tools"]
 
 # A file, what stands in it, what is put in its place, and what is to be told then.
 CHANGES = [
