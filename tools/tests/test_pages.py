@@ -8,7 +8,7 @@ import unittest
 from pathlib import Path
 
 ROOT = Path(__file__).resolve().parent.parent.parent
-PARTS = [".ci", "bench", "crates", "docs", "edits", "embed", "examples", "include", "tools"]
+PARTS = [".ci", "bench", "crates", "desk", "docs", "embed", "examples", "include", "tools"]
 
 # A file, what stands in it, what is put in its place, and what is to be told then.
 CHANGES = [
@@ -37,8 +37,8 @@ class Pages(unittest.TestCase):
         for part in PARTS:
             if (ROOT / part).is_dir():
                 shutil.copytree(ROOT / part, cls.top / part, ignore=shutil.ignore_patterns("out", "__pycache__"))
-        for name in ["README.md", "crates.txt", "Makefile"]:
-            shutil.copy(ROOT / name, cls.top / name)
+        for file in filter(Path.is_file, ROOT.iterdir()):
+            shutil.copy(file, cls.top / file.name)
 
     @classmethod
     def tearDownClass(cls):
