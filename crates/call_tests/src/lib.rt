@@ -1,10 +1,13 @@
-//! Tests of calls that no program makes: on hosts, of a cut into lines after a fault, on a queue, and of a compilation.
+//! Tests of calls that no program makes: on hosts, of a cut into lines after a fault, on a queue, of a compilation,
+//! and of a core graph at its limit.
 //!
 //! They stand apart from the crates that they test, since a crate with tests is proved twice.
 #![tactic(auto)]
 
 #[cfg(test)]
 mod compiling;
+#[cfg(test)]
+mod graphs;
 #[cfg(test)]
 mod hosts;
 #[cfg(test)]

@@ -1,0 +1,9 @@
+use Rattle.call_tests.proofs.Comparing.{comparing-signal, comparing-next}
+use Rattle.call_tests.proofs.graphs.comparisons.Goals as goal
+
+pub loop-n-init : goal.loop-n-init
+loop-n-init c = comparing-signal _ _ _ _ c.new-nodes.ensures c.new-outs.ensures c.in_ok-signal.ensures.place c.in_ok-signal.ensures.pushed
+
+pub loop-n-preserved : goal.loop-n-preserved
+loop-n-preserved c = comparing-next _ _ _ _ _ _ _ _ _ _ _ _ c.loop-n.invariant
+    c.in_ok-equal.ensures.pushed c.in_ok-equal.ensures.place c.in_ok-push.ensures.pushed c.in_ok-other.ensures.pushed c.in_ok-other.ensures.place
