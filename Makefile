@@ -3,6 +3,7 @@
 # make            proves and builds both programs into build/
 # make check      passes the whole gate: proofs, edits that must fail, cases; the programs and the library come into build/
 # make install    installs programs, tools, man pages, completions and syntax under PREFIX; make uninstall removes them
+# embed/embed.mk has the goals of the library for other languages: embed, check-embed, python, deb
 
 PREFIX ?= /usr/local
 SPEC ?= examples/grant.c2po
