@@ -8,7 +8,7 @@
     bench/hostile.py --list
 
 Texts are compiled as they are, with --table, with --simplify, with a header, and run by r2u2 --source over an empty trace,
-so up to the first row. Programs are run by r2u2 and written anew by c2po --upgrade and --show. A line has the seconds of
+so up to the first row. Programs are run by r2u2 and written anew by c2po --upgrade and, where the text of one fits, --show. A line has the seconds of
 user time, the peak of memory and the code of a run. A run is past the bounds above 5 seconds, above 512 MB, of a program
 768 MB, where it needs more than 2 MiB of stack, and where it doesn't end within the limit (--seconds, of the processor's
 time). One that is refused at once shows nothing, and isn't counted.
@@ -101,7 +101,8 @@ def runs_of_program(asked, folder, it, path):
     runs = [Run([asked.monitor, *it.words, path, trace], MOST_FOR_PROGRAMS)]
     if not asked.plain and not it.words:
         made = [asked.compiler, '-o', os.path.join(folder, 'made')]
-        runs += [Run([*made, option, path], MOST_FOR_PROGRAMS) for option in ('--upgrade', '--show')]
+        options = ('--upgrade', '--show') if it.shown else ('--upgrade',)
+        runs += [Run([*made, option, path], MOST_FOR_PROGRAMS) for option in options]
     return runs
 
 

@@ -7,7 +7,7 @@ import colliding
 BYTES = 16 << 20
 WIDTH = 65_536
 
-Program = collections.namedtuple('Program', 'name shows make trace words')
+Program = collections.namedtuple('Program', 'name shows make trace words shown')
 
 
 def instruction(opcode, left=0, right=0, low=0, high=0, size=0):
@@ -73,15 +73,16 @@ ROW = ','.join(['1'] * 32_767) + '\n'
 WIDE = 'INPUT\n' + ''.join('c%d: bool;\n' % k for k in range(COLUMNS)) + 'FTSPEC c0;\n'
 PLAIN = 'INPUT p: bool;\nFTSPEC f: p;\n'
 
-# `make` gives the bytes of a program, or the text of a specification, which c2po compiles before.
+# `make` gives the bytes of a program, or the text of a specification, which c2po compiles before; `shown` says whether the
+# program's text is within its limit.
 PROGRAMS = [
-    Program('program-outputs', '16 MiB of outputs', of_outputs, '', []),
-    Program('program-numbers', '16 MiB of instructions of the Booleanizer', of_numbers, '', []),
-    Program('program-denials', '16 MiB of instructions of future time', of_denials, '', []),
-    Program('program-signals', '65,536 signals with names of 64 digits', of_signals(long_names), '', []),
-    Program('program-colliding', '65,536 signals whose names collide', of_signals(colliding_names), '', []),
-    Program('most-slots', '16,777,216 slots', windows, '', []),
-    Program('long-header', 'a header of 65,535 bytes', lambda: WIDE, HEADER, []),
-    Program('long-row', 'a row of 65,534 bytes', lambda: PLAIN, ROW, []),
-    Program('long-gap', 'a gap of 16,777,215 rows between two stamps', lambda: PLAIN, '@0,1\n@16777215,1\n', ['--timed']),
+    Program('program-outputs', '16 MiB of outputs', of_outputs, '', [], False),
+    Program('program-numbers', '16 MiB of instructions of the Booleanizer', of_numbers, '', [], False),
+    Program('program-denials', '16 MiB of instructions of future time', of_denials, '', [], False),
+    Program('program-signals', '65,536 signals with names of 64 digits', of_signals(long_names), '', [], False),
+    Program('program-colliding', '65,536 signals whose names collide', of_signals(colliding_names), '', [], False),
+    Program('most-slots', '16,777,216 slots', windows, '', [], True),
+    Program('long-header', 'a header of 65,535 bytes', lambda: WIDE, HEADER, [], True),
+    Program('long-row', 'a row of 65,534 bytes', lambda: PLAIN, ROW, [], True),
+    Program('long-gap', 'a gap of 16,777,215 rows between two stamps', lambda: PLAIN, '@0,1\n@16777215,1\n', ['--timed'], True),
 ]
