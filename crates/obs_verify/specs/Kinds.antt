@@ -3,11 +3,9 @@
 use Rattle.std.specs.Prelude.{ℕ, ◌≡◌, ◌<◌, Bool, true, false, List, length, slice_index_or}
 use Rattle.std.specs.List.{list_any}
 use Rattle.std.specs.Str.{bytes_eq}
-use Rattle.std.specs.HashSet.{HashSet}
+use Rattle.std.specs.BTreeSet.{BTreeSet}
 use Rattle.std.specs.declared.vec.Vec.{Vec}
 use Rattle.std.specs.declared.alloc.Global.{Global}
-use Rattle.std.specs.declared.hash.FoldHasher.{FoldHasher}
-use Rattle.std.specs.declared.hash.BuildHasherDefault.{BuildHasherDefault}
 use Rattle.mltl_base.specs.declared.program.StoredSignal.{StoredSignal}
 use Rattle.obs_verify.specs.declared.signals.Kinds.{Kinds as ColumnKinds}
 use Rattle.obs_verify.specs.WellFormed.{has_kind}
@@ -18,7 +16,7 @@ AreKinds signals kinds = (c : ℕ) (d : ColumnKinds) → c < length kinds → sl
 
 -- a set of names
 abbrev pub Names : Type 0
-Names = HashSet (Vec ℕ Global) (BuildHasherDefault FoldHasher)
+Names = BTreeSet (Vec ℕ Global)
 
 -- whether a name is in the set
 abbrev pub has_name : Names → List ℕ → Bool
