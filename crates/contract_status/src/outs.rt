@@ -3,6 +3,7 @@
 use crate::cursor::Cursor;
 use crate::engines::Engines;
 use crate::telling::tell_first;
+use fixed_list::Fixed;
 use ft_engine::Ft;
 use mltl_base::{Report, Style};
 use obs_verify::Checked;
@@ -13,7 +14,7 @@ use std::marker::Model;
 /// The outputs of a program: the next time of each, counted in rows from 0. Contracts see these times in order.
 #[derive(Drop)]
 pub struct Outs {
-    times: Vec<u64>,
+    times: Fixed<u64>,
 }
 
 impl Model for Outs {
@@ -21,7 +22,7 @@ impl Model for Outs {
 
     ghost Value = { List ℕ };
 
-    ghost view = { λ outs. outs.times.items };
+    ghost view = { λ outs. outs.times };
 }
 
 impl Outs {
@@ -39,7 +40,7 @@ impl Outs {
         ensures drained { IfOk result (λ outs. outs ≡ known_counts_of checked.now []) }
         ensures placed { IfOk result (ArePlaced checked.now []) }
     {
-        let times = vec![in alloc; 0; checked.program().outs.len()]?;
+        let times = Fixed::filled(alloc, 0, checked.program().outs.len())?;
         Ok(Outs { times })
     }
 
@@ -80,7 +81,7 @@ impl Outs {
         ensures cursor { FitsCursor checked.now n ft.now pt.now self.new cursor.new }
     {
         let engines = Engines { ft, pt, rows: n };
-        tell_first(style, checked, &engines, &mut self.times, cursor)
+        tell_first(style, checked, &engines, self.times.as_mut_slice(), cursor)
     }
 
     /// Whether no report is open after `n` rows, in either style.
@@ -91,7 +92,7 @@ impl Outs {
             → IsTrue result ↔ (open_of style checked.now rows self.now ≡ []) }
     {
         let engines = Engines { ft, pt, rows: n };
-        let open = engines.first_open(checked.program(), &self.times, 0);
+        let open = engines.first_open(checked.program(), self.times.as_slice(), 0);
         open.is_none()
     }
 }

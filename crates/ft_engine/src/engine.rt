@@ -8,6 +8,7 @@ ghost use Rattle.ft_engine.specs.Sound.{AreSound-prop};
 use crate::queue::{Queue, first_read, operand};
 use crate::rows::row_of;
 use booleanizer::Bz;
+use fixed_list::Fixed;
 use mltl_base::Program;
 use obs_verify::Checked;
 use scq_ring::steps::Steps;
@@ -19,9 +20,9 @@ use std::sync::ledger::{Blank, Ledger};
 /// The queues of a program's future-time instructions. Their rings share one slab of slots; no two have a slot in common.
 #[derive(Drop)]
 pub struct Ft {
-    queues: Vec<Queue>,
-    slab: Vec<Slot>,
-    ghost sound: { AreSound queues.items slab.items } by { AreSound-prop queues.items slab.items },
+    queues: Fixed<Queue>,
+    slab: Fixed<Slot>,
+    ghost sound: { AreSound queues slab } by { AreSound-prop queues slab },
 }
 
 impl Ft {
@@ -38,18 +39,19 @@ impl Ft {
         let program = program_of(checked);
         let ops = program.ft.as_slice();
         let sizes = program.sizes.ft.as_slice();
-        let mut queues = Vec::new(alloc);
+        let mut queues = Vec::with_capacity(alloc, ops.len())?;
         let mut start = 0;
         for (i, op) in ops.iter().enumerate() {
             let size = sizes[i] as usize;
-            queues.push(Queue {
+            queues.push_reserved(Queue {
                 ring: Ring::make(),
                 reads_at: first_read(*op),
                 seat: Seat { start, size },
-            })?;
+            });
             start += size;
         }
-        let slab = vec![in alloc; Slot::clear(); start]?;
+        let slab = Fixed::filled(alloc, Slot::clear(), start)?;
+        let queues = Fixed::of(queues);
         Ok(Ft { queues, slab })
     }
 
@@ -67,8 +69,8 @@ impl Ft {
         row_of(
             program.ft.as_slice(),
             bz,
-            &mut self.queues,
-            &mut self.slab,
+            self.queues.as_mut_slice(),
+            self.slab.as_mut_slice(),
             steps,
         );
     }
@@ -78,7 +80,7 @@ impl Ft {
         requires exists { i < instruction_count self.now }
         ensures front { result ≡ frontier_at self.now i }
     {
-        self.queues[i as usize].ring.frontier()
+        self.queues.as_slice()[i as usize].ring.frontier()
     }
 
     /// The first time whose verdict instruction `i` keeps.
@@ -86,7 +88,7 @@ impl Ft {
         requires exists { i < instruction_count self.now }
         ensures low { result ≡ lowest_at self.now i }
     {
-        self.queues[i as usize].ring.low()
+        self.queues.as_slice()[i as usize].ring.low()
     }
 
     /// The verdict of instruction `i` at time `t`: none exactly at or past its frontier.
@@ -122,7 +124,7 @@ impl Ft {
         ensures shows { ShowsFrom self.now i from result }
     {
         let mut steps = Steps::<L>::start(blank);
-        let queue = operand(&self.queues, &self.slab, i);
+        let queue = operand(self.queues.as_slice(), self.slab.as_slice(), i);
         queue.ring.read(queue.slots, from, &mut steps)
     }
 }

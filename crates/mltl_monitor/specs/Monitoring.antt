@@ -1,6 +1,6 @@
 -- What a monitor stands for.
 
-use Rattle.std.specs.Prelude.{◌≡◌, ◌↔◌, ℕ, ◌+◌, ◌^◌, ◌<◌, ◌≤◌, Option, List, [], ◌∷◌, ◌++◌, length, map, vec_len, IfNone, IfSome, IsNone}
+use Rattle.std.specs.Prelude.{◌≡◌, ◌↔◌, ℕ, ◌+◌, ◌^◌, ◌<◌, ◌≤◌, Option, List, [], ◌∷◌, ◌++◌, length, map, IfNone, IfSome, IsNone}
 use Rattle.std.specs.List.{range_with_len}
 use Rattle.mltl_base.specs.declared.program.Program.{Program}
 use Rattle.mltl_base.specs.declared.report.Report.{Report}
@@ -39,11 +39,11 @@ room_total_of monitor = room_total monitor.running.pt
 
 -- the last row that the monitor has taken
 abbrev pub last_of : State → Row
-last_of monitor = monitor.last.items
+last_of monitor = monitor.last
 
 -- the row that the monitor has read, to be taken next
 abbrev pub read_of : State → Row
-read_of monitor = monitor.read.items
+read_of monitor = monitor.read
 
 -- the monitor has taken these rows
 pub record Stands (monitor : State) (rows : List Row) : Type 0 where
@@ -112,5 +112,5 @@ pub record IsSound (monitor : State) : Type 0 where
   pub some : (rows : List Row) × Stands monitor rows
   pub early : taken_by monitor ≤ 2 ^ 40
   pub numbers : length monitor.running.bz ≡ length (program_of monitor).bz
-  pub last_wide : vec_len monitor.last ≡ (program_of monitor).width
-  pub read_wide : vec_len monitor.read ≡ (program_of monitor).width
+  pub last_wide : length (last_of monitor) ≡ (program_of monitor).width
+  pub read_wide : length (read_of monitor) ≡ (program_of monitor).width

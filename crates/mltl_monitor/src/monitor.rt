@@ -6,6 +6,7 @@ use crate::state::State;
 use crate::unfit::unfit_column;
 use arrayvec::ArrayVec;
 use contract_status::{Cursor, line_of};
+use fixed_list::Fixed;
 use mltl_base::limits::MAX_MISSION;
 use mltl_base::{Report, Style};
 use obs_verify::Checked;
@@ -68,8 +69,8 @@ impl Monitor {
         ensures drained { IfOk result IsDrained }
     {
         let width = checked.program().width as usize;
-        let last = vec![in alloc; 0; width]?;
-        let read = vec![in alloc; 0; width]?;
+        let last = Fixed::filled(alloc, 0, width)?;
+        let read = Fixed::filled(alloc, 0, width)?;
         let readings = Readings::of(alloc, &checked)?;
         let running = Running::load(alloc, checked)?;
         Ok(Monitor {
@@ -147,7 +148,7 @@ impl Monitor {
         ensures takes { TakesRow fields.now self.old self.new }
         ensures counted { steps.new ≤ steps.old + row_work (program_of self.old) }
     {
-        self.state.last.copy_from_slice(fields);
+        self.state.last.as_mut_slice().copy_from_slice(fields);
         self.state.running.take(fields, steps);
         self.cursor = Cursor::start();
     }
@@ -179,7 +180,7 @@ impl Monitor {
             line,
             &state.running.checked,
             &self.readings,
-            &mut state.read,
+            state.read.as_mut_slice(),
         )
     }
 
@@ -192,7 +193,7 @@ impl Monitor {
         ensures read { read_of self.new ≡ read_of self.old }
         ensures counted { steps.new ≤ steps.old + row_work (program_of self.old) }
     {
-        self.state.running.take(&self.state.last, steps);
+        self.state.running.take(self.state.last.as_slice(), steps);
         self.cursor = Cursor::start();
     }
 
@@ -205,7 +206,7 @@ impl Monitor {
         ensures counted { steps.new ≤ steps.old + row_work (program_of self.old) }
     {
         mem::swap(&mut self.state.last, &mut self.state.read);
-        self.state.running.take(&self.state.last, steps);
+        self.state.running.take(self.state.last.as_slice(), steps);
         self.cursor = Cursor::start();
     }
 

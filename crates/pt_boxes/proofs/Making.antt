@@ -64,11 +64,11 @@ first_belongs : (boxes : Boxes) (spans : List Span) → boxes ≡ no_boxes → B
 first_belongs boxes spans e = subst (λ (b : Boxes). Belongs b spans) (sym e) (record { oldest_in = λ h. h; used_in = omega arith })
 
 -- new nodes stand for no rows
-pub made_stands : (program : Program) (pt : Pt) → RunsPast program → length pt.nodes.items ≡ length program.pt → Started program.sizes.pt pt.nodes.items (length pt.slab.items) (length program.pt) → pt.rows ≡ 0
-    → length pt.slab.items ≡ sum program.sizes.pt → Stands program [] pt
+pub made_stands : (program : Program) (pt : Pt) → RunsPast program → length pt.nodes ≡ length program.pt → Started program.sizes.pt pt.nodes (length pt.slab) (length program.pt) → pt.rows ≡ 0
+    → length pt.slab ≡ sum program.sizes.pt → Stands program [] pt
 made_stands program pt runs same_length started none total =
-    let nodes : List Node = pt.nodes.items in
-    let slab : List Span = pt.slab.items in
+    let nodes : List Node = pt.nodes in
+    let slab : List Span = pt.slab in
     let nothing : (i : ℕ) → i < length program.pt → boxes_in slab (node_at nodes i) ≡ [] =
     λ i h. none_kept (node_at nodes i).boxes (part slab (node_at nodes i).seat) (ap (λ (b : Boxes). b.used) (started.fresh i h).boxes) in
     stands_with program [] pt

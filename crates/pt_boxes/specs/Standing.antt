@@ -17,7 +17,7 @@ use Rattle.pt_boxes.specs.Spans.{AreApart, Tells}
 
 -- how many instructions there are
 unfoldable pub instruction_count : Pt → ℕ
-instruction_count pt = length pt.nodes.items
+instruction_count pt = length pt.nodes
 
 -- how many rows were taken
 unfoldable pub row_count : Pt → ℕ
@@ -25,19 +25,19 @@ row_count pt = pt.rows
 
 -- instruction i at the last row
 unfoldable pub now_at : Pt → ℕ → Bool
-now_at pt i = (node_at pt.nodes.items i).truth
+now_at pt i = (node_at pt.nodes i).truth
 
 -- the boxes of instruction i, oldest first: none unless it is a Since
 unfoldable pub boxes_at : Pt → ℕ → List Span
-boxes_at pt i = boxes_in pt.slab.items (node_at pt.nodes.items i)
+boxes_at pt i = boxes_in pt.slab (node_at pt.nodes i)
 
 -- how many boxes it has room for
 unfoldable pub room_at : Pt → ℕ → ℕ
-room_at pt i = (node_at pt.nodes.items i).seat.size
+room_at pt i = (node_at pt.nodes i).seat.size
 
 -- the room of all instructions together
 unfoldable pub room_total : Pt → ℕ
-room_total pt = length pt.slab.items
+room_total pt = length pt.slab
 
 -- the formula of instruction i on the rows, by time
 abbrev pub meaning_of : Program → List Row → ℕ → ℕ → Bool
@@ -45,7 +45,7 @@ meaning_of program rows i t = sat rows (plain (formula_at program past i)) t
 
 -- the engine has taken the rows of this program
 pub record Stands (program : Program) (rows : List Row) (pt : Pt) : Type 0 where
-  pub seated : AreKept program.pt (length rows) pt.nodes.items pt.slab.items
+  pub seated : AreKept program.pt (length rows) pt.nodes pt.slab
   pub taken : row_count pt ≡ length rows
   -- each instruction holds at the last row exactly where its formula does
   pub count : instruction_count pt ≡ length program.pt

@@ -6,6 +6,7 @@ ghost use Rattle.obs_verify.specs.Running.{RunsPast};
 use crate::boxes::{Boxes, Span};
 use crate::rows::{Node, row_of};
 use booleanizer::Bz;
+use fixed_list::Fixed;
 use mltl_base::Program;
 use obs_verify::Checked;
 use scq_ring::Seat;
@@ -16,8 +17,8 @@ use std::sync::ledger::Ledger;
 /// The truths of a program's past-time instructions at the last row, and the boxes of each Since in one slab.
 #[derive(Drop)]
 pub struct Pt {
-    nodes: Vec<Node>,
-    slab: Vec<Span>,
+    nodes: Fixed<Node>,
+    slab: Fixed<Span>,
     rows: u64,
 }
 
@@ -33,20 +34,21 @@ impl Pt {
         ensures stands { IfOk result (Stands checked.now []) }
     {
         let program = program_of(checked);
-        let mut nodes = Vec::new(alloc);
+        let sizes = program.sizes.pt.as_slice();
+        let mut nodes = Vec::with_capacity(alloc, sizes.len())?;
         let mut start = 0;
-        for size in program.sizes.pt.as_slice() {
+        for size in sizes {
             let size = *size as usize;
-            nodes.push(Node {
+            nodes.push_reserved(Node {
                 boxes: Boxes::none(),
                 truth: false,
                 seat: Seat { start, size },
-            })?;
+            });
             start += size;
         }
-        let slab = vec![in alloc; Span { first: 0, last: 0 }; start]?;
+        let slab = Fixed::filled(alloc, Span { first: 0, last: 0 }, start)?;
         Ok(Pt {
-            nodes,
+            nodes: Fixed::of(nodes),
             slab,
             rows: 0,
         })
@@ -67,8 +69,8 @@ impl Pt {
             program.pt.as_slice(),
             bz,
             self.rows,
-            &mut self.nodes,
-            &mut self.slab,
+            self.nodes.as_mut_slice(),
+            self.slab.as_mut_slice(),
             steps,
         );
         self.rows += 1;
@@ -80,7 +82,7 @@ impl Pt {
         requires exists { i < instruction_count self.now }
         ensures now { result ≡ now_at self.now i }
     {
-        self.nodes[i as usize].truth
+        self.nodes.as_slice()[i as usize].truth
     }
 }
 

@@ -9,11 +9,11 @@ use Rattle.tool_io.specs.Cutting.{Cutting, IsRow, next_number}
 
 -- the line that the last Row gave
 abbrev pub row_bytes : Inside → List ℕ
-row_bytes cut = slice_range cut.buffer.items cut.start cut.next
+row_bytes cut = slice_range cut.buffer cut.start cut.next
 
 -- the bytes after that line
 abbrev pub rest_bytes : Inside → List ℕ
-rest_bytes cut = slice_range cut.buffer.items cut.next cut.end
+rest_bytes cut = slice_range cut.buffer cut.next cut.end
 
 -- the cut that the fields stand for
 abbrev pub cut_of : Inside → Cutting
@@ -27,7 +27,7 @@ cut_of cut = record {
 
 -- what the fields keep
 pub record HoldsRows (cut : Inside) : Type 0 where
-  pub room : length cut.buffer.items ≡ 65536
+  pub room : length cut.buffer ≡ 65536
   pub from : cut.start ≤ cut.next
   pub to : cut.next ≤ cut.end
   pub within : cut.end ≤ 65536

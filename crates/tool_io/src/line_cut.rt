@@ -7,6 +7,7 @@ ghost use Rattle.tool_io.specs.Host.{IsSource, ReadCause, LeftElsewhere};
 ghost use Rattle.tool_io.specs.Cutting.{HasNoNewline, EndsLine, IsRow, fresh, keeps, row_of, line_text, IsReady, CutsLine, LineCause};
 
 use crate::host::{Got, Host, Place};
+use fixed_list::Fixed;
 use memchr::memchr;
 use std::alloc::{AllocError, Global};
 use std::marker::Model;
@@ -32,7 +33,7 @@ const LONGEST: usize = 65_536;
 /// It takes memory where it is made and never again. It reads only where no whole line stands in the buffer.
 #[derive(Drop)]
 pub struct LineCut {
-    buffer: Vec<u8>,
+    buffer: Fixed<u8>,
     /// Where the line of the last Row begins.
     start: usize,
     /// Where the bytes after it begin, which aren't cut yet.
@@ -100,7 +101,7 @@ impl LineCut {
         ensures { IfOk result (λ cut. cut ≡ fresh) }
     {
         Ok(LineCut {
-            buffer: vec![in alloc; 0; LONGEST]?,
+            buffer: Fixed::filled(alloc, 0, LONGEST)?,
             start: 0,
             next: 0,
             end: 0,
@@ -135,7 +136,7 @@ impl LineCut {
         requires { IsSome self.now.row }
         ensures { result.now ≡ line_text (row_of self.now) }
     {
-        let raw = &self.buffer[self.start..self.next];
+        let raw = &self.buffer.as_slice()[self.start..self.next];
         match raw {
             [line @ .., b'\r', b'\n'] => line,
             [line @ .., b'\n'] => line,
@@ -176,7 +177,7 @@ impl LineCut {
             (len ≤ length self.now.pending) × EndsLine (take len self.now.pending)) }
         ensures not_found { IfNone result (HasNoNewline self.now.pending) }
     {
-        let at = first_newline(&self.buffer[self.next + seen..self.end])?;
+        let at = first_newline(&self.buffer.as_slice()[self.next + seen..self.end])?;
         Some(seen + at + 1)
     }
 
@@ -204,7 +205,7 @@ impl LineCut {
         ensures elsewhere { LeftElsewhere (H.left host.old) (H.left host.new) place }
     {
         let len = self.end - self.next;
-        let buffer: &mut [u8] = &mut self.buffer;
+        let buffer = self.buffer.as_mut_slice();
         move_to_front(buffer, self.next, self.end);
         let got = read_after(host, place, buffer, len);
         self.start = 0;

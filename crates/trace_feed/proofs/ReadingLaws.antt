@@ -21,13 +21,6 @@ readings_are program readings many known =
     ext_get_or Unread readings (readings_of program) (many ∙ sym (length-readings_of program)) (λ k inside.
     known k Unread inside ∙ sym (are_readings_of program k Unread (omega (arith, inside, many, length-readings_of program))))
 
--- a slice that was written whole is what the list holds
-pub written_back : (old new : List Reading) (n : ℕ) → length new ≡ length old → n ≡ length old → take n (new ++ drop (length new) old) ≡ new
-written_back old new n same all =
-    ap (λ (rest : List Reading). take n (new ++ rest)) (drop_all (length new) old (omega arith))
-    ∙ ap (λ (items : List Reading). take n items) (append-nil new)
-    ∙ take_all n new (omega arith)
-
 -- where no instruction was noted, no column is read
 pub none_read : (readings : List Reading) (n : ℕ) → readings ≡ replicate n Unread → AreReadings (reading_of []) readings
 none_read readings n is = λ k d inside. ap (λ (items : List Reading). get_or items k d) is ∙ get_or-replicate n k Unread d (omega (arith, inside, ap (λ (items : List Reading). length items) is, length-replicate n Unread))

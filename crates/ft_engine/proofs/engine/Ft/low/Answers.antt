@@ -8,10 +8,10 @@ use Rattle.ft_engine.proofs.engine.Ft.low.Goals as goal
 
 pub index-requires : goal.index-requires
 unfolding instruction_count
-index-requires c = let ok = c.args.self.now.queues.ok.0 in omega arith
+index-requires c = omega (arith, ap (λ (qs : List Queue). length qs) c.as_slice.ensures)
 
 pub returns : goal.returns
 unfolding instruction_count lowest_at
 returns c =
-    let queue_is : c.index.result.now ≡ queue_at c.args.self.now.queues.items c.args.i = get_or_read c.args.self.now.queues.items c.args.i c.index.result.now c.requires.exists c.index.ensures no_queue in
+    let queue_is : c.index.result.now ≡ queue_at c.args.self.now.queues c.args.i = get_or_read c.args.self.now.queues c.args.i c.index.result.now c.requires.exists c.index.ensures no_queue in
     record { low = c.low.ensures.low ∙ ap (λ (m : Queue). low_of m.ring) queue_is }

@@ -15,8 +15,8 @@ invariant_of-result c =
         some = ([], record { taken = c.in_ok-running.ensures.stands; last = λ before row is. absurd (none_before before row is) });
         early = omega (arith, c.in_ok-running.ensures.taken);
         numbers = c.in_ok-running.ensures.numbers ∙ ap (λ (p : Program). length p.bz) (sym same);
-        last_wide = c.in_ok-last.ensures.len ∙ width;
-        read_wide = c.in_ok-read.ensures.len ∙ width;
+        last_wide = as_wide c.in_ok-last.ensures ∙ width;
+        read_wide = as_wide c.in_ok-read.ensures ∙ width;
       },
       λ rows future past count known. c.start.ensures c.in_ok-running.running.checked rows c.in_ok-running.running.outs,
       c.in_ok-readings.ensures ∙ ap readings_of (sym same),
