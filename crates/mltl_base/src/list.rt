@@ -1,6 +1,6 @@
 //! Lists that grow at their end.
 
-ghost use Rattle.std.specs.Prelude.{◌≡◌, ℕ, ◌==◌, ◌<◌, ◌≤◌, ◌+◌, ◌*◌, ◌^◌, [], ◌∷◌, ◌++◌, length, slice_get, slice_set, vec_capacity, vec_len, Some, OnOk, OnErr, IfErr};
+ghost use Rattle.std.specs.Prelude.{◌≡◌, ℕ, ◌==◌, ◌<◌, ◌≤◌, ◌+◌, ◌*◌, ◌^◌, [], ◌∷◌, ◌++◌, length, slice_get, slice_set, vec_capacity, vec_len, Some, OnOk, OnErr, IfErr, IfOk};
 ghost use Rattle.mltl_base.specs.Room.{room, room_by};
 
 use std::alloc::{AllocError, AllocFailed, Global};
@@ -88,6 +88,19 @@ impl<T> List<T> {
         List {
             items: Vec::new(alloc),
         }
+    }
+
+    /// An empty vector with the room of a list of `n` members, which it becomes by `of` once it has these.
+    pub fn room_for(alloc: Global, n: usize) -> Result<Vec<T>, AllocError>
+        ensures items { IfOk result (λ items. items.items ≡ []) }
+        ensures len { IfOk result (λ items. vec_len items ≡ 0) }
+        ensures room { IfOk result (λ items. vec_capacity items ≡ room n) }
+        ensures enough { IfOk result (λ items. n ≤ vec_capacity items) }
+    {
+        if n > MAX_MEMBERS {
+            return Err(AllocError);
+        }
+        Vec::with_capacity(alloc, room_of(n))
     }
 
     /// The members of a vector that has room for as many as a list of its length, in its memory.
