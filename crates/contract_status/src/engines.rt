@@ -33,6 +33,7 @@ impl Engines<'_> {
     ghost use Rattle.contract_status.specs.Cursors.{FitsEngines};
     ghost use Rattle.contract_status.specs.Stretches.{AreReadable, AreTold, CanRead, CanReport, Covers, FindsOpen, HaveTaken, Lasts, ShowsVerdicts, ShowsWords, contract_words, formula_words, known_verdicts, known_words};
     ghost use Rattle.contract_status.specs.Open.{AreKnown};
+    ghost use Rattle.contract_status.specs.declared.engines.Stretch.{Stretch as Found};
 
     /// The verdict of an instruction at a time, and a time up to which it stays the same.
     #[inline(always)]
@@ -210,6 +211,8 @@ impl Engines<'_> {
         ensures finds { (rows : List Row) → HaveTaken program.now rows self.now
             → AreKnown program.now rows next_times.now
             → FindsOpen program.now rows next_times.now result }
+        ensures goes_on { (stretch : Found) → cursor.stretch ≡ Some stretch
+            → result ≡ Some (cursor.out, stretch) }
     {
         match cursor.stretch {
             Some(stretch) => Some((cursor.out, stretch)),

@@ -2,7 +2,7 @@
 
 ghost use Rattle.std.specs.Prelude.{◌≡◌, ℕ, ◌^◌, ◌≤◌, List, IfSome, IsNone};
 ghost use Rattle.mltl_base.specs.Atoms.{Row};
-ghost use Rattle.contract_status.specs.Cursors.{FitsEngines};
+ghost use Rattle.contract_status.specs.Cursors.{FitsEngines, MovesPast};
 ghost use Rattle.contract_status.specs.Open.{ArePlaced, GivesFirst, IsGiven};
 ghost use Rattle.contract_status.specs.Stretches.{HaveTaken};
 
@@ -32,6 +32,8 @@ pub fn tell_first(
         → ArePlaced checked.now rows next_times.old
         → ArePlaced checked.now rows next_times.new }
     ensures cursor { FitsEngines checked.now engines.now next_times.new cursor.new }
+    ensures moves { IfSome result (λ report.
+        MovesPast engines.now.rows report cursor.old cursor.new) }
     ensures none { IsNone result → next_times.new ≡ next_times.old }
     ensures given { IfSome result (λ report.
         IsGiven checked.now engines.now.rows report next_times.old next_times.new) }

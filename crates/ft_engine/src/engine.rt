@@ -76,6 +76,7 @@ impl Ft {
     }
 
     /// The first time at which instruction `i` has no verdict yet.
+    #[tactic(auto, unfolding(crate::specs::Standing::instruction_count, crate::specs::Standing::frontier_at))]
     pub fn front(&self, i: u32) -> u64
         requires exists { i < instruction_count self.now }
         ensures front { result ≡ frontier_at self.now i }
@@ -84,6 +85,7 @@ impl Ft {
     }
 
     /// The first time whose verdict instruction `i` keeps.
+    #[tactic(auto, unfolding(crate::specs::Standing::instruction_count, crate::specs::Standing::lowest_at))]
     pub fn low(&self, i: u32) -> u64
         requires exists { i < instruction_count self.now }
         ensures low { result ≡ lowest_at self.now i }

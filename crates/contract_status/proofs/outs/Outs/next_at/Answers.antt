@@ -10,8 +10,8 @@ returns-clause-gives c =
     let engines : Engines = record { ft = c.args.ft; pt = c.args.pt; rows = c.args.n } in
     let times = c.self.inside.times in
     let new : List ℕ = c.tell_first.new.next_times in
-    let next_times : c.as_mut_slice.result.now ≡ c.args.self.now = c.as_mut_slice.ensures ∙ c.self.view_is in
-    let written : with_members times new ≡ new = with_members_is times new (c.tell_first.auto.next_times ∙ ap length c.as_mut_slice.ensures) in
+    let next_times : c.as_mut_slice.result.now ≡ c.args.self.now = c.as_mut_slice.ensures.value ∙ c.self.view_is in
+    let written : with_members times new ≡ new = with_members_is times new (c.tell_first.auto.next_times ∙ ap length c.as_mut_slice.ensures.value) in
     let first = rw next_times at c.tell_first.ensures.first in
     let placed = rw next_times at c.tell_first.ensures.placed in
     let given = rw next_times at c.tell_first.ensures.given in
@@ -26,5 +26,5 @@ pub returns-clause-cursor : goal.returns-clause-cursor
 returns-clause-cursor c = λ rows future past count.
     let times = c.self.inside.times in
     let new : List ℕ = c.tell_first.new.next_times in
-    let written : with_members times new ≡ new = with_members_is times new (c.tell_first.auto.next_times ∙ ap length c.as_mut_slice.ensures) in
+    let written : with_members times new ≡ new = with_members_is times new (c.tell_first.auto.next_times ∙ ap length c.as_mut_slice.ensures.value) in
     rw written (c.tell_first.ensures.cursor rows (record { future = future; past = past; count = count }))

@@ -37,16 +37,19 @@ pub returns : goal.returns
 returns c =
     let program : Program = c.args.checked.now in
     let sizes : c.as_slice-sizes.result.now ≡ program.sizes.pt = c.as_slice-sizes.ensures ∙ ap (λ (p : Program). p.sizes.pt) c.program_of-program.ensures.program in
+    let empty : Span = record { first = 0; last = 0 } in
     let ok = c.loop-size.nodes.ok.0 in
     let count : length program.sizes.pt ≡ length program.pt = ap (λ (ns : List ℕ). length ns) c.program_of-program.ensures.runs.sizes ∙ length-map program.pt boxes_of in
     let end : c.loop-size.size-index ≡ length program.pt = omega (arith, ap (λ (ns : List ℕ). length ns) sizes) in
-    let long : c.loop-size.start ≡ length c.in_ok-slab.slab = sym (ap (λ (spans : List Span). length spans) c.in_ok-slab.ensures ∙ length-replicate c.loop-size.start c.in_ok-slab.value) in
-    let started : Started program.sizes.pt c.loop-size.nodes.items (length c.in_ok-slab.slab) (length program.pt) =
-    subst (λ (ns : List ℕ). Started ns c.loop-size.nodes.items (length c.in_ok-slab.slab) (length program.pt)) sizes
+    let long : c.loop-size.start ≡ length c.in_ok-slab.slab = sym (ap (λ (spans : List Span). length spans) c.in_ok-slab.ensures ∙ length-replicate c.loop-size.start empty) in
+    let nodes : c.loop-size.nodes.items ≡ c.of.result = sym c.of.ensures in
+    let started : Started program.sizes.pt c.of.result (length c.in_ok-slab.slab) (length program.pt) =
+    subst (λ (ns : List Node). Started program.sizes.pt ns (length c.in_ok-slab.slab) (length program.pt)) nodes
+    (subst (λ (ns : List ℕ). Started ns c.loop-size.nodes.items (length c.in_ok-slab.slab) (length program.pt)) sizes
     (subst (λ (k : ℕ). Started c.as_slice-sizes.result.now c.loop-size.nodes.items k (length program.pt)) long
-    (subst (λ (k : ℕ). Started c.as_slice-sizes.result.now c.loop-size.nodes.items c.loop-size.start k) end c.loop-size.invariant.started)) in
+    (subst (λ (k : ℕ). Started c.as_slice-sizes.result.now c.loop-size.nodes.items c.loop-size.start k) end c.loop-size.invariant.started))) in
     record {
-      stands = made_stands program _ c.program_of-program.ensures.runs (omega (arith, c.loop-size.invariant.count))
+      stands = made_stands program _ c.program_of-program.ensures.runs (omega (arith, c.loop-size.invariant.count, ap (λ (ns : List Node). length ns) nodes))
           started
           refl
           (sym long ∙ c.loop-size.invariant.total ∙ ap (λ (ns : List ℕ). sum ns) (take_all c.loop-size.size-index c.as_slice-sizes.result.now (omega arith) ∙ sizes));
