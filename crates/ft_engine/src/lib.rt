@@ -4,6 +4,7 @@
 //! is known of its operands, so it answers as early as that value is known.
 #![tactic(auto)]
 
+pub mod bytes;
 mod conjunction;
 mod engine;
 pub mod laws;

@@ -5,6 +5,7 @@
 //! [`rebind`].
 #![tactic(auto)]
 
+pub mod bytes;
 pub mod laws;
 mod monitor;
 mod row_fault;
@@ -12,6 +13,7 @@ mod running;
 mod state;
 mod unfit;
 
+pub use bytes::monitor_bytes;
 pub use mltl_base::{Report, Style, Word};
 pub use monitor::Monitor;
 pub use obs_verify::{Checked, rebind};

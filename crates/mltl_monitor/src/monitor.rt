@@ -55,18 +55,20 @@ impl Monitor {
     ghost use Rattle.mltl_base.specs.Atoms.{Row};
     ghost use Rattle.mltl_base.specs.Lines.{line};
     ghost use Rattle.mltl_base.specs.Programs.{IsFit, output_names};
+    ghost use Rattle.mltl_monitor.specs.Bytes.{bytes_of, monitor_bytes};
     ghost use Rattle.mltl_monitor.specs.Running.{row_work};
     ghost use Rattle.trace_feed.specs.Rows.{Tells, line_meaning};
     ghost use Rattle.mltl_monitor.specs.TakingLines.{TakesLine};
     ghost use Rattle.mltl_monitor.specs.Monitoring.{GivesNext, IsDrained, IsSame, Stands, TakesRow, last_of, open_of, program_of, read_of, taken_by};
     ghost use Rattle.mltl_monitor.specs.RowFaults.{IsReady, IsRowCause, IsUnfitAt};
 
-    /// A monitor that has taken no rows. All its memory is taken here.
+    /// A monitor that has taken no rows. All its memory is taken here, in blocks of as many bytes as its program says.
     pub fn load(alloc: Global, checked: Checked) -> Result<Monitor, AllocError>
         ensures program { IfOk result (λ monitor. program_of monitor ≡ checked) }
         ensures taken { IfOk result (λ monitor. taken_by monitor ≡ 0) }
         ensures stands { IfOk result (λ monitor. Stands monitor []) }
         ensures drained { IfOk result IsDrained }
+        ensures bytes { IfOk result (λ monitor. bytes_of monitor ≡ monitor_bytes checked) }
     {
         let width = checked.program().width as usize;
         let last = Fixed::filled(alloc, 0, width)?;

@@ -4,6 +4,7 @@
 #![tactic(auto)]
 
 mod boxes;
+pub mod bytes;
 mod engine;
 mod rows;
 mod since;
