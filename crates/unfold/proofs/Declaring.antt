@@ -10,11 +10,11 @@ use Rattle.unfold.specs.Environment.{Env, Known, nothing, or_else, declare}
 use Rattle.unfold.specs.Holding.{Means, StandsFor}
 
 -- the entry of a name in a table that has one more
-or_entry : {V : Type 0} → Option V → Option V → Option V
+unfoldable pub or_entry : {V : Type 0} → Option V → Option V → Option V
 or_entry (Some v) w = Some v
 or_entry None w = w
 
-entry_push : {V : Type 0} (y x : List ℕ) (v : V) (es : List (List ℕ × V)) →
+pub entry_push : {V : Type 0} (y x : List ℕ) (v : V) (es : List (List ℕ × V)) →
     entry_of y (es ++ (x, v) ∷ []) ≡ or_entry (entry_of y es) (if bytes_eq y x then Some v else None)
 unfolding or_entry
 entry_push y x v [] = refl

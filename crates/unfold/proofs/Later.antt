@@ -11,6 +11,7 @@ use Rattle.unfold.specs.declared.scope.Scope.{Scope, Top, Open', Held'}
 use Rattle.unfold.specs.declared.scope.Head.{Head}
 use Rattle.unfold.specs.declared.scope.Head.TheVariants as head
 use Rattle.unfold.specs.declared.unfolding.Unfolding.{Unfolding}
+use Rattle.unfold.specs.declared.visits.Visits.{Visits}
 use Rattle.unfold.specs.Values.{Value, Values, leaf, structure, set, none, more}
 use Rattle.unfold.specs.Environment.{Env, Known}
 use Rattle.unfold.specs.Holding.{Holds, HoldAll, Means, StandsFor, Fits, Keeps, IsLater}
@@ -83,3 +84,12 @@ heads_later (head.Struct scope x es) old new v g k = (k.0, fits_later scope.now 
 heads_later (head.Set scope es) old new v g k = (k.0, fits_later scope.now old new k.0 g k.1, k.2)
 heads_later (head.Leaf scope e) old new v g k = (k.0, fits_later scope.now old new k.0 g k.1, k.2, k.3)
 heads_later (head.Held s) old new v g k = holds_later v old new s g k
+
+-- what was visited is no part of what an unfolding stands for
+visits_mean : (o : Option Entry) (u : Unfolding) (v : Visits) (k : Known) → Means u o k → Means (record u { visits = v }) o k
+visits_mean None u v k h = h
+visits_mean (Some (entry.Struct i)) u v k h = h
+visits_mean (Some (entry.Value s)) u v k h = h
+
+pub stands_visited : (u : Unfolding) (v : Visits) (env : Env) → StandsFor u env → StandsFor (record u { visits = v }) env
+stands_visited u v env h = record { means = λ x. visits_mean (entry_of x u.names) u v (env x) (h.means x) }

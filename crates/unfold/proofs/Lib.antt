@@ -6,3 +6,4 @@ pub mod Loops
 pub mod Members
 pub mod Nodes
 pub mod Parts
+pub mod Placing

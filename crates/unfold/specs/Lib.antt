@@ -7,3 +7,4 @@ pub mod Leaves
 pub mod Bodies
 pub mod Faults
 pub mod Parts
+pub mod Fields

@@ -16,6 +16,7 @@ use crate::fault::{deeper, less};
 use crate::operators::{BinaryOp, UnaryOp};
 use crate::scope::{Head, Quantifier, Site};
 use crate::values::{Place, Stored, Whole};
+use crate::visits::Visits;
 use crate::{UnfoldFault, Unfolding};
 use c2po_tree::{Expr, Node};
 use mltl_base::{CountOp, List, LogicOp};
@@ -24,7 +25,13 @@ use plain_nodes::Plain;
 impl Unfolding {
     /// The value of an expression.
     #[cycle(building)]
-    pub(crate) fn build(&mut self, at: Site<'_>, e: &Expr, room: u32) -> Result<Stored, UnfoldFault>
+    pub(crate) fn build(
+        &mut self,
+        visits: &mut Visits,
+        at: Site<'_>,
+        e: &Expr,
+        room: u32,
+    ) -> Result<Stored, UnfoldFault>
         requires { room ≤ MAX_WEIGHT }
         ensures later { OnOk result (IsLater self.old self.new) }
         ensures light { IfOk result (λ s. s.weight ≤ room) }
@@ -34,7 +41,7 @@ impl Unfolding {
             → IfErr result (λ why. why ≡ Heavy → room < weight (value_of (shape e.now) env)) }
     {
         let depth = deeper(at.depth)?;
-        match self.head(depth, at.scope, e)? {
+        match self.head(visits, depth, at.scope, e)? {
             Head::Nothing => self.token(Plain::Truth(false), room),
             Head::Held(stored) => {
                 let _left = less(room, stored.weight)?;
@@ -42,15 +49,15 @@ impl Unfolding {
             }
             Head::Struct(scope, name, parts) => {
                 let within = Site { depth, scope, ..at };
-                let (members, weight) = self.build_all(within, parts, room)?;
+                let (members, weight) = self.build_all(visits, within, parts, room)?;
                 Ok(self.add_parts(Whole::Struct(name.copy()), members, weight)?)
             }
             Head::Set(scope, members) => {
                 let within = Site { depth, scope, ..at };
-                let (members, weight) = self.build_all(within, members, room)?;
+                let (members, weight) = self.build_all(visits, within, members, room)?;
                 Ok(self.add_parts(Whole::Set, members, weight)?)
             }
-            Head::Leaf(scope, e) => self.operator(Site { depth, scope, ..at }, e, room),
+            Head::Leaf(scope, e) => self.operator(visits, Site { depth, scope, ..at }, e, room),
         }
     }
 
@@ -58,6 +65,7 @@ impl Unfolding {
     #[cycle(building)]
     fn build_all(
         &mut self,
+        visits: &mut Visits,
         at: Site<'_>,
         es: &[Expr],
         room: u32,
@@ -76,7 +84,7 @@ impl Unfolding {
         let mut left = less(room, 1)?;
         let mut members = List::new(at.alloc);
         for e in es {
-            let member = self.build(at, e, left)?;
+            let member = self.build(visits, at, e, left)?;
             left -= member.weight;
             members.push(member)?;
         }
@@ -85,7 +93,13 @@ impl Unfolding {
 
     /// The value of a number, a truth, an operator or a quantifier.
     #[cycle(building)]
-    fn operator(&mut self, at: Site<'_>, e: &Expr, room: u32) -> Result<Stored, UnfoldFault>
+    fn operator(
+        &mut self,
+        visits: &mut Visits,
+        at: Site<'_>,
+        e: &Expr,
+        room: u32,
+    ) -> Result<Stored, UnfoldFault>
         requires { room ≤ MAX_WEIGHT }
         ensures later { OnOk result (IsLater self.old self.new) }
         ensures light { IfOk result (λ s. s.weight ≤ room) }
@@ -99,25 +113,44 @@ impl Unfolding {
         match &e.node {
             Node::Number(n) => self.token(Plain::Number(*n), room),
             Node::Truth(truth) => self.token(Plain::Truth(*truth), room),
-            Node::Minus(a) => self.unary(at, UnaryOp::Minus, a, room),
-            Node::Not(a) => self.unary(at, UnaryOp::Not, a, room),
+            Node::Minus(a) => self.unary(visits, at, UnaryOp::Minus, a, room),
+            Node::Not(a) => self.unary(visits, at, UnaryOp::Not, a, room),
             Node::Window(op, low, high, a) => {
-                self.unary(at, UnaryOp::Window(*op, *low, *high), a, room)
+                self.unary(visits, at, UnaryOp::Window(*op, *low, *high), a, room)
             }
-            Node::Arith(op, a, b) => self.binary(at, BinaryOp::Arith(*op), a, b, room),
-            Node::Compare(op, a, b) => self.binary(at, BinaryOp::Compare(*op), a, b, room),
-            Node::Logic(op, a, b) => self.binary(at, BinaryOp::Logic(*op), a, b, room),
+            Node::Arith(op, a, b) => self.binary(visits, at, BinaryOp::Arith(*op), a, b, room),
+            Node::Compare(op, a, b) => self.binary(visits, at, BinaryOp::Compare(*op), a, b, room),
+            Node::Logic(op, a, b) => self.binary(visits, at, BinaryOp::Logic(*op), a, b, room),
             Node::Between(op, low, high, a, b) => {
-                self.binary(at, BinaryOp::Between(*op, *low, *high), a, b, room)
+                self.binary(visits, at, BinaryOp::Between(*op, *low, *high), a, b, room)
             }
             Node::Each(name, set, body) => {
-                self.joined_bodies(at, LogicOp::And, Quantifier { name, set, body }, room)
+                self.joined_bodies(
+                    visits,
+                    at,
+                    LogicOp::And,
+                    Quantifier { name, set, body },
+                    room,
+                )
             }
             Node::Exists(name, set, body) => {
-                self.joined_bodies(at, LogicOp::Or, Quantifier { name, set, body }, room)
+                self.joined_bodies(
+                    visits,
+                    at,
+                    LogicOp::Or,
+                    Quantifier { name, set, body },
+                    room,
+                )
             }
             Node::Count(op, name, set, number, body) => {
-                self.counted_bodies(at, *op, *number, Quantifier { name, set, body }, room)
+                self.counted_bodies(
+                    visits,
+                    at,
+                    *op,
+                    *number,
+                    Quantifier { name, set, body },
+                    room,
+                )
             }
             Node::Ref(_) | Node::Build(..) | Node::Group(_) | Node::Pick(..) => {
                 self.token(Plain::Truth(false), room)
@@ -129,6 +162,7 @@ impl Unfolding {
     #[cycle(building)]
     fn unary(
         &mut self,
+        visits: &mut Visits,
         at: Site<'_>,
         op: UnaryOp,
         a: &Expr,
@@ -144,7 +178,7 @@ impl Unfolding {
             → room < weight (unary_value op (value_of (shape a.now) env))) }
     {
         let left = less(room, 1)?;
-        let a = self.build(at, a, left)?;
+        let a = self.build(visits, at, a, left)?;
         Ok(self.over_one(op, a)?)
     }
 
@@ -152,6 +186,7 @@ impl Unfolding {
     #[cycle(building)]
     fn binary(
         &mut self,
+        visits: &mut Visits,
         at: Site<'_>,
         op: BinaryOp,
         a: &Expr,
@@ -169,8 +204,8 @@ impl Unfolding {
             (binary_value op (value_of (shape a.now) env) (value_of (shape b.now) env))) }
     {
         let left = less(room, 1)?;
-        let a = self.build(at, a, left)?;
-        let b = self.build(at, b, left - a.weight)?;
+        let a = self.build(visits, at, a, left)?;
+        let b = self.build(visits, at, b, left - a.weight)?;
         Ok(self.over_two(op, a, b)?)
     }
 
@@ -178,6 +213,7 @@ impl Unfolding {
     #[cycle(building)]
     fn joined_bodies(
         &mut self,
+        visits: &mut Visits,
         at: Site<'_>,
         op: LogicOp,
         bodies: Quantifier<'_>,
@@ -192,16 +228,16 @@ impl Unfolding {
             → IfErr result
             (λ why. why ≡ Heavy → room < weight (connected_all op (bodies_of bodies.entry env))) }
     {
-        let set = self.head(at.depth, at.scope, bodies.set)?;
+        let set = self.head(visits, at.depth, at.scope, bodies.set)?;
         let count = self.member_count(&set);
         if count == 0 {
             return Ok(self.truth_leaf(false, 0)?);
         }
-        let first = self.body(at, bodies, &set, 0, room)?;
+        let first = self.body(visits, at, bodies, &set, 0, room)?;
         let mut all = self.formula_leaf(first)?;
         for i in 1..count {
             let left = less(room - all.weight, 1)?;
-            let next = self.body(at, bodies, &set, i, left)?;
+            let next = self.body(visits, at, bodies, &set, i, left)?;
             let joined = self.joined(op, all, next)?;
             all = joined;
         }
@@ -212,6 +248,7 @@ impl Unfolding {
     #[cycle(building)]
     fn body(
         &mut self,
+        visits: &mut Visits,
         at: Site<'_>,
         bodies: Quantifier<'_>,
         set: &Head<'_>,
@@ -231,13 +268,14 @@ impl Unfolding {
             → IfErr result (λ why. why ≡ Heavy → room < weight (body_value bodies.entry env v)) }
     {
         let scope = &self.member_scope(&*at.scope, &*bodies.name, &*set, i);
-        self.build(Site { scope, ..at }, bodies.body, room)
+        self.build(visits, Site { scope, ..at }, bodies.body, room)
     }
 
     /// A counting quantifier over its bodies, one for each member of its set.
     #[cycle(building)]
     fn counted_bodies(
         &mut self,
+        visits: &mut Visits,
         at: Site<'_>,
         op: CountOp,
         number: u64,
@@ -253,7 +291,7 @@ impl Unfolding {
             → IfErr result
             (λ why. why ≡ Heavy → room < weight (counted op number (bodies_of bodies.entry env))) }
     {
-        let (nodes, left) = self.body_nodes(at, bodies, room)?;
+        let (nodes, left) = self.body_nodes(visits, at, bodies, room)?;
         if nodes.is_empty() {
             return Ok(self.truth_leaf(false, 0)?);
         }
@@ -270,6 +308,7 @@ impl Unfolding {
     #[cycle(building)]
     fn body_nodes(
         &mut self,
+        visits: &mut Visits,
         at: Site<'_>,
         bodies: Quantifier<'_>,
         room: u32,
@@ -287,11 +326,11 @@ impl Unfolding {
             → IfErr result
             (λ why. why ≡ Heavy → room < sum_by weight (bodies_of bodies.entry env)) }
     {
-        let set = self.head(at.depth, at.scope, bodies.set)?;
+        let set = self.head(visits, at.depth, at.scope, bodies.set)?;
         let mut nodes = Vec::new(at.alloc);
         let mut left = room;
         for i in 0..self.member_count(&set) {
-            let next = self.body(at, bodies, &set, i, left)?;
+            let next = self.body(visits, at, bodies, &set, i, left)?;
             left -= next.weight;
             let node = self.formula(next)?;
             nodes.push(node)?;

@@ -12,15 +12,17 @@ ghost use Rattle.unfold.specs.Values.{Value, members, picked};
 use crate::fault::deeper;
 use crate::scope::{Head, Named, Scope};
 use crate::values::{Entry, Place, Stored, Whole};
+use crate::visits::Visits;
 use crate::{UnfoldFault, Unfolding};
 use c2po_tree::{Expr, Node};
 use mltl_base::Name;
 
 impl Unfolding {
     /// What a declared name stands for.
-    fn declared<'a>(&self, name: &Name) -> Named<'a>
+    fn declared<'a>(&self, visits: &mut Visits, name: &Name) -> Named<'a>
         ensures { (env : Env) → StandsFor self.now env → Names self.now result (env name.now) }
     {
+        visits.seek();
         match self.names.find(name) {
             None => Named::Nothing,
             Some(Entry::Struct(i)) => Named::Struct(i),
@@ -29,11 +31,11 @@ impl Unfolding {
     }
 
     /// What a name stands for: the innermost variable of that name, else what is declared.
-    fn look<'a>(&self, scope: &'a Scope<'a>, name: &Name) -> Named<'a>
+    fn look<'a>(&self, visits: &mut Visits, scope: &'a Scope<'a>, name: &Name) -> Named<'a>
         ensures { (env : Env) → Fits self.now scope.now env → Names self.now result (env name.now) }
     {
         match scope {
-            Scope::Top => self.declared(name),
+            Scope::Top => self.declared(visits, name),
             Scope::Open {
                 name: own,
                 expr,
@@ -43,7 +45,8 @@ impl Unfolding {
                 if name.bytes() == own.bytes() {
                     Named::Open(within, expr)
                 } else {
-                    self.look(outer, name)
+                    visits.pass();
+                    self.look(visits, outer, name)
                 }
             }
             Scope::Held {
@@ -54,26 +57,40 @@ impl Unfolding {
                 if name.bytes() == own.bytes() {
                     Named::Held(*stored)
                 } else {
-                    self.look(outer, name)
+                    visits.pass();
+                    self.look(visits, outer, name)
                 }
             }
         }
     }
 
     /// The place of a field among those of a struct.
-    fn field_place(&self, scope: &Scope<'_>, whole: &Name, field: &Name) -> Option<usize>
+    fn field_place(
+        &self,
+        visits: &mut Visits,
+        scope: &Scope<'_>,
+        whole: &Name,
+        field: &Name,
+    ) -> Option<usize>
         ensures { (env : Env) → Fits self.now scope.now env
             → result ≡ position (bytes_eq field.now) (fields_in (env whole.now)) }
     {
-        let Named::Struct(i) = self.look(scope, whole) else {
+        let Named::Struct(i) = self.look(visits, scope, whole) else {
             return None;
         };
         let fields = self.structs.as_slice().get(i as usize)?;
-        place_of(fields.as_slice(), field)
+        visits.seek();
+        fields.place(field)
     }
 
     /// The part of a stored struct's value that a field names; another value is its own part.
-    fn held_part(&self, scope: &Scope<'_>, stored: Stored, field: &Name) -> Stored
+    fn held_part(
+        &self,
+        visits: &mut Visits,
+        scope: &Scope<'_>,
+        stored: Stored,
+        field: &Name,
+    ) -> Stored
         ensures { (env : Env) (v : Value) → Fits self.now scope.now env → Holds self.now stored v
             → Holds self.now result (picked (λ y. fields_in (env y)) field.now v) }
     {
@@ -86,7 +103,7 @@ impl Unfolding {
         let Whole::Struct(whole) = &parts.whole else {
             return stored;
         };
-        let Some(place) = self.field_place(scope, whole, field) else {
+        let Some(place) = self.field_place(visits, scope, whole, field) else {
             return stored;
         };
         match parts.members.as_slice().get(place) {
@@ -99,6 +116,7 @@ impl Unfolding {
     #[cycle(heading)]
     pub(crate) fn head<'a>(
         &self,
+        visits: &mut Visits,
         levels: u32,
         scope: &'a Scope<'a>,
         e: &'a Expr,
@@ -107,16 +125,17 @@ impl Unfolding {
             → IfOk result (λ h. Heads self.now h (value_of (shape e.now) env)) }
         ensures memory { IfErr result (λ why. why ≡ Memory) }
     {
+        visits.visit()?;
         let levels = deeper(levels)?;
         match &e.node {
-            Node::Ref(name) => match self.look(scope, name) {
-                Named::Open(within, expr) => self.head(levels, within, expr),
+            Node::Ref(name) => match self.look(visits, scope, name) {
+                Named::Open(within, expr) => self.head(visits, levels, within, expr),
                 Named::Held(stored) => Ok(Head::Held(stored)),
                 Named::Nothing | Named::Struct(_) => Ok(Head::Nothing),
             },
             Node::Pick(whole, field) => {
-                let whole = self.head(levels, scope, whole)?;
-                self.part(levels, scope, whole, field)
+                let whole = self.head(visits, levels, scope, whole)?;
+                self.part(visits, levels, scope, whole, field)
             }
             Node::Build(name, parts) => Ok(Head::Struct(scope, name, parts.as_slice())),
             Node::Group(members) => Ok(Head::Set(scope, members.as_slice())),
@@ -128,6 +147,7 @@ impl Unfolding {
     #[cycle(heading)]
     fn part<'a>(
         &self,
+        visits: &mut Visits,
         levels: u32,
         scope: &'a Scope<'a>,
         whole: Head<'a>,
@@ -138,21 +158,22 @@ impl Unfolding {
             → IfOk result (λ h. Heads self.now h (picked (λ y. fields_in (env y)) field.now v)) }
         ensures memory { IfErr result (λ why. why ≡ Memory) }
     {
+        visits.visit()?;
         let levels = deeper(levels)?;
         match whole {
             Head::Struct(within, name, parts) => {
-                let Some(place) = self.field_place(scope, name, field) else {
+                let Some(place) = self.field_place(visits, scope, name, field) else {
                     return Ok(whole);
                 };
                 match parts.get(place) {
                     Some(part) => {
-                        let part = self.head(levels, within, part)?;
+                        let part = self.head(visits, levels, within, part)?;
                         Ok(part)
                     }
                     None => Ok(whole),
                 }
             }
-            Head::Held(stored) => Ok(Head::Held(self.held_part(scope, stored, field))),
+            Head::Held(stored) => Ok(Head::Held(self.held_part(visits, scope, stored, field))),
             Head::Nothing | Head::Set(..) | Head::Leaf(..) => Ok(whole),
         }
     }
@@ -216,11 +237,4 @@ impl Unfolding {
             Head::Nothing | Head::Struct(..) | Head::Leaf(..) => *scope,
         }
     }
-}
-
-/// The place of a name among names.
-fn place_of(names: &[Name], name: &Name) -> Option<usize>
-    ensures { result ≡ position (bytes_eq name.now) names.now }
-{
-    names.iter().position(|own| name.bytes() == own.bytes())
 }

@@ -1,13 +1,14 @@
 //! Unfolding: from expressions whose names stand for values to plain nodes.
 //!
-//! [`Unfolding`] holds what the names of a specification stand for, and the nodes that their values unfold to. A value
-//! that has a name is unfolded once. Nothing is unfolded that a value doesn't have: a part that a picked field leaves
-//! aside, or a member of a set that a body doesn't use, is never visited.
+//! [`Unfolding`] holds what the names of a specification stand for, and the nodes that their values unfold to. Nothing is
+//! unfolded that a value doesn't have: a part that a picked field leaves aside, or a member of a set that a body doesn't
+//! use, is never visited. Nodes and visits are limited.
 #![tactic(auto)]
 
 pub mod building;
 pub mod counting;
 pub mod fault;
+pub mod fields;
 pub mod heads;
 pub mod laws;
 pub mod leaves;
@@ -15,6 +16,7 @@ pub mod operators;
 pub mod scope;
 pub mod unfolding;
 pub mod values;
+pub mod visits;
 
 pub use fault::UnfoldFault;
 pub use unfolding::{Unfolded, Unfolding};

@@ -16,8 +16,10 @@ ghost use Rattle.unfold.specs.Holding.{HoldAll, Holds, IsLater, Means, StandsFor
 ghost use Rattle.unfold.specs.Values.{Value, Values, formula_of, set, structure, weight};
 
 use crate::UnfoldFault;
+use crate::fields::Fields;
 use crate::scope::{Scope, Site};
 use crate::values::{Entry, Parts, Place, Stored, Whole};
+use crate::visits::Visits;
 use c2po_tree::Expr;
 use mltl_base::{List, Name};
 use mltl_ranges::NoRange;
@@ -32,9 +34,10 @@ const DEPTH: u32 = u32::MAX;
 #[derive(Drop)]
 pub struct Unfolding {
     pub(crate) names: NameTable<Entry>,
-    pub(crate) structs: List<List<Name>>,
+    pub(crate) structs: List<Fields>,
     pub(crate) parts: List<Parts>,
     pub(crate) nodes: Nodes,
+    visits: Visits,
 }
 
 /// The formula of an expression: its node, its weight, the first fault of its whole numbers, and its tenses.
@@ -57,6 +60,7 @@ impl Unfolding {
             structs: List::new(alloc),
             parts: List::new(alloc),
             nodes: Nodes::new(alloc),
+            visits: Visits::new(),
         }
     }
 
@@ -73,7 +77,8 @@ impl Unfolding {
         ensures grows { OnOk result (Grows (nodes_of self.old) (nodes_of self.new)) }
     {
         let place = next_place(self.structs.len())?;
-        self.structs.push(names)?;
+        let fields = Fields::of(alloc, names)?;
+        self.structs.push(fields)?;
         self.declare(alloc, name, Entry::Struct(place))?;
         Ok(())
     }
@@ -104,8 +109,8 @@ impl Unfolding {
         Ok(())
     }
 
-    /// Declares a name for the value of an expression, which is unfolded here, once. A name that is known keeps its
-    /// meaning. The answer is the first fault of the value's whole numbers. `Heavy` is the answer exactly where the
+    /// Declares a name for the value of an expression, which is unfolded here. A name that is known keeps its meaning. The
+    /// answer is the first fault of the value's whole numbers. `Heavy` is the answer exactly where the
     /// value's weight is above the room.
     pub fn define(
         &mut self,
@@ -133,7 +138,9 @@ impl Unfolding {
             depth: DEPTH,
             scope: &Scope::Top,
         };
-        let stored = self.build(at, e, room)?;
+        let mut visits = self.visits;
+        let stored = self.build(&mut visits, at, e, room)?;
+        self.visits = visits;
         self.declare(alloc, name, Entry::Value(stored))?;
         Ok(stored.fault)
     }
@@ -160,7 +167,9 @@ impl Unfolding {
             depth: DEPTH,
             scope: &Scope::Top,
         };
-        let stored = self.build(at, e, room)?;
+        let mut visits = self.visits;
+        let stored = self.build(&mut visits, at, e, room)?;
+        self.visits = visits;
         let node = self.formula(stored)?;
         Ok(Unfolded {
             node,

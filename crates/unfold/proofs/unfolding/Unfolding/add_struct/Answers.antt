@@ -1,4 +1,4 @@
-use Rattle.std.proofs.Common.{refl, sym, subst, ◌∙◌}
+use Rattle.std.proofs.Common.{◌≡◌, ℕ, List, Some, slice_get, refl, sym, subst, ◌∙◌}
 use Rattle.plain_nodes.specs.Nodes.{Grows}
 use Rattle.plain_nodes.proofs.Pushing.{grows_same}
 use Rattle.unfold.specs.Environment.{fields}
@@ -11,9 +11,10 @@ pub returns-clause-stands : goal.returns-clause-stands
 returns-clause-stands c = λ env h.
     c.in_ok-declare.ensures.stands env (fields c.args.names)
     (stands_kept c.args.self.now (record c.args.self.now { structs = c.push.new.self }) env refl
-    (structs_push c.args.self.now c.push.new.self c.args.names c.in_ok-push.ensures.pushed) h) (
+    (structs_push c.args.self.now c.push.new.self c.in_ok-fields.fields c.in_ok-push.ensures.pushed) h) (
       c.args.names,
-      at_place c.args.self.now.structs c.push.new.self c.args.names c.in_ok-place.place c.in_ok-push.ensures.pushed (c.in_ok-place.ensures ∙ c.len.ensures),
+      subst (λ (xs : List (List ℕ)). slice_get c.push.new.self c.in_ok-place.place ≡ Some xs) c.in_ok-fields.ensures
+          (at_place c.args.self.now.structs c.push.new.self c.in_ok-fields.fields c.in_ok-place.place c.in_ok-push.ensures.pushed (c.in_ok-place.ensures ∙ c.len.ensures)),
       refl,
     )
 

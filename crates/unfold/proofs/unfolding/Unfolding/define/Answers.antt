@@ -2,14 +2,14 @@ use Rattle.std.proofs.Common.{refl, sym, subst}
 use Rattle.c2po_tree.specs.Shape.{shape}
 use Rattle.plain_nodes.specs.Nodes.{Grows}
 use Rattle.unfold.specs.Environment.{value, value_of}
-use Rattle.unfold.proofs.Later.{stands_later}
+use Rattle.unfold.proofs.Later.{stands_later, stands_visited}
 use Rattle.unfold.proofs.Members.{holds_fault}
 use Rattle.unfold.proofs.unfolding.Unfolding.define.Goals as goal
 
 pub returns-clause-stands : goal.returns-clause-stands
 returns-clause-stands c = λ env h.
     c.in_ok-declare.ensures.stands env (value (value_of (shape c.args.e.now) env))
-    (stands_later c.args.self.now c.build.new.self env c.in_ok-stored.ensures.later h)
+    (stands_visited c.build.new.self c.build.new.visits env (stands_later c.args.self.now c.build.new.self env c.in_ok-stored.ensures.later h))
     (value_of (shape c.args.e.now) env, c.in_ok-stored.ensures.holds env h, refl)
 
 pub returns-clause-fault : goal.returns-clause-fault

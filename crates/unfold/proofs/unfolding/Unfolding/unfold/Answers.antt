@@ -2,14 +2,14 @@ use Rattle.c2po_tree.specs.Shape.{shape}
 use Rattle.plain_nodes.specs.Nodes.{formula}
 use Rattle.unfold.specs.Values.{formula_of}
 use Rattle.unfold.specs.Environment.{value_of}
-use Rattle.unfold.proofs.Later.{stands_later}
+use Rattle.unfold.proofs.Later.{stands_later, stands_visited}
 use Rattle.unfold.proofs.Members.{holds_weight}
 use Rattle.unfold.proofs.unfolding.Unfolding.unfold.Goals as goal
 
 pub returns-clause-stands : goal.returns-clause-stands
 returns-clause-stands c = λ env h.
-    stands_later c.build.new.self c.formula.new.self env c.in_ok-node.ensures.later
-    (stands_later c.args.self.now c.build.new.self env c.in_ok-stored.ensures.later h)
+    stands_later (record c.build.new.self { visits = c.build.new.visits }) c.formula.new.self env c.in_ok-node.ensures.later
+    (stands_visited c.build.new.self c.build.new.visits env (stands_later c.args.self.now c.build.new.self env c.in_ok-stored.ensures.later h))
 
 pub returns-clause-unfolds : goal.returns-clause-unfolds
 returns-clause-unfolds c = λ env h.

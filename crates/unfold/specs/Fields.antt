@@ -1,0 +1,9 @@
+-- The places of a struct's fields.
+
+use Rattle.std.specs.Prelude.{ℕ, ◌≡◌, List, position}
+use Rattle.std.specs.Str.{bytes_eq}
+use Rattle.name_table.specs.Tables.{Table, entry_of}
+
+-- a table has the place of each name among names, the first one where there are two
+pub record ArePlaces (table : Table ℕ) (names : List (List ℕ)) : Type 0 where
+  pub found : (x : List ℕ) → entry_of x table ≡ position (bytes_eq x) names
