@@ -6,3 +6,4 @@ pub mod Holding
 pub mod Settled
 pub mod Alike
 pub mod Fitting
+pub mod Delays
