@@ -9,7 +9,7 @@ ghost use Rattle.trace_feed.specs.Rows.{line_meaning};
 ghost use Rattle.trace_watch.specs.Feed.{Stamped as StampedRows, stamped_line, time_of};
 ghost use Rattle.trace_watch.specs.Turns.{CanTake, Finds, FindsFields, IfRow, IsLast, times_until};
 
-use crate::TraceWhy;
+use crate::status::LineFault;
 use mltl_monitor::Monitor;
 use sparse_feed::{Stamp, gap, stamp_of};
 use trace_feed::RowAnswer;
@@ -24,14 +24,14 @@ pub(crate) enum Reader {
 }
 
 /// What a line is.
-#[derive(Drop)]
+#[derive(Clone, Copy)]
 pub(crate) enum Found {
     /// A row, which the monitor has read. So many copies of the last one come before it, and the next line is read so.
     Row(u64, Reader),
     /// No row.
     Blank,
     /// No row, for this fault.
-    Bad(TraceWhy),
+    Bad(LineFault),
     /// A row past the mission time.
     Past,
 }
@@ -56,11 +56,11 @@ pub(crate) fn read_fields(
         RowAnswer::Good => Found::Row(copies, reader),
         RowAnswer::Blank => match reader {
             Reader::Plain => Found::Blank,
-            Reader::Stamped(_) => Found::Bad(TraceWhy::Width),
+            Reader::Stamped(_) => Found::Bad(LineFault::Width),
         },
-        RowAnswer::Width => Found::Bad(TraceWhy::Width),
-        RowAnswer::NotWhole(column) => Found::Bad(TraceWhy::NotWhole(column)),
-        RowAnswer::OutOfRange(column) => Found::Bad(TraceWhy::OutOfRange(column)),
+        RowAnswer::Width => Found::Bad(LineFault::Width),
+        RowAnswer::NotWhole(column) => Found::Bad(LineFault::NotWhole(column)),
+        RowAnswer::OutOfRange(column) => Found::Bad(LineFault::OutOfRange(column)),
     }
 }
 
@@ -84,8 +84,8 @@ pub(crate) fn read_stamped(
 {
     match stamp_of(line, last, mission) {
         Stamp::Blank => Found::Blank,
-        Stamp::Bad => Found::Bad(TraceWhy::Stamp),
-        Stamp::Order => Found::Bad(TraceWhy::Order),
+        Stamp::Bad => Found::Bad(LineFault::Stamp),
+        Stamp::Order => Found::Bad(LineFault::Order),
         Stamp::Late => Found::Past,
         Stamp::At(time, place) => {
             let copies = gap(last, time);
