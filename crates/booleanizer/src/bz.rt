@@ -42,7 +42,11 @@ impl Bz {
         ensures numbers { self.new ≡ numbers_on fields.now checked.now.bz }
         ensures len { length self.new ≡ length checked.now.bz }
     {
-        evaluate(checked.program().bz.as_slice(), fields, self.numbers.as_mut_slice());
+        evaluate(
+            checked.program().bz.as_slice(),
+            fields,
+            self.numbers.as_mut_slice(),
+        );
     }
 
     /// The truth of an instruction on the last row.

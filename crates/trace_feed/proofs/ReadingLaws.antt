@@ -1,6 +1,6 @@
 -- The readings of a program, as one list.
-use Rattle.std.proofs.Common.{◌≡◌, ◌++◌, ℕ, List, [], length, take, drop, get_or, replicate, arith, sym, ◌∙◌, ap}
-use Rattle.std.proofs.lemmas.List.{append-nil, drop_all, ext_get_or, get_or-replicate, length-replicate, take_all}
+use Rattle.std.proofs.Common.{◌≡◌, ℕ, List, [], length, get_or, replicate, arith, sym, ◌∙◌, ap}
+use Rattle.std.proofs.lemmas.List.{ext_get_or, get_or-replicate, length-replicate}
 use Rattle.std.proofs.lemmas.List.FromFn.{get_or-map-range_with_len, length-map-range_with_len}
 use Rattle.mltl_base.specs.declared.program.Program.{Program}
 use Rattle.trace_feed.specs.Readings.{AreReadings, readings_of}

@@ -1,4 +1,4 @@
-use Rattle.std.proofs.Common.{◌≡◌, ap, subst, sym, ◌∙◌, List, length}
+use Rattle.std.proofs.Common.{◌≡◌, ap, subst, ◌∙◌, List, length}
 use Rattle.fixed_list.specs.Lending.{with_members}
 use Rattle.fixed_list.proofs.Members.{with_members_is}
 use Rattle.mltl_base.specs.declared.operators.BzOp.{BzOp}
