@@ -5,3 +5,4 @@ pub mod Keeping
 pub mod Settled
 pub mod Alike
 pub mod Fitting
+pub mod Delays
