@@ -1,12 +1,12 @@
 -- What the calls of C tell, over what C keeps: the state of a monitor, if one is open.
 
-use Rattle.std.specs.Prelude.{ℕ, ◌≡◌, ◌≢◌, ◌<◌, ◌≤◌, Option, Some, None, Result, Ok, Err, List, [], ◌∷◌}
+use Rattle.std.specs.Prelude.{ℕ, ◌≡◌, ◌≢◌, ◌<◌, ◌≤◌, Option, Some, None, Result, Ok, Err, List, ◌∷◌}
 use Rattle.mltl_base.specs.declared.program.Program.{Program}
 use Rattle.mltl_base.specs.declared.report.Report.{Report}
 use Rattle.mltl_base.specs.declared.report.Style.{Style}
 use Rattle.mltl_base.specs.Atoms.{Row}
 use Rattle.mltl_monitor.specs.declared.state.State.{State}
-use Rattle.mltl_monitor.specs.Monitoring.{HasGiven, Stands, TakesRow, open_of, program_of}
+use Rattle.mltl_monitor.specs.Monitoring.{HasGiven, Stands, TakesRow, open_of}
 use Rattle.mltl_monitor.specs.declared.row_fault.RowFault.{RowFault}
 use Rattle.mltl_monitor.specs.declared.row_fault.RowFault.TheVariants.{ReportsLeft, NotARow, TooManyRows}
 use Rattle.mltl_monitor.specs.RowFaults.{IsRowCause}

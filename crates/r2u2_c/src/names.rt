@@ -11,7 +11,7 @@ use mltl_base::Name;
 pub(crate) fn write_name(name: &Name, buffer: &mut [u8]) -> u32
     ensures named { 0 < result → WritesName name.now result buffer.old buffer.new }
     ensures untold { result ≡ 0 → buffer.new ≡ buffer.old }
-    ensures enough { length name.now ≤ length buffer.old → 0 < result }
+    ensures enough { 64 ≤ length buffer.old → 0 < result }
 {
     let bytes = name.bytes();
     if bytes.len() > buffer.len() {

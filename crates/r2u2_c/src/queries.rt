@@ -191,13 +191,7 @@ fn signal_count_of(monitor: &Monitor) -> u32
     monitor.checked().program().signals.len() as u32
 }
 
-fn signal_in(
-    monitor: &Monitor,
-    k: u32,
-    column: &mut u32,
-    kind: &mut u32,
-    buffer: &mut [u8],
-) -> u32
+fn signal_in(monitor: &Monitor, k: u32, column: &mut u32, kind: &mut u32, buffer: &mut [u8]) -> u32
     ensures tells { 0 < result → IsSomeAnd (slice_get (signals_of (Some monitor.now)) k)
         (λ signal. TellsSignal signal column.new kind.new) }
     ensures named { 0 < result → IsSomeAnd (slice_get (signals_of (Some monitor.now)) k)
@@ -207,18 +201,19 @@ fn signal_in(
     ensures enough { k < length (signals_of (Some monitor.now)) → 64 ≤ length buffer.old
         → 0 < result }
 {
-    match monitor.checked().program().signals.as_slice().get(k as usize) {
+    match monitor
+        .checked()
+        .program()
+        .signals
+        .as_slice()
+        .get(k as usize)
+    {
         None => 0,
         Some(signal) => tell_signal(signal, column, kind, buffer),
     }
 }
 
-fn tell_signal(
-    signal: &StoredSignal,
-    column: &mut u32,
-    kind: &mut u32,
-    buffer: &mut [u8],
-) -> u32
+fn tell_signal(signal: &StoredSignal, column: &mut u32, kind: &mut u32, buffer: &mut [u8]) -> u32
     ensures tells { 0 < result → TellsSignal signal.now column.new kind.new }
     ensures named { 0 < result → WritesName signal.now.name result buffer.old buffer.new }
     ensures untold { result ≡ 0 → (column.new ≡ column.old)

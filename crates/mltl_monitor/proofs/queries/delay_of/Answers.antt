@@ -22,4 +22,4 @@ returns c =
     slice_get_read c.as_slice.result.now _ c.args.k c.in_ok-out.out.now refl c.in_ok-out.ensures.lookup.3.0 c.in_ok-out.ensures.lookup.1 in
     ap Some c.delay_of_output.ensures
     ∙ sym (ap (option_map delay) (slice_get-map (output_of c.args.checked.now) c.args.checked.now.outs c.args.k
-           ∙ ap (option_map (output_of c.args.checked.now)) (ap (λ (xs : List Out). slice_get xs c.args.k) (sym outs) ∙ there)))
+    ∙ ap (option_map (output_of c.args.checked.now)) (ap (λ (xs : List Out). slice_get xs c.args.k) (sym outs) ∙ there)))
