@@ -11,7 +11,6 @@ pub mod laws;
 mod negation;
 mod operand;
 mod queue;
-mod restart;
 mod rows;
 mod until;
 

@@ -1,8 +1,7 @@
 -- A monitor holds the bytes that its program takes.
 
-use Rattle.std.proofs.Common.{◌≡◌, ℕ, ◌+◌, ◌*◌, List, [], length, refl, arith}
+use Rattle.std.proofs.Common.{◌≡◌, [], length, arith}
 use Rattle.std.proofs.lemmas.List.{length-map}
-use Rattle.mltl_base.specs.Atoms.{Row}
 use Rattle.mltl_base.specs.Queues.{best_delays, best_of, worst_delays, worst_of}
 use Rattle.mltl_base.specs.declared.program.Program.{Program}
 use Rattle.delay_sizes.proofs.DelayLaws.{length-numbered_after}

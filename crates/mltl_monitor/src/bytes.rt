@@ -1,7 +1,7 @@
 //! How many bytes a monitor takes: the blocks of all lists that it holds, by the sizes of their elements on x86-64 and on
 //! aarch64 alike.
 
-ghost use Rattle.std.specs.Prelude.{◌≡◌, ◌*◌, ◌<◌, ◌≤◌, ◌^◌};
+ghost use Rattle.std.specs.Prelude.{◌≡◌, ◌+◌, ◌*◌, ◌<◌, ◌^◌};
 ghost use Rattle.mltl_base.specs.Room.{room};
 ghost use Rattle.obs_verify.specs.Layout.{HasLayout};
 ghost use Rattle.obs_verify.specs.Running.{RunsFuture, RunsPast};
@@ -38,14 +38,23 @@ pub const TIME_BYTES: usize = 8;
 pub const READING_BYTES: usize = 1;
 
 const _: () = prove!(size_of::<BzOp>() == BZ_OP_BYTES);
+
 const _: () = prove!(size_of::<FtOp>() == FT_OP_BYTES);
+
 const _: () = prove!(size_of::<PtOp>() == PT_OP_BYTES);
+
 const _: () = prove!(size_of::<Out>() == OUT_BYTES);
+
 const _: () = prove!(size_of::<StoredSignal>() == SIGNAL_BYTES);
+
 const _: () = prove!(size_of::<u32>() == SIZE_BYTES);
+
 const _: () = prove!(size_of::<Option<u32>>() == READER_BYTES);
+
 const _: () = prove!(size_of::<i64>() == NUMBER_BYTES);
+
 const _: () = prove!(size_of::<u64>() == TIME_BYTES);
+
 const _: () = prove!(size_of::<Reading>() == READING_BYTES);
 
 /// The bytes of the block of a list with so many members.
@@ -78,6 +87,14 @@ fn checked_bytes(program: &Program) -> u64
         + list_bytes(READER_BYTES, program.bz.len())
 }
 
+/// The bytes of how columns are read, and of two rows.
+fn column_bytes(width: u32) -> u64
+    ensures bytes { result ≡ READING_BYTES * width + NUMBER_BYTES * width + NUMBER_BYTES * width }
+    ensures few { result < 2 ^ 40 }
+{
+    (READING_BYTES + 2 * NUMBER_BYTES) as u64 * u64::from(width)
+}
+
 /// The bytes of what runs and of the rows.
 fn running_bytes(program: &Program) -> u64
     requires layout { HasLayout program.now }
@@ -88,19 +105,18 @@ fn running_bytes(program: &Program) -> u64
 {
     let slots = total(program.sizes.ft.as_slice());
     let boxes = total(program.sizes.pt.as_slice());
-    let engines = (NUMBER_BYTES * program.bz.len()) as u64
+    (NUMBER_BYTES * program.bz.len()) as u64
         + (QUEUE_BYTES * program.ft.len()) as u64
         + SLOT_BYTES as u64 * slots
         + (NODE_BYTES * program.pt.len()) as u64
         + SPAN_BYTES as u64 * boxes
-        + (TIME_BYTES * program.outs.len()) as u64;
-    let column = READING_BYTES + 2 * NUMBER_BYTES;
-    engines + column as u64 * u64::from(program.width)
+        + (TIME_BYTES * program.outs.len()) as u64
+        + column_bytes(program.width)
 }
 
 /// How many bytes a monitor of the program takes when it is loaded, in all its blocks together. It takes none for the
 /// answer.
-#[tactic(auto, using(obs_verify::proofs::RunLaws::runs_future, obs_verify::proofs::RunLaws::runs_past))]
+#[tactic(auto, using(obs_verify::proofs::RunLaws::runs_future))]
 pub fn monitor_bytes(checked: &Checked) -> u64
     ensures bytes { result ≡ monitor_bytes checked.now }
     ensures few { result < 2 ^ 49 }
