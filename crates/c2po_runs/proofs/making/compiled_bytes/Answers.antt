@@ -4,6 +4,7 @@ use Rattle.std.specs.Option.{option_copied}
 use Rattle.c2po_tree.specs.ItemShape.{spec_shape}
 use Rattle.tool_runs.proofs.StatusLaws.{told_fault, told_value}
 use Rattle.c2po_runs.specs.Made.{compile_status}
+use Rattle.c2po_runs.proofs.WrittenImages.{image_written}
 use Rattle.c2po_runs.proofs.MakingLaws.{header_refuses, limit_refuses, text_written}
 use Rattle.c2po_runs.proofs.making.compiled_bytes.Goals as goal
 
@@ -28,3 +29,10 @@ returns-clause-made c =
     let made = told_value c.program_of.result c.map_err-2.result _ c.in_ok-checked.checked _ c.map_err-2.ensures.cases c.in_ok-checked.was c.program_of.ensures.image in
     let within = told_value c.program_of.result c.map_err-2.result _ c.in_ok-checked.checked _ c.map_err-2.ensures.cases c.in_ok-checked.was c.program_of.ensures.within in
     text_written c.args.form (option_copied c.args.header) (spec_shape c.args.spec.now) c.in_ok-columns.columns c.in_ok-checked.checked c.written.result named made within c.written.ensures.bytes
+
+pub returns-clause-image : goal.returns-clause-image
+returns-clause-image c =
+    let named = told_value c.columns_of.result c.map_err.result _ c.in_ok-columns.columns _ c.map_err.ensures.cases c.in_ok-columns.was c.columns_of.ensures.columns in
+    let serve = told_value c.columns_of.result c.map_err.result _ c.in_ok-columns.columns _ c.map_err.ensures.cases c.in_ok-columns.was c.columns_of.ensures.serve in
+    let made = told_value c.program_of.result c.map_err-2.result _ c.in_ok-checked.checked _ c.map_err-2.ensures.cases c.in_ok-checked.was c.program_of.ensures.image in
+    image_written c.args.form (option_copied c.args.header) (spec_shape c.args.spec.now) c.in_ok-columns.columns c.in_ok-checked.checked c.written.result named serve made c.written.ensures.bytes c.written.ensures.fits
