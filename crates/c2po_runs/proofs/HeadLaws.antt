@@ -23,13 +23,18 @@ use Rattle.tool_runs.proofs.LineLaws.{text_short}
 use Rattle.c2po_runs.specs.declared.make.Form.{Form}
 use Rattle.tool_runs.specs.FirstLine.{begins_long}
 use Rattle.c2po_runs.specs.Made.{compile_status, compiled_bytes, text_bytes, unless_long, first_line, made_of_text}
-use Rattle.c2po_runs.specs.Phases.{Refuses, ReadsLine, LineLog, HeaderLog, RefusedLog, MadeLog}
+use Rattle.c2po_runs.specs.Phases.{Refuses, RefusesAlone, ReadsLine, LineLog, HeaderLog, RefusedLog, MadeLog}
 use Rattle.c2po_runs.proofs.MakingLaws.{headed, refused_by, refused_so}
 
--- what a call that makes no other call answers
+-- what a call that makes bytes under a header line answers
 abbrev pub Made : Result (Vec ℕ Global) status.Status → Result (List ℕ) status.Status → Type 0
 Made (Ok bytes) found = found ≡ Ok bytes.items
 Made (Err answer) found = Refuses answer × (answer ≢ answers.Memory → found ≡ Err answer)
+
+-- and one that makes them without
+abbrev pub MadeAlone : Result (Vec ℕ Global) status.Status → Result (List ℕ) status.Status → Type 0
+MadeAlone (Ok bytes) found = found ≡ Ok bytes.items
+MadeAlone (Err answer) found = RefusesAlone answer × (answer ≢ answers.Memory → found ≡ Err answer)
 
 pub line_short : (cut : Cutting) (events : List Event) → CutsLine Header fresh cut line.TheVariants.Row events → length (line_text (row_of cut)) ≤ 65535
 line_short cut events cuts =
@@ -61,6 +66,7 @@ module _ (cut : Cutting) (events : List Event) where
           bytes = concat cuts.pieces;
           ended = cut.ended;
           takes = cut_takes line.TheVariants.Row cuts;
+          begun = inr (λ none. let no : raw ∷ lines.0 ≡ [] = sym are ∙ none in cc);
           makes = λ name. headed form name text (lines_of cut.ended (concat cuts.pieces)) none
               ∙ ap (λ b. unless_long b (text_bytes form text (Some (first_line (lines_of cut.ended (concat cuts.pieces)))))) short
               ∙ ap (λ l. text_bytes form text (Some l)) first ∙ is;
@@ -85,6 +91,7 @@ module _ (cut : Cutting) (events : List Event) where
             bytes = concat cuts.pieces;
             ended = cut.ended;
             takes = cut_takes line.TheVariants.End cuts;
+            begun = inl cuts.answer.2;
             makes = λ name. headed form name text (lines_of cut.ended (concat cuts.pieces)) none
                 ∙ ap (λ lines. unless_long (begins_long lines) (text_bytes form text (Some (first_line lines)))) are
                 ∙ ap (compiled_bytes form.table) (refused_by form.simplify text (Some []) (compile.BadHeader NoHeader) (header_refused text (Some []) (compile.BadHeader NoHeader) none refl));
@@ -105,6 +112,7 @@ module _ (cut : Cutting) (events : List Event) where
           bytes = concat cuts.pieces;
           ended = cut.ended;
           takes = cut_takes line.TheVariants.LongLine cuts;
+          begun = inr (λ none. let no : long.raw ∷ long.others ≡ [] = sym long.split ∙ ap (lines_of cut.ended) (append-nil (concat cuts.pieces)) ∙ none in cc);
           makes = λ name. headed form name text (lines_of cut.ended (concat cuts.pieces)) none
               ∙ ap (λ b. unless_long b (text_bytes form text (Some (first_line (lines_of cut.ended (concat cuts.pieces)))))) begins;
         }
@@ -130,16 +138,22 @@ pub made_so : (form : Form) (header : Option (List ℕ)) (items : List ItemShape
 made_so form header items text (Ok bytes) made refused speaks none same = made text none same
 made_so form header items text (Err answer) made refused speaks none same = (speaks, λ some. refused some text none same)
 
-pub made_log : (found : Result (List ℕ) status.Status) (result : Result (Vec ℕ Global) status.Status) → Made result found → MadeLog result found []
+pub alone_so : (form : Form) (items : List ItemShape) (text : List ℕ) (result : Result (Vec ℕ Global) status.Status)
+    → IfOk result (λ bytes. (text : List ℕ) → first_refusal text ≡ None → items ≡ items_in text → text_bytes form text None ≡ Ok bytes.items)
+    → IfErr result (λ answer. answer ≢ answers.Memory → (text : List ℕ) → first_refusal text ≡ None → items ≡ items_in text → text_bytes form text None ≡ Err answer)
+    → IfErr result RefusesAlone → first_refusal text ≡ None → items ≡ items_in text → MadeAlone result (text_bytes form text None)
+alone_so form items text (Ok bytes) made refused speaks none same = made text none same
+alone_so form items text (Err answer) made refused speaks none same = (speaks, λ some. refused some text none same)
+
+pub made_log : (found : Result (List ℕ) status.Status) (result : Result (Vec ℕ Global) status.Status) → MadeAlone result found → MadeLog result found []
 made_log found (Ok bytes) made = (refl, made)
 made_log found (Err answers.Memory) made = refl
 made_log found (Err (answers.Refused line why)) made = (refl, tt, made.1 (λ e. cc))
 made_log found (Err (answers.BadProgram fault)) made = (refl, tt, made.1 (λ e. cc))
-made_log found (Err (answers.BadHeader why)) made = (refl, tt, made.1 (λ e. cc))
 made_log found (Err (answers.TextTooLong Out)) made = (refl, tt, made.1 (λ e. cc))
 made_log found (Err answer) made = absurd made.0
 
-pub program_made : (found : Result (List ℕ) status.Status) (result : Result (Vec ℕ Global) status.Status) → IfOk result (λ made. found ≡ Ok made.items) → IfErr result (λ answer. answer ≢ answers.Memory → found ≡ Err answer) → IfErr result Refuses → MadeLog result found []
+pub program_made : (found : Result (List ℕ) status.Status) (result : Result (Vec ℕ Global) status.Status) → IfOk result (λ made. found ≡ Ok made.items) → IfErr result (λ answer. answer ≢ answers.Memory → found ≡ Err answer) → IfErr result RefusesAlone → MadeLog result found []
 program_made found (Ok bytes) made refused speaks = made_log found (Ok bytes) made
 program_made found (Err answer) made refused speaks = made_log found (Err answer) (speaks, refused)
 

@@ -10,6 +10,7 @@ use Rattle.tool_io.specs.Cutting.{lines_of}
 use Rattle.spec_compile.specs.Front.{first_refusal}
 use Rattle.tool_runs.specs.declared.status.Status as status
 use Rattle.tool_runs.specs.Attaching.{is_attached, ReadsAttached, OpensAsTold}
+use Rattle.tool_runs.specs.FirstLine.{HasBegun}
 use Rattle.c2po_runs.specs.declared.make.Form.{Form}
 use Rattle.c2po_runs.specs.declared.make.Product.{Product}
 use Rattle.c2po_runs.specs.declared.make.Product.TheVariants.{Compiled, Upgrade, Show}
@@ -27,11 +28,17 @@ Refuses (status.TheVariants.TextTooLong place.TheVariants.Out) = ⊤
 Refuses status.TheVariants.Memory = ⊤
 Refuses answer = ⊥
 
+-- one by which no header does
+abbrev pub RefusesAlone : status.Status → Type 0
+RefusesAlone (status.TheVariants.BadHeader why) = ⊥
+RefusesAlone answer = Refuses answer
+
 -- reads of an attached header file gave its first line, or met its end before one, or there is no end of that line
 pub record ReadsLine (form : Form) (text : List ℕ) (found : Result (List ℕ) status.Status) (log : List Event) : Type 0 where
   pub bytes : List ℕ
   pub ended : Bool
   pub takes : Takes place.TheVariants.Header bytes ended log
+  pub begun : HasBegun ended (lines_of ended bytes)
   pub makes : (name : List ℕ) → made_of_text form (Some name) text (lines_of ended bytes) ≡ found
 
 -- reads that gave nothing
@@ -60,7 +67,7 @@ HeaderLog result form name text events =
 abbrev pub RefusedLog : Result (Vec ℕ Global) status.Status → Result (List ℕ) status.Status → List Event → Type 0
 RefusedLog (Ok bytes) found events = ⊥
 RefusedLog (Err status.TheVariants.Memory) found events = events ≡ []
-RefusedLog (Err answer) found events = (events ≡ []) × Refuses answer × (found ≡ Err answer)
+RefusedLog (Err answer) found events = (events ≡ []) × RefusesAlone answer × (found ≡ Err answer)
 
 -- nothing was called, and this was made of what was there
 abbrev pub MadeLog : Result (Vec ℕ Global) status.Status → Result (List ℕ) status.Status → List Event → Type 0

@@ -10,7 +10,7 @@ ghost use Rattle.spec_compile.specs.Front.{first_refusal, items_in};
 ghost use Rattle.spec_compile.specs.Image.{AreColumnsFor, over_columns};
 ghost use Rattle.spec_compile.specs.Limits.{limit_refusal};
 ghost use Rattle.spec_compile.specs.Refusals.{IsFirstRefusal};
-ghost use Rattle.c2po_runs.specs.Phases.{Refuses};
+ghost use Rattle.c2po_runs.specs.Phases.{Refuses, RefusesAlone};
 ghost use Rattle.c2po_runs.specs.Made.{compile_status, image_by, text_bytes, written_as};
 
 use crate::make::Form;
@@ -77,6 +77,7 @@ pub(crate) fn compiled_bytes(
         (text : Seq ℕ) → first_refusal text ≡ None → spec_shape spec.now ≡ items_in text →
         text_bytes form text (option_copied header.entry) ≡ Err status) }
     ensures refuses { IfErr result Refuses }
+    ensures alone { header.entry ≡ None → IfErr result RefusesAlone }
 {
     let columns = columns_of(alloc, spec, header).map_err(status_of_compile)?;
     let checked = program_of(alloc, spec, &columns, form.simplify).map_err(status_of_compile)?;

@@ -22,6 +22,7 @@ use Rattle.r2u2_runs.specs.declared.opening.Opened.TheVariants as file
 use Rattle.tool_runs.specs.declared.status.Status as status
 use Rattle.tool_runs.specs.Attaching.{OpensAsTold, ReadsAttached}
 use Rattle.tool_runs.specs.Files.{file_place}
+use Rattle.tool_runs.specs.Telling.{is_used}
 use Rattle.r2u2_runs.specs.ProgramBy.{file_refusal, program_by, program_over}
 use Rattle.r2u2_runs.specs.Outcome.{due_by, rows_by, Silent, LinesOutcome}
 use Rattle.r2u2_runs.specs.Run.{BegunFor, trace_of, trace_ended, lines_in, ReadsFirstLine}
@@ -134,7 +135,7 @@ pub record RanTrace (asked : RunAsked) (bytes : List ℕ) (answer : status.Statu
   pub opened : OpensAsTold answer events
   pub begun : BegunFor answer (trace_ended events) (lines_in events)
   pub early : answer ≡ status.TheVariants.Memory → ReadsFirstLine events
-  pub quiet : given place.TheVariants.Err events ≡ []
+  pub quiet : is_used place.TheVariants.Err events ≡ false
 
 -- the file is refused by itself, or it was out of memory
 pub record NotOpened (asked : RunAsked) (bytes : List ℕ) (answer : status.Status) (kept : Option State) (events : List Event) : Type 0 where

@@ -1,6 +1,7 @@
 -- What a whole run of r2u2 tells: from its words to its message.
 
-use Rattle.std.specs.Prelude.{◌≡◌, ◌≢◌, ℕ, ◌<◌, ◌≤◌, ◌⊎◌, Bool, true, false, Option, None, Result, List, [], ◌∷◌, ◌++◌, length, ⊤}
+use Rattle.std.specs.Prelude.{◌≡◌, ℕ, ◌<◌, ◌≤◌, ◌⊎◌, Bool, true, false, Option, None, Result}
+use Rattle.std.specs.Prelude.{List, [], ◌∷◌, ◌++◌, length, ⊤}
 use Rattle.mltl_base.specs.declared.program.Program.{Program}
 use Rattle.tool_io.specs.declared.host.Place as place
 use Rattle.tool_io.specs.Log.{Event, Took, taken, given, ended_from, names_of, IsFront, IsProperFront, Prompt}
@@ -14,7 +15,8 @@ use Rattle.tool_runs.specs.Messages.{usage, told_to_user}
 use Rattle.tool_runs.specs.Causes.{NoOtherRose}
 use Rattle.tool_runs.specs.Attaching.{OpensAsTold, ReadsAttached}
 use Rattle.tool_runs.specs.Files.{file_limit, file_place}
-use Rattle.tool_runs.specs.Telling.{ToldWhole}
+use Rattle.tool_runs.specs.FirstLine.{HasBegun}
+use Rattle.tool_runs.specs.Telling.{is_used, ToldWhole, MessageLast}
 use Rattle.r2u2_runs.specs.Asking.{asked_names}
 use Rattle.r2u2_runs.specs.ProgramBy.{file_refusal, header_in, program_over}
 use Rattle.r2u2_runs.specs.Demo.{DemoOutcome}
@@ -111,10 +113,6 @@ OutcomeOf answer (demo seed rows) events kept = DemoOutcome answer seed rows (gi
 OutcomeOf answer (run asked) events kept =
     FileOutcome answer asked (file_of asked events) (file_ended asked events) (trace_of events) (trace_ended events) (given place.TheVariants.Out events) kept
 
--- the first line of a trace is there, or its end was met
-abbrev pub HasBegun : Bool → List (List ℕ) → Type 0
-HasBegun ended lines = (ended ≡ true) ⊎ (lines ≢ [])
-
 -- the limits of a program refuse it only where the trace has begun
 abbrev pub BegunFor : status.Status → Bool → List (List ℕ) → Type 0
 BegunFor (status.TheVariants.Refused line why) ended lines = HasBegun ended lines
@@ -136,7 +134,7 @@ pub record Ran (asked : Asked) (answer : status.Status) (kept : Option State) (e
   pub opened : OpensAsTold answer events
   pub begun : RefusesAfter asked answer events
   pub early : answer ≡ status.TheVariants.Memory → ReadsFirstLine events
-  pub quiet : given place.TheVariants.Err events ≡ []
+  pub quiet : is_used place.TheVariants.Err events ≡ false
 
 -- A file and a header that give a program, and a trace without a faulty line and within the mission time, give Done,
 -- unless out of memory, and so does a demo; help is given where it is asked for.
@@ -163,4 +161,5 @@ pub record IsRun (asked : Asked) (answer : status.Status) (kept : Option State) 
   pub early : answer ≡ status.TheVariants.Memory → ReadsFirstLine events
   pub told_user : IsFront (given place.TheVariants.Err events) (told_to_user R2u2 answer)
   pub told_whole : ToldWhole R2u2 answer (before place.TheVariants.Err) (now place.TheVariants.Err) events
+  pub told_last : MessageLast events
   pub complete : NoOtherRose before now → CompletesBy asked answer events
