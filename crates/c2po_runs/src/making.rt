@@ -2,6 +2,7 @@
 
 ghost use Rattle.std.specs.Prelude.{◌≡◌, ◌≢◌, ◌≤◌, Err, IfErr, IfOk, List as Seq, None, Ok, OnOk, ℕ, length};
 ghost use Rattle.std.specs.Option.{ForSome, option_copied};
+ghost use Rattle.mltl_base.specs.declared.limits.TheConstants.{MAX_LINE_BYTES};
 ghost use Rattle.c2po_tree.specs.ItemShape.{spec_shape};
 ghost use Rattle.obs_files.specs.Names.{NamesFit};
 ghost use Rattle.c2po_types.specs.Signals.{signals_of};
@@ -69,7 +70,7 @@ pub(crate) fn compiled_bytes(
     header: Option<&[u8]>,
     form: Form,
 ) -> Result<Vec<u8>, Status>
-    requires line { ForSome header (λ line. length line.now ≤ 65535) }
+    requires line { ForSome header (λ line. length line.now < MAX_LINE_BYTES) }
     ensures made { IfOk result (λ bytes.
         (text : Seq ℕ) → first_refusal text ≡ None → spec_shape spec.now ≡ items_in text →
         text_bytes form text (option_copied header.entry) ≡ Ok bytes.items) }

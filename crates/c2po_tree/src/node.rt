@@ -121,6 +121,10 @@ pub fn with_member(elements: Vec<Expr>, element: Expr) -> Result<Vec<Expr>, Tree
         (Some (map shape elements.items ++ shape element ∷ [])) }
 {
     let mut elements = elements;
+    // Brackets within one another have one element each, so the first is given no room to spare.
+    if elements.is_empty() && elements.reserve_exact(1).is_err() {
+        return Err(TreeFault::Memory);
+    }
     elements.push(element)?;
     Ok(elements)
 }

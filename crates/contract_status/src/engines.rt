@@ -30,6 +30,7 @@ pub struct Stretch {
 }
 
 impl Engines<'_> {
+    ghost use Rattle.mltl_base.specs.declared.limits.TheConstants.{MAX_MISSION};
     ghost use Rattle.contract_status.specs.Cursors.{FitsEngines};
     ghost use Rattle.contract_status.specs.Stretches.{AreReadable, AreTold, CanRead, CanReport, Covers, FindsOpen, HaveTaken, Lasts, ShowsVerdicts, ShowsWords, contract_words, formula_words, known_verdicts, known_words};
     ghost use Rattle.contract_status.specs.Open.{AreKnown};
@@ -141,7 +142,7 @@ impl Engines<'_> {
         requires readable { CanReport self.now out.now from }
         requires taken { (program : Observer) × (rows : List Row) × HaveTaken program rows self.now
             × Lasts (known_words program rows out.now) from stretch.last stretch.word }
-        requires early { self.now.rows ≤ 2 ^ 40 }
+        requires early { self.now.rows ≤ MAX_MISSION }
         ensures covers { (program : Observer) (rows : List Row) → HaveTaken program rows self.now
             → Lasts (known_words program rows out.now) from stretch.last stretch.word
             → Covers style (known_words program rows out.now) from result stretch.word }
@@ -157,7 +158,7 @@ impl Engines<'_> {
         requires readable { CanReport self.now out.now from }
         requires taken { (program : Observer) × (rows : List Row) × HaveTaken program rows self.now
             × Lasts (known_words program rows out.now) from stretch.last stretch.word }
-        requires early { self.now.rows ≤ 2 ^ 40 }
+        requires early { self.now.rows ≤ MAX_MISSION }
         ensures covers { (program : Observer) (rows : List Row) → HaveTaken program rows self.now
             → Lasts (known_words program rows out.now) from stretch.last stretch.word
             → Covers runs (known_words program rows out.now) from result stretch.word }

@@ -27,6 +27,7 @@ impl Model for Outs {
 
 impl Outs {
     ghost use Rattle.std.specs.Prelude.{◌≡◌, ◌^◌, ◌≤◌, ◌↔◌, List, [], length, replicate, IfOk, IfSome, IsTrue};
+    ghost use Rattle.mltl_base.specs.declared.limits.TheConstants.{MAX_MISSION};
     ghost use Rattle.mltl_base.specs.declared.report.Style.{Style as Form};
     ghost use Rattle.mltl_base.specs.declared.report.Style.TheVariants.{Each as each, Runs as runs};
     ghost use Rattle.mltl_base.specs.Atoms.{Row};
@@ -46,7 +47,7 @@ impl Outs {
 
     /// The first report that is open after `n` rows, one for each time. `None` exactly where none is open.
     pub fn next(&mut self, checked: &Checked, ft: &Ft, pt: &Pt, n: u64) -> Option<Report>
-        requires early { n ≤ 2 ^ 40 }
+        requires early { n ≤ MAX_MISSION }
         requires stands { (rows : List Row) × StandFor checked.now rows n ft.now pt.now self.old }
         ensures { GivesNext each checked.now n ft.now pt.now result self.old self.new }
     {
@@ -56,7 +57,7 @@ impl Outs {
     /// The first report that is open after `n` rows, one for each longest stretch of one word. `None` exactly where
     /// none is open.
     pub fn next_run(&mut self, checked: &Checked, ft: &Ft, pt: &Pt, n: u64) -> Option<Report>
-        requires early { n ≤ 2 ^ 40 }
+        requires early { n ≤ MAX_MISSION }
         requires stands { (rows : List Row) × StandFor checked.now rows n ft.now pt.now self.old }
         ensures { GivesNext runs checked.now n ft.now pt.now result self.old self.new }
     {
@@ -74,7 +75,7 @@ impl Outs {
         pt: &Pt,
         n: u64,
     ) -> Option<Report>
-        requires early { n ≤ 2 ^ 40 }
+        requires early { n ≤ MAX_MISSION }
         requires stands { (rows : List Row) × StandFor checked.now rows n ft.now pt.now self.old }
         requires cursor { FitsCursor checked.now n ft.now pt.now self.old cursor.old }
         ensures gives { GivesNext style checked.now n ft.now pt.now result self.old self.new }

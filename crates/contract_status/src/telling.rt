@@ -1,6 +1,7 @@
 //! The first report that is open.
 
 ghost use Rattle.std.specs.Prelude.{◌≡◌, ℕ, ◌^◌, ◌≤◌, List, IfSome, IsNone};
+ghost use Rattle.mltl_base.specs.declared.limits.TheConstants.{MAX_MISSION};
 ghost use Rattle.mltl_base.specs.Atoms.{Row};
 ghost use Rattle.contract_status.specs.Cursors.{FitsEngines, MovesPast};
 ghost use Rattle.contract_status.specs.Open.{ArePlaced, GivesFirst, IsGiven};
@@ -21,7 +22,7 @@ pub fn tell_first(
     next_times: &mut [u64],
     cursor: &mut Cursor,
 ) -> Option<Report>
-    requires early { engines.now.rows ≤ 2 ^ 40 }
+    requires early { engines.now.rows ≤ MAX_MISSION }
     requires stands { (rows : List Row) × HaveTaken checked.now rows engines.now
         × ArePlaced checked.now rows next_times.old }
     requires cursor { FitsEngines checked.now engines.now next_times.old cursor.old }

@@ -1,8 +1,10 @@
 -- Which nodes the outputs reach, and the list in which the others stand for true.
 
-use Rattle.std.specs.Prelude.{◌≡◌, ◌⊎◌, ℕ, Bool, true, false, if◌then◌else◌, Some, List, [], ◌∷◌, length, slice_get, slice_index_or, All}
+use Rattle.std.specs.Prelude.{◌≡◌, ◌⊎◌, ℕ, Bool, true, false, if◌then◌else◌, Some, List, [], ◌∷◌, length, slice_get}
+use Rattle.std.specs.Prelude.{slice_index_or, All}
 use Rattle.plain_nodes.specs.declared.nodes.Plain.{Plain}
-use Rattle.plain_nodes.specs.declared.nodes.Plain.TheVariants.{Truth, Flag, Number, Signal, Minus, Arith, Compare, Not, Logic, Window, Between}
+use Rattle.plain_nodes.specs.declared.nodes.Plain.TheVariants.{Truth, Flag, Number, Signal, Minus, Arith, Compare, Not}
+use Rattle.plain_nodes.specs.declared.nodes.Plain.TheVariants.{Logic, Window, Between}
 use Rattle.plain_nodes.specs.declared.nodes.PlainOut.{PlainOut}
 use Rattle.plain_nodes.specs.declared.nodes.PlainOut.TheVariants.{Formula, Contract}
 use Rattle.core_graph.specs.declared.item.Operands.{Operands}
@@ -79,7 +81,8 @@ pub record IsBelow (nodes : List Plain) (marks : List Bool) (n : ℕ) : Type 0 w
 pub record AreReached (nodes : List Plain) (outs : List PlainOut) (marks : List Bool) : Type 0 where
   pub count : length marks ≡ length nodes
   pub named : All (NamesMarked marks) outs
-  pub closed : (m : ℕ) (node : Plain) → IsMarked marks m → slice_get nodes m ≡ Some node → (n : ℕ) → IsOperand n (node_operands node) → IsMarked marks n
+  pub closed : (m : ℕ) (node : Plain) → IsMarked marks m → slice_get nodes m ≡ Some node → (n : ℕ)
+      → IsOperand n (node_operands node) → IsMarked marks n
   pub only : (n : ℕ) → IsMarked marks n → IsNamed outs n ⊎ IsBelow nodes marks n
 
 -- the nodes, with true in the place of each that isn't marked

@@ -23,7 +23,7 @@ pub fn reached(alloc: Global, nodes: &[Plain], outs: &[PlainOut]) -> Result<Vec<
 /// Marks the nodes that outputs reach, where none is marked.
 fn mark_reached(marks: &mut [bool], nodes: &[Plain], outs: &[PlainOut])
     requires count { length marks.old ≡ length nodes.now }
-    requires none { (n : ℕ) → IsMarked marks.old n → ⊥ }
+    requires none { (n : ℕ) → ¬ IsMarked marks.old n }
     requires over { AreOver nodes.now }
     requires named { All (λ out. AreBelow (length nodes.now) (named_by out)) outs.now }
     ensures { AreReached nodes.now outs.now marks.new }

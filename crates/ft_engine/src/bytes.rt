@@ -10,4 +10,5 @@ pub const QUEUE_BYTES: usize = 72;
 pub const SLOT_BYTES: usize = 16;
 
 const _: () = prove!(size_of::<Queue>() == QUEUE_BYTES);
+
 const _: () = prove!(size_of::<Slot>() == SLOT_BYTES);

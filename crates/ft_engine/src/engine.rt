@@ -27,6 +27,7 @@ pub struct Ft {
 
 impl Ft {
     ghost use Rattle.std.specs.Prelude.{ℕ, ◌+◌, ◌^◌, ◌<◌, ◌≤◌, List, [], ◌∷◌, ◌++◌, length, IfOk, MatchOption};
+    ghost use Rattle.mltl_base.specs.declared.limits.TheConstants.{MAX_MISSION};
     ghost use Rattle.mltl_base.specs.Atoms.{Row};
     ghost use Rattle.booleanizer.specs.Evaluation.{numbers_on};
     ghost use Rattle.ft_engine.specs.Running.{row_work};
@@ -59,8 +60,8 @@ impl Ft {
     pub fn row<L: Ledger>(&mut self, checked: &Checked, bz: &Bz, steps: &mut Steps<L>)
         requires given { (row : Row) × (bz.now ≡ numbers_on row checked.now.bz) }
         requires stands { (rows : List Row) × Stands checked.now rows self.old
-            × (length rows < 2 ^ 40) }
-        ensures stands { (rows : List Row) (row : Row) → length rows < 2 ^ 40
+            × (length rows < MAX_MISSION) }
+        ensures stands { (rows : List Row) (row : Row) → length rows < MAX_MISSION
             → bz.now ≡ numbers_on row checked.now.bz → Stands checked.now rows self.old
             → Stands checked.now (rows ++ row ∷ []) self.new }
         ensures counted { steps.new ≤ steps.old + row_work checked.now }

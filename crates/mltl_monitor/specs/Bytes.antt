@@ -1,7 +1,7 @@
 -- How many bytes a monitor takes, by its program alone, and how many it holds.
--- A list of a program has room for `room` of its members; each list that runs has just its members in its block. Where a
--- list has no member, there is no block. The monitor itself, some hundred bytes that lie where its caller puts it, isn't
--- among them.
+-- A list of a program has room for `room` of its members; each list that runs has just its members in its block. Where
+-- a list has no member, there is no block. The monitor itself, some hundred bytes that lie where its caller puts it,
+-- isn't among them.
 
 use Rattle.std.specs.Prelude.{ℕ, ◌+◌, ◌*◌, length, sum}
 use Rattle.mltl_base.specs.declared.program.Program.{Program}
@@ -13,7 +13,9 @@ use Rattle.ft_engine.specs.Standing as future
 use Rattle.pt_boxes.specs.declared.bytes.TheConstants.{NODE_BYTES, SPAN_BYTES}
 use Rattle.pt_boxes.specs.Standing as past
 use Rattle.trace_feed.specs.Readings.{readings_of}
-use Rattle.mltl_monitor.specs.declared.bytes.TheConstants.{BZ_OP_BYTES, FT_OP_BYTES, NUMBER_BYTES, OUT_BYTES, PT_OP_BYTES, READER_BYTES, READING_BYTES, SIGNAL_BYTES, SIZE_BYTES, TIME_BYTES}
+use Rattle.mltl_monitor.specs.declared.bytes.TheConstants.{BZ_OP_BYTES, FT_OP_BYTES, NUMBER_BYTES, OUT_BYTES}
+use Rattle.mltl_monitor.specs.declared.bytes.TheConstants.{PT_OP_BYTES, READER_BYTES, READING_BYTES, SIGNAL_BYTES}
+use Rattle.mltl_monitor.specs.declared.bytes.TheConstants.{SIZE_BYTES, TIME_BYTES}
 use Rattle.mltl_monitor.specs.declared.state.State.{State}
 use Rattle.mltl_monitor.specs.Monitoring.{last_of, places_of, program_of, read_of, room_total_of, slot_total_of}
 

@@ -49,6 +49,7 @@ impl Model for Monitor {
 
 impl Monitor {
     ghost use Rattle.std.specs.Prelude.{◌≡◌, ◌+◌, ◌^◌, ◌<◌, ◌≤◌, ◌↔◌, List, [], IfErr, IfOk, IsOk, IsTrue, MatchOption, OnErr, OnOk, length};
+    ghost use Rattle.mltl_base.specs.declared.limits.TheConstants.{MAX_MISSION, TIME_END};
     ghost use Rattle.arrayvec.specs.ArrayVec.{array_vec_len};
     ghost use Rattle.mltl_base.specs.declared.report.Style.{Style as Form};
     ghost use Rattle.mltl_base.specs.declared.report.Style.TheVariants.{Each, Runs};
@@ -96,7 +97,7 @@ impl Monitor {
     /// The number of rows that it has taken, at most 2 ^ 40.
     pub fn rows_taken(&self) -> u64
         ensures taken { result ≡ taken_by self.now }
-        ensures early { result ≤ 2 ^ 40 }
+        ensures early { result ≤ MAX_MISSION }
     {
         self.state.running.taken
     }
@@ -145,7 +146,7 @@ impl Monitor {
     /// Takes the next row, of one number for each column. Its steps are the reads and writes of queues and boxes.
     pub fn advance<L: Ledger>(&mut self, fields: &[i64], steps: &mut Steps<L>)
         requires drained { IsDrained self.old }
-        requires early { taken_by self.old < 2 ^ 40 }
+        requires early { taken_by self.old < MAX_MISSION }
         requires fit { IsFit (program_of self.old) fields.now }
         ensures takes { TakesRow fields.now self.old self.new }
         ensures counted { steps.new ≤ steps.old + row_work (program_of self.old) }
@@ -158,7 +159,7 @@ impl Monitor {
     /// Takes the row of a line, if the line is one. `Good`: its row was taken; otherwise nothing changed.
     pub fn take_line<L: Ledger>(&mut self, line: &[u8], steps: &mut Steps<L>) -> RowAnswer
         requires drained { IsDrained self.old }
-        requires early { taken_by self.old < 2 ^ 40 }
+        requires early { taken_by self.old < MAX_MISSION }
         ensures line { TakesLine result line.now self.old self.new }
         ensures program { program_of self.new ≡ program_of self.old }
         ensures counted { steps.new ≤ steps.old + row_work (program_of self.old) }
@@ -190,7 +191,7 @@ impl Monitor {
     pub fn repeat_last<L: Ledger>(&mut self, steps: &mut Steps<L>)
         requires begun { 0 < taken_by self.old }
         requires drained { IsDrained self.old }
-        requires early { taken_by self.old < 2 ^ 40 }
+        requires early { taken_by self.old < MAX_MISSION }
         ensures takes { TakesRow (last_of self.old) self.old self.new }
         ensures read { read_of self.new ≡ read_of self.old }
         ensures counted { steps.new ≤ steps.old + row_work (program_of self.old) }
@@ -203,7 +204,7 @@ impl Monitor {
     pub fn take_read<L: Ledger>(&mut self, steps: &mut Steps<L>)
         requires fit { IsFit (program_of self.old) (read_of self.old) }
         requires drained { IsDrained self.old }
-        requires early { taken_by self.old < 2 ^ 40 }
+        requires early { taken_by self.old < MAX_MISSION }
         ensures takes { TakesRow (read_of self.old) self.old self.new }
         ensures counted { steps.new ≤ steps.old + row_work (program_of self.old) }
     {
@@ -238,7 +239,7 @@ impl Monitor {
     /// The line of a report that was given: the name of its output, its time and its word, with a newline.
     pub fn line_of(&self, report: &Report) -> ArrayVec<u8, 128>
         requires exists { report.now.out < length (program_of self.now).outs }
-        requires early { report.now.time < 2 ^ 41 }
+        requires early { report.now.time < TIME_END }
         ensures line { result.items ≡ line (output_names (program_of self.now)) report.now }
         ensures short { array_vec_len result ≤ 88 }
     {

@@ -23,6 +23,7 @@ pub struct Running {
 
 impl Running {
     ghost use Rattle.std.specs.Prelude.{◌≡◌, ◌+◌, ◌^◌, ◌<◌, ◌≤◌, ◌↔◌, List, [], length, IfOk, IfSome, IsNone, IsTrue};
+    ghost use Rattle.mltl_base.specs.declared.limits.TheConstants.{MAX_MISSION};
     ghost use Rattle.mltl_base.specs.declared.report.Style.{Style as Form};
     ghost use Rattle.mltl_base.specs.Atoms.{Row};
     ghost use Rattle.mltl_base.specs.Programs.{IsFit};
@@ -54,7 +55,7 @@ impl Running {
     pub fn take<L: Ledger>(&mut self, fields: &[i64], steps: &mut Steps<L>)
         requires some { (rows : List Row) × HasTaken self.old rows }
         requires drained { IsDrained self.old }
-        requires early { self.old.taken < 2 ^ 40 }
+        requires early { self.old.taken < MAX_MISSION }
         requires numbers { length self.old.bz ≡ length self.old.checked.bz }
         requires fit { IsFit self.old.checked fields.now }
         ensures takes { TakesRow fields.now self.old self.new }
@@ -71,7 +72,7 @@ impl Running {
     #[inline(always)]
     pub fn next(&mut self, style: Style, cursor: &mut Cursor) -> Option<Report>
         requires some { (rows : List Row) × HasTaken self.old rows }
-        requires early { self.old.taken ≤ 2 ^ 40 }
+        requires early { self.old.taken ≤ MAX_MISSION }
         requires cursor { Fits self.old cursor.old }
         ensures first { (rows : List Row) → HasTaken self.old rows
             → GivesFirst style result self.old self.new rows }

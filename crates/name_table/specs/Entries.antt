@@ -29,4 +29,5 @@ AreBelow n (e ∷ numbers) = (e.1 < n) × AreBelow n numbers
 -- each name has the number of its entry
 pub record AreNumbered {A V : Type 0} (numbers : List (Vec ℕ A × ℕ)) (values : List V) : Type 0 where
   pub below : AreBelow (length values) numbers
-  pub found : (name : List ℕ) → lookup (λ key. bytes_eq name key.items) numbers ≡ number_in name 0 (entries_from 0 numbers values)
+  pub found : (name : List ℕ) → lookup (λ key. bytes_eq name key.items) numbers ≡ number_in name 0
+      (entries_from 0 numbers values)

@@ -12,7 +12,9 @@ use Rattle.obs_verify.specs.WellFormed.{has_kind}
 
 -- each column has the kinds of the signals that stand there
 abbrev pub AreKinds : List StoredSignal → List ColumnKinds → Type 0
-AreKinds signals kinds = (c : ℕ) (d : ColumnKinds) → c < length kinds → slice_index_or kinds c d ≡ record { whole = has_kind signals c false; truth = has_kind signals c true }
+AreKinds signals kinds =
+    (c : ℕ) (d : ColumnKinds) → c < length kinds
+    → slice_index_or kinds c d ≡ record { whole = has_kind signals c false; truth = has_kind signals c true }
 
 -- a set of names
 abbrev pub Names : Type 0
@@ -24,4 +26,5 @@ has_name names bytes = list_any (λ name. bytes_eq bytes name.items) names.keys
 
 -- the set has the names of the signals, and no other
 abbrev pub AreNames : List StoredSignal → Names → Type 0
-AreNames signals names = (bytes : List ℕ) → has_name names bytes ≡ list_any (λ signal. bytes_eq bytes signal.name) signals
+AreNames signals names =
+    (bytes : List ℕ) → has_name names bytes ≡ list_any (λ signal. bytes_eq bytes signal.name) signals

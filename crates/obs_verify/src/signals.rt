@@ -22,7 +22,11 @@ pub struct Kinds {
 }
 
 /// Puts a name into a set, and says whether it is new there.
-fn insert_name(alloc: Global, names: &mut BTreeSet<Vec<u8>>, name: &Name) -> Result<bool, AllocError>
+fn insert_name(
+    alloc: Global,
+    names: &mut BTreeSet<Vec<u8>>,
+    name: &Name,
+) -> Result<bool, AllocError>
     ensures new { IfOk result (λ new. new ≡ not (has_name names.old name.now)) }
     ensures grown { IfOk result (λ new. new ≡ true
         → (bytes : List ℕ) → has_name names.new bytes

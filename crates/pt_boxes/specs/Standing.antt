@@ -49,13 +49,15 @@ pub record Stands (program : Program) (rows : List Row) (pt : Pt) : Type 0 where
   pub taken : row_count pt ≡ length rows
   -- each instruction holds at the last row exactly where its formula does
   pub count : instruction_count pt ≡ length program.pt
-  pub now : (i : ℕ) → i < length program.pt → 0 < length rows → now_at pt i ≡ meaning_of program rows i (length rows - 1)
+  pub now : (i : ℕ) → i < length program.pt → 0 < length rows
+      → now_at pt i ≡ meaning_of program rows i (length rows - 1)
   -- the room for boxes is fixed, and no instruction has more
   pub rooms : (i : ℕ) → i < length program.pt → room_at pt i ≡ boxes_of (op_at program.pt i)
   pub few : (i : ℕ) → i < length program.pt → length (boxes_at pt i) ≤ boxes_of (op_at program.pt i)
   -- the room of all together is as much as the program states
   pub total : room_total pt ≡ sum program.sizes.pt
   -- the boxes of a Since are long enough, lie apart, end from n - 1 to n - 1 + hi, and tell when it holds
-  pub apart : (i l r : ℕ) (window : Interval) → i < length program.pt → op_at program.pt i ≡ Since l r window → AreApart window (length rows) 0 (boxes_at pt i)
+  pub apart : (i l r : ℕ) (window : Interval) → i < length program.pt → op_at program.pt i ≡ Since l r window
+      → AreApart window (length rows) 0 (boxes_at pt i)
   pub told : (i l r : ℕ) (window : Interval) → i < length program.pt → op_at program.pt i ≡ Since l r window
       → Tells window (meaning_of program rows l) (meaning_of program rows r) (length rows) (boxes_at pt i)

@@ -10,4 +10,5 @@ pub const NODE_BYTES: usize = 40;
 pub const SPAN_BYTES: usize = 16;
 
 const _: () = prove!(size_of::<Node>() == NODE_BYTES);
+
 const _: () = prove!(size_of::<Span>() == SPAN_BYTES);

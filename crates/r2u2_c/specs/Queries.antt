@@ -53,8 +53,8 @@ abbrev pub ended : List ℕ → List ℕ
 ended [] = []
 ended (byte ∷ more) = 0 ∷ more
 
--- the answer is the name's length, and the name stands at the front of the buffer, before a zero byte where there is room
--- for one; what follows stays
+-- the answer is the name's length, and the name stands at the front of the buffer, before a zero byte where there is
+-- room for one; what follows stays
 pub record WritesName (name : List ℕ) (answer : ℕ) (before after : List ℕ) : Type 0 where
   pub long : answer ≡ length name
   pub written : after ≡ name ++ ended (drop (length name) before)

@@ -11,12 +11,14 @@ use Rattle.mltl_monitor.specs.declared.state.State.{State}
 use Rattle.trace_watch.specs.Trace.{TraceRows, Stop, Clean, Past, Bad, stamped_rows, trace_rows, due}
 use Rattle.trace_watch.specs.Watch.{HasTold, HasFront}
 use Rattle.tool_runs.specs.declared.status.Status.{Status}
-use Rattle.tool_runs.specs.declared.status.Status.TheVariants.{Done, Refused, BadProgram, BadTrace, TooLong, ReadFault, WriteFault, Memory}
+use Rattle.tool_runs.specs.declared.status.Status.TheVariants.{Done, Refused, BadProgram, BadTrace, TooLong, ReadFault}
+use Rattle.tool_runs.specs.declared.status.Status.TheVariants.{WriteFault, Memory}
 
 -- what the lines of a trace say to the program that runs over them, within the mission time of the words: stamped rows
 -- where the words ask for them; the first line has the number `first`
 abbrev pub rows_by : RunAsked → Program → ℕ → List (List ℕ) → TraceRows
-rows_by asked program first raws = if asked.timed then stamped_rows program asked.mission first raws else trace_rows program asked.mission first raws
+rows_by asked program first raws =
+    if asked.timed then stamped_rows program asked.mission first raws else trace_rows program asked.mission first raws
 
 -- what the bytes of a trace say
 abbrev pub rows_over : RunAsked → Program → Bool → List ℕ → TraceRows
@@ -34,11 +36,13 @@ pub record Silent (out : List ℕ) (kept : Option State) : Type 0 where
 
 -- a monitor is kept, which is one of the program, has the rows and has told them
 abbrev pub KeepsTold : Option State → RunAsked → Result Program Status → Bool → List ℕ → Type 0
-KeepsTold (Some monitor) asked (Ok program) ended bytes = HasTold program monitor (rows_over asked program ended bytes).rows
+KeepsTold (Some monitor) asked (Ok program) ended bytes =
+    HasTold program monitor (rows_over asked program ended bytes).rows
 KeepsTold kept asked found ended bytes = ⊥
 
 -- the lines of all rows are out, and the kept monitor has those rows
-pub record AllTold (asked : RunAsked) (found : Result Program Status) (ended : Bool) (bytes out : List ℕ) (kept : Option State) : Type 0 where
+pub record AllTold (asked : RunAsked) (found : Result Program Status) (ended : Bool) (bytes out : List ℕ)
+    (kept : Option State) : Type 0 where
   pub out_is : out ≡ due_by asked found ended bytes
   pub keeps : KeepsTold kept asked found ended bytes
 
@@ -59,7 +63,8 @@ pub record NotBegun (bytes out : List ℕ) (kept : Option State) : Type 0 where
   pub silent : Silent out kept
 
 -- there is no program to run, by this status, and nothing came of it
-pub record NeverRan (status : Status) (found : Result Program Status) (out : List ℕ) (kept : Option State) : Type 0 where
+pub record NeverRan (status : Status) (found : Result Program Status) (out : List ℕ)
+    (kept : Option State) : Type 0 where
   pub refused : found ≡ Err status
   pub silent : Silent out kept
 
@@ -67,9 +72,11 @@ pub record NeverRan (status : Status) (found : Result Program Status) (out : Lis
 abbrev pub LinesOutcome : Status → RunAsked → Result Program Status → Bool → List ℕ → List ℕ → Option State → Type 0
 LinesOutcome Done asked found ended bytes out kept =
     (ended ≡ true) × StopsBy Clean asked found ended bytes × AllTold asked found ended bytes out kept
-LinesOutcome TooLong asked found ended bytes out kept = StopsBy Past asked found ended bytes × AllTold asked found ended bytes out kept
+LinesOutcome TooLong asked found ended bytes out kept =
+    StopsBy Past asked found ended bytes × AllTold asked found ended bytes out kept
 LinesOutcome (BadTrace number why) asked found ended bytes out kept =
-    NeverRan (BadTrace number why) found out kept ⊎ StopsBy (Bad number why) asked found ended bytes × AllTold asked found ended bytes out kept
+    NeverRan (BadTrace number why) found out kept ⊎ StopsBy (Bad number why) asked found ended bytes
+    × AllTold asked found ended bytes out kept
 LinesOutcome (Refused line refusal) asked found ended bytes out kept = NeverRan (Refused line refusal) found out kept
 LinesOutcome (BadProgram fault) asked found ended bytes out kept = NeverRan (BadProgram fault) found out kept
 LinesOutcome (ReadFault Trace) asked found ended bytes out kept =

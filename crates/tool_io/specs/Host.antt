@@ -1,5 +1,6 @@
 -- What the calls of a host do to its counts of faults, to its log and to what is left to be read.
-use Rattle.std.specs.Prelude.{◌≡◌, ◌≢◌, ℕ, ◌+◌, ◌-◌, ◌^◌, ◌<◌, ◌≤◌, ◌⊎◌, min, Option, Some, None, List, [], ◌∷◌, ◌++◌, length, take, drop, ⊤}
+use Rattle.std.specs.Prelude.{◌≡◌, ◌≢◌, ℕ, ◌+◌, ◌-◌, ◌^◌, ◌<◌, ◌≤◌, ◌⊎◌, min, Option, Some, None, List, [], ◌∷◌, ◌++◌}
+use Rattle.std.specs.Prelude.{length, take, drop, ⊤}
 use Rattle.tool_io.specs.declared.host.Place.{Place}
 use Rattle.tool_io.specs.declared.host.Place.TheVariants.{Out, Err}
 use Rattle.tool_io.specs.declared.host.Attached as attached
@@ -56,7 +57,8 @@ WriteCause (put.TheVariants.Wrote n) before now place = NoFault before now
 -- an attach tells its place and name, and a failed one need not
 abbrev pub AttachLog : attached.Attached → Option (List Event) → Option (List Event) → Place → List ℕ → Type 0
 AttachLog attached.TheVariants.Ready before now place name = Appends before now (Attached place name ∷ [])
-AttachLog attached.TheVariants.Failed before now place name = Appends before now (Missed place name ∷ []) ⊎ Appends before now []
+AttachLog attached.TheVariants.Failed before now place name =
+    Appends before now (Missed place name ∷ []) ⊎ Appends before now []
 
 -- a read gives bytes at the front of the slice and tells them, or tells that it met the end
 abbrev pub ReadLog : got.Got → Option (List Event) → Option (List Event) → Place → List ℕ → Type 0
@@ -72,7 +74,8 @@ ReadRange got.TheVariants.Failed into = ⊤
 
 -- where what is left is told, a read gives its front, and meets the end exactly where nothing is left
 abbrev pub ReadLeft : got.Got → Option (List ℕ) → Option (List ℕ) → List ℕ → Type 0
-ReadLeft (got.TheVariants.Bytes n) (Some left) now into = (left ≡ take n into ++ drop n left) × (now ≡ Some (drop n left))
+ReadLeft (got.TheVariants.Bytes n) (Some left) now into =
+    (left ≡ take n into ++ drop n left) × (now ≡ Some (drop n left))
 ReadLeft got.TheVariants.End (Some left) now into = (left ≡ []) × (now ≡ Some [])
 ReadLeft got.TheVariants.Failed (Some left) now into = now ≡ Some left
 ReadLeft result None now into = ⊤

@@ -9,6 +9,7 @@ ghost use Rattle.tool_io.specs.Cutting.{HasNoNewline, EndsLine, IsRow, fresh, ke
 use crate::host::{Got, Host, Place};
 use fixed_list::Fixed;
 use memchr::memchr;
+use mltl_base::limits::MAX_LINE_BYTES;
 use std::alloc::{AllocError, Global};
 use std::marker::Model;
 
@@ -24,9 +25,6 @@ pub enum Line {
     /// A read failed; the place's count of faults rose.
     ReadFault,
 }
-
-/// How many bytes a line has at most, its newline among them: the size of the buffer.
-const LONGEST: usize = 65_536;
 
 /// A stream of bytes that is cut at its newlines, by one buffer of 65,536 bytes.
 ///
@@ -94,6 +92,7 @@ fn read_after<H: Host>(host: &mut H, place: Place, buffer: &mut [u8], len: usize
 }
 
 impl LineCut {
+    ghost use Rattle.mltl_base.specs.declared.limits.TheConstants.{MAX_LINE_BYTES};
     ghost use Rattle.tool_io.specs.Buffer.{CutsFront, FillsCut};
 
     /// A cut before the first byte, with room for the longest line.
@@ -101,7 +100,7 @@ impl LineCut {
         ensures { IfOk result (λ cut. cut ≡ fresh) }
     {
         Ok(LineCut {
-            buffer: Fixed::filled(alloc, 0, LONGEST)?,
+            buffer: Fixed::filled(alloc, 0, MAX_LINE_BYTES)?,
             start: 0,
             next: 0,
             end: 0,
@@ -163,7 +162,7 @@ impl LineCut {
     fn pending_len(&self) -> usize
         requires { self.now.kept ≡ false }
         ensures len { result ≡ length self.now.pending }
-        ensures within { result ≤ 65536 }
+        ensures within { result ≤ MAX_LINE_BYTES }
     {
         self.end - self.next
     }
@@ -199,7 +198,7 @@ impl LineCut {
     fn fill<H: Host>(&mut self, host: &mut H, place: Place) -> Got
         requires source { IsSource place }
         requires no_row { self.old.row ≡ None }
-        requires room { length self.old.pending < 65536 }
+        requires room { length self.old.pending < MAX_LINE_BYTES }
         ensures bytes { FillsCut result self.old self.new (H.log host.old) (H.log host.new) place }
         ensures cause { ReadCause result (H.faults host.old) (H.faults host.new) place }
         ensures elsewhere { LeftElsewhere (H.left host.old) (H.left host.new) place }
@@ -237,7 +236,7 @@ impl LineCut {
                 return Line::Row;
             }
             seen = self.pending_len();
-            if seen == LONGEST {
+            if seen == MAX_LINE_BYTES {
                 return Line::LongLine;
             }
             if self.ended {

@@ -25,12 +25,13 @@ PhaseCause (Err answer) before now = RunCause answer before now
 abbrev pub CauseAt : status.Status → place.Place → ℕ → ℕ → Type 0
 CauseAt (status.TheVariants.OpenFault p) q before now = MatchBool (same_place p q) (RoseByOne before now) (now ≡ before)
 CauseAt (status.TheVariants.ReadFault p) q before now = MatchBool (same_place p q) (RoseByOne before now) (now ≡ before)
-CauseAt (status.TheVariants.WriteFault p) q before now = MatchBool (same_place p q) (RoseByOne before now) (now ≡ before)
+CauseAt (status.TheVariants.WriteFault p) q before now =
+    MatchBool (same_place p q) (RoseByOne before now) (now ≡ before)
 CauseAt answer q before now = now ≡ before
 
 -- no count but that of Err rose
 abbrev pub NoOtherRose : (place.Place → ℕ) → (place.Place → ℕ) → Type 0
-NoOtherRose before now = (p : place.Place) → p ≢ place.TheVariants.Err → Rose (before p) (now p) → ⊥
+NoOtherRose before now = (p : place.Place) → p ≢ place.TheVariants.Err → ¬ Rose (before p) (now p)
 
 -- a status that tells of no call of a host
 abbrev pub TellsNoCall : status.Status → Type 0

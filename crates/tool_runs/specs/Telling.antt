@@ -11,12 +11,14 @@ use Rattle.tool_runs.specs.Messages.{usage, told_to_user}
 -- help went out whole, or a front of it
 abbrev pub HelpLog : Tool → status.Status → List Event → Type 0
 HelpLog tool status.TheVariants.Helped events = Writes place.TheVariants.Out (usage tool) events
-HelpLog tool (status.TheVariants.WriteFault place.TheVariants.Out) events = WritesFront place.TheVariants.Out (usage tool) events
+HelpLog tool (status.TheVariants.WriteFault place.TheVariants.Out) events =
+    WritesFront place.TheVariants.Out (usage tool) events
 HelpLog tool answer events = ⊥
 
 -- what the user is told is whole where the count of Err didn't rise
 abbrev pub ToldWhole : Tool → status.Status → ℕ → ℕ → List Event → Type 0
-ToldWhole tool answer before now events = (Rose before now → ⊥) → given place.TheVariants.Err events ≡ told_to_user tool answer
+ToldWhole tool answer before now events =
+    ¬ Rose before now → given place.TheVariants.Err events ≡ told_to_user tool answer
 
 -- whether an event is at a place
 abbrev pub is_used : place.Place → List Event → Bool

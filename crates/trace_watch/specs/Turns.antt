@@ -4,6 +4,7 @@ use Rattle.std.specs.Prelude.{◌≡◌, ℕ, ◌+◌, ◌<◌, ◌≤◌, ◌^�
 use Rattle.std.specs.Prelude.{List, [], ◌∷◌, ◌++◌, length, replicate}
 use Rattle.std.specs.declared.ops.ControlFlow.{ControlFlow}
 use Rattle.std.specs.declared.ops.ControlFlow.TheVariants.{Continue, Break}
+use Rattle.mltl_base.specs.declared.limits.TheConstants.{MAX_MISSION}
 use Rattle.mltl_base.specs.declared.program.Program.{Program}
 use Rattle.mltl_base.specs.Atoms.{Row}
 use Rattle.mltl_base.specs.Programs.{IsFit}
@@ -68,7 +69,7 @@ IfRow result P = ⊤
 pub record CanTake (copies : ℕ) (monitor : State) : Type 0 where
   pub fit : IsFit (program_of monitor) (read_of monitor)
   pub begun : 0 < copies → 0 < taken_by monitor
-  pub early : taken_by monitor + copies < 2 ^ 40
+  pub early : taken_by monitor + copies < MAX_MISSION
 
 -- the fault of fields, if they have one; blanks are none in a plain line
 abbrev pub fault_of : reader.Reader → LineMeaning → Option LineFault

@@ -1,6 +1,7 @@
 -- What the loop over a trace tells in its log, and how it leaves the monitor.
 
 use Rattle.std.specs.Prelude.{◌≡◌, ◌≤◌, ◌^◌, ℕ, Bool, true, false, List, [], ◌∷◌, ◌++◌, ⊤}
+use Rattle.mltl_base.specs.declared.limits.TheConstants.{MAX_MISSION}
 use Rattle.mltl_base.specs.declared.report.Style.{Style}
 use Rattle.mltl_base.specs.declared.program.Program.{Program}
 use Rattle.mltl_base.specs.Atoms.{Row}
@@ -34,7 +35,8 @@ abbrev pub lines_by : Program → Style → List Row → List ℕ
 lines_by program style rows = lines style (output_names program) (outputs program) rows
 
 -- it has the rows up to the one whose lines aren't all out: those of the rows before are, and a front of its own
-pub record HasFront (program : Program) (style : Style) (monitor : State) (rows : List Row) (out : List ℕ) : Type 0 where
+pub record HasFront (program : Program) (style : Style) (monitor : State) (rows : List Row)
+    (out : List ℕ) : Type 0 where
   pub program_kept : program_of monitor ≡ program
   pub before : List Row
   pub last : Row
@@ -72,7 +74,7 @@ Outcome watched.TheVariants.WriteFault program style rows_in ended bytes out mon
 pub record CanWatch (monitor : State) (cut : Cutting) (mission : ℕ) : Type 0 where
   pub no_rows : Stands monitor []
   pub drained : IsDrained monitor
-  pub within : mission ≤ 2 ^ 40
+  pub within : mission ≤ MAX_MISSION
   pub numbered : cut.number ≤ 1
 
 -- the number of the first line that a cut gives next
@@ -103,4 +105,4 @@ WatchCause watched.TheVariants.WriteFault before now = RoseAt before now Out
 
 -- no count of a fault rose
 abbrev pub NoneRose : (Place → ℕ) → (Place → ℕ) → Type 0
-NoneRose before now = (place : Place) → Rose (before place) (now place) → ⊥
+NoneRose before now = (place : Place) → ¬ Rose (before place) (now place)

@@ -2,6 +2,7 @@
 //! in registers: through memory it costs a plain row a twentieth of its instructions.
 
 ghost use Rattle.std.specs.Prelude.{◌≡◌, ◌+◌, ◌<◌, ◌≤◌, ◌^◌, ℕ, List, Option};
+ghost use Rattle.mltl_base.specs.declared.limits.TheConstants.{MAX_MISSION};
 ghost use Rattle.mltl_base.specs.Atoms.{Row as Values};
 ghost use Rattle.mltl_monitor.specs.Monitoring.{program_of, taken_by, read_of, IsSame, Stands};
 ghost use Rattle.sparse_feed.specs.Stamps.{stamp_meaning};
@@ -46,7 +47,7 @@ pub(crate) fn read_fields(
     reader: Reader,
 ) -> Found
     requires begun { 0 < copies → 0 < taken_by monitor.old }
-    requires early { taken_by monitor.old + copies < 2 ^ 40 }
+    requires early { taken_by monitor.old + copies < MAX_MISSION }
     ensures told { FindsFields result copies reader
         (line_meaning (program_of monitor.old) fields.now) (read_of monitor.new) }
     ensures ready { IfRow result (λ times. CanTake times monitor.new) }
@@ -73,7 +74,7 @@ pub(crate) fn read_stamped(
     mission: u64,
 ) -> Found
     requires counted { taken_by monitor.old ≡ times_until last }
-    requires mission { mission ≤ 2 ^ 40 }
+    requires mission { mission ≤ MAX_MISSION }
     ensures told { (lines : ℕ) (rows : List Values) (before : Option (ℕ × Values)) →
         Stands monitor.old rows → IsLast before rows → time_of before ≡ last
         → Finds result (StampedRows before)

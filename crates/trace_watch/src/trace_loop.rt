@@ -1,6 +1,7 @@
 //! The loop over a trace.
 
 ghost use Rattle.std.specs.Prelude.{◌≡◌, ◌≤◌, ◌<◌, ◌^◌, IsSome, List};
+ghost use Rattle.mltl_base.specs.declared.limits.TheConstants.{MAX_MISSION};
 ghost use Rattle.mltl_base.specs.Atoms.{Row};
 ghost use Rattle.tool_io.specs.Log.{OnLog};
 ghost use Rattle.mltl_monitor.specs.Monitoring.{program_of, taken_by, IsDrained, IsSame, Stands};
@@ -65,7 +66,7 @@ impl Course {
         requires drained { IsDrained monitor.old }
         requires counted { IsCounted self.now.reader self.now.lines (taken_by monitor.old) }
         requires within { self.now.lines < self.now.mission }
-        requires mission { self.now.mission ≤ 2 ^ 40 }
+        requires mission { self.now.mission ≤ MAX_MISSION }
         ensures told { (rows : List Row) (feed : Feed) → Stands monitor.old rows
             → StandsAt feed self.now.reader self.now.lines rows
             → Finds result feed
@@ -94,7 +95,7 @@ impl Course {
         requires drained { IsDrained monitor.old }
         requires counted { IsCounted self.old.reader self.old.lines (taken_by monitor.old) }
         requires within { self.old.lines < self.old.mission }
-        requires mission { self.old.mission ≤ 2 ^ 40 }
+        requires mission { self.old.mission ≤ MAX_MISSION }
         ensures cause { StepCause (told_as result) (H.faults host.old) (H.faults host.new) }
         ensures log { (rows : List Row) (feed : Feed) → Stands monitor.old rows
             → StandsAt feed self.old.reader self.old.lines rows
@@ -132,7 +133,7 @@ impl Course {
         requires drained { IsDrained monitor.old }
         requires counted { IsCounted self.old.reader self.old.lines (taken_by monitor.old) }
         requires within { self.old.lines ≤ self.old.mission }
-        requires mission { self.old.mission ≤ 2 ^ 40 }
+        requires mission { self.old.mission ≤ MAX_MISSION }
         ensures cause { StepCause (told_as result) (H.faults host.old) (H.faults host.new) }
         ensures log { (rows : List Row) (feed : Feed) → Stands monitor.old rows
             → StandsAt feed self.old.reader self.old.lines rows
@@ -164,7 +165,7 @@ impl Course {
         requires drained { IsDrained monitor.old }
         requires counted { IsCounted self.old.reader self.old.lines (taken_by monitor.old) }
         requires within { self.old.lines ≤ self.old.mission }
-        requires mission { self.old.mission ≤ 2 ^ 40 }
+        requires mission { self.old.mission ≤ MAX_MISSION }
         ensures cause { StepCause (told_as result) (H.faults host.old) (H.faults host.new) }
         ensures log { (rows : List Row) (feed : Feed) → Stands monitor.old rows
             → StandsAt feed self.old.reader self.old.lines rows

@@ -1,6 +1,6 @@
 //! The fields of a struct.
 
-ghost use Rattle.std.specs.Prelude.{◌≡◌, position, IfOk};
+ghost use Rattle.std.specs.Prelude.{◌≡◌, length, position, IfOk};
 ghost use Rattle.std.specs.Str.{bytes_eq};
 
 use crate::unfolding::next_place;
@@ -41,6 +41,13 @@ impl Fields {
             }
         }
         Ok(Fields { names, places })
+    }
+
+    /// The number of fields.
+    pub fn len(&self) -> usize
+        ensures { result ≡ length self.now }
+    {
+        self.names.len()
     }
 
     /// The place of a field.

@@ -22,7 +22,7 @@ impl Unfolding {
     fn declared<'a>(&self, visits: &mut Visits, name: &Name) -> Named<'a>
         ensures { (env : Env) → StandsFor self.now env → Names self.now result (env name.now) }
     {
-        visits.seek();
+        visits.seek(self.names.len(), name);
         match self.names.find(name) {
             None => Named::Nothing,
             Some(Entry::Struct(i)) => Named::Struct(i),
@@ -79,7 +79,7 @@ impl Unfolding {
             return None;
         };
         let fields = self.structs.as_slice().get(i as usize)?;
-        visits.seek();
+        visits.seek(fields.len(), field);
         fields.place(field)
     }
 

@@ -1,22 +1,19 @@
-//! How much an unfolding visits.
+//! How much an unfolding goes over.
 
 ghost use Rattle.std.specs.Prelude.{◌≡◌, IfErr};
 ghost use Rattle.unfold.specs.declared.fault.UnfoldFault.TheVariants.{Memory};
 
 use crate::UnfoldFault;
+use mltl_base::Name;
 
-/// The most that an unfolding visits. Bodies that make no node, as those that are counted against 0, are visited too, each
-/// as often as its quantifiers have members. This bounds them in sum, so that no text asks for more than some seconds.
-const MAX_VISITS: u32 = 67_108_864;
+/// The most that an unfolding goes over. Bodies that make no node, as those that are counted against 0, are visited too,
+/// each as often as its quantifiers have members. This bounds them in sum, so that no text asks for more than some seconds.
+const MAX_VISITS: u64 = 67_108_864;
 
-/// What a search among names counts for.
-const SOUGHT: u32 = 64;
-
-/// How much an unfolding may still visit: an expression, a picked field and a variable that is passed over count for one,
-/// and a name that is searched for among all, or a field among those of its struct, for `SOUGHT`.
+/// How much an unfolding may still go over. An expression, a picked field and a variable that is passed over count for one.
 #[derive(Clone, Copy)]
 pub struct Visits {
-    left: u32,
+    left: u64,
 }
 
 impl Visits {
@@ -43,8 +40,13 @@ impl Visits {
         self.left = self.left.saturating_sub(1);
     }
 
-    /// Searches for a name. The next visit tells where too much was searched for.
-    pub(crate) fn seek(&mut self) {
-        self.left = self.left.saturating_sub(SOUGHT);
+    /// Seeks a name among so many in order. That counts for as much as it takes: for the binary digits of their number, once
+    /// more for each eight bytes of the name.
+    pub(crate) fn seek(&mut self, names: usize, name: &Name) {
+        let steps = u64::from(usize::BITS.saturating_sub(names.leading_zeros()));
+        let bytes = name.bytes().len() as u64;
+        self.left = self
+            .left
+            .saturating_sub(steps.saturating_mul(1 + bytes / 8));
     }
 }

@@ -15,7 +15,7 @@ use std::alloc::{AllocError, Global};
 fn copy_all(alloc: Global, exprs: &[Expr]) -> Result<Vec<Expr>, AllocError>
     ensures { IfOk result (λ copies. map shape copies.items ≡ map shape exprs.now) }
 {
-    let mut copies = Vec::new(alloc);
+    let mut copies = Vec::with_capacity(alloc, exprs.len())?;
     for expr in exprs {
         let copy = copy_expr(alloc, expr)?;
         copies.push(copy)?;
