@@ -1,6 +1,6 @@
 -- What a whole run of c2po tells: from its words to its message.
 
-use Rattle.std.specs.Prelude.{◌≡◌, ℕ, ◌<◌, ◌≤◌, ◌⊎◌, Bool, true, false, None, is_some, Result, Ok, Err, List, [], ◌∷◌, ◌++◌, length, ⊤}
+use Rattle.std.specs.Prelude.{◌≡◌, ℕ, ◌<◌, ◌≤◌, ◌⊎◌, Bool, true, false, None, is_some, Result, Ok, Err, IfOk, List, [], ◌∷◌, ◌++◌, length, ⊤}
 use Rattle.std.specs.List.{list_any}
 use Rattle.tool_io.specs.declared.host.Place as place
 use Rattle.tool_io.specs.Log.{Event, Gave, same_place, taken, given, ended_from, names_of, IsFront, IsProperFront}
@@ -16,6 +16,7 @@ use Rattle.tool_runs.specs.FirstLine.{HasBegun}
 use Rattle.tool_runs.specs.Telling.{is_used, ToldWhole, MessageLast}
 use Rattle.c2po_runs.specs.Asking.{Ask, help, make, nothing, MakeAsked, file_kind, asked_names}
 use Rattle.c2po_runs.specs.Made.{made}
+use Rattle.c2po_runs.specs.Images.{GivesImage}
 
 -- What a log says of a run that makes something: the places that were tried with their names, the bytes of the file and
 -- whether its end was met, the lines of the header file that were read and whether its end was met, what is out, and
@@ -67,10 +68,11 @@ pub record IsFaultless (asked : MakeAsked) (run : Seen) : Type 0 where
   pub whole : IsWhole asked run
   pub faultless : first_refusal run.file ≡ None
 
--- what was read gives these bytes, or this refusal
+-- what was read gives these bytes, or this refusal; the bytes of a compilation are those of an image
 pub record Makes (asked : MakeAsked) (run : Seen) (found : Result (List ℕ) status.Status) : Type 0 where
   pub whole : IsWhole asked run
   pub is : made asked run.file run.header ≡ found
+  pub image : IfOk found (GivesImage asked.product asked.header run.file run.header)
 
 -- an answer of a run that has tried Out: all was written, or its open or a write failed
 abbrev pub IsOfOut : status.Status → Type 0
@@ -160,6 +162,12 @@ OutcomeOf answer help events = HelpOutcome answer (given place.TheVariants.Out e
 OutcomeOf answer (make asked) events = MakeOutcome answer asked (seen asked events)
 OutcomeOf answer nothing events = NothingOutcome answer (given place.TheVariants.Out events)
 
+-- what is written of a specification without `--table` is its image, in simplified form where the words ask for that
+abbrev pub CompilesImage : Ask → status.Status → List Event → Type 0
+CompilesImage (make asked) answer events =
+    answer ≡ status.TheVariants.Done → GivesImage asked.product asked.header (file_in asked events) (seen asked events).header (given place.TheVariants.Out events)
+CompilesImage other answer events = ⊤
+
 -- the places of what is made are tried in turn
 abbrev pub TriesOf : Ask → status.Status → List Event → Type 0
 TriesOf (make asked) answer events = TriesInTurn asked answer (seen asked events)
@@ -203,6 +211,7 @@ pub record IsMade (asked : Ask) (answer : status.Status) (before now : place.Pla
   pub reads : ReadsAttached [] events
   pub writes : WritesAttached (names_out asked) events
   pub outcome : OutcomeOf answer asked events
+  pub image : CompilesImage asked answer events
   pub opened : OpensAsTold answer events
   pub told_user : IsFront (given place.TheVariants.Err events) (told_to_user C2po answer)
   pub told_whole : ToldWhole C2po answer (before place.TheVariants.Err) (now place.TheVariants.Err) events
