@@ -1,6 +1,6 @@
 -- What is written of a specification is a file of its image.
 
-use Rattle.std.proofs.Common.{◌≡◌, ◌∙◌, ℕ, Bool, true, false, Option, None, Result, Ok, Err, List, Vec, IfOk, OnOk, length, refl, sym, ap, subst}
+use Rattle.std.proofs.Common.{◌≡◌, ◌∙◌, ℕ, Bool, true, false, Option, None, Result, Ok, Err, List, Vec, IfOk, OnOk, length, sym, ap, subst}
 use Rattle.std.specs.declared.alloc.Global.{Global}
 use Rattle.mltl_base.specs.declared.program.Columns.{Columns}
 use Rattle.mltl_base.specs.declared.program.Program.{Program}
@@ -12,7 +12,6 @@ use Rattle.spec_compile.specs.Front.{items_in, first_refusal}
 use Rattle.spec_compile.specs.Image.{AreColumnsFor}
 use Rattle.spec_compile.specs.Compiled.{columns_by, outputs_in, signals_in}
 use Rattle.spec_compile.specs.ImageFiles.{IsFileOf}
-use Rattle.tool_io.specs.declared.host.Place.TheVariants as at
 use Rattle.tool_io.specs.Log.{Event}
 use Rattle.tool_runs.specs.declared.status.Status as status
 use Rattle.c2po_runs.specs.declared.make.Form.{Form}

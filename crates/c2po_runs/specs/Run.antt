@@ -165,7 +165,9 @@ OutcomeOf answer nothing events = NothingOutcome answer (given place.TheVariants
 -- what is written of a specification without `--table` is its image, in simplified form where the words ask for that
 abbrev pub CompilesImage : Ask → status.Status → List Event → Type 0
 CompilesImage (make asked) answer events =
-    answer ≡ status.TheVariants.Done → GivesImage asked.product asked.header (file_in asked events) (seen asked events).header (given place.TheVariants.Out events)
+    answer ≡ status.TheVariants.Done
+    → GivesImage asked.product asked.header (file_in asked events) (seen asked events).header
+    (given place.TheVariants.Out events)
 CompilesImage other answer events = ⊤
 
 -- the places of what is made are tried in turn

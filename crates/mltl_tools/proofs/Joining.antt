@@ -33,7 +33,6 @@ use Rattle.r2u2_runs.specs.Formulas.{TellsProgram, columns_under}
 use Rattle.r2u2_runs.specs.Outcome.{StopsBy, due_by, rows_over}
 use Rattle.r2u2_runs.specs.ProgramBy.{header_in, program_by, program_over}
 use Rattle.r2u2_runs.specs.Run.{IsRun, lines_in, trace_ended, trace_of}
-use Rattle.r2u2_runs.specs.Settled as settled
 use Rattle.r2u2_runs.proofs.ImageFiles.{program_told}
 use Rattle.r2u2_runs.proofs.Telling.{over_found}
 use Rattle.mltl_tools.specs.Sentence.{HasCompiled, HasWatched, TellsFormulas, TellsText, lines_at}
