@@ -45,6 +45,8 @@ impl Visits {
     pub(crate) fn seek(&mut self, names: usize, name: &Name) {
         let steps = u64::from(usize::BITS.saturating_sub(names.leading_zeros()));
         let bytes = name.bytes().len() as u64;
-        self.left = self.left.saturating_sub(steps.saturating_mul(1 + bytes / 8));
+        self.left = self
+            .left
+            .saturating_sub(steps.saturating_mul(1 + bytes / 8));
     }
 }
