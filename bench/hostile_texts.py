@@ -72,6 +72,12 @@ def declared(names):
     return 'INPUT\n' + ''.join('%s: bool;\n' % names for names in lists) + 'FTSPEC %s;\n' % names[0]
 
 
+def constants(numbers):
+    """Comparisons with so many numbers, which outputs reach."""
+    sums = ('FTSPEC x == %s;\n' % '+'.join(['x', *numbers[k:k + 400]]) for k in range(0, len(numbers), 400))
+    return 'INPUT x: int;\n' + ''.join(sums)
+
+
 TEXTS = [
     filled('gates', 'unused definitions that count', COUNTED + 'DEFINE\n',
            numbered('d# := forexactly(v: s, 127)(v);\n'), 'FTSPEC p;\n'),
@@ -96,4 +102,6 @@ TEXTS = [
     Text('picks', 'the same in 1 MiB, of structs of 500 fields', lambda: structs_within(500, 129, 1200)),
     Text('iffs', 'equivalences in definitions that are not used, in 71 KB', equivalences),
     Text('colliding', '65,536 signals whose names collide', lambda: declared(colliding.names(65_536))),
+    Text('constants', '32,000 numbers whose hashes collide', lambda: constants(colliding.numbers(32_000))),
+    Text('any-constants', '32,000 numbers in a row', lambda: constants(list(map(str, range(10 ** 9, 10 ** 9 + 32_000))))),
 ] + [Text('deep-' + deep.name, deep.shows, lambda deep=deep: deep.text) for deep in deepest.TEXTS]

@@ -8,8 +8,9 @@
  * A monitor takes memory in r2u2_open and r2u2_open_under and gives it back in r2u2_close; no other call comes here. The
  * arena is one for the program: where several threads open and close, they do so one at a time.
  *
- * Blocks stand one after the other, each after two words that the arena keeps. The last block grows in place. A block
- * that is freed gives way as soon as all after it are free, so the array is as at first when all monitors are closed.
+ * Blocks stand one after the other, each after two words that the arena keeps. A new one takes the smallest free block
+ * that serves, or else stands after the last; the last block grows in place, and so does one before a free block. The
+ * array is as at first when all monitors are closed.
  */
 #ifndef R2U2_ARENA_H
 #define R2U2_ARENA_H

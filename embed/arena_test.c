@@ -74,6 +74,56 @@ static void no_room(void) {
     CHECK(!rattle_alloc(0, 1).ok);
 }
 
+/* A free block is taken again, what is left of it stays free, and free neighbours become one. */
+static void free_blocks(void) {
+    r2u2_arena(memory, 512);
+    struct found first = rattle_alloc(64, 8), second = rattle_alloc(32, 8), last = rattle_alloc(8, 8);
+    size_t used = r2u2_arena_used();
+    rattle_dealloc(first.at);
+    struct found again = rattle_alloc(24, 8), rest = rattle_alloc(20, 4);
+    CHECK(again.at == first.at && (uint8_t *)rest.at == (uint8_t *)first.at + 40 && r2u2_arena_used() == used);
+    rattle_dealloc(second.at);
+    rattle_dealloc(again.at);
+    rattle_dealloc(rest.at);
+    CHECK(rattle_alloc(112, 8).at == first.at && r2u2_arena_used() == used);
+    rattle_dealloc(first.at);
+    rattle_dealloc(last.at);
+    CHECK(r2u2_arena_used() == 0 && r2u2_arena_most() == used);
+}
+
+/* Blocks that are asked for, resized and freed in any order keep what they hold; in the end the array is as at first. */
+static void any_blocks(void) {
+    enum { BLOCKS = 24, STEPS = 20000 };
+    static struct {
+        uint8_t *at;
+        size_t size, align;
+    } all[BLOCKS];
+    uint32_t dice = 1;
+    r2u2_arena(memory, 4096);
+    for (int step = 0; step < STEPS + BLOCKS; step++) {
+        dice = dice * 1664525u + 1013904223u;
+        size_t k = step < STEPS ? (dice >> 8) % BLOCKS : (size_t)(step - STEPS), size = (dice >> 16) % 300;
+        size_t kept = all[k].size < size ? all[k].size : size;
+        for (size_t i = 0; i < all[k].size; i++) CHECK(all[k].at[i] == (uint8_t)(k + 1));
+        if (all[k].at && (step >= STEPS || dice >> 31)) {
+            rattle_dealloc(all[k].at);
+            all[k].at = NULL;
+            all[k].size = 0;
+            continue;
+        }
+        if (step >= STEPS) continue;
+        if (!all[k].at) all[k].align = (size_t)1 << (dice >> 24) % 7;
+        struct found block = all[k].at ? rattle_realloc(all[k].at, kept, size, all[k].align) : rattle_alloc(size, all[k].align);
+        if (!block.ok) continue;
+        all[k].at = block.at;
+        all[k].size = size;
+        CHECK((uintptr_t)block.at % all[k].align == 0 && r2u2_arena_used() <= 4096);
+        for (size_t i = 0; i < kept; i++) CHECK(all[k].at[i] == (uint8_t)(k + 1));
+        memset(all[k].at, (int)(k + 1), size);
+    }
+    CHECK(r2u2_arena_used() == 0);
+}
+
 /* Opens a program, takes one row of zeros, and closes. */
 static uint32_t run(const uint8_t *program, size_t count, const char *header) {
     static const int64_t zeros[64];
@@ -111,6 +161,8 @@ int main(int count, char **words) {
     for (size_t from = 0; from < 64; from++) aligned_blocks(from);
     growing_blocks();
     no_room();
+    free_blocks();
+    any_blocks();
     least_array(program, size, NULL);
     least_array(program, size, "#request,grant");
     printf("%d checks, %d failed\n", checks, failed);

@@ -56,6 +56,9 @@ static void check(bool holds, const char *claim, int line) {
 
 static struct image grant;
 static const char HEADER[] = "# request,grant";
+/* Of the first example: the delay of its output, and the most steps of a row, four for each slot of an instruction and of
+ * its larger operand and for two more: the queues of its seven instructions have 4, 1, 1, 4, 4, 4 and 4 slots. */
+enum { GRANT_DELAY = 3, GRANT_STEPS = 4 * (6 + 3 + 3 + 7 + 10 + 10 + 10) };
 static const int64_t ROWS[6][2] = {{1, 0}, {0, 1}, {1, 0}, {0, 0}, {0, 0}, {0, 0}};
 
 static uint32_t open_grant(struct r2u2 *it) {
@@ -90,8 +93,11 @@ static void closed_ones_answer(struct r2u2 *it) {
     CHECK(r2u2_row(it, ROWS[0], 2, &fault) == R2U2_NOT_OPEN && fault.why == 5 && fault.column == 6);
     CHECK(r2u2_next(it, R2U2_EACH, &report) == R2U2_NOT_OPEN);
     CHECK(report.time == 7 && report.output == 8 && report.word == 9);
-    CHECK(r2u2_width(it) == 0 && r2u2_outputs(it) == 0);
+    uint32_t column = 3, kind = 4;
+    CHECK(r2u2_width(it) == 0 && r2u2_outputs(it) == 0 && r2u2_rows(it) == 0);
+    CHECK(r2u2_delay(it, 0) == 0 && r2u2_steps(it) == 0 && r2u2_signals(it) == 0);
     CHECK(r2u2_name(it, 0, name, sizeof name) == 0 && name[0] == 'x');
+    CHECK(r2u2_signal(it, 0, &column, &kind, name, sizeof name) == 0 && name[0] == 'x' && column == 3 && kind == 4);
 }
 
 static void calls_of_a_closed_one(void) {
@@ -154,16 +160,42 @@ static void reports_left(void) {
     CHECK(held == 0);
 }
 
-/* A buffer that is too short is left alone; a longer one keeps its rest. */
+/* A buffer that is too short is left alone; a longer one has a zero byte after the name, and keeps its rest. */
 static void names(void) {
     struct r2u2 it = {0};
-    char name[8] = "........";
+    char name[9] = "........";
     CHECK(open_grant(&it) == R2U2_DONE);
     CHECK(r2u2_width(&it) == 2 && r2u2_outputs(&it) == 1);
     CHECK(r2u2_name(&it, 0, name, 6) == 0 && r2u2_name(&it, 1, name, 8) == 0 && r2u2_name(&it, 0, name, 0) == 0);
-    CHECK(memcmp(name, "........", 8) == 0);
-    CHECK(r2u2_name(&it, 0, name, 8) == 7 && memcmp(name, "granted.", 8) == 0);
+    CHECK(memcmp(name, "........", 9) == 0);
+    CHECK(r2u2_name(&it, 0, name, 7) == 7 && memcmp(name, "granted.", 9) == 0);
+    name[8] = '.';
+    CHECK(r2u2_name(&it, 0, name, 9) == 7 && memcmp(name, "granted\0.", 9) == 0);
     r2u2_close(&it);
+}
+
+/* What may be asked: signals in order of declaration, where they stand, rows, the worst-case delay and the steps. */
+static void queries(void) {
+    struct r2u2 it = {0};
+    struct r2u2_fault fault = {0};
+    uint32_t column = 7, kind = 7;
+    char name[9] = "........";
+    CHECK(r2u2_version() == R2U2_VERSION);
+    CHECK(r2u2_open_under(&it, grant.bytes, grant.count, "#grant,other,request", 20, &fault) == R2U2_DONE);
+    long before = asked;
+    CHECK(r2u2_width(&it) == 3 && r2u2_signals(&it) == 2);
+    CHECK(r2u2_signal(&it, 2, &column, &kind, name, 9) == 0 && r2u2_signal(&it, 0, &column, &kind, name, 6) == 0);
+    CHECK(column == 7 && kind == 7 && memcmp(name, "........", 9) == 0);
+    CHECK(r2u2_signal(&it, 0, &column, &kind, name, 7) == 7 && memcmp(name, "request.", 9) == 0);
+    CHECK(column == 2 && kind == R2U2_TRUTH);
+    CHECK(r2u2_signal(&it, 1, &column, &kind, name, 9) == 5 && memcmp(name, "grant\0t.", 9) == 0);
+    CHECK(column == 0 && kind == R2U2_TRUTH);
+    CHECK(r2u2_delay(&it, 0) == GRANT_DELAY && r2u2_delay(&it, 1) == 0 && r2u2_delay(&it, UINT32_MAX) == 0);
+    CHECK(r2u2_steps(&it) == GRANT_STEPS);
+    CHECK(r2u2_rows(&it) == 0 && take(&it, (int64_t[]){1, 9, 0}, 3) == R2U2_DONE && r2u2_rows(&it) == 1);
+    CHECK(asked == before);
+    r2u2_close(&it);
+    CHECK(held == 0);
 }
 
 static void each_kind_of_fault(void) {
@@ -254,6 +286,21 @@ static void two_threads(void) {
     CHECK(held == 0);
 }
 
+static void *run_and_close(void *it) {
+    watch_six(it);
+    r2u2_close(it);
+    return NULL;
+}
+
+/* One thread opens a monitor, and another takes rows and closes it. */
+static void handed_over(void) {
+    struct r2u2 it = {0};
+    pthread_t thread;
+    CHECK(open_grant(&it) == R2U2_DONE);
+    CHECK(pthread_create(&thread, NULL, run_and_close, &it) == 0 && pthread_join(thread, NULL) == 0);
+    CHECK(it.at == NULL && held == 0);
+}
+
 /* The checked wrappers say of each bad argument that it is one, and else do what they wrap. */
 static void wrappers(void) {
     struct r2u2 it = {0};
@@ -277,8 +324,17 @@ static void wrappers(void) {
     CHECK(r2u2_checked_next(&it, R2U2_EACH, &report) == R2U2_DONE && report.word == R2U2_TRUE);
     CHECK(r2u2_checked_name(&it, 0, NULL, 9) == 0 && r2u2_checked_name(&it, 0, name, 7) == 0 && name[0] == '.');
     CHECK(r2u2_checked_name(&it, 0, name, sizeof name) == 7 && memcmp(name, "granted", 8) == 0);
-    CHECK(r2u2_checked_width(NULL) == 0 && r2u2_checked_outputs(NULL) == 0);
-    CHECK(r2u2_checked_width(&it) == 2 && r2u2_checked_outputs(&it) == 1);
+    CHECK(r2u2_checked_width(NULL) == 0 && r2u2_checked_outputs(NULL) == 0 && r2u2_checked_rows(NULL) == 0);
+    CHECK(r2u2_checked_delay(NULL, 0) == 0 && r2u2_checked_steps(NULL) == 0 && r2u2_checked_signals(NULL) == 0);
+    CHECK(r2u2_checked_width(&it) == 2 && r2u2_checked_outputs(&it) == 1 && r2u2_checked_rows(&it) == 1);
+    CHECK(r2u2_checked_delay(&it, 0) == GRANT_DELAY && r2u2_checked_steps(&it) == GRANT_STEPS);
+    uint32_t column = 7, kind = 7;
+    CHECK(r2u2_checked_signals(&it) == 2 && r2u2_checked_signal(&it, 1, NULL, NULL, name, sizeof name) == 5);
+    CHECK(r2u2_checked_signal(&it, 0, &column, &kind, name, 7) == 0 && column == 7 && kind == 7);
+    CHECK(r2u2_checked_signal(&it, 0, &column, &column, name, sizeof name) == 0 && column == 7);
+    CHECK(r2u2_checked_signal(&it, 0, &column, &kind, NULL, 8) == 0 && r2u2_checked_signal(NULL, 0, &column, &kind, name, 8) == 0);
+    CHECK(r2u2_checked_signal(&it, 0, &column, &kind, name, 8) == 7 && memcmp(name, "request", 8) == 0);
+    CHECK(column == 0 && kind == R2U2_TRUTH);
     r2u2_checked_close(&it);
     r2u2_checked_close(NULL);
     CHECK(held == 0);
@@ -293,12 +349,14 @@ int main(int count, char **words) {
     rows_that_dont_fit();
     reports_left();
     names();
+    queries();
     each_kind_of_fault();
     any_byte();
     each_block_refused(false);
     each_block_refused(true);
     moved();
     two_threads();
+    handed_over();
     wrappers();
     printf("%d checks, %d failed\n", (int)checks, (int)failed);
     return failed != 0;

@@ -64,14 +64,43 @@ static inline uint32_t r2u2_checked_width(struct r2u2 *it) { return r2u2_is_stru
 
 static inline uint32_t r2u2_checked_outputs(struct r2u2 *it) { return r2u2_is_struct(it) ? r2u2_outputs(it) : 0; }
 
+static inline uint64_t r2u2_checked_rows(struct r2u2 *it) { return r2u2_is_struct(it) ? r2u2_rows(it) : 0; }
+
+static inline uint32_t r2u2_checked_delay(struct r2u2 *it, uint32_t k) {
+    return r2u2_is_struct(it) ? r2u2_delay(it, k) : 0;
+}
+
+static inline uint64_t r2u2_checked_steps(struct r2u2 *it) { return r2u2_is_struct(it) ? r2u2_steps(it) : 0; }
+
+static inline uint32_t r2u2_checked_signals(struct r2u2 *it) { return r2u2_is_struct(it) ? r2u2_signals(it) : 0; }
+
 /* The length of the name, without the zero byte after it; 0 also where `count` leaves no room for that byte. */
 static inline uint32_t r2u2_checked_name(struct r2u2 *it, uint32_t k, char *buffer, size_t count) {
     char name[65] = {0};
     if (!r2u2_is_struct(it) || buffer == NULL || !r2u2_is_there(buffer, count, 1)) return 0;
     if (r2u2_overlap(it, sizeof *it, buffer, count)) return 0;
-    uint32_t length = r2u2_name(it, k, name, 64);
+    uint32_t length = r2u2_name(it, k, name, sizeof name);
     if (length == 0 || length >= count) return 0;
     memcpy(buffer, name, length + 1);
+    return length;
+}
+
+/* The same of a signal. `column` and `kind` may be null where they aren't asked for. */
+static inline uint32_t r2u2_checked_signal(struct r2u2 *it, uint32_t k, uint32_t *column, uint32_t *kind, char *buffer,
+                                           size_t count) {
+    char name[65] = {0};
+    uint32_t told_column = 0, told_kind = 0;
+    if (!r2u2_is_struct(it) || buffer == NULL || !r2u2_is_there(buffer, count, 1)) return 0;
+    if (column != NULL && !r2u2_is_there(column, 1, sizeof *column)) return 0;
+    if (kind != NULL && !r2u2_is_there(kind, 1, sizeof *kind)) return 0;
+    if (r2u2_overlap(it, sizeof *it, buffer, count) || (column != NULL && column == kind)) return 0;
+    if (r2u2_overlap(it, sizeof *it, column, sizeof *column) || r2u2_overlap(it, sizeof *it, kind, sizeof *kind)) return 0;
+    if (r2u2_overlap(buffer, count, column, sizeof *column) || r2u2_overlap(buffer, count, kind, sizeof *kind)) return 0;
+    uint32_t length = r2u2_signal(it, k, &told_column, &told_kind, name, sizeof name);
+    if (length == 0 || length >= count) return 0;
+    memcpy(buffer, name, length + 1);
+    if (column != NULL) *column = told_column;
+    if (kind != NULL) *kind = told_kind;
     return length;
 }
 

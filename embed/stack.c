@@ -22,7 +22,7 @@ static size_t count;
 static char header[1 << 16], name[64];
 static size_t header_count;
 static int64_t numbers[MOST_COLUMNS];
-static uint32_t width, code;
+static uint32_t width, code, column, kind;
 
 static void nothing(void) {}
 static void open_it(void) { code = r2u2_open(&it, program, count, &fault); }
@@ -30,6 +30,11 @@ static void open_under(void) { code = r2u2_open_under(&it, program, count, heade
 static void widths(void) { width = r2u2_width(&it); }
 static void outputs(void) { code = r2u2_outputs(&it); }
 static void names(void) { code = r2u2_name(&it, 0, name, sizeof name); }
+static void rows(void) { (void)r2u2_rows(&it); }
+static void delays(void) { code = r2u2_delay(&it, 0); }
+static void steps(void) { (void)r2u2_steps(&it); }
+static void signals(void) { code = r2u2_signals(&it); }
+static void one_signal(void) { code = r2u2_signal(&it, 0, &column, &kind, name, sizeof name); }
 static void row(void) { code = r2u2_row(&it, numbers, width, &row_fault); }
 static void next(void) { code = r2u2_next(&it, R2U2_EACH, &report); }
 static void next_run(void) { code = r2u2_next(&it, R2U2_RUNS, &report); }
@@ -52,9 +57,10 @@ static size_t stack_of(void (*call)(void)) {
     return STACK - free_bytes;
 }
 
-enum { OPEN, OPEN_UNDER, WIDTH, OUTPUTS, NAME, ROW, NEXT, CLOSE, CALLS };
-static const char *const NAMES[CALLS] = {"r2u2_open", "r2u2_open_under", "r2u2_width", "r2u2_outputs",
-                                         "r2u2_name", "r2u2_row",        "r2u2_next",  "r2u2_close"};
+enum { OPEN, OPEN_UNDER, WIDTH, OUTPUTS, ROWS, NAME, DELAY, STEPS, SIGNALS, SIGNAL, ROW, NEXT, CLOSE, CALLS };
+static const char *const NAMES[CALLS] = {"r2u2_open",  "r2u2_open_under", "r2u2_width",   "r2u2_outputs", "r2u2_rows",
+                                         "r2u2_name",  "r2u2_delay",      "r2u2_steps",   "r2u2_signals", "r2u2_signal",
+                                         "r2u2_row",   "r2u2_next",       "r2u2_close"};
 static size_t most[CALLS], base;
 
 static void measure(int which, void (*call)(void)) {
@@ -82,7 +88,12 @@ static void make_header(void) {
 static void watch(void) {
     measure(WIDTH, widths);
     measure(OUTPUTS, outputs);
+    measure(ROWS, rows);
     measure(NAME, names);
+    measure(DELAY, delays);
+    measure(STEPS, steps);
+    measure(SIGNALS, signals);
+    measure(SIGNAL, one_signal);
     for (uint32_t i = 0; i < 200; i++) {
         for (uint32_t k = 0; k < width; k++) numbers[k] = (int64_t)(i * 7 + k * 3) % 5 == 0;
         measure(ROW, row);

@@ -10,8 +10,9 @@
  *  - Each pointer is aligned, isn't null, even where its count is 0, and leads to as many elements as its count says, in
  *    one object. Every byte of `fault`, `report` and `buffer` was written before the call (`= {0}` serves).
  *  - What one call is given doesn't overlap, but that two pointers which are only read may be equal.
- *  - One struct is used by one thread at a time, and stays with the thread that opened it. Different structs don't share
- *    anything but the heap, and may be used by different threads.
+ *  - One struct is used by one thread at a time. It may pass to another thread between two calls, so that one opens it and
+ *    another takes rows: a lock, the start or the join of a thread, or a sequentially consistent atomic orders the two.
+ *    Different structs don't share anything but the heap, and may be used by different threads at once.
  *  - No call is made from a signal handler, nor in the forked child of a process with threads.
  *  - malloc, realloc and free are those of one allocator, and align a block to each power of two up to 16 that divides
  *    its size.
@@ -20,8 +21,7 @@
  * that goes away while it is open leaks its monitor. The calls keep no pointer that they are given: program, header, rows
  * and buffers stay the caller's.
  *
- * MEMORY. r2u2_open and r2u2_open_under take all of it. r2u2_row, r2u2_next, r2u2_width, r2u2_outputs and r2u2_name take
- * none, and so can't run out of it.
+ * MEMORY. r2u2_open and r2u2_open_under take all of it. No other call takes any, and so none can run out of it.
  *
  * ANSWERS. A call that answers a code was done where it answers R2U2_DONE, 0. At every other code the monitor is as it
  * was before the call, and nothing was written but the fault that tells why.
@@ -35,6 +35,10 @@
 #ifdef __cplusplus
 extern "C" {
 #endif
+
+/* The version of this header: 10,000, 100 and 1 times its three numbers. r2u2_version answers that of the library. */
+#define R2U2_VERSION 900u
+#define R2U2_VERSION_TEXT "0.9.0"
 
 /* A monitor, or none where all is zero. The address is the library's own: don't follow it. */
 struct r2u2 {
@@ -128,14 +132,39 @@ uint32_t r2u2_open(struct r2u2 *it, const uint8_t *program, size_t count, struct
 uint32_t r2u2_open_under(struct r2u2 *it, const uint8_t *program, size_t count, const char *header, size_t header_count,
                          struct r2u2_fault *fault);
 
-/* How many numbers a row has, and how many outputs there are; 0 where none is open. */
+/* What may be asked of a monitor that is open. These calls change nothing, but they write to the struct while they run: it
+ * isn't const, and no other call uses it meanwhile. Where none is open each answers 0. */
+
+/* How many numbers a row has, how many outputs there are, and how many rows were taken. */
 uint32_t r2u2_width(struct r2u2 *it);
 uint32_t r2u2_outputs(struct r2u2 *it);
+uint64_t r2u2_rows(struct r2u2 *it);
 
-/* Writes the name of output `k`, counted from 0, to the front of `buffer`, without a zero byte after it, and answers its
- * length, 1 to 64; the rest of the buffer stays. 0, and nothing is written, where none is open, `k` is no output, or
- * `count` is less than the name's length. */
+/* Writes the name of output `k`, counted from 0, to the front of `buffer`, and a zero byte after it where there is room,
+ * and answers the name's length, 1 to 64; the rest of the buffer stays. 0, and nothing is written, where none is open, `k`
+ * is no output, or `count` is less than the name's length. 65 bytes hold each name with its zero byte. */
 uint32_t r2u2_name(struct r2u2 *it, uint32_t k, char *buffer, size_t count);
+
+/* The worst-case delay of output `k` in rows: the row at time t + delay tells its time t at the latest. 0 also where `k` is
+ * no output. */
+uint32_t r2u2_delay(struct r2u2 *it, uint32_t k);
+
+/* The most steps of one row, which are reads and writes of queues and boxes. */
+uint64_t r2u2_steps(struct r2u2 *it);
+
+/* What a signal's column holds. */
+enum r2u2_signal_kind { R2U2_WHOLE = 0, R2U2_TRUTH = 1 };
+
+/* How many signals the program stores; one of version 1 stores none. */
+uint32_t r2u2_signals(struct r2u2 *it);
+
+/* Tells the column and the kind, an r2u2_signal_kind, of signal `k`, counted from 0 in order of declaration, and writes its
+ * name as r2u2_name does. 0, and nothing is written, where none is open, `k` is no signal, or `count` is less than the
+ * name's length. */
+uint32_t r2u2_signal(struct r2u2 *it, uint32_t k, uint32_t *column, uint32_t *kind, char *name, size_t count);
+
+/* The version of the library, as R2U2_VERSION. */
+uint32_t r2u2_version(void);
 
 /* Takes the next row: one number for each column. A truth is 0 or 1, a whole number has 32 bits with its sign; columns
  * that the program doesn't read may hold anything. Ask for all its reports before the next row.

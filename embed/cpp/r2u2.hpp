@@ -27,6 +27,12 @@ struct Report {
     r2u2_word word;
 };
 
+struct Signal {
+    std::string name;
+    std::uint32_t column;
+    r2u2_signal_kind kind;
+};
+
 inline const char *text(r2u2_word word) {
     static const char *const words[] = {"F", "T", "inactive", "invalid", "verified"};
     return words[word];
@@ -56,6 +62,23 @@ public:
 
     std::uint32_t width() { return r2u2_width(&it); }
     std::uint32_t outputs() { return r2u2_outputs(&it); }
+    std::uint64_t rows() { return r2u2_rows(&it); }
+    std::uint64_t steps() { return r2u2_steps(&it); }
+
+    // The worst-case delay of an output in rows; 0 where there is none.
+    std::uint32_t delay(std::uint32_t k) { return r2u2_delay(&it, k); }
+
+    // The signals that the program stores, in order of declaration.
+    std::vector<Signal> signals() {
+        std::vector<Signal> all(r2u2_signals(&it));
+        for (std::uint32_t k = 0; k < all.size(); k++) {
+            char buffer[65];
+            std::uint32_t kind = 0;
+            all[k].name.assign(buffer, r2u2_checked_signal(&it, k, &all[k].column, &kind, buffer, sizeof buffer));
+            all[k].kind = static_cast<r2u2_signal_kind>(kind);
+        }
+        return all;
+    }
 
     // The name of an output; empty where there is none.
     std::string name(std::uint32_t k) {

@@ -59,6 +59,17 @@ class Report(NamedTuple):
         return f"{self.name}:{self.time},{self.word}"
 
 
+class Signal(NamedTuple):
+    name: str
+    column: int
+    is_truth: bool
+
+
+def version():
+    """The version of the library: 10,000, 100 and 1 times its three numbers."""
+    return _library().r2u2_version()
+
+
 def _library():
     library = ctypes.CDLL(os.environ.get("R2U2_LIBRARY", "libr2u2.so"))
     it, size, number = ctypes.POINTER(_Struct), ctypes.c_size_t, ctypes.c_uint32
@@ -68,6 +79,12 @@ def _library():
         "open_under": (number, [it, chars, size, chars, size, fault]),
         "width": (number, [it]),
         "outputs": (number, [it]),
+        "rows": (ctypes.c_uint64, [it]),
+        "delay": (number, [it, number]),
+        "steps": (ctypes.c_uint64, [it]),
+        "signals": (number, [it]),
+        "signal": (number, [it, number, ctypes.POINTER(number), ctypes.POINTER(number), chars, size]),
+        "version": (number, []),
         "name": (number, [it, number, chars, size]),
         "row": (number, [it, ctypes.POINTER(ctypes.c_int64), size, ctypes.POINTER(_RowFault)]),
         "next": (number, [it, number, ctypes.POINTER(_Report)]),
@@ -80,8 +97,8 @@ def _library():
 
 
 class Monitor:
-    """A monitor of the program that these bytes spell, under a header where one is given. It stays with the thread that
-    made it, and is closed by `close`, or at the end of a `with`."""
+    """A monitor of the program that these bytes spell, under a header where one is given. One thread uses it at a time. It
+    is closed by `close`, or at the end of a `with`."""
 
     def __init__(self, program, header=None):
         self._call = _library()
@@ -98,12 +115,26 @@ class Monitor:
             told = Fault(fault.kind, fault.part, fault.place, text) if code == REFUSED else None
             raise Error(code, text, fault=told)
         self.width = self._call.r2u2_width(self._it)
-        self.names = [self._name(k) for k in range(self._call.r2u2_outputs(self._it))]
+        outputs = range(self._call.r2u2_outputs(self._it))
+        self.names = [self._name(k) for k in outputs]
+        self.delays = [self._call.r2u2_delay(self._it, k) for k in outputs]
+        self.steps = self._call.r2u2_steps(self._it)
+        self.signals = [self._signal(k) for k in range(self._call.r2u2_signals(self._it))]
 
     def _name(self, k):
         buffer = ctypes.create_string_buffer(65)
-        self._call.r2u2_name(self._it, k, buffer, 64)
+        self._call.r2u2_name(self._it, k, buffer, len(buffer))
         return buffer.value.decode()
+
+    def _signal(self, k):
+        buffer, column, kind = ctypes.create_string_buffer(65), ctypes.c_uint32(), ctypes.c_uint32()
+        self._call.r2u2_signal(self._it, k, column, kind, buffer, len(buffer))
+        return Signal(buffer.value.decode(), column.value, kind.value == 1)
+
+    @property
+    def rows(self):
+        """How many rows were taken."""
+        return self._call.r2u2_rows(self._it)
 
     def row(self, numbers):
         """Takes a row. The reports of the row before have all been given."""

@@ -19,6 +19,7 @@ CHANGES = [
     ("docs/man/c2po.1", "bad divisor", "bad division", "DIAGNOSTICS of the manual: no entry shows bad divisor"),
     ("docs/man/r2u2.1", ".It Fl -runs", ".It Fl -run", "docs/man/r2u2.1: no entry for --runs"),
     ("docs/man/c2po.5", "heaters, 2", "heaters, 1", "docs/man/c2po.5: no case has this specification"),
+    ("docs/FLIGHT.md", "`scq_ring/lets_go_too_early`", "`scq_ring/lets_go`", "docs/FLIGHT.md: no wrong body scq_ring/lets_go"),
     ("docs/LANGUAGE.md", "forexactly", "forexact", "docs/LANGUAGE.md: no entry for forexactly"),
     ("docs/LANGUAGE.md", "| 3 | 1 | 0 | F | 4 |", "| 3 | 1 | 0 | T | 4 |", "docs/LANGUAGE.md: no case gives the table"),
     ("docs/LANGUAGE.md", "| 3 | 1 | 0 | F | 4 |", "| 3 | 1 | 0 | F | 3 |", "a case tells lines after other rows"),

@@ -1,11 +1,14 @@
 -- What the Booleanizer computes on a row, in numbers of 64 bits.
 -- A reader of the contracts needs this file.
 
-use Rattle.std.specs.Prelude.{◌≡◌, ◌≢◌, ◌<◌, ℕ, ℤ, pos, neg_ℤ, ◌+ℤ◌, ◌-ℤ◌, ◌*ℤ◌, int_div, int_rem, int_lt, int_le, Bool, if◌then◌else◌, List, [], ◌∷◌, ◌++◌, length, map, slice_get, slice_index_or, Some, FitsSigned, ⊤}
+use Rattle.std.specs.Prelude.{◌≡◌, ◌≢◌, ◌<◌, ℕ, ℤ, pos, neg_ℤ, ◌+ℤ◌, ◌-ℤ◌, ◌*ℤ◌, int_div, int_rem, int_lt, int_le, Bool}
+use Rattle.std.specs.Prelude.{if◌then◌else◌, List, [], ◌∷◌, ◌++◌, length, map, slice_get, slice_index_or, Some}
+use Rattle.std.specs.Prelude.{FitsSigned, ⊤}
 use Rattle.std.specs.Int.{w64}
 use Rattle.std.specs.Ordering.{int_eq}
 use Rattle.mltl_base.specs.declared.operators.BzOp.{BzOp}
-use Rattle.mltl_base.specs.declared.operators.BzOp.TheVariants.{Column, IsTrue, Const, Neg, Add, Sub, Mul, Div, Rem, Eq, Lt, Le}
+use Rattle.mltl_base.specs.declared.operators.BzOp.TheVariants.{Column, IsTrue, Const, Neg, Add, Sub, Mul, Div, Rem, Eq}
+use Rattle.mltl_base.specs.declared.operators.BzOp.TheVariants.{Lt, Le}
 use Rattle.mltl_base.specs.Atoms.{Row, Atom, value, holds, in_column}
 use Rattle.mltl_base.specs.Programs.{Expression, whole, truth, expression_of, expressions, term_at}
 use Rattle.obs_verify.specs.Soundness.{AreWhole, IsWhole}
@@ -44,7 +47,9 @@ CanCompute row before (Neg a) = IsWhole before a × FitsSigned w64 (neg_ℤ (val
 CanCompute row before (Add a b) = AreWhole before a b × FitsSigned w64 (value_at row before a +ℤ value_at row before b)
 CanCompute row before (Sub a b) = AreWhole before a b × FitsSigned w64 (value_at row before a -ℤ value_at row before b)
 CanCompute row before (Mul a b) = AreWhole before a b × FitsSigned w64 (value_at row before a *ℤ value_at row before b)
-CanCompute row before (Div a b) = AreWhole before a b × (value_at row before b ≢ pos 0) × FitsSigned w64 (int_div (value_at row before a) (value_at row before b))
+CanCompute row before (Div a b) =
+    AreWhole before a b × (value_at row before b ≢ pos 0)
+    × FitsSigned w64 (int_div (value_at row before a) (value_at row before b))
 CanCompute row before (Rem a b) = AreWhole before a b × (value_at row before b ≢ pos 0)
 CanCompute row before (Eq a b) = AreWhole before a b
 CanCompute row before (Lt a b) = AreWhole before a b
@@ -53,7 +58,8 @@ CanCompute row before (Le a b) = AreWhole before a b
 -- each instruction can be computed, over the expressions of those before it
 unfoldable pub AllCompute : Row → List Expression → List BzOp → Type 0
 AllCompute row before [] = ⊤
-AllCompute row before (op ∷ ops) = CanCompute row before op × AllCompute row (before ++ expression_of before op ∷ []) ops
+AllCompute row before (op ∷ ops) =
+    CanCompute row before op × AllCompute row (before ++ expression_of before op ∷ []) ops
 
 -- ---- one instruction over numbers
 
@@ -89,7 +95,9 @@ CanApply row numbers (Neg a) = (a < length numbers) × FitsSigned w64 (neg_ℤ (
 CanApply row numbers (Add a b) = AreIn numbers a b × FitsSigned w64 (number_at numbers a +ℤ number_at numbers b)
 CanApply row numbers (Sub a b) = AreIn numbers a b × FitsSigned w64 (number_at numbers a -ℤ number_at numbers b)
 CanApply row numbers (Mul a b) = AreIn numbers a b × FitsSigned w64 (number_at numbers a *ℤ number_at numbers b)
-CanApply row numbers (Div a b) = AreIn numbers a b × (number_at numbers b ≢ pos 0) × FitsSigned w64 (int_div (number_at numbers a) (number_at numbers b))
+CanApply row numbers (Div a b) =
+    AreIn numbers a b × (number_at numbers b ≢ pos 0)
+    × FitsSigned w64 (int_div (number_at numbers a) (number_at numbers b))
 CanApply row numbers (Rem a b) = AreIn numbers a b × (number_at numbers b ≢ pos 0)
 CanApply row numbers (Eq a b) = AreIn numbers a b
 CanApply row numbers (Lt a b) = AreIn numbers a b

@@ -5,6 +5,7 @@ ghost use Rattle.mltl_base.specs.Programs.{IsFit};
 ghost use Rattle.booleanizer.specs.Evaluation.{IsTruthIn, numbers_on};
 
 use crate::evaluation::evaluate;
+use fixed_list::Fixed;
 use obs_verify::Checked;
 use std::alloc::{AllocError, Global};
 use std::marker::Model;
@@ -13,7 +14,7 @@ use std::marker::Model;
 /// truths as 1 and 0.
 #[derive(Drop)]
 pub struct Bz {
-    numbers: Vec<i64>,
+    numbers: Fixed<i64>,
 }
 
 impl Model for Bz {
@@ -21,7 +22,7 @@ impl Model for Bz {
 
     ghost Value = { List ℤ };
 
-    ghost view = { λ bz. bz.numbers.items };
+    ghost view = { λ bz. bz.numbers };
 }
 
 impl Bz {
@@ -30,7 +31,7 @@ impl Bz {
         ensures { IfOk result (λ bz. length bz ≡ length checked.now.bz) }
     {
         Ok(Bz {
-            numbers: vec![in alloc; 0; checked.program().bz.len()]?,
+            numbers: Fixed::filled(alloc, 0, checked.program().bz.len())?,
         })
     }
 
@@ -41,7 +42,11 @@ impl Bz {
         ensures numbers { self.new ≡ numbers_on fields.now checked.now.bz }
         ensures len { length self.new ≡ length checked.now.bz }
     {
-        evaluate(checked.program().bz.as_slice(), fields, &mut self.numbers);
+        evaluate(
+            checked.program().bz.as_slice(),
+            fields,
+            self.numbers.as_mut_slice(),
+        );
     }
 
     /// The truth of an instruction on the last row.
@@ -49,6 +54,6 @@ impl Bz {
         requires { i < length self.now }
         ensures { IsTruthIn self.now i result }
     {
-        self.numbers[i as usize] == 1
+        self.numbers.as_slice()[i as usize] == 1
     }
 }

@@ -1,9 +1,20 @@
 //! The compiler `c2po`: from a specification to an observer program for `r2u2`.
 #![tactic(auto)]
 
-use mltl_tools::{Status, c2po_main, words_of};
+ghost use Rattle.c2po.specs.Ending.{EndsByRun};
+
+use mltl_tools::{Status, Words, c2po_main, words_of};
+use std::alloc::Global;
 use std::process::ExitCode;
-use tool_io::RealHost;
+use tool_io::{Host, RealHost};
+
+/// Does what the words ask for. Answers the code that the program ends with.
+fn run<H: Host>(alloc: Global, words: &Words, host: &mut H) -> u8
+    ensures { EndsByRun words.now result (H.faults host.old) (H.faults host.new)
+        (H.log host.old) (H.log host.new) }
+{
+    c2po_main(alloc, words, host).code()
+}
 
 fn main(rt: HostRuntime) -> ExitCode {
     let alloc = rt.alloc();
@@ -11,6 +22,5 @@ fn main(rt: HostRuntime) -> ExitCode {
         return ExitCode::from(Status::Memory.code());
     };
     let mut host = RealHost::new(rt);
-    let status = c2po_main(alloc, &words, &mut host);
-    ExitCode::from(status.code())
+    ExitCode::from(run(alloc, &words, &mut host))
 }

@@ -1,11 +1,13 @@
 use Rattle.std.specs.Prelude.{ℕ, nat_le, ◌&&◌, List, [], ◌∷◌, Option, is_some, Ok, Err, if◌then◌else◌}
 use Rattle.mltl_base.specs.declared.limits.TheConstants.{MAX_BOUND, MAX_COUNT}
-use Rattle.c2po_tree.specs.Shape.{Shape, Shapes, number, truth, named, build, group, pick, minus, negation, arith, compare, logic, window, between, each, exists, count, none, more}
+use Rattle.c2po_tree.specs.Shape.{Shape, Shapes, number, truth, named, build, group, pick, minus, negation, arith}
+use Rattle.c2po_tree.specs.Shape.{compare, logic, window, between, each, exists, count, none, more}
 use Rattle.c2po_kinds.specs.declared.kind.Kind.{Kind}
 use Rattle.c2po_kinds.specs.declared.fault.TypeFault.TheVariants as fault
 use Rattle.c2po_kinds.specs.Checking.{Checked, ◌>>=◌}
 use Rattle.c2po_kinds.specs.Kinds as kinds
-use Rattle.c2po_kinds.specs.Kinds.{Placed, whole, same_kind, expected, member_kind, known_value, known_built, grouped, picked}
+use Rattle.c2po_kinds.specs.Kinds.{Placed, whole, same_kind, expected, member_kind, known_value, known_built, grouped}
+use Rattle.c2po_kinds.specs.Kinds.{picked}
 use Rattle.c2po_kinds.specs.Scopes.{Visible, inside, meaning_of}
 
 -- The kind of an expression, or its first fault of names and kinds: operands first, from the left.
@@ -66,8 +68,10 @@ abbrev mutual
   kind_of (arith line op e f) seen = two (kind_of e seen) (kind_of f seen) >>= of_two line whole whole
   kind_of (compare line op e f) seen = two (kind_of e seen) (kind_of f seen) >>= of_two line whole kinds.truth
   kind_of (logic line op e f) seen = two (kind_of e seen) (kind_of f seen) >>= of_two line kinds.truth kinds.truth
-  kind_of (window line op a b e) seen = kind_of e seen >>= λ k. within_bounds line a b (of_one line kinds.truth kinds.truth k)
-  kind_of (between line op a b e f) seen = two (kind_of e seen) (kind_of f seen) >>= λ ks. within_bounds line a b (of_two line kinds.truth kinds.truth ks)
+  kind_of (window line op a b e) seen = kind_of e seen >>= λ k.
+      within_bounds line a b (of_one line kinds.truth kinds.truth k)
+  kind_of (between line op a b e f) seen = two (kind_of e seen) (kind_of f seen) >>= λ ks.
+      within_bounds line a b (of_two line kinds.truth kinds.truth ks)
   kind_of (each line x s e) seen = kind_of s seen >>= member_kind line >>= λ k.
       fresh line (meaning_of x seen) (kind_of e (inside x k seen) >>= of_one line kinds.truth kinds.truth)
   kind_of (exists line x s e) seen = kind_of s seen >>= member_kind line >>= λ k.

@@ -1,4 +1,5 @@
-use Rattle.std.specs.Prelude.{ℕ, nat_le, Bool, true, false, List, [], ◌∷◌, ◌++◌, length, codes, Option, Some, None, Ok, Err, if◌then◌else◌, ⊤}
+use Rattle.std.specs.Prelude.{ℕ, nat_le, Bool, true, false, List, [], ◌∷◌, ◌++◌, length, codes, Option, Some, None, Ok}
+use Rattle.std.specs.Prelude.{Err, if◌then◌else◌, ⊤}
 use Rattle.std.specs.Str.{bytes_eq}
 use Rattle.mltl_base.specs.declared.limits.TheConstants.{MAX_SIGNALS}
 use Rattle.c2po_tree.specs.Shape.{Shape}
@@ -62,11 +63,12 @@ signal_kind false = whole
 
 -- one more signal
 abbrev pub with_signal : ℕ → Bool → List ℕ → Declarations → Checked Declarations
-with_signal line b x d = new line x d.names (if nat_le MAX_SIGNALS (length d.signals) then Err (fault.Signals line) else Ok (record {
-  names = d.names ++ (x, Value (signal_kind b)) ∷ [];
-  structs = d.structs;
-  signals = d.signals ++ record { name = x; truth = b } ∷ [];
-}))
+with_signal line b x d =
+    new line x d.names (if nat_le MAX_SIGNALS (length d.signals) then Err (fault.Signals line) else Ok (record {
+      names = d.names ++ (x, Value (signal_kind b)) ∷ [];
+      structs = d.structs;
+      signals = d.signals ++ record { name = x; truth = b } ∷ [];
+    }))
 
 -- the signals of an item
 abbrev pub with_input : ℕ → List (List ℕ) → TypeShape → Declarations → Checked Declarations

@@ -1,4 +1,5 @@
-use Rattle.std.specs.Prelude.{ℕ, suc, pred, ◌==◌, Bool, true, false, ◌&&◌, List, [], ◌∷◌, length, slice_get, Option, Some, None, Ok, Err, if◌then◌else◌}
+use Rattle.std.specs.Prelude.{ℕ, suc, pred, ◌==◌, Bool, true, false, ◌&&◌, List, [], ◌∷◌, length, slice_get, Option}
+use Rattle.std.specs.Prelude.{Some, None, Ok, Err, if◌then◌else◌}
 use Rattle.c2po_kinds.specs.declared.kind.Base.{Base}
 use Rattle.c2po_kinds.specs.declared.kind.Base.TheVariants as base
 use Rattle.c2po_kinds.specs.declared.kind.Kind.{Kind}

@@ -1,6 +1,7 @@
 -- How a text is cut into pieces: blanks, comments, words, numbers, signs, and bytes that begin none of these.
 use Rattle.std.specs.Str.{all_ascii_digits}
-use Rattle.std.specs.Prelude.{ℕ, IsTrue, ◌-◌, zero, suc, List, [], ◌∷◌, length, Bool, not, ◌||◌, ◌==◌, if◌then◌else◌, nat_eq, take, slice_index, codes, Option, Some, None, ⊤}
+use Rattle.std.specs.Prelude.{ℕ, IsTrue, ◌-◌, zero, suc, List, [], ◌∷◌, length, Bool, not, ◌||◌, ◌==◌, if◌then◌else◌}
+use Rattle.std.specs.Prelude.{nat_eq, take, slice_index, codes, Option, Some, None, ⊤}
 use Rattle.std.specs.List.{starts_with, prefix_len}
 use Rattle.std.specs.Char.{is_ascii_alphabetic, is_ascii_alphanumeric, is_ascii_digit}
 use Rattle.c2po_lexer.specs.Spelling.{sign_text, sign_at}

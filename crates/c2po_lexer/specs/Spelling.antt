@@ -35,8 +35,10 @@ keyword_text keyword.H = codes "H"
 -- all reserved words
 abbrev pub keywords : List Keyword
 keywords =
-    keyword.Struct ∷ keyword.Input ∷ keyword.Define ∷ keyword.FtSpec ∷ keyword.PtSpec ∷ keyword.Bool ∷ keyword.Int ∷ keyword.Set
-    ∷ keyword.True ∷ keyword.False ∷ keyword.ForEach ∷ keyword.ForSome ∷ keyword.ForExactly ∷ keyword.ForAtLeast ∷ keyword.ForAtMost
+    keyword.Struct ∷ keyword.Input ∷ keyword.Define ∷ keyword.FtSpec ∷ keyword.PtSpec ∷ keyword.Bool ∷ keyword.Int
+    ∷ keyword.Set
+    ∷ keyword.True ∷ keyword.False ∷ keyword.ForEach ∷ keyword.ForSome ∷ keyword.ForExactly ∷ keyword.ForAtLeast
+    ∷ keyword.ForAtMost
     ∷ keyword.F ∷ keyword.G ∷ keyword.U ∷ keyword.R ∷ keyword.S ∷ keyword.O ∷ keyword.H ∷ []
 
 -- the reserved word with these letters, if there is one

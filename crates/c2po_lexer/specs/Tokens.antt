@@ -1,5 +1,6 @@
 -- The tokens of a text, or its first fault.
-use Rattle.std.specs.Prelude.{◌≡◌, ℕ, ◌+◌, ◌-◌, ◌<◌, ◌≤◌, List, [], ◌∷◌, length, ◌==◌, if◌then◌else◌, nat_lt, take, drop, map, count_by, Option, Some, None, option_map, Result, Ok, Err, pos, ⊤}
+use Rattle.std.specs.Prelude.{◌≡◌, ℕ, ◌+◌, ◌-◌, ◌<◌, ◌≤◌, List, [], ◌∷◌, length, ◌==◌, if◌then◌else◌, nat_lt, take}
+use Rattle.std.specs.Prelude.{drop, map, count_by, Option, Some, None, option_map, Result, Ok, Err, pos, ⊤}
 use Rattle.std.specs.List.{AllPass}
 use Rattle.std.specs.Str.Parse.{digits_value}
 use Rattle.mltl_base.specs.declared.limits.TheConstants.{MAX_NUMBER}

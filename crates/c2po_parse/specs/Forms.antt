@@ -1,11 +1,13 @@
-use Rattle.std.specs.Prelude.{ℕ, zero, suc, ◌+◌, Bool, ◌&&◌, List, [], ◌∷◌, ◌++◌, length, take, drop, map, codes, Option, Some, None, is_some, option_map, nat_eq, if◌then◌else◌}
+use Rattle.std.specs.Prelude.{ℕ, zero, suc, ◌+◌, Bool, ◌&&◌, List, [], ◌∷◌, ◌++◌, length, take, drop, map, codes}
+use Rattle.std.specs.Prelude.{Option, Some, None, is_some, option_map, nat_eq, if◌then◌else◌}
 use Rattle.mltl_base.specs.declared.interval.Engine.{Engine}
 use Rattle.c2po_lexer.specs.declared.token.Sign.TheVariants as sign
 use Rattle.c2po_lexer.specs.declared.token.Keyword.TheVariants as keyword
 use Rattle.c2po_lexer.specs.declared.token.What.{What}
 use Rattle.c2po_lexer.specs.declared.token.What.TheVariants as what
 use Rattle.c2po_lexer.specs.declared.token.Token.{Token}
-use Rattle.c2po_tree.specs.ItemShape.{TypeShape, FieldShape, BodyShape, type_named, set_of, structure, input, define, formula, contract}
+use Rattle.c2po_tree.specs.ItemShape.{TypeShape, FieldShape, BodyShape, type_named, set_of, structure, input, define}
+use Rattle.c2po_tree.specs.ItemShape.{formula, contract}
 use Rattle.c2po_tree.specs.Tokens.{is_sign, depth_after}
 use Rattle.c2po_tree.specs.Fronts.{◌>>=◌, past, name_at}
 use Rattle.c2po_tree.specs.Splitting.{tree_of, at_end}
@@ -76,7 +78,8 @@ abbrev pub FieldsRead : Type 0
 FieldsRead = List Token → Option (List FieldShape × List Token)
 
 -- a `}` ends the fields, else more of them follow
-abbrev pub fields_or : FieldsRead → List FieldShape → List Token → Option (List Token) → Option (List FieldShape × List Token)
+abbrev pub fields_or : FieldsRead → List FieldShape → List Token → Option (List Token)
+    → Option (List FieldShape × List Token)
 fields_or read fs ts (Some rest) = Some (fs, rest)
 fields_or read fs ts None = read ts >>= λ gs. Some (fs ++ gs.0, gs.1)
 
@@ -87,7 +90,8 @@ fields_within (suc n) ts = typed_at ts >>= λ d. past sign.Semicolon d.2 >>= λ 
     fields_or (fields_within n) (fields_of d.0 d.1) us (past sign.RightCurly us)
 
 -- fields after others
-abbrev pub fields_behind : List FieldShape → Option (List FieldShape × List Token) → Option (List FieldShape × List Token)
+abbrev pub fields_behind : List FieldShape → Option (List FieldShape × List Token)
+    → Option (List FieldShape × List Token)
 fields_behind so_far o = option_map (λ fs. (so_far ++ fs.0, fs.1)) o
 
 -- the fields at the front, one list or more, their `}`, and what follows it

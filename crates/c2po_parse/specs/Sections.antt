@@ -1,4 +1,5 @@
-use Rattle.std.specs.Prelude.{ℕ, suc, pred, ◌+◌, Bool, true, false, ◌&&◌, List, [], ◌∷◌, ◌++◌, Option, Some, None, is_some, is_none, nat_eq}
+use Rattle.std.specs.Prelude.{ℕ, suc, pred, ◌+◌, Bool, true, false, ◌&&◌, List, [], ◌∷◌, ◌++◌, Option, Some, None}
+use Rattle.std.specs.Prelude.{is_some, is_none, nat_eq}
 use Rattle.mltl_base.specs.declared.interval.Engine.TheVariants.{Ft, Pt}
 use Rattle.c2po_lexer.specs.declared.token.Sign.TheVariants as sign
 use Rattle.c2po_lexer.specs.declared.token.Keyword.TheVariants as keyword
@@ -69,7 +70,8 @@ pieces section depth before (t ∷ ts) = chosen (section_of t.what) (is_end sect
 
 -- how many braces are open after a token that doesn't end the piece
 abbrev pub depth_within : Option Section → ℕ → What → Option ℕ
-depth_within section depth w = chosen (section_of w) (is_end section depth w) (λ next. None) None (Some (braces_after w depth))
+depth_within section depth w =
+    chosen (section_of w) (is_end section depth w) (λ next. None) None (Some (braces_after w depth))
 
 -- one token more where the piece goes on
 abbrev pub counted : Option ℕ → (ℕ → ℕ) → ℕ

@@ -1,4 +1,5 @@
-use Rattle.std.specs.Prelude.{ℕ, Bool, true, false, List, [], ◌∷◌, ◌++◌, length, Option, Some, None, Result, Ok, Err, nat_lt, if◌then◌else◌}
+use Rattle.std.specs.Prelude.{ℕ, Bool, true, false, List, [], ◌∷◌, ◌++◌, length, Option, Some, None, Result, Ok, Err}
+use Rattle.std.specs.Prelude.{nat_lt, if◌then◌else◌}
 use Rattle.c2po_lexer.specs.declared.token.Token.{Token}
 use Rattle.c2po_tree.specs.ItemShape.{BodyShape, ItemShape}
 use Rattle.c2po_parse.specs.declared.fault.ParseFault.{ParseFault}
@@ -31,7 +32,8 @@ with_first item (Err fault) = Err fault
 with_first item (Ok items) = Ok (item ∷ items)
 
 -- the first fault decides
-abbrev pub first_or : Result ItemShape ParseFault → Result (List ItemShape) ParseFault → Result (List ItemShape) ParseFault
+abbrev pub first_or : Result ItemShape ParseFault → Result (List ItemShape) ParseFault
+    → Result (List ItemShape) ParseFault
 first_or (Err fault) others = Err fault
 first_or (Ok item) others = with_first item others
 

@@ -4,15 +4,16 @@ use Rattle.std.proofs.Common.{◌≡◌, ◌≢◌, ◌↔◌, ℕ, Bool, List, 
 use Rattle.std.proofs.lemmas.List.{append-nil}
 use Rattle.tool_io.specs.declared.host.Place.TheVariants as at
 use Rattle.tool_io.specs.Log.{Event, given, names_of, Writes}
-use Rattle.tool_io.proofs.LogLaws.{WritesFront-misses, Writes-given, Writes-given_elsewhere, Writes-names}
+use Rattle.tool_io.proofs.LogLaws.{WritesFront-misses, Writes-given, Writes-names}
 use Rattle.tool_words.specs.C2poWords as words
 use Rattle.tool_runs.specs.declared.message.Tool.TheVariants.{C2po}
 use Rattle.tool_runs.specs.declared.status.Status as status
 use Rattle.tool_runs.specs.declared.status.Status.TheVariants as answers
 use Rattle.tool_runs.specs.Messages.{usage}
 use Rattle.tool_runs.specs.Attaching.{OpensAsTold}
-use Rattle.tool_runs.specs.Telling.{HelpLog}
+use Rattle.tool_runs.specs.Telling.{is_used, HelpLog}
 use Rattle.tool_runs.proofs.AttachLaws.{no_reads_none, writes_unread}
+use Rattle.tool_runs.proofs.UseLaws.{writes_unused}
 use Rattle.c2po_runs.specs.Asking.{Ask, help, make, nothing, served, ask, asked_names}
 use Rattle.c2po_runs.specs.Run.{MakeOutcome, HelpOutcome, NothingOutcome, OutcomeOf, TriesOf, WritesAttached, names_out, seen, Ran}
 
@@ -25,7 +26,7 @@ help_ran answer sent events writes outcome opened = record {
   writes = λ named. absurd (cc);
   outcome = outcome;
   opened = opened;
-  quiet = Writes-given_elsewhere at.Out at.Err sent events refl writes;
+  quiet = ap (is_used at.Err) writes.are ∙ writes_unused at.Err at.Out writes.pieces refl;
 }
 
 pub run_help : (answer : status.Status) (events : List Event) → HelpLog C2po answer events → Ran help answer events
@@ -40,10 +41,10 @@ no_writes : (named : Bool) → WritesAttached named []
 no_writes named is [] after piece split = cc
 no_writes named is (event ∷ before) after piece split = cc
 
-tries_none : (asked : Ask) → TriesOf asked []
-tries_none help = tt
-tries_none (make asked) = record { header = λ tried. absurd (cc); out = λ tried. absurd (cc) }
-tries_none nothing = tt
+tries_none : (asked : Ask) (answer : status.Status) → TriesOf asked answer []
+tries_none help answer = tt
+tries_none (make asked) answer = record { header = λ tried. absurd (cc); out = λ tried. absurd (cc); out_last = λ tried. absurd (cc) }
+tries_none nothing answer = tt
 
 memory_none : (asked : Ask) → OutcomeOf answers.Memory asked []
 memory_none help = refl
@@ -53,7 +54,7 @@ memory_none nothing = refl
 run_none : (asked : Ask) (answer : status.Status) → OutcomeOf answer asked [] → OpensAsTold answer [] → Ran asked answer []
 run_none asked answer outcome opened = record {
   names = record { rest = asked_names asked; split = refl };
-  tries = tries_none asked;
+  tries = tries_none asked answer;
   reads = no_reads_none;
   writes = no_writes (names_out asked);
   outcome = outcome;

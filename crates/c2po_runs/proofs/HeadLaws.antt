@@ -22,14 +22,20 @@ use Rattle.tool_runs.specs.declared.status.Status.TheVariants as answers
 use Rattle.tool_runs.proofs.LineLaws.{text_short}
 use Rattle.c2po_runs.specs.declared.make.Form.{Form}
 use Rattle.tool_runs.specs.FirstLine.{begins_long}
+use Rattle.c2po_runs.specs.Images.{WritesImage}
 use Rattle.c2po_runs.specs.Made.{compile_status, compiled_bytes, text_bytes, unless_long, first_line, made_of_text}
-use Rattle.c2po_runs.specs.Phases.{Refuses, ReadsLine, LineLog, HeaderLog, RefusedLog, MadeLog}
+use Rattle.c2po_runs.specs.Phases.{Refuses, RefusesAlone, ReadsLine, LineLog, HeaderLog, RefusedLog, MadeLog}
 use Rattle.c2po_runs.proofs.MakingLaws.{headed, refused_by, refused_so}
 
--- what a call that makes no other call answers
+-- what a call that makes bytes under a header line answers
 abbrev pub Made : Result (Vec ℕ Global) status.Status → Result (List ℕ) status.Status → Type 0
 Made (Ok bytes) found = found ≡ Ok bytes.items
 Made (Err answer) found = Refuses answer × (answer ≢ answers.Memory → found ≡ Err answer)
+
+-- and one that makes them without
+abbrev pub MadeAlone : Result (Vec ℕ Global) status.Status → Result (List ℕ) status.Status → Type 0
+MadeAlone (Ok bytes) found = found ≡ Ok bytes.items
+MadeAlone (Err answer) found = RefusesAlone answer × (answer ≢ answers.Memory → found ≡ Err answer)
 
 pub line_short : (cut : Cutting) (events : List Event) → CutsLine Header fresh cut line.TheVariants.Row events → length (line_text (row_of cut)) ≤ 65535
 line_short cut events cuts =
@@ -49,8 +55,9 @@ module _ (cut : Cutting) (events : List Event) where
 
   module _ (form : Form) (text : List ℕ) (none : first_refusal text ≡ None) where
     -- the first line gives what the header's columns give
-    line_makes : (found : Result (List ℕ) status.Status) (cuts : CutsLine Header fresh cut line.TheVariants.Row events) → text_bytes form text (Some (line_text (row_of cut))) ≡ found → ReadsLine form text found events
-    line_makes found cuts is =
+    line_makes : (found : Result (List ℕ) status.Status) (cuts : CutsLine Header fresh cut line.TheVariants.Row events) → text_bytes form text (Some (line_text (row_of cut))) ≡ found
+        → IfOk found (WritesImage form text (Some (line_text (row_of cut)))) → ReadsLine form text found events
+    line_makes found cuts is image =
         let raw = cuts.answer.0 in
         let gives = cuts.answer.1 in
         let lines = row_lines raw cut.pending cut.ended gives.line in
@@ -61,19 +68,22 @@ module _ (cut : Cutting) (events : List Event) where
           bytes = concat cuts.pieces;
           ended = cut.ended;
           takes = cut_takes line.TheVariants.Row cuts;
+          begun = inr (λ none. let no : raw ∷ lines.0 ≡ [] = sym are ∙ none in cc);
           makes = λ name. headed form name text (lines_of cut.ended (concat cuts.pieces)) none
               ∙ ap (λ b. unless_long b (text_bytes form text (Some (first_line (lines_of cut.ended (concat cuts.pieces)))))) short
               ∙ ap (λ l. text_bytes form text (Some l)) first ∙ is;
+          image = subst (λ l. IfOk found (WritesImage form text (Some l))) (sym first) image;
         }
 
-    pub row_made : (result : Result (Vec ℕ Global) status.Status) (cuts : CutsLine Header fresh cut line.TheVariants.Row events) → Made result (text_bytes form text (Some (line_text (row_of cut)))) → LineLog result form text events
-    row_made (Ok bytes) cuts made = line_makes (Ok bytes.items) cuts made
-    row_made (Err answers.Memory) cuts made = record { bytes = concat cuts.pieces; ended = cut.ended; takes = cut_takes line.TheVariants.Row cuts }
-    row_made (Err (answers.Refused line why)) cuts made = (tt, line_makes (Err (answers.Refused line why)) cuts (made.1 (λ e. cc)))
-    row_made (Err (answers.BadProgram fault)) cuts made = (tt, line_makes (Err (answers.BadProgram fault)) cuts (made.1 (λ e. cc)))
-    row_made (Err (answers.BadHeader why)) cuts made = (tt, line_makes (Err (answers.BadHeader why)) cuts (made.1 (λ e. cc)))
-    row_made (Err (answers.TextTooLong Out)) cuts made = (tt, line_makes (Err (answers.TextTooLong Out)) cuts (made.1 (λ e. cc)))
-    row_made (Err answer) cuts made = absurd made.0
+    pub row_made : (result : Result (Vec ℕ Global) status.Status) (cuts : CutsLine Header fresh cut line.TheVariants.Row events) → Made result (text_bytes form text (Some (line_text (row_of cut))))
+        → IfOk result (λ bytes. WritesImage form text (Some (line_text (row_of cut))) bytes.items) → LineLog result form text events
+    row_made (Ok bytes) cuts made image = line_makes (Ok bytes.items) cuts made image
+    row_made (Err answers.Memory) cuts made image = record { bytes = concat cuts.pieces; ended = cut.ended; takes = cut_takes line.TheVariants.Row cuts }
+    row_made (Err (answers.Refused line why)) cuts made image = (tt, line_makes (Err (answers.Refused line why)) cuts (made.1 (λ e. cc)) tt)
+    row_made (Err (answers.BadProgram fault)) cuts made image = (tt, line_makes (Err (answers.BadProgram fault)) cuts (made.1 (λ e. cc)) tt)
+    row_made (Err (answers.BadHeader why)) cuts made image = (tt, line_makes (Err (answers.BadHeader why)) cuts (made.1 (λ e. cc)) tt)
+    row_made (Err (answers.TextTooLong Out)) cuts made image = (tt, line_makes (Err (answers.TextTooLong Out)) cuts (made.1 (λ e. cc)) tt)
+    row_made (Err answer) cuts made image = absurd made.0
 
     -- there is no line
     pub end_made : CutsLine Header fresh cut line.TheVariants.End events → LineLog (Err (answers.BadHeader NoHeader)) form text events
@@ -85,9 +95,11 @@ module _ (cut : Cutting) (events : List Event) where
             bytes = concat cuts.pieces;
             ended = cut.ended;
             takes = cut_takes line.TheVariants.End cuts;
+            begun = inl cuts.answer.2;
             makes = λ name. headed form name text (lines_of cut.ended (concat cuts.pieces)) none
                 ∙ ap (λ lines. unless_long (begins_long lines) (text_bytes form text (Some (first_line lines)))) are
                 ∙ ap (compiled_bytes form.table) (refused_by form.simplify text (Some []) (compile.BadHeader NoHeader) (header_refused text (Some []) (compile.BadHeader NoHeader) none refl));
+            image = tt;
           },
         )
       where
@@ -105,8 +117,10 @@ module _ (cut : Cutting) (events : List Event) where
           bytes = concat cuts.pieces;
           ended = cut.ended;
           takes = cut_takes line.TheVariants.LongLine cuts;
+          begun = inr (λ none. let no : long.raw ∷ long.others ≡ [] = sym long.split ∙ ap (lines_of cut.ended) (append-nil (concat cuts.pieces)) ∙ none in cc);
           makes = λ name. headed form name text (lines_of cut.ended (concat cuts.pieces)) none
               ∙ ap (λ b. unless_long b (text_bytes form text (Some (first_line (lines_of cut.ended (concat cuts.pieces)))))) begins;
+          image = tt;
         }
 
   pub fault_made : (form : Form) (text : List ℕ) → CutsLine Header fresh cut line.TheVariants.ReadFault events → LineLog (Err (answers.ReadFault Header)) form text events
@@ -130,16 +144,22 @@ pub made_so : (form : Form) (header : Option (List ℕ)) (items : List ItemShape
 made_so form header items text (Ok bytes) made refused speaks none same = made text none same
 made_so form header items text (Err answer) made refused speaks none same = (speaks, λ some. refused some text none same)
 
-pub made_log : (found : Result (List ℕ) status.Status) (result : Result (Vec ℕ Global) status.Status) → Made result found → MadeLog result found []
+pub alone_so : (form : Form) (items : List ItemShape) (text : List ℕ) (result : Result (Vec ℕ Global) status.Status)
+    → IfOk result (λ bytes. (text : List ℕ) → first_refusal text ≡ None → items ≡ items_in text → text_bytes form text None ≡ Ok bytes.items)
+    → IfErr result (λ answer. answer ≢ answers.Memory → (text : List ℕ) → first_refusal text ≡ None → items ≡ items_in text → text_bytes form text None ≡ Err answer)
+    → IfErr result RefusesAlone → first_refusal text ≡ None → items ≡ items_in text → MadeAlone result (text_bytes form text None)
+alone_so form items text (Ok bytes) made refused speaks none same = made text none same
+alone_so form items text (Err answer) made refused speaks none same = (speaks, λ some. refused some text none same)
+
+pub made_log : (found : Result (List ℕ) status.Status) (result : Result (Vec ℕ Global) status.Status) → MadeAlone result found → MadeLog result found []
 made_log found (Ok bytes) made = (refl, made)
 made_log found (Err answers.Memory) made = refl
 made_log found (Err (answers.Refused line why)) made = (refl, tt, made.1 (λ e. cc))
 made_log found (Err (answers.BadProgram fault)) made = (refl, tt, made.1 (λ e. cc))
-made_log found (Err (answers.BadHeader why)) made = (refl, tt, made.1 (λ e. cc))
 made_log found (Err (answers.TextTooLong Out)) made = (refl, tt, made.1 (λ e. cc))
 made_log found (Err answer) made = absurd made.0
 
-pub program_made : (found : Result (List ℕ) status.Status) (result : Result (Vec ℕ Global) status.Status) → IfOk result (λ made. found ≡ Ok made.items) → IfErr result (λ answer. answer ≢ answers.Memory → found ≡ Err answer) → IfErr result Refuses → MadeLog result found []
+pub program_made : (found : Result (List ℕ) status.Status) (result : Result (Vec ℕ Global) status.Status) → IfOk result (λ made. found ≡ Ok made.items) → IfErr result (λ answer. answer ≢ answers.Memory → found ≡ Err answer) → IfErr result RefusesAlone → MadeLog result found []
 program_made found (Ok bytes) made refused speaks = made_log found (Ok bytes) made
 program_made found (Err answer) made refused speaks = made_log found (Err answer) (speaks, refused)
 

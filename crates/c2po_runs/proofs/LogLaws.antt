@@ -8,6 +8,7 @@ use Rattle.tool_io.specs.Host.{IsSource}
 use Rattle.tool_io.specs.Whole.{Takes}
 use Rattle.tool_io.proofs.LogLaws.{Reads-names, Reads-taken, Reads-taken_elsewhere, Reads-ended, Reads-ended_elsewhere}
 use Rattle.tool_runs.specs.Attaching.{is_attached, ReadsAttached}
+use Rattle.tool_runs.specs.Telling.{is_used}
 use Rattle.tool_runs.proofs.AttachLaws.{split_at, file_attached, is_attached-append, or_true}
 use Rattle.c2po_runs.specs.Run.{is_tried, WritesAttached}
 use Rattle.c2po_runs.specs.Phases.{OnlySources, OnlyOut}
@@ -20,6 +21,14 @@ source_not_out at.Program is = refl
 source_not_out at.Trace is = refl
 source_not_out at.Out is = absurd is
 source_not_out at.Err is = absurd is
+
+source_not_err : (p : place.Place) → IsSource p → same_place at.Err p ≡ false
+source_not_err at.Spec is = refl
+source_not_err at.Header is = refl
+source_not_err at.Program is = refl
+source_not_err at.Trace is = refl
+source_not_err at.Out is = absurd is
+source_not_err at.Err is = absurd is
 
 -- reads of sources write nothing and don't attach the output
 pub sources_given : (q : place.Place) (events : List Event) → OnlySources events → given q events ≡ []
@@ -35,6 +44,13 @@ sources_unattached (Attached p name ∷ events) only = ap (λ v. v || is_attache
 sources_unattached (Missed p name ∷ events) only = sources_unattached events only.1
 sources_unattached (Took p piece ∷ events) only = sources_unattached events only.1
 sources_unattached (Gave p piece ∷ events) only = absurd only
+
+pub sources_unused : (events : List Event) → OnlySources events → is_used at.Err events ≡ false
+sources_unused [] only = refl
+sources_unused (Attached p name ∷ events) only = ap (λ v. v || is_used at.Err events) (source_not_err p only.0) ∙ sources_unused events only.1
+sources_unused (Missed p name ∷ events) only = ap (λ v. v || is_used at.Err events) (source_not_err p only.0) ∙ sources_unused events only.1
+sources_unused (Took p piece ∷ events) only = ap (λ v. v || is_used at.Err events) (source_not_err p only.0) ∙ sources_unused events only.1
+sources_unused (Gave p piece ∷ events) only = absurd only
 
 pub sources_untried : (events : List Event) → OnlySources events → is_tried at.Out (names_of events) ≡ false
 sources_untried [] only = refl
@@ -79,12 +95,12 @@ out_ended p ended (Missed at.Out name ∷ events) only = out_ended p ended event
 out_ended p ended (Gave at.Out piece ∷ events) only = out_ended p ended events only
 out_ended p ended (event ∷ events) only = absurd only
 
-pub out_quiet : (events : List Event) → OnlyOut events → given at.Err events ≡ []
-out_quiet [] only = refl
-out_quiet (Attached at.Out name ∷ events) only = out_quiet events only
-out_quiet (Missed at.Out name ∷ events) only = out_quiet events only
-out_quiet (Gave at.Out piece ∷ events) only = out_quiet events only
-out_quiet (event ∷ events) only = absurd only
+pub out_unused : (events : List Event) → OnlyOut events → is_used at.Err events ≡ false
+out_unused [] only = refl
+out_unused (Attached at.Out name ∷ events) only = out_unused events only
+out_unused (Missed at.Out name ∷ events) only = out_unused events only
+out_unused (Gave at.Out piece ∷ events) only = out_unused events only
+out_unused (event ∷ events) only = absurd only
 
 pub out_untried : (events : List Event) → OnlyOut events → is_tried at.Header (names_of events) ≡ false
 out_untried [] only = refl

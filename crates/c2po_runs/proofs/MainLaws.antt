@@ -6,7 +6,7 @@ use Rattle.tool_io.specs.declared.host.Place as place
 use Rattle.tool_io.specs.declared.host.Place.TheVariants as at
 use Rattle.tool_io.specs.declared.host.Put as put
 use Rattle.tool_io.specs.Log.{Event, Gave, taken, given, ended_from, Writes}
-use Rattle.tool_io.specs.Host.{Rose, WriteCause}
+use Rattle.tool_io.specs.Host.{WriteCause}
 use Rattle.tool_io.specs.Cutting.{lines_of}
 use Rattle.tool_io.specs.Whole.{PutAllLog}
 use Rattle.tool_io.proofs.LogLaws.{given-append, Writes-given}
@@ -18,13 +18,15 @@ use Rattle.tool_runs.specs.Causes.{RunCause, NoOtherRose}
 use Rattle.tool_runs.specs.Files.{file_limit}
 use Rattle.tool_runs.specs.Telling.{ToldWhole}
 use Rattle.tool_runs.proofs.AttachLaws.{ReadsAttached-append, writes_unread, opened_still}
-use Rattle.tool_runs.proofs.CauseLaws.{rose_at, err_stays}
+use Rattle.tool_runs.proofs.CauseLaws.{rose_at, err_stays, message_rose}
 use Rattle.tool_runs.proofs.MessageLaws.{Leaves, message_leaves, unattached}
+use Rattle.tool_runs.proofs.UseLaws.{unused-given}
 use Rattle.c2po_runs.specs.Asking.{Ask, help, make, nothing, MakeAsked, file_kind}
 use Rattle.c2po_runs.specs.Run.{Seen, seen, place_of, TriesOf, TriesInTurn, WritesAttached, names_out, MakeOutcome, HelpOutcome, NothingOutcome, OutcomeOf, CompletesBy, Ran, IsMade}
 use Rattle.c2po_runs.specs.Made.{made}
 use Rattle.c2po_runs.proofs.LogLaws.{writes-append}
 use Rattle.c2po_runs.proofs.GatherRuns.{same_seen}
+use Rattle.c2po_runs.proofs.WrittenImages.{compiles_image}
 
 -- bytes that are made aren't refused
 not_refused : (answer : status.Status) (bytes : List ℕ) (found : Result (List ℕ) status.Status) → found ≡ Ok bytes → found ≡ Err answer → ⊥
@@ -46,7 +48,7 @@ make_complete (answers.TextTooLong at.Out) asked run before between now cause sa
 make_complete (answers.TextTooLong p) asked run before between now cause same none bytes within makes is = absurd (let long = is.1 in omega (arith, long, within))
 make_complete (answers.Refused line why) asked run before between now cause same none bytes within makes is = absurd (not_refused _ bytes _ makes is.refused.is)
 make_complete (answers.BadProgram fault) asked run before between now cause same none bytes within makes is = absurd (not_refused _ bytes _ makes is.refused.is)
-make_complete (answers.BadHeader why) asked run before between now cause same none bytes within makes is = absurd (not_refused _ bytes _ makes is.refused.is)
+make_complete (answers.BadHeader why) asked run before between now cause same none bytes within makes is = absurd (not_refused _ bytes _ makes is.0.refused.is)
 make_complete answer asked run before between now cause same none bytes within makes is = absurd is
 
 help_complete : (answer : status.Status) (out : List ℕ) (before between now : place.Place → ℕ) → RunCause answer before between → ((q : place.Place) → q ≢ at.Err → now q ≡ between q) → NoOtherRose before now → HelpOutcome answer out → (answer ≡ answers.Helped) ⊎ (answer ≡ answers.Memory)
@@ -65,12 +67,12 @@ complete_run (make asked) answer before between now events cause same is = λ no
 module _ (first all : List Event) (leaves : Leaves first all) where
   all_seen : (asked : MakeAsked) → seen asked all ≡ seen asked first
   all_seen asked = same_seen (seen asked all) (seen asked first) leaves.names (leaves.bytes (place_of asked)) (leaves.ends (place_of asked))
-      (ap (λ v. lines_of v (taken at.Header all)) (leaves.ends at.Header) ∙ ap (lines_of (ended_from false at.Header first)) (leaves.bytes at.Header)) leaves.out (leaves.attached at.Out)
+      (ap (λ v. lines_of v (taken at.Header all)) (leaves.ends at.Header) ∙ ap (lines_of (ended_from false at.Header first)) (leaves.bytes at.Header)) (leaves.ends at.Header) leaves.out (leaves.attached at.Out)
 
-  pub tries_still : (asked : Ask) → TriesOf asked first → TriesOf asked all
-  tries_still help tries = tt
-  tries_still (make asked) tries = subst (TriesInTurn asked) (sym (all_seen asked)) tries
-  tries_still nothing tries = tt
+  pub tries_still : (asked : Ask) (answer : status.Status) → TriesOf asked answer first → TriesOf asked answer all
+  tries_still help answer tries = tt
+  tries_still (make asked) answer tries = subst (TriesInTurn asked answer) (sym (all_seen asked)) tries
+  tries_still nothing answer tries = tt
 
   pub outcome_still : (asked : Ask) (answer : status.Status) → OutcomeOf answer asked first → OutcomeOf answer asked all
   outcome_still help answer is = subst (HelpOutcome answer) (sym leaves.out) is
@@ -95,21 +97,23 @@ run_told asked answer before between now first second sent unsent ran cause same
     let outcome = outcome_still first all leaves asked answer ran.outcome in
     record {
       names = record { rest = ran.names.rest; split = ran.names.split ∙ ap (λ names. names ++ ran.names.rest) (sym leaves.names) };
-      tries = tries_still first all leaves asked ran.tries;
+      tries = tries_still first all leaves asked answer ran.tries;
       reads = ReadsAttached-append first second ran.reads (λ start after p piece is. absurd (writes_unread at.Err writes.pieces start after p piece (sym writes.are ∙ is)));
       writes = writes_still first second sent (names_out asked) writes ran.writes;
       outcome = outcome;
+      image = compiles_image asked answer all outcome;
       opened = opened_still answer first second (unattached first second sent writes) ran.opened;
-      told_user = record { rest = unsent; split = split ∙ ap (λ b. b ++ unsent) (sym (given-append at.Err first second ∙ ap (λ b. b ++ given at.Err second) ran.quiet ∙ Writes-given at.Err sent second writes)) };
+      told_user = record { rest = unsent; split = split ∙ ap (λ b. b ++ unsent) (sym (given-append at.Err first second ∙ ap (λ b. b ++ given at.Err second) (unused-given at.Err first ran.quiet) ∙ Writes-given at.Err sent second writes)) };
       told_whole = whole;
+      told_last = record { run = first; pieces = writes.pieces; split = ap (λ sends. first ++ sends) writes.are; unused = ran.quiet };
       complete = complete_run asked answer before between now all cause same outcome;
     }
 
 pub main_ran : (asked : Ask) (answer : status.Status) (before between now : place.Place → ℕ) (first second : List Event) (sending : put.Put) → Ran asked answer first → RunCause answer before between → WriteCause sending between now at.Err → PutAllLog sending at.Err (told_to_user C2po answer) second → IsMade asked answer before now (first ++ second)
 main_ran asked answer before between now first second (put.TheVariants.Wrote n) ran cause wrote writes =
     let text = told_to_user C2po answer in
-    let out : given at.Err (first ++ second) ≡ text = given-append at.Err first second ∙ ap (λ b. b ++ given at.Err second) ran.quiet ∙ Writes-given at.Err text second writes in
+    let out : given at.Err (first ++ second) ≡ text = given-append at.Err first second ∙ ap (λ b. b ++ given at.Err second) (unused-given at.Err first ran.quiet) ∙ Writes-given at.Err text second writes in
     run_told asked answer before between now first second text [] ran cause (λ q other. wrote q) writes (sym (append-nil text)) (λ unrisen. out)
 main_ran asked answer before between now first second put.TheVariants.Failed ran cause failed fronts =
     run_told asked answer before between now first second fronts.sent fronts.unsent ran cause (λ q other. failed.others q other) fronts.writes fronts.split
-    (λ unrisen. absurd (unrisen (subst (λ n. Rose n (now at.Err)) (err_stays answer before between cause) failed.rose)))
+    (λ unrisen. absurd (unrisen (message_rose before between now (err_stays answer before between cause) failed)))

@@ -11,22 +11,27 @@ use Rattle.tool_runs.specs.declared.status.Status as status
 use Rattle.tool_runs.specs.declared.status.Status.TheVariants as answers
 use Rattle.tool_runs.specs.Attaching.{is_attached, OpensAsTold}
 use Rattle.tool_runs.proofs.AttachLaws.{is_attached-append, ReadsAttached-append}
+use Rattle.tool_runs.proofs.UseLaws.{unused-append}
 use Rattle.c2po_runs.specs.Asking.{make, MakeAsked, place_named, read_names}
-use Rattle.c2po_runs.specs.Run.{Seen, seen, place_of, is_tried, IsFaultless, Makes, MakeOutcome, WritesAttached, Ran}
+use Rattle.c2po_runs.specs.Run.{Seen, seen, place_of, is_tried, IsFaultless, IsOfOut, Makes, MakeOutcome, WritesAttached, Ran}
 use Rattle.c2po_runs.specs.Phases.{OnlyOut, Gathered, NotGathered, GivenLog, PutOutcome, PutLog}
-use Rattle.c2po_runs.proofs.LogLaws.{sources_given, sources_unattached, sources_untried, sources_writes, out_taken, out_ended, out_quiet, out_untried, out_reads, out_writes, gave_unattached, is_tried-append, writes-append}
+use Rattle.c2po_runs.proofs.LogLaws.{sources_given, sources_unattached, sources_unused, sources_untried, sources_writes, out_taken, out_ended, out_unused, out_untried, out_reads, out_writes, gave_unattached, is_tried-append, writes-append}
 use Rattle.c2po_runs.proofs.GatherRuns.{same_seen}
 
 -- nothing is to be written
 pub make_refused : (asked : MakeAsked) (answer : status.Status) (events : List Event) → NotGathered asked answer events → Ran (make asked) answer events
 make_refused asked answer events is = record {
   names = record { rest = is.names.rest ++ place_named at.Out asked.out; split = ap (λ ns. ns ++ place_named at.Out asked.out) is.names.split ∙ append_assoc (names_of events) is.names.rest (place_named at.Out asked.out) };
-  tries = record { header = is.tries; out = λ tried. absurd (let none = sources_untried events is.sources in cc) };
+  tries = record {
+    header = is.tries;
+    out = λ tried. absurd (let none = sources_untried events is.sources in cc);
+    out_last = λ tried. absurd (let none = sources_untried events is.sources in cc);
+  };
   reads = is.reads;
   writes = sources_writes (is_some asked.out) events is.sources;
   outcome = is.outcome;
   opened = is.opened;
-  quiet = sources_given at.Err events is.sources;
+  quiet = sources_unused events is.sources;
 }
 
 -- the bytes are written
@@ -61,12 +66,13 @@ module _ (asked : MakeAsked) (bytes : List ℕ) (answer : status.Status) (first 
       (all_taken p)
       (all_ended p)
       (ap (λ v. lines_of v (taken at.Header all)) (all_ended at.Header) ∙ ap (lines_of (ended_from false at.Header first)) (all_taken at.Header))
+      (all_ended at.Header)
       (given-append at.Out first second ∙ ap (λ b. b ++ given at.Out second) (sources_given at.Out first gathered.sources))
       all_attached
 
   -- the file and the header say the same
   makes_after : (found : Result (List ℕ) status.Status) → Makes asked before found → Makes asked after found
-  makes_after found makes = record { whole = record { ended = makes.whole.ended; within = makes.whole.within }; is = makes.is }
+  makes_after found makes = record { whole = record { ended = makes.whole.ended; within = makes.whole.within }; is = makes.is; image = makes.image }
 
   outcome_after : (answer : status.Status) → PutOutcome answer asked.out bytes (given at.Out second) (is_attached at.Out second) → MakeOutcome answer asked after
   outcome_after answers.Done is = record { bytes = subst (λ b. Makes asked after (Ok b)) (sym is.0) (makes_after (Ok bytes) gathered.makes); attached = is.1 }
@@ -79,6 +85,12 @@ module _ (asked : MakeAsked) (bytes : List ℕ) (answer : status.Status) (first 
   opened_after (answers.WriteFault at.Out) is = tt
   opened_after (answers.OpenFault at.Out) is = all_attached ∙ is.2
   opened_after answer is = absurd is
+
+  of_out : (answer : status.Status) → PutOutcome answer asked.out bytes (given at.Out second) (is_attached at.Out second) → IsOfOut answer
+  of_out answers.Done is = tt
+  of_out (answers.WriteFault at.Out) is = tt
+  of_out (answers.OpenFault at.Out) is = tt
+  of_out answer is = absurd is
 
   header_before : is_tried at.Header (names_of all) ≡ true → is_tried at.Header (names_of first) ≡ true
   header_before tried =
@@ -95,12 +107,13 @@ module _ (asked : MakeAsked) (bytes : List ℕ) (answer : status.Status) (first 
     tries = record {
       header = λ tried. subst (IsFaultless asked) (sym seen_all) (let is = gathered.tries (header_before tried) in record { whole = record { ended = is.whole.ended; within = is.whole.within }; faultless = is.faultless });
       out = λ tried. (bytes, subst (λ run. Makes asked run (Ok bytes)) (sym seen_all) (makes_after (Ok bytes) gathered.makes));
+      out_last = λ tried. of_out answer put.outcome;
     };
     reads = ReadsAttached-append first second gathered.reads (out_reads second put.only);
     writes = writes-append (is_some asked.out) first second (sources_writes (is_some asked.out) first gathered.sources) put.writes;
     outcome = subst (MakeOutcome answer asked) (sym seen_all) (outcome_after answer put.outcome);
     opened = opened_after answer put.outcome;
-    quiet = given-append at.Err first second ∙ ap (λ b. b ++ given at.Err second) (sources_given at.Err first gathered.sources) ∙ out_quiet second put.only;
+    quiet = unused-append at.Err first second (sources_unused first gathered.sources) (out_unused second put.only);
   }
 
 -- how the bytes are put out: nothing is attached, or a file is

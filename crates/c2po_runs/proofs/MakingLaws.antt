@@ -4,6 +4,7 @@ use Rattle.std.proofs.Common.{◌≡◌, ◌≢◌, ◌∙◌, ℕ, Bool, true, 
 use Rattle.std.specs.declared.alloc.Global.{Global}
 use Rattle.mltl_base.specs.declared.program.Columns.{Columns}
 use Rattle.mltl_base.specs.declared.program.Program.{Program}
+use Rattle.mltl_base.specs.declared.signal.Signal.{Signal}
 use Rattle.c2po_tree.specs.ItemShape.{ItemShape}
 use Rattle.c2po_types.specs.Signals.{signals_of}
 use Rattle.set_expand.specs.Outputs.{outputs_of}
@@ -22,6 +23,7 @@ use Rattle.tool_runs.specs.declared.status.Status.TheVariants.{Memory}
 use Rattle.c2po_runs.specs.declared.make.Form.{Form}
 use Rattle.tool_runs.specs.FirstLine.{begins_long}
 use Rattle.c2po_runs.specs.Made.{compile_status, compiled_bytes, image_by, program_by, text_bytes, written_as, unless_long, unless_refused, first_line, made_of_text}
+use Rattle.c2po_runs.specs.Phases.{RefusesAlone}
 
 -- a text is refused alike in both forms
 pub refused_by : (simplify : Bool) (text : List ℕ) (header : Option (List ℕ)) (fault : CompileFault) → image_of_text text header ≡ Err fault → program_by simplify text header ≡ Err fault
@@ -50,6 +52,18 @@ pub limit_refuses : (form : Form) (text : List ℕ) (header : Option (List ℕ))
     → columns_by (signals_of items) header ≡ Ok columns → IsFirstRefusal (limit_refusal (over_columns columns (outputs_of items))) fault → compile_status fault ≢ Memory → text_bytes form text header ≡ Err (compile_status fault)
 limit_refuses form text header items columns fault none same found refused some =
     ap (compiled_bytes form.table) (refused_by form.simplify text header fault (back_refuses text header items columns (Err fault) none same found refused (λ memory. some (ap compile_status memory))))
+
+-- without a header line neither tells of a header
+pub alone_columns : (signals : List Signal) (header : Option (List ℕ)) (fault : CompileFault) → header ≡ None → (fault ≢ compile.Memory → refusal_in header_refusal (columns_by signals header) ≡ Some fault) → RefusesAlone (compile_status fault)
+alone_columns signals header (compile.Refused line why) is refused = tt
+alone_columns signals header (compile.BadHeader why) is refused =
+    absurd (let no : None ≡ Some (compile.BadHeader why) = sym (ap (λ h. refusal_in header_refusal (columns_by signals h)) is) ∙ refused (λ e. cc) in cc)
+alone_columns signals header compile.Memory is refused = tt
+
+pub alone_limit : (first : Option CompileFault) (fault : CompileFault) → IsFirstRefusal first fault → RefusesAlone (compile_status fault)
+alone_limit first (compile.Refused line why) is = tt
+alone_limit first (compile.BadHeader why) is = absurd is
+alone_limit first compile.Memory is = tt
 
 -- its program is written
 pub text_written : (form : Form) (header : Option (List ℕ)) (items : List ItemShape) (columns : Columns) (program : Program) (result : Result (Vec ℕ Global) Status)

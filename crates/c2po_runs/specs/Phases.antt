@@ -1,6 +1,6 @@
 -- What each phase of a run tells.
 
-use Rattle.std.specs.Prelude.{◌≡◌, ℕ, ◌⊎◌, Bool, true, false, Option, Some, None, is_some, Result, Ok, Err, List, [], ◌∷◌, Vec, ⊤}
+use Rattle.std.specs.Prelude.{◌≡◌, ℕ, ◌⊎◌, Bool, true, false, Option, Some, None, is_some, Result, Ok, Err, IfOk, List, [], ◌∷◌, Vec, ⊤}
 use Rattle.std.specs.declared.alloc.Global.{Global}
 use Rattle.tool_io.specs.declared.host.Place as place
 use Rattle.tool_io.specs.Log.{Event, Attached, Missed, Took, Gave, given, names_of, IsFront, IsProperFront, Writes, WritesFront}
@@ -10,11 +10,13 @@ use Rattle.tool_io.specs.Cutting.{lines_of}
 use Rattle.spec_compile.specs.Front.{first_refusal}
 use Rattle.tool_runs.specs.declared.status.Status as status
 use Rattle.tool_runs.specs.Attaching.{is_attached, ReadsAttached, OpensAsTold}
+use Rattle.tool_runs.specs.FirstLine.{HasBegun}
 use Rattle.c2po_runs.specs.declared.make.Form.{Form}
 use Rattle.c2po_runs.specs.declared.make.Product.{Product}
 use Rattle.c2po_runs.specs.declared.make.Product.TheVariants.{Compiled, Upgrade, Show}
 use Rattle.c2po_runs.specs.Asking.{MakeAsked, read_names, place_named}
-use Rattle.c2po_runs.specs.Made.{bytes_of, made_of_text, opened_as, text_within}
+use Rattle.c2po_runs.specs.Images.{WritesImage}
+use Rattle.c2po_runs.specs.Made.{bytes_of, first_line, made_of_text, opened_as, text_within}
 use Rattle.obs_files.specs.Faults.{opened}
 use Rattle.c2po_runs.specs.Run.{seen, is_tried, IsFaultless, Makes, MakeOutcome, WritesAttached}
 
@@ -27,12 +29,19 @@ Refuses (status.TheVariants.TextTooLong place.TheVariants.Out) = ⊤
 Refuses status.TheVariants.Memory = ⊤
 Refuses answer = ⊥
 
+-- one by which no header does
+abbrev pub RefusesAlone : status.Status → Type 0
+RefusesAlone (status.TheVariants.BadHeader why) = ⊥
+RefusesAlone answer = Refuses answer
+
 -- reads of an attached header file gave its first line, or met its end before one, or there is no end of that line
 pub record ReadsLine (form : Form) (text : List ℕ) (found : Result (List ℕ) status.Status) (log : List Event) : Type 0 where
   pub bytes : List ℕ
   pub ended : Bool
   pub takes : Takes place.TheVariants.Header bytes ended log
+  pub begun : HasBegun ended (lines_of ended bytes)
   pub makes : (name : List ℕ) → made_of_text form (Some name) text (lines_of ended bytes) ≡ found
+  pub image : IfOk found (WritesImage form text (Some (first_line (lines_of ended bytes))))
 
 -- reads that gave nothing
 pub record ReadsNone (log : List Event) : Type 0 where
@@ -60,7 +69,7 @@ HeaderLog result form name text events =
 abbrev pub RefusedLog : Result (Vec ℕ Global) status.Status → Result (List ℕ) status.Status → List Event → Type 0
 RefusedLog (Ok bytes) found events = ⊥
 RefusedLog (Err status.TheVariants.Memory) found events = events ≡ []
-RefusedLog (Err answer) found events = (events ≡ []) × Refuses answer × (found ≡ Err answer)
+RefusedLog (Err answer) found events = (events ≡ []) × RefusesAlone answer × (found ≡ Err answer)
 
 -- nothing was called, and this was made of what was there
 abbrev pub MadeLog : Result (Vec ℕ Global) status.Status → Result (List ℕ) status.Status → List Event → Type 0
@@ -69,7 +78,8 @@ MadeLog result found events = RefusedLog result found events
 
 -- after a specification without a fault
 abbrev pub SpecLog : Result (Vec ℕ Global) status.Status → Form → Option (List ℕ) → List ℕ → List Event → Type 0
-SpecLog result form None text events = MadeLog result (made_of_text form None text []) events
+SpecLog result form None text events =
+    MadeLog result (made_of_text form None text []) events × IfOk result (λ bytes. WritesImage form text None bytes.items)
 SpecLog result form (Some name) text events = HeaderLog result form name text events
 
 -- after the text of a specification: it is refused, or it has no fault

@@ -1,6 +1,6 @@
 -- What a whole run of c2po tells: from its words to its message.
 
-use Rattle.std.specs.Prelude.{◌≡◌, ℕ, ◌<◌, ◌≤◌, ◌⊎◌, Bool, true, false, None, is_some, Result, Ok, Err, List, [], ◌∷◌, ◌++◌, length, ⊤}
+use Rattle.std.specs.Prelude.{◌≡◌, ℕ, ◌<◌, ◌≤◌, ◌⊎◌, Bool, true, false, None, is_some, Result, Ok, Err, IfOk, List, [], ◌∷◌, ◌++◌, length, ⊤}
 use Rattle.std.specs.List.{list_any}
 use Rattle.tool_io.specs.declared.host.Place as place
 use Rattle.tool_io.specs.Log.{Event, Gave, same_place, taken, given, ended_from, names_of, IsFront, IsProperFront}
@@ -12,17 +12,21 @@ use Rattle.tool_runs.specs.Messages.{usage, told_to_user}
 use Rattle.tool_runs.specs.Causes.{NoOtherRose}
 use Rattle.tool_runs.specs.Attaching.{is_attached, ReadsAttached, OpensAsTold}
 use Rattle.tool_runs.specs.Files.{file_place, file_limit}
-use Rattle.tool_runs.specs.Telling.{ToldWhole}
+use Rattle.tool_runs.specs.FirstLine.{HasBegun}
+use Rattle.tool_runs.specs.Telling.{is_used, ToldWhole, MessageLast}
 use Rattle.c2po_runs.specs.Asking.{Ask, help, make, nothing, MakeAsked, file_kind, asked_names}
 use Rattle.c2po_runs.specs.Made.{made}
+use Rattle.c2po_runs.specs.Images.{GivesImage}
 
 -- What a log says of a run that makes something: the places that were tried with their names, the bytes of the file and
--- whether its end was met, the lines of the header file that were read, what is out, and whether Out was attached.
+-- whether its end was met, the lines of the header file that were read and whether its end was met, what is out, and
+-- whether Out was attached.
 pub record Seen : Type 0 where
   pub names : List (place.Place × List ℕ)
   pub file : List ℕ
   pub whole : Bool
   pub header : List (List ℕ)
+  pub header_ended : Bool
   pub out : List ℕ
   pub attached : Bool
 
@@ -37,6 +41,7 @@ seen asked events = record {
   file = taken (place_of asked) events;
   whole = ended_from false (place_of asked) events;
   header = lines_of (ended_from false place.TheVariants.Header events) (taken place.TheVariants.Header events);
+  header_ended = ended_from false place.TheVariants.Header events;
   out = given place.TheVariants.Out events;
   attached = is_attached place.TheVariants.Out events;
 }
@@ -63,15 +68,24 @@ pub record IsFaultless (asked : MakeAsked) (run : Seen) : Type 0 where
   pub whole : IsWhole asked run
   pub faultless : first_refusal run.file ≡ None
 
--- what was read gives these bytes, or this refusal
+-- what was read gives these bytes, or this refusal; the bytes of a compilation are those of an image
 pub record Makes (asked : MakeAsked) (run : Seen) (found : Result (List ℕ) status.Status) : Type 0 where
   pub whole : IsWhole asked run
   pub is : made asked run.file run.header ≡ found
+  pub image : IfOk found (GivesImage asked.product asked.header run.file run.header)
 
--- the header is tried only after a specification without a fault, and Out only where the bytes exist
-pub record TriesInTurn (asked : MakeAsked) (run : Seen) : Type 0 where
+-- an answer of a run that has tried Out: all was written, or its open or a write failed
+abbrev pub IsOfOut : status.Status → Type 0
+IsOfOut status.TheVariants.Done = ⊤
+IsOfOut (status.TheVariants.OpenFault place.TheVariants.Out) = ⊤
+IsOfOut (status.TheVariants.WriteFault place.TheVariants.Out) = ⊤
+IsOfOut answer = ⊥
+
+-- the header is tried only after a specification without a fault, and Out only where the bytes exist, and then last
+pub record TriesInTurn (asked : MakeAsked) (answer : status.Status) (run : Seen) : Type 0 where
   pub header : is_tried place.TheVariants.Header run.names ≡ true → IsFaultless asked run
   pub out : is_tried place.TheVariants.Out run.names ≡ true → (bytes : List ℕ) × Makes asked run (Ok bytes)
+  pub out_last : is_tried place.TheVariants.Out run.names ≡ true → IsOfOut answer
 
 -- all bytes are out; Out was attached exactly where a file is named
 pub record IsWritten (asked : MakeAsked) (run : Seen) : Type 0 where
@@ -103,6 +117,11 @@ pub record IsRefused (answer : status.Status) (asked : MakeAsked) (run : Seen) :
   pub refused : Makes asked run (Err answer)
   pub none_out : run.out ≡ []
 
+-- the header was tried, and its first line is there, or its end was met
+pub record IsHeaded (run : Seen) : Type 0 where
+  pub tried : is_tried place.TheVariants.Header run.names ≡ true
+  pub begun : HasBegun run.header_ended run.header
+
 -- how each answer follows from what was read and what is out
 abbrev pub MakeOutcome : status.Status → MakeAsked → Seen → Type 0
 MakeOutcome status.TheVariants.Done asked run = IsWritten asked run
@@ -119,7 +138,8 @@ MakeOutcome (status.TheVariants.TextTooLong p) asked run =
     (p ≡ place_of asked) × (file_limit (file_kind asked.product) < length run.file) × (run.out ≡ [])
 MakeOutcome (status.TheVariants.Refused line why) asked run = IsRefused (status.TheVariants.Refused line why) asked run
 MakeOutcome (status.TheVariants.BadProgram fault) asked run = IsRefused (status.TheVariants.BadProgram fault) asked run
-MakeOutcome (status.TheVariants.BadHeader why) asked run = IsRefused (status.TheVariants.BadHeader why) asked run
+MakeOutcome (status.TheVariants.BadHeader why) asked run =
+    IsRefused (status.TheVariants.BadHeader why) asked run × IsHeaded run
 MakeOutcome status.TheVariants.Memory asked run = (run.out ≡ []) × (is_tried place.TheVariants.Out run.names ≡ false)
 MakeOutcome answer asked run = ⊥
 
@@ -142,10 +162,16 @@ OutcomeOf answer help events = HelpOutcome answer (given place.TheVariants.Out e
 OutcomeOf answer (make asked) events = MakeOutcome answer asked (seen asked events)
 OutcomeOf answer nothing events = NothingOutcome answer (given place.TheVariants.Out events)
 
+-- what is written of a specification without `--table` is its image, in simplified form where the words ask for that
+abbrev pub CompilesImage : Ask → status.Status → List Event → Type 0
+CompilesImage (make asked) answer events =
+    answer ≡ status.TheVariants.Done → GivesImage asked.product asked.header (file_in asked events) (seen asked events).header (given place.TheVariants.Out events)
+CompilesImage other answer events = ⊤
+
 -- the places of what is made are tried in turn
-abbrev pub TriesOf : Ask → List Event → Type 0
-TriesOf (make asked) events = TriesInTurn asked (seen asked events)
-TriesOf other events = ⊤
+abbrev pub TriesOf : Ask → status.Status → List Event → Type 0
+TriesOf (make asked) answer events = TriesInTurn asked answer (seen asked events)
+TriesOf other answer events = ⊤
 
 -- whether the words name a file that is written
 abbrev pub names_out : Ask → Bool
@@ -161,12 +187,12 @@ WritesAttached named events =
 -- the log of a run before its message
 pub record Ran (asked : Ask) (answer : status.Status) (events : List Event) : Type 0 where
   pub names : IsFront (names_of events) (asked_names asked)
-  pub tries : TriesOf asked events
+  pub tries : TriesOf asked answer events
   pub reads : ReadsAttached [] events
   pub writes : WritesAttached (names_out asked) events
   pub outcome : OutcomeOf answer asked events
   pub opened : OpensAsTold answer events
-  pub quiet : given place.TheVariants.Err events ≡ []
+  pub quiet : is_used place.TheVariants.Err events ≡ false
 
 -- A file without a fault and a header that names its signals, within the limits, give Done, unless out of memory;
 -- and help is given where it is asked for.
@@ -181,11 +207,13 @@ CompletesBy nothing answer events = ⊤
 -- Err.
 pub record IsMade (asked : Ask) (answer : status.Status) (before now : place.Place → ℕ) (events : List Event) : Type 0 where
   pub names : IsFront (names_of events) (asked_names asked)
-  pub tries : TriesOf asked events
+  pub tries : TriesOf asked answer events
   pub reads : ReadsAttached [] events
   pub writes : WritesAttached (names_out asked) events
   pub outcome : OutcomeOf answer asked events
+  pub image : CompilesImage asked answer events
   pub opened : OpensAsTold answer events
   pub told_user : IsFront (given place.TheVariants.Err events) (told_to_user C2po answer)
   pub told_whole : ToldWhole C2po answer (before place.TheVariants.Err) (now place.TheVariants.Err) events
+  pub told_last : MessageLast events
   pub complete : NoOtherRose before now → CompletesBy asked answer events

@@ -10,18 +10,14 @@ use Rattle.obs_files.specs.Faults.{opened}
 use Rattle.obs_show.specs.Text.{text as text_of}
 use Rattle.obs_verify.specs.Upgrade.{up}
 use Rattle.spec_compile.specs.Front.{first_refusal}
-use Rattle.spec_compile.specs.ImageFiles.{IsFileOf, IsImageFile, image_in, stored_columns}
-use Rattle.spec_compile.specs.Simplified.{simple_image_in}
+use Rattle.spec_compile.specs.ImageFiles.{IsImageFile, image_in, stored_columns}
+use Rattle.spec_compile.specs.Simplified.{IsSimpleImageFile}
 use Rattle.tool_runs.specs.declared.status.Status.{Status}
 use Rattle.tool_runs.specs.declared.status.Status.TheVariants.{Done}
 use Rattle.c2po_runs.specs.declared.make.Product.{Product}
 use Rattle.c2po_runs.specs.declared.make.Product.TheVariants.{Show}
 use Rattle.c2po_runs.specs.Asking.{Ask, make}
 use Rattle.c2po_runs.specs.Run.{file_in}
-
--- a file has the bytes of the image of a text in simplified form
-abbrev pub IsSimpleImageFile : List ℕ → Columns → List ℕ → Type 0
-IsSimpleImageFile text columns file = IsFileOf text columns (simple_image_in text columns) file
 
 -- what is written is a specification without a fault, and its image over the columns that a program stores has the bytes
 -- of the program's file

@@ -1,6 +1,7 @@
 //! What a run reads, and the bytes that it makes of it.
 
 ghost use Rattle.std.specs.Prelude.{◌≡◌, ◌≤◌, List as Seq, None, ℕ, length, option_map};
+ghost use Rattle.mltl_base.specs.declared.limits.TheConstants.{MAX_SPEC_BYTES};
 ghost use Rattle.c2po_tree.specs.ItemShape.{spec_shape};
 ghost use Rattle.spec_compile.specs.Front.{first_refusal, items_in};
 ghost use Rattle.tool_io.specs.Log.{OnLog};
@@ -47,7 +48,7 @@ fn of_text<H: Host>(
     form: Form,
     host: &mut H,
 ) -> Result<Vec<u8>, Status>
-    requires within { length text.now ≤ 1048576 }
+    requires within { length text.now ≤ MAX_SPEC_BYTES }
     ensures cause { PhaseCause result (H.faults host.old) (H.faults host.new) }
     ensures log { OnLog (H.log host.old) (H.log host.new)
         (TextLog result form (option_map (λ name. name.now) header.entry) text.now) }

@@ -5,7 +5,7 @@ ghost use Rattle.obs_files.specs.Faults.{opened};
 ghost use Rattle.obs_files.specs.Names.{NamesFit};
 ghost use Rattle.obs_verify.specs.Upgrade.{clash_of};
 ghost use Rattle.c2po_runs.specs.Made.{Making, bytes_of, opened_as, raised_as, show_status, text_within};
-ghost use Rattle.c2po_runs.specs.Phases.{Refuses};
+ghost use Rattle.c2po_runs.specs.Phases.{RefusesAlone};
 
 use crate::making::written;
 use mltl_base::Part;
@@ -26,7 +26,7 @@ fn raised(alloc: Global, checked: Checked) -> Result<Checked, Status>
     ensures names { IfOk result NamesFit }
     ensures refused { IfErr result (λ status. status ≢ Status.Memory →
         (gives : Making) → raised_as gives checked (clash_of checked) ≡ Err status) }
-    ensures refuses { IfErr result Refuses }
+    ensures refuses { IfErr result RefusesAlone }
 {
     upgraded_names_fit();
     let _program = checked.program();
@@ -47,7 +47,7 @@ fn program_in(alloc: Global, bytes: &[u8]) -> Result<Checked, Status>
     ensures names { IfOk result NamesFit }
     ensures refused { IfErr result (λ status. status ≢ Status.Memory →
         (gives : Making) → opened_as gives (opened bytes.now) ≡ Err status) }
-    ensures refuses { IfErr result Refuses }
+    ensures refuses { IfErr result RefusesAlone }
 {
     let checked = open(alloc, bytes)?;
     raised(alloc, checked)
@@ -58,7 +58,7 @@ pub(crate) fn upgraded_bytes(alloc: Global, bytes: &[u8]) -> Result<Vec<u8>, Sta
     ensures made { IfOk result (λ made. opened_as bytes_of (opened bytes.now) ≡ Ok made.items) }
     ensures refused { IfErr result (λ status. status ≢ Status.Memory
         → opened_as bytes_of (opened bytes.now) ≡ Err status) }
-    ensures refuses { IfErr result Refuses }
+    ensures refuses { IfErr result RefusesAlone }
 {
     let checked = program_in(alloc, bytes)?;
     written(alloc, false, &checked)
@@ -69,7 +69,7 @@ pub(crate) fn shown_text(alloc: Global, bytes: &[u8]) -> Result<Vec<u8>, Status>
     ensures made { IfOk result (λ made. opened_as text_within (opened bytes.now) ≡ Ok made.items) }
     ensures refused { IfErr result (λ status. status ≢ Status.Memory
         → opened_as text_within (opened bytes.now) ≡ Err status) }
-    ensures refuses { IfErr result Refuses }
+    ensures refuses { IfErr result RefusesAlone }
 {
     let checked = program_in(alloc, bytes)?;
     text_of(alloc, &checked)
@@ -81,14 +81,14 @@ fn text_of(alloc: Global, checked: &Checked) -> Result<Vec<u8>, Status>
     ensures made { IfOk result (λ made. text_within checked.now ≡ Ok made.items) }
     ensures refused { IfErr result (λ status. status ≢ Status.Memory
         → text_within checked.now ≡ Err status) }
-    ensures refuses { IfErr result Refuses }
+    ensures refuses { IfErr result RefusesAlone }
 {
     show(alloc, checked).map_err(status_of_show)
 }
 
 fn status_of_show(fault: ShowFault) -> Status
     ensures status { result ≡ show_status fault }
-    ensures refuses { Refuses result }
+    ensures refuses { RefusesAlone result }
 {
     match fault {
         ShowFault::TooLong => Status::TextTooLong(Place::Out),

@@ -8,7 +8,8 @@ use Rattle.c2po_tree.specs.declared.operator.Quantifier.{Quantifier}
 use Rattle.c2po_tree.specs.declared.operator.Prefix.{Prefix}
 use Rattle.c2po_tree.specs.Shape.{Shape, pick}
 use Rattle.c2po_tree.specs.Tokens.{right_level}
-use Rattle.c2po_tree.specs.Fronts.{◌>>=◌, past, operator_at, start_at, middle_at, level_of, joined, prefixed, prefix_level, enclosed, closing, quantified, leaf}
+use Rattle.c2po_tree.specs.Fronts.{◌>>=◌, past, operator_at, start_at, middle_at, level_of, joined, prefixed}
+use Rattle.c2po_tree.specs.Fronts.{prefix_level, enclosed, closing, quantified, leaf}
 use Rattle.c2po_tree.specs.Splitting.{at_end}
 use Rattle.c2po_tree.specs.declared.operator.Start.{Start}
 use Rattle.c2po_tree.specs.declared.operator.Start.TheVariants.{Leaf, Before, Round, Open, Bind}
@@ -42,7 +43,8 @@ bound read line q x ts = read (Whole 1) ts >>= λ s. middle_at q s.1 >>= λ m.
 -- an operand after a prefix, which no operator of a tighter level takes
 abbrev pub before : Climbs → ℕ → Prefix → List Token → Option (Shape × List Token)
 before read level p ts =
-    if nat_le level (prefix_level p) then (read (Whole (prefix_level p)) ts >>= λ x. Some (prefixed p x.0, x.1)) else None
+    if nat_le level (prefix_level p) then (read (Whole (prefix_level p)) ts >>= λ x. Some (prefixed p x.0, x.1))
+    else None
 
 -- an operand, told how it begins and what follows that
 abbrev pub operand : Climbs → ℕ → Start × List Token → Option (Shape × List Token)

@@ -1,4 +1,5 @@
-use Rattle.std.specs.Prelude.{ℕ, ℤ, pos, negsuc, true, false, List, [], ◌∷◌, Option, Some, None, option_and_then, if◌then◌else◌}
+use Rattle.std.specs.Prelude.{ℕ, ℤ, pos, negsuc, true, false, List, [], ◌∷◌, Option, Some, None, option_and_then}
+use Rattle.std.specs.Prelude.{if◌then◌else◌}
 use Rattle.mltl_base.specs.declared.operators.ArithOp.TheVariants as arith_op
 use Rattle.mltl_base.specs.declared.operators.CompareOp.TheVariants as compare_op
 use Rattle.mltl_base.specs.declared.operators.LogicOp.TheVariants as logic_op
@@ -28,7 +29,8 @@ use Rattle.c2po_tree.specs.declared.operator.Atom.{Atom}
 use Rattle.c2po_tree.specs.declared.operator.Atom.TheVariants.{Number, Truth, Ref}
 use Rattle.c2po_tree.specs.declared.operator.Start.{Start}
 use Rattle.c2po_tree.specs.declared.operator.Start.TheVariants.{Leaf, Before, Round, Open, Bind}
-use Rattle.c2po_tree.specs.Shape.{Shape, number, truth, named, build, group, minus, negation, arith, compare, logic, window, between, each, exists, count, of_list}
+use Rattle.c2po_tree.specs.Shape.{Shape, number, truth, named, build, group, minus, negation, arith, compare, logic}
+use Rattle.c2po_tree.specs.Shape.{window, between, each, exists, count, of_list}
 use Rattle.c2po_tree.specs.Tokens.{is_sign}
 
 infixl 10 ◌>>=◌

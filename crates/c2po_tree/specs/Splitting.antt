@@ -1,12 +1,15 @@
-use Rattle.std.specs.Prelude.{ℕ, zero, suc, ◌+◌, ◌*◌, Bool, true, false, ◌&&◌, List, [], ◌∷◌, length, Option, Some, None, nat_eq, nat_le, if◌then◌else◌}
+use Rattle.std.specs.Prelude.{ℕ, zero, suc, ◌+◌, ◌*◌, Bool, true, false, ◌&&◌, List, [], ◌∷◌, length, Option, Some}
+use Rattle.std.specs.Prelude.{None, nat_eq, nat_le, if◌then◌else◌}
 use Rattle.c2po_lexer.specs.declared.token.Sign.{Sign}
 use Rattle.c2po_lexer.specs.declared.token.Sign.TheVariants as sign
 use Rattle.c2po_lexer.specs.declared.token.Token.{Token}
 use Rattle.c2po_tree.specs.declared.operator.Operator.{Operator}
 use Rattle.c2po_tree.specs.declared.operator.Operator.TheVariants.{Binary, Field}
 use Rattle.c2po_tree.specs.Shape.{Shape, pick}
-use Rattle.c2po_tree.specs.Tokens.{level_after, ends_operand, depth_after, is_separator, is_right_level, is_prefix_level, left_level, right_level}
-use Rattle.c2po_tree.specs.Fronts.{◌>>=◌, past, operator_at, start_at, middle_at, joined, prefixed, prefix_level, enclosed, closing, quantified, leaf}
+use Rattle.c2po_tree.specs.Tokens.{level_after, ends_operand, depth_after, is_separator, is_right_level}
+use Rattle.c2po_tree.specs.Tokens.{is_prefix_level, left_level, right_level}
+use Rattle.c2po_tree.specs.Fronts.{◌>>=◌, past, operator_at, start_at, middle_at, joined, prefixed, prefix_level}
+use Rattle.c2po_tree.specs.Fronts.{enclosed, closing, quantified, leaf}
 use Rattle.c2po_tree.specs.declared.operator.Start.{Start}
 use Rattle.c2po_tree.specs.declared.operator.Start.TheVariants.{Leaf, Before, Round, Open, Bind}
 

@@ -1,8 +1,9 @@
 //! The most instructions of a core graph, over comparisons of one signal.
 
 ghost use Rattle.std.specs.Prelude.{All, IfOk};
+ghost use Rattle.mltl_base.specs.Subformulas.{IsTensed};
 ghost use Rattle.plain_nodes.specs.Nodes.{AreSound, trees};
-ghost use Rattle.plain_nodes.specs.Outputs.{NamesFormulas};
+ghost use Rattle.plain_nodes.specs.Outputs.{NamesFormulas, asked};
 
 use core_graph::{GraphFault, to_core};
 use mltl_base::{Columns, CompareOp, Engine, List, Name};
@@ -14,6 +15,7 @@ use std::test::Fail;
 fn comparisons(alloc: Global, name: &Name, count: u32) -> Result<Expanded, AllocError>
     ensures nodes { IfOk result (λ spec. AreSound 1 spec.nodes) }
     ensures outs { IfOk result (λ spec. All (NamesFormulas (trees spec.nodes)) spec.outs) }
+    ensures tensed { IfOk result (λ spec. All IsTensed (asked spec)) }
 {
     let mut nodes = Nodes::new(alloc);
     let mut outs = List::new(alloc);

@@ -214,6 +214,15 @@ tells style program rows next_times k last stretch output there placed first cov
       placed = placed_moved program rows next_times k (last + 1) output placed there (omega arith) (omega arith);
     }
 
+-- two answers that are one have one stretch
+stretch_in : Stretch → Option (ℕ × Stretch) → Stretch
+stretch_in other None = other
+stretch_in other (Some (k, stretch)) = stretch
+
+pub same_stretch : (k j : ℕ) (found stretch : Stretch) → ◌≡◌ {A = Option (ℕ × Stretch)} (Some (k, found)) (Some (j, stretch)) → found ≡ stretch
+unfolding stretch_in
+same_stretch k j found stretch is = ap (stretch_in found) is
+
 -- the search goes on at the output whose report was given, with what is left of its stretch
 told_moved : (program : Program) (rows : List Row) (next_times : List ℕ) (k next : ℕ) → AreTold program rows next_times k → AreTold program rows (slice_set next_times k next) k
 told_moved program rows next_times k next told j below =

@@ -1,7 +1,8 @@
 -- Where the search for open reports goes on, after the same rows.
 
-use Rattle.std.specs.Prelude.{ℕ, ◌≡◌, Some, List, length}
+use Rattle.std.specs.Prelude.{ℕ, ◌≡◌, ◌+◌, ◌<◌, Some, List, length}
 use Rattle.mltl_base.specs.declared.program.Program.{Program}
+use Rattle.mltl_base.specs.declared.report.Report.{Report}
 use Rattle.mltl_base.specs.Atoms.{Row}
 use Rattle.ft_engine.specs.declared.Ft.{Ft}
 use Rattle.ft_engine.specs.Standing as future
@@ -16,7 +17,8 @@ use Rattle.contract_status.specs.Stretches.{AreTold, HaveTaken, IsFirstOpen}
 -- all outputs before the cursor's were told, and the stretch that it keeps is the first that is open
 pub record IsCursor (program : Program) (rows : List Row) (next_times : List ℕ) (cursor : Cursor) : Type 0 where
   pub told : AreTold program rows next_times cursor.out
-  pub kept : (stretch : Stretch) → cursor.stretch ≡ Some stretch → IsFirstOpen program rows next_times cursor.out stretch
+  pub kept : (stretch : Stretch) → cursor.stretch ≡ Some stretch
+      → IsFirstOpen program rows next_times cursor.out stretch
 
 -- a cursor of outputs at these next times, over engines that have taken n rows
 abbrev pub FitsCursor : Program → ℕ → Ft → Pt → List ℕ → Cursor → Type 0
@@ -27,4 +29,13 @@ FitsCursor program n ft pt next_times cursor =
 -- the same of both engines at once
 abbrev pub FitsEngines : Program → Engines → List ℕ → Cursor → Type 0
 FitsEngines program engines next_times cursor =
-    (rows : List Row) → HaveTaken program rows engines → AreKnown program rows next_times → IsCursor program rows next_times cursor
+    (rows : List Row) → HaveTaken program rows engines → AreKnown program rows next_times
+    → IsCursor program rows next_times cursor
+
+-- After a report was given, of n rows, the search goes on: at the report's output, or at the next one where no later
+-- time was taken. A stretch that the cursor had and that goes on past the report's time stays.
+pub record MovesPast (n : ℕ) (report : Report) (before after : Cursor) : Type 0 where
+  pub here : report.time + 1 < n → after.out ≡ report.out
+  pub next : report.time + 1 ≡ n → after.out ≡ report.out + 1
+  pub keeps : (stretch : Stretch) → before.stretch ≡ Some stretch → report.time < stretch.last → report.time + 1 < n
+      → after.stretch ≡ Some stretch

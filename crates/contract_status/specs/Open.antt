@@ -1,6 +1,7 @@
 -- The reports that the outputs' next times leave open.
 
-use Rattle.std.specs.Prelude.{ℕ, suc, ◌≡◌, ◌+◌, ◌<◌, ◌≤◌, ◌-◌, Option, Some, None, List, [], ◌∷◌, ◌++◌, length, map, drop, slice_index, slice_set, sum_by}
+use Rattle.std.specs.Prelude.{ℕ, suc, ◌≡◌, ◌+◌, ◌<◌, ◌≤◌, ◌-◌, Option, Some, None, List, [], ◌∷◌, ◌++◌, length, map}
+use Rattle.std.specs.Prelude.{drop, slice_index, slice_set, sum_by}
 use Rattle.mltl_base.specs.declared.program.Program.{Program}
 use Rattle.mltl_base.specs.declared.report.Report.{Report}
 use Rattle.mltl_base.specs.declared.report.Style.{Style}
@@ -12,7 +13,8 @@ use Rattle.mltl_base.specs.Reports.{Output, words, of_words}
 unfoldable pub left_open : Style → List Row → ℕ → List Output → List ℕ → List Report
 left_open style rows k [] next_times = []
 left_open style rows k (o ∷ outs) [] = []
-left_open style rows k (o ∷ outs) (next_time ∷ next_times) = of_words style k next_time (drop next_time (words rows o)) ++ left_open style rows (suc k) outs next_times
+left_open style rows k (o ∷ outs) (next_time ∷ next_times) =
+    of_words style k next_time (drop next_time (words rows o)) ++ left_open style rows (suc k) outs next_times
 
 -- the same of all outputs of a program
 abbrev pub open_of : Style → Program → List Row → List ℕ → List Report
@@ -28,26 +30,29 @@ known_counts_of program rows = known_counts rows (outputs program)
 
 -- the next time of each output is at most the number of its words that are known
 abbrev pub AreKnown : Program → List Row → List ℕ → Type 0
-AreKnown program rows next_times = (k : ℕ) → k < length program.outs → slice_index next_times k ≤ slice_index (known_counts_of program rows) k
+AreKnown program rows next_times =
+    (k : ℕ) → k < length program.outs → slice_index next_times k ≤ slice_index (known_counts_of program rows) k
 
--- One time for each output, that of its next report. It is at most the number of words that are known, and at least the number
--- that were known before the last row.
+-- One time for each output, that of its next report. It is at most the number of words that are known, and at least the
+-- number that were known before the last row.
 pub record ArePlaced (program : Program) (rows : List Row) (next_times : List ℕ) : Type 0 where
   pub count : length next_times ≡ length program.outs
   pub known : AreKnown program rows next_times
-  pub recent : (before : List Row) (row : Row) → rows ≡ before ++ row ∷ [] → (k : ℕ) → k < length program.outs → slice_index (known_counts_of program before) k ≤ slice_index next_times k
+  pub recent : (before : List Row) (row : Row) → rows ≡ before ++ row ∷ [] → (k : ℕ) → k < length program.outs
+      → slice_index (known_counts_of program before) k ≤ slice_index next_times k
 
 -- the answer is the first of the reports that were open, and the others still are; nothing where none was open
 abbrev pub GivesFirst : Style → Program → List Row → List ℕ → List ℕ → Option Report → Type 0
 GivesFirst style program rows before after None = open_of style program rows before ≡ []
-GivesFirst style program rows before after (Some report) = open_of style program rows before ≡ report ∷ open_of style program rows after
+GivesFirst style program rows before after (Some report) =
+    open_of style program rows before ≡ report ∷ open_of style program rows after
 
 -- how many times below n the next times leave
 abbrev pub times_left : ℕ → List ℕ → ℕ
 times_left n next_times = sum_by (λ next_time. n - next_time) next_times
 
--- A report was given after n rows: it is of an output that there is, at a time that was taken. The next time of this output alone moved,
--- past the report, so fewer times are left.
+-- A report was given after n rows: it is of an output that there is, at a time that was taken. The next time of this
+-- output alone moved, past the report, so fewer times are left.
 pub record IsGiven (program : Program) (n : ℕ) (report : Report) (before after : List ℕ) : Type 0 where
   pub exists : report.out < length program.outs
   pub taken : report.time < n

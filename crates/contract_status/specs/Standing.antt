@@ -12,13 +12,15 @@ use Rattle.pt_boxes.specs.Standing as past
 use Rattle.contract_status.specs.Open.{ArePlaced, GivesFirst, IsGiven}
 
 -- both engines of the program have taken these rows, n in number, and each output has its next time
-pub record StandFor (program : Program) (rows : List Row) (n : ℕ) (ft : Ft) (pt : Pt) (next_times : List ℕ) : Type 0 where
+pub record StandFor (program : Program) (rows : List Row) (n : ℕ) (ft : Ft) (pt : Pt)
+    (next_times : List ℕ) : Type 0 where
   pub future : future.Stands program rows ft
   pub past : past.Stands program rows pt
   pub placed : ArePlaced program rows next_times
   pub count : length rows ≡ n
 
--- The first report that was open after n rows was given, and the others still are; where none was open, nothing changed.
+-- The first report that was open after n rows was given, and the others still are; where none was open, nothing
+-- changed.
 pub record GivesNext (style : Style) (program : Program) (n : ℕ) (ft : Ft) (pt : Pt) (result : Option Report)
     (before after : List ℕ) : Type 0 where
   pub first : (rows : List Row) → StandFor program rows n ft pt before

@@ -1,6 +1,7 @@
 -- What the engines show of verdicts and of words, from some time on.
 
-use Rattle.std.specs.Prelude.{ℕ, ◌≡◌, ◌≢◌, ◌+◌, ◌<◌, ◌≤◌, Bool, Option, Some, None, List, length, slice_get, slice_index}
+use Rattle.std.specs.Prelude.{ℕ, ◌≡◌, ◌≢◌, ◌+◌, ◌<◌, ◌≤◌, Bool, Option, Some, None, List, length, slice_get}
+use Rattle.std.specs.Prelude.{slice_index}
 use Rattle.mltl_base.specs.declared.interval.Engine as engine
 use Rattle.mltl_base.specs.declared.program.Out as out
 use Rattle.mltl_base.specs.declared.program.Program.{Program}
@@ -28,17 +29,20 @@ pub record HaveTaken (program : Program) (rows : List Row) (engines : Engines) :
 
 -- an instruction exists, and its verdicts can be read from this time on: of the past engine only those of the last row
 abbrev pub CanRead : Engines → engine.Engine → ℕ → ℕ → Type 0
-CanRead engines engine.TheVariants.Ft i from = (i < future.instruction_count engines.ft.now) × (future.lowest_at engines.ft.now i ≤ from)
+CanRead engines engine.TheVariants.Ft i from =
+    (i < future.instruction_count engines.ft.now) × (future.lowest_at engines.ft.now i ≤ from)
 CanRead engines engine.TheVariants.Pt i from = (i < past.instruction_count engines.pt.now) × (engines.rows ≤ from + 1)
 
 -- so do those that an output reports
 abbrev pub CanReport : Engines → out.Out → ℕ → Type 0
 CanReport engines (out.TheVariants.Formula engine i name) from = CanRead engines engine i from
-CanReport engines (out.TheVariants.Contract engine i j name) from = CanRead engines engine i from × CanRead engines engine j from
+CanReport engines (out.TheVariants.Contract engine i j name) from =
+    CanRead engines engine i from × CanRead engines engine j from
 
 -- so do those of each output, from its next time on
 abbrev pub AreReadable : Program → Engines → List ℕ → Type 0
-AreReadable program engines next_times = (k : ℕ) (out : out.Out) → slice_get program.outs k ≡ Some out → CanReport engines out (slice_index next_times k)
+AreReadable program engines next_times =
+    (k : ℕ) (out : out.Out) → slice_get program.outs k ≡ Some out → CanReport engines out (slice_index next_times k)
 
 -- the verdicts of an instruction that are known after the rows
 abbrev pub known_verdicts : Program → List Row → engine.Engine → ℕ → List Bool
@@ -50,7 +54,8 @@ formula_words program rows engine i = words rows (formula (plain (formula_at pro
 
 -- the known words of a contract over two instructions, the assumption and the guarantee
 abbrev pub contract_words : Program → List Row → engine.Engine → ℕ → ℕ → List Word
-contract_words program rows engine i j = words rows (contract (plain (formula_at program engine i)) (plain (formula_at program engine j)))
+contract_words program rows engine i j =
+    words rows (contract (plain (formula_at program engine i)) (plain (formula_at program engine j)))
 
 -- the known words of an output
 abbrev pub known_words : Program → List Row → out.Out → List Word
@@ -83,10 +88,12 @@ pub record Covers (style : Style) (told : List Word) (from last : ℕ) (word : W
 
 -- the next times of all outputs before output k are past their known words
 abbrev pub AreTold : Program → List Row → List ℕ → ℕ → Type 0
-AreTold program rows next_times k = (j : ℕ) → j < k → slice_index (known_counts_of program rows) j ≤ slice_index next_times j
+AreTold program rows next_times k =
+    (j : ℕ) → j < k → slice_index (known_counts_of program rows) j ≤ slice_index next_times j
 
 -- output k is the first that has a known word at its next time, and this is a stretch of it
-pub record IsFirstOpen (program : Program) (rows : List Row) (next_times : List ℕ) (k : ℕ) (stretch : Stretch) : Type 0 where
+pub record IsFirstOpen (program : Program) (rows : List Row) (next_times : List ℕ) (k : ℕ)
+    (stretch : Stretch) : Type 0 where
   pub output : out.Out
   pub there : slice_get program.outs k ≡ Some output
   pub told : AreTold program rows next_times k

@@ -34,6 +34,8 @@ impl Cursor {
         requires within { out + 1 < 2 ^ 64 }
         requires early { time < rows }
         ensures next_time { (self.new.out ≡ out) ⊎ ((self.new.out ≡ out + 1) × (time + 1 ≡ rows)) }
+        ensures here { time + 1 < rows → self.new.out ≡ out }
+        ensures next { time + 1 ≡ rows → self.new.out ≡ out + 1 }
         ensures kept { (left : Found) → self.new.stretch ≡ Some left
             → (self.new.out ≡ out) × (left ≡ stretch) × (time < left.last) }
         ensures keeps { time + 1 < rows → time < stretch.last → self.new.stretch ≡ Some stretch }

@@ -30,9 +30,11 @@ pub struct Stretch {
 }
 
 impl Engines<'_> {
+    ghost use Rattle.mltl_base.specs.declared.limits.TheConstants.{MAX_MISSION};
     ghost use Rattle.contract_status.specs.Cursors.{FitsEngines};
     ghost use Rattle.contract_status.specs.Stretches.{AreReadable, AreTold, CanRead, CanReport, Covers, FindsOpen, HaveTaken, Lasts, ShowsVerdicts, ShowsWords, contract_words, formula_words, known_verdicts, known_words};
     ghost use Rattle.contract_status.specs.Open.{AreKnown};
+    ghost use Rattle.contract_status.specs.declared.engines.Stretch.{Stretch as Found};
 
     /// The verdict of an instruction at a time, and a time up to which it stays the same.
     #[inline(always)]
@@ -140,7 +142,7 @@ impl Engines<'_> {
         requires readable { CanReport self.now out.now from }
         requires taken { (program : Observer) × (rows : List Row) × HaveTaken program rows self.now
             × Lasts (known_words program rows out.now) from stretch.last stretch.word }
-        requires early { self.now.rows ≤ 2 ^ 40 }
+        requires early { self.now.rows ≤ MAX_MISSION }
         ensures covers { (program : Observer) (rows : List Row) → HaveTaken program rows self.now
             → Lasts (known_words program rows out.now) from stretch.last stretch.word
             → Covers style (known_words program rows out.now) from result stretch.word }
@@ -156,7 +158,7 @@ impl Engines<'_> {
         requires readable { CanReport self.now out.now from }
         requires taken { (program : Observer) × (rows : List Row) × HaveTaken program rows self.now
             × Lasts (known_words program rows out.now) from stretch.last stretch.word }
-        requires early { self.now.rows ≤ 2 ^ 40 }
+        requires early { self.now.rows ≤ MAX_MISSION }
         ensures covers { (program : Observer) (rows : List Row) → HaveTaken program rows self.now
             → Lasts (known_words program rows out.now) from stretch.last stretch.word
             → Covers runs (known_words program rows out.now) from result stretch.word }
@@ -210,6 +212,8 @@ impl Engines<'_> {
         ensures finds { (rows : List Row) → HaveTaken program.now rows self.now
             → AreKnown program.now rows next_times.now
             → FindsOpen program.now rows next_times.now result }
+        ensures goes_on { (stretch : Found) → cursor.stretch ≡ Some stretch
+            → result ≡ Some (cursor.out, stretch) }
     {
         match cursor.stretch {
             Some(stretch) => Some((cursor.out, stretch)),

@@ -1,6 +1,7 @@
 //! The lines of reports.
 
 ghost use Rattle.std.specs.Prelude.{◌≡◌, ◌+◌, ◌^◌, ◌<◌, ◌≤◌, ◌++◌, length, decimal, slice_get, Some};
+ghost use Rattle.mltl_base.specs.declared.limits.TheConstants.{TIME_END};
 ghost use Rattle.arrayvec.specs.ArrayVec.{array_vec_len};
 ghost use Rattle.mltl_base.specs.Lines.{line, word_text};
 ghost use Rattle.mltl_base.specs.Programs.{output_names};
@@ -16,7 +17,7 @@ type Line = ArrayVec<u8, 128>;
 /// The line of a report: the name of its output, its time and its word, with a newline.
 pub fn line_of(report: &Report, checked: &Checked) -> ArrayVec<u8, 128>
     requires exists { report.now.out < length checked.now.outs }
-    requires early { report.now.time < 2 ^ 41 }
+    requires early { report.now.time < TIME_END }
     ensures line { result.items ≡ line (output_names checked.now) report.now }
     ensures short { array_vec_len result ≤ 88 }
 {
@@ -28,7 +29,7 @@ pub fn line_of(report: &Report, checked: &Checked) -> ArrayVec<u8, 128>
 /// Puts the line of a report in the place of what the text holds.
 pub fn put_line(text: &mut ArrayVec<u8, 128>, report: &Report, checked: &Checked)
     requires exists { report.now.out < length checked.now.outs }
-    requires early { report.now.time < 2 ^ 41 }
+    requires early { report.now.time < TIME_END }
     ensures line { text.new.items ≡ line (output_names checked.now) report.now }
     ensures short { array_vec_len text.new ≤ 88 }
 {

@@ -3,6 +3,7 @@
 use crate::cursor::Cursor;
 use crate::engines::Engines;
 use crate::telling::tell_first;
+use fixed_list::Fixed;
 use ft_engine::Ft;
 use mltl_base::{Report, Style};
 use obs_verify::Checked;
@@ -13,7 +14,7 @@ use std::marker::Model;
 /// The outputs of a program: the next time of each, counted in rows from 0. Contracts see these times in order.
 #[derive(Drop)]
 pub struct Outs {
-    times: Vec<u64>,
+    times: Fixed<u64>,
 }
 
 impl Model for Outs {
@@ -21,15 +22,16 @@ impl Model for Outs {
 
     ghost Value = { List ℕ };
 
-    ghost view = { λ outs. outs.times.items };
+    ghost view = { λ outs. outs.times };
 }
 
 impl Outs {
-    ghost use Rattle.std.specs.Prelude.{◌≡◌, ◌^◌, ◌≤◌, ◌↔◌, List, [], length, replicate, IfOk, IsTrue};
+    ghost use Rattle.std.specs.Prelude.{◌≡◌, ◌^◌, ◌≤◌, ◌↔◌, List, [], length, replicate, IfOk, IfSome, IsTrue};
+    ghost use Rattle.mltl_base.specs.declared.limits.TheConstants.{MAX_MISSION};
     ghost use Rattle.mltl_base.specs.declared.report.Style.{Style as Form};
     ghost use Rattle.mltl_base.specs.declared.report.Style.TheVariants.{Each as each, Runs as runs};
     ghost use Rattle.mltl_base.specs.Atoms.{Row};
-    ghost use Rattle.contract_status.specs.Cursors.{FitsCursor};
+    ghost use Rattle.contract_status.specs.Cursors.{FitsCursor, MovesPast};
     ghost use Rattle.contract_status.specs.Open.{ArePlaced, known_counts_of, open_of};
     ghost use Rattle.contract_status.specs.Standing.{GivesNext, StandFor};
 
@@ -39,13 +41,20 @@ impl Outs {
         ensures drained { IfOk result (λ outs. outs ≡ known_counts_of checked.now []) }
         ensures placed { IfOk result (ArePlaced checked.now []) }
     {
-        let times = vec![in alloc; 0; checked.program().outs.len()]?;
+        let times = Fixed::filled(alloc, 0, checked.program().outs.len())?;
         Ok(Outs { times })
+    }
+
+    /// Stands for no rows again, with 0 for each next time, in the memory that it has.
+    pub fn reset(&mut self)
+        ensures start { self.new ≡ replicate (length self.old) 0 }
+    {
+        self.times.as_mut_slice().fill(0);
     }
 
     /// The first report that is open after `n` rows, one for each time. `None` exactly where none is open.
     pub fn next(&mut self, checked: &Checked, ft: &Ft, pt: &Pt, n: u64) -> Option<Report>
-        requires early { n ≤ 2 ^ 40 }
+        requires early { n ≤ MAX_MISSION }
         requires stands { (rows : List Row) × StandFor checked.now rows n ft.now pt.now self.old }
         ensures { GivesNext each checked.now n ft.now pt.now result self.old self.new }
     {
@@ -55,7 +64,7 @@ impl Outs {
     /// The first report that is open after `n` rows, one for each longest stretch of one word. `None` exactly where
     /// none is open.
     pub fn next_run(&mut self, checked: &Checked, ft: &Ft, pt: &Pt, n: u64) -> Option<Report>
-        requires early { n ≤ 2 ^ 40 }
+        requires early { n ≤ MAX_MISSION }
         requires stands { (rows : List Row) × StandFor checked.now rows n ft.now pt.now self.old }
         ensures { GivesNext runs checked.now n ft.now pt.now result self.old self.new }
     {
@@ -73,14 +82,15 @@ impl Outs {
         pt: &Pt,
         n: u64,
     ) -> Option<Report>
-        requires early { n ≤ 2 ^ 40 }
+        requires early { n ≤ MAX_MISSION }
         requires stands { (rows : List Row) × StandFor checked.now rows n ft.now pt.now self.old }
         requires cursor { FitsCursor checked.now n ft.now pt.now self.old cursor.old }
         ensures gives { GivesNext style checked.now n ft.now pt.now result self.old self.new }
         ensures cursor { FitsCursor checked.now n ft.now pt.now self.new cursor.new }
+        ensures moves { IfSome result (λ report. MovesPast n report cursor.old cursor.new) }
     {
         let engines = Engines { ft, pt, rows: n };
-        tell_first(style, checked, &engines, &mut self.times, cursor)
+        tell_first(style, checked, &engines, self.times.as_mut_slice(), cursor)
     }
 
     /// Whether no report is open after `n` rows, in either style.
@@ -91,7 +101,7 @@ impl Outs {
             → IsTrue result ↔ (open_of style checked.now rows self.now ≡ []) }
     {
         let engines = Engines { ft, pt, rows: n };
-        let open = engines.first_open(checked.program(), &self.times, 0);
+        let open = engines.first_open(checked.program(), self.times.as_slice(), 0);
         open.is_none()
     }
 }

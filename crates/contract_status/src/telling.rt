@@ -1,8 +1,9 @@
 //! The first report that is open.
 
 ghost use Rattle.std.specs.Prelude.{◌≡◌, ℕ, ◌^◌, ◌≤◌, List, IfSome, IsNone};
+ghost use Rattle.mltl_base.specs.declared.limits.TheConstants.{MAX_MISSION};
 ghost use Rattle.mltl_base.specs.Atoms.{Row};
-ghost use Rattle.contract_status.specs.Cursors.{FitsEngines};
+ghost use Rattle.contract_status.specs.Cursors.{FitsEngines, MovesPast};
 ghost use Rattle.contract_status.specs.Open.{ArePlaced, GivesFirst, IsGiven};
 ghost use Rattle.contract_status.specs.Stretches.{HaveTaken};
 
@@ -21,7 +22,7 @@ pub fn tell_first(
     next_times: &mut [u64],
     cursor: &mut Cursor,
 ) -> Option<Report>
-    requires early { engines.now.rows ≤ 2 ^ 40 }
+    requires early { engines.now.rows ≤ MAX_MISSION }
     requires stands { (rows : List Row) × HaveTaken checked.now rows engines.now
         × ArePlaced checked.now rows next_times.old }
     requires cursor { FitsEngines checked.now engines.now next_times.old cursor.old }
@@ -32,6 +33,8 @@ pub fn tell_first(
         → ArePlaced checked.now rows next_times.old
         → ArePlaced checked.now rows next_times.new }
     ensures cursor { FitsEngines checked.now engines.now next_times.new cursor.new }
+    ensures moves { IfSome result (λ report.
+        MovesPast engines.now.rows report cursor.old cursor.new) }
     ensures none { IsNone result → next_times.new ≡ next_times.old }
     ensures given { IfSome result (λ report.
         IsGiven checked.now engines.now.rows report next_times.old next_times.new) }

@@ -3,7 +3,7 @@
 use Rattle.std.proofs.Common.{◌≡◌, ℕ, ℤ, ◌+◌, ◌<◌, Bool, true, false, Some, List, [], ◌∷◌, ◌++◌, length, take, get_or, slice_get, slice_index, refl, sym, subst, ap, ap₂, ◌∙◌, arith, inl, inr}
 use Rattle.std.specs.Prelude.{Result, IfOk}
 use Rattle.std.proofs.lemmas.List.{length_push, take_more}
-use Rattle.std.proofs.lemmas.Option.{same_Some, slice_get-get_or}
+use Rattle.std.proofs.lemmas.Option.{get_or_from_slice_get, slice_get_within}
 use Rattle.mltl_base.specs.declared.operators.ArithOp as arith_op
 use Rattle.mltl_base.specs.declared.operators.CompareOp as compare
 use Rattle.mltl_base.specs.declared.operators.LogicOp as logic
@@ -15,7 +15,7 @@ use Rattle.mltl_base.specs.Formula.{Formula, Core, core, core_atom, neg, formula
 use Rattle.plain_nodes.specs.declared.nodes.Plain.{Plain}
 use Rattle.plain_nodes.specs.declared.nodes.Plain.TheVariants.{Truth, Flag, Number, Signal, Minus, Arith, Compare, Not, Logic, Window, Between}
 use Rattle.plain_nodes.specs.Nodes as plain
-use Rattle.plain_nodes.proofs.Places.{at_push, node_there}
+use Rattle.plain_nodes.proofs.Places.{at_push}
 use Rattle.plain_nodes.proofs.Pushing as pushing
 use Rattle.core_graph.specs.declared.item.Item.{Item}
 use Rattle.core_graph.specs.declared.item.Item.TheVariants as item
@@ -24,13 +24,6 @@ use Rattle.core_graph.specs.Items.{arith_sign, tree_at, tree_of, trees, Has, Gro
 use Rattle.core_graph.specs.Images.{of_term, of_core}
 use Rattle.core_graph.specs.Reading.{Represents, AreRead}
 use Rattle.core_graph.proofs.Outputs.{number_there, formula_there}
-
-pub same_node : (nodes : List Plain) (i : ℕ) (found node : Plain) → i < length nodes → get_or nodes i (Truth false) ≡ found → slice_get nodes i ≡ Some node → found ≡ node
-same_node nodes i found node l e g = same_Some found node (sym (node_there nodes i found l e) ∙ g)
-
-pub formed_here : (signals : ℕ) (nodes : List Plain) (i : ℕ) (node : Plain) → plain.AreSound signals nodes → i < length nodes → get_or nodes i (Truth false) ≡ node →
-    plain.IsFormed signals (plain.trees (take i nodes)) node
-formed_here signals nodes i node s l e = s.formed i node (node_there nodes i node l e)
 
 -- operators over columns are operators of operands over columns
 arithmetic_over : (columns : List ℕ) (op : arith_op.ArithOp) (a b : Term) → term_over columns (plain.arithmetic op a b) ≡ plain.arithmetic op (term_over columns a) (term_over columns b)
@@ -164,12 +157,11 @@ stands_kept : (columns : List ℕ) (old new : List Item) (n : ℕ) (tree : plain
 stands_kept columns old new n (plain.number a) g h = g.kept n (of_term (term_over columns a)) h
 stands_kept columns old new n (plain.formula p) g h = g.kept n (of_core (core (formula_over columns p))) h
 
-pub one_read : (columns : List ℕ) (old new : List Item) (nodes : List Plain) (i : ℕ) (ids more : List ℕ) (id : ℕ) → i < length nodes → AreRead columns old (take i nodes) ids → Grows old new →
-    ((node : Plain) → slice_get nodes i ≡ Some node → Represents columns new id (plain.tree_of (plain.trees (take i nodes)) node)) → more ≡ ids ++ id ∷ [] → AreRead columns new (take (i + 1) nodes) more
-one_read columns old new nodes i ids more id l r g h e =
-    let node : Plain = get_or nodes i (Truth false) in
-    let there : slice_get nodes i ≡ Some node = slice_get-get_or nodes i (Truth false) l in
-    let next : take (i + 1) nodes ≡ take i nodes ++ node ∷ [] = take_more nodes i (Truth false) l in
+pub one_read : (columns : List ℕ) (old new : List Item) (nodes : List Plain) (i : ℕ) (node : Plain) (ids more : List ℕ) (id : ℕ) → slice_get nodes i ≡ Some node → AreRead columns old (take i nodes) ids → Grows old new →
+    Represents columns new id (plain.tree_of (plain.trees (take i nodes)) node) → more ≡ ids ++ id ∷ [] → AreRead columns new (take (i + 1) nodes) more
+one_read columns old new nodes i node ids more id there r g h e =
+    let here : get_or nodes i node ≡ node = get_or_from_slice_get nodes i node node there in
+    let next : take (i + 1) nodes ≡ take i nodes ++ node ∷ [] = take_more nodes i node (slice_get_within nodes i node there) ∙ ap (λ x. take i nodes ++ x ∷ []) here in
     let treed : plain.trees (take (i + 1) nodes) ≡ plain.trees (take i nodes) ++ plain.tree_of (plain.trees (take i nodes)) node ∷ [] = pushing.trees_more nodes i node there in
     let whole : AreRead columns new (take (i + 1) nodes) (ids ++ id ∷ []) = record {
       forest = g.forest;
@@ -187,7 +179,7 @@ one_read columns old new nodes i ids more id l r g h e =
               let long : n ≡ length ids = p.0 in
               let short : n < length (plain.trees (take i nodes)) = q.0 in
               absurd (omega (arith, pushing.length-trees (take i nodes), r.count))
-          | inr q ↦ subst (λ m. Represents columns new m tree) p.1 (subst (λ t. Represents columns new id t) q.1 (h node there))
+          | inr q ↦ subst (λ m. Represents columns new m tree) p.1 (subst (λ t. Represents columns new id t) q.1 h)
         ]
       ];
     } in

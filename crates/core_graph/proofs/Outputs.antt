@@ -1,19 +1,18 @@
 -- What outputs name: the roots of walks are their core formulas, and their places are those of these formulas.
 
-use Rattle.std.proofs.Common.{◌≡◌, ℕ, zero, suc, ◌<◌, Bool, true, false, ◌||◌, if◌then◌else◌, Option, Some, None, List, [], ◌∷◌, ◌++◌, All, flat_map, length, map, get_or, slice_get, slice_index, refl, sym, subst, ap, ap₂, ◌∙◌, arith}
+use Rattle.std.proofs.Common.{◌≡◌, ℕ, ◌<◌, Bool, true, false, ◌||◌, if◌then◌else◌, Option, Some, None, List, [], ◌∷◌, ◌++◌, All, flat_map, length, map, get_or, slice_get, slice_index, refl, sym, subst, ap, ap₂, ◌∙◌, arith}
 use Rattle.std.proofs.lemmas.Bool.{false≢true}
 use Rattle.std.proofs.lemmas.List.{map-append}
 use Rattle.std.proofs.lemmas.Option.{slice_get_within, slice_get-get_or}
 use Rattle.mltl_base.specs.declared.interval.Engine.{Engine}
-use Rattle.mltl_base.specs.declared.interval.Engine.TheVariants.{Ft, Pt}
 use Rattle.mltl_base.specs.declared.interval.Part.{Part}
 use Rattle.mltl_base.specs.declared.program.Out.TheVariants as out
 use Rattle.mltl_base.specs.Atoms.{Atom, term_over}
 use Rattle.mltl_base.specs.Formula.{truth as always, Core, catom, core, formula_over}
 use Rattle.mltl_base.specs.Programs.{truth}
-use Rattle.mltl_base.specs.Subformulas.{same_expression, same, listed, place_of, Asked, cores_of_output, same_engine, all_cores, cores_for, subformulas, bz_expressions, out_by}
+use Rattle.mltl_base.specs.Subformulas.{same_expression, same, listed, place_of, Asked, cores_of_output, all_cores, cores_for, subformulas, bz_expressions, out_by}
 use Rattle.mltl_base.proofs.Sameness.{same_sound}
-use Rattle.mltl_base.proofs.Unfolding.{Each, each_from_all, Deep, fold_all, fold_has}
+use Rattle.mltl_base.proofs.Unfolding.{Each, each_from_all, Deep, fold_all}
 use Rattle.mltl_base.proofs.Booleans.{HasAtom, fold_have}
 use Rattle.mltl_base.proofs.Members.{all_from_each, each_append}
 use Rattle.mltl_base.proofs.Picking.{cores_of_engine, all_listed}

@@ -1,9 +1,13 @@
 -- Expressions and core formulas as trees.
 
-use Rattle.mltl_base.specs.Atoms.{Term, column, constant, negative, plus, minus, times, quotient, remainder, Atom, is_true, equal, less, at_most, different, greater, at_least}
+use Rattle.mltl_base.specs.Atoms.{Term, column, constant, negative, plus, minus, times, quotient, remainder, Atom}
+use Rattle.mltl_base.specs.Atoms.{is_true, equal, less, at_most, different, greater, at_least}
 use Rattle.mltl_base.specs.Formula.{Core, ctrue, catom, cnot, cand, cuntil, csince}
 use Rattle.mltl_base.specs.Programs.{Expression, whole, truth}
-use Rattle.core_graph.specs.Trees.{negative_sign, plus_sign, minus_sign, times_sign, quotient_sign, remainder_sign, equal_sign, less_sign, at_most_sign, different_sign, greater_sign, at_least_sign, true_sign, load_sign, not_sign, and_sign, sign, in_column, truth_in, number, until_in, since_in, Tree, leaf, one, two}
+use Rattle.core_graph.specs.Trees.{negative_sign, plus_sign, minus_sign, times_sign, quotient_sign, remainder_sign}
+use Rattle.core_graph.specs.Trees.{equal_sign, less_sign, at_most_sign, different_sign, greater_sign, at_least_sign}
+use Rattle.core_graph.specs.Trees.{true_sign, load_sign, not_sign, and_sign, sign, in_column, truth_in, number}
+use Rattle.core_graph.specs.Trees.{until_in, since_in, Tree, leaf, one, two}
 
 -- a whole-number term as a tree
 abbrev pub of_term : Term → Tree

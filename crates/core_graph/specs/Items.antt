@@ -1,12 +1,17 @@
 -- Items over numbered ones: the trees that they unfold to, and forests of them.
 
-use Rattle.std.specs.Prelude.{◌≡◌, ◌⊎◌, ℕ, ◌<◌, Bool, Some, List, [], ◌∷◌, ◌++◌, fold, length, slice_get, slice_index_or, ⊤}
+use Rattle.std.specs.Prelude.{◌≡◌, ◌⊎◌, ℕ, ◌<◌, Bool, Some, List, [], ◌∷◌, ◌++◌, fold, length, slice_get}
+use Rattle.std.specs.Prelude.{slice_index_or, ⊤}
 use Rattle.mltl_base.specs.declared.operators.ArithOp as arith
 use Rattle.core_graph.specs.declared.item.Item.{Item}
-use Rattle.core_graph.specs.declared.item.Item.TheVariants.{Column, Const, Neg, Arith, IsTrue, Eq, Lt, Le, True, Load, Not, And, Until, Since}
+use Rattle.core_graph.specs.declared.item.Item.TheVariants.{Column, Const, Neg, Arith, IsTrue, Eq, Lt, Le, True, Load}
+use Rattle.core_graph.specs.declared.item.Item.TheVariants.{Not, And, Until, Since}
 use Rattle.core_graph.specs.declared.item.Operands.{Operands}
 use Rattle.core_graph.specs.declared.item.Operands.TheVariants.{Zero, One, Two}
-use Rattle.core_graph.specs.Trees.{Sign, negative_sign, plus_sign, minus_sign, times_sign, quotient_sign, remainder_sign, equal_sign, less_sign, at_most_sign, true_sign, load_sign, not_sign, and_sign, Label, sign, in_column, truth_in, number, until_in, since_in, Tree, leaf, one, two, is_core_label}
+use Rattle.core_graph.specs.Trees.{Sign, negative_sign, plus_sign, minus_sign, times_sign, quotient_sign}
+use Rattle.core_graph.specs.Trees.{remainder_sign, equal_sign, less_sign, at_most_sign, true_sign, load_sign, not_sign}
+use Rattle.core_graph.specs.Trees.{and_sign, Label, sign, in_column, truth_in, number, until_in, since_in, Tree, leaf}
+use Rattle.core_graph.specs.Trees.{one, two, is_core_label}
 
 -- the operands of an item
 abbrev pub operands_of : Item → Operands
@@ -96,4 +101,4 @@ pub record Grows (old new : List Item) : Type 0 where
 -- the new list is the old one, or has a new item last
 abbrev pub IsAdded : List Item → List Item → Item → Type 0
 IsAdded old new item =
-    (new ≡ old) ⊎ ((new ≡ old ++ item ∷ []) × ((i : ℕ) → slice_get old i ≡ Some item → ⊥))
+    (new ≡ old) ⊎ ((new ≡ old ++ item ∷ []) × ((i : ℕ) → ¬ (slice_get old i ≡ Some item)))

@@ -6,3 +6,4 @@ pub mod Walks
 pub mod Reading
 pub mod Listings
 pub mod CountedWalks
+pub mod Reached

@@ -1,6 +1,7 @@
 -- Lists of items that become instructions, and the instructions.
 
-use Rattle.std.specs.Prelude.{◌≡◌, ℕ, ◌<◌, ◌≤◌, Bool, true, not, if◌then◌else◌, Some, List, [], ◌∷◌, length, map, filter, flat_map, slice_get, slice_index, slice_index_or}
+use Rattle.std.specs.Prelude.{◌≡◌, ℕ, ◌<◌, ◌≤◌, Bool, true, not, if◌then◌else◌, Some, List, [], ◌∷◌, length, map}
+use Rattle.std.specs.Prelude.{filter, flat_map, slice_get, slice_index, slice_index_or}
 use Rattle.mltl_base.specs.declared.interval.Engine.{Engine}
 use Rattle.mltl_base.specs.declared.interval.Engine.TheVariants as engine
 use Rattle.mltl_base.specs.declared.interval.Part.{Part}
@@ -18,7 +19,8 @@ use Rattle.plain_nodes.specs.declared.nodes.PlainOut.TheVariants.{Formula, Contr
 use Rattle.plain_nodes.specs.Nodes as plain
 use Rattle.plain_nodes.specs.Outputs.{asked_by, asked_over}
 use Rattle.core_graph.specs.declared.item.Item.{Item}
-use Rattle.core_graph.specs.declared.item.Item.TheVariants.{Column, Const, Neg, Arith, IsTrue, Eq, Lt, Le, True, Load, Not, And, Until, Since}
+use Rattle.core_graph.specs.declared.item.Item.TheVariants.{Column, Const, Neg, Arith, IsTrue, Eq, Lt, Le, True, Load}
+use Rattle.core_graph.specs.declared.item.Item.TheVariants.{Not, And, Until, Since}
 use Rattle.core_graph.specs.Trees.{Tree, completed, is_core_tree}
 use Rattle.core_graph.specs.Items.{is_formula}
 use Rattle.core_graph.specs.Walks.{trees_of}
@@ -129,4 +131,5 @@ abbrev pub out_of : List ℕ → List ℕ → List ℕ → PlainOut → out.Out
 out_of ids ft pt (Formula e a name) =
     out.TheVariants.Formula e (slice_index (places_for e ft pt) (slice_index ids a)) name
 out_of ids ft pt (Contract e a b name) =
-    out.TheVariants.Contract e (slice_index (places_for e ft pt) (slice_index ids a)) (slice_index (places_for e ft pt) (slice_index ids b)) name
+    out.TheVariants.Contract e (slice_index (places_for e ft pt) (slice_index ids a))
+    (slice_index (places_for e ft pt) (slice_index ids b)) name

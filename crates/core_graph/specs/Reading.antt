@@ -18,7 +18,14 @@ Represents columns items n (plain.formula p) = Has items n (of_core (core (formu
 pub record AreRead (columns : List ℕ) (items : List Item) (nodes : List Plain) (ids : List ℕ) : Type 0 where
   pub forest : IsForest items
   pub count : length ids ≡ length nodes
-  pub stand : (n id : ℕ) (tree : plain.Tree) → slice_get ids n ≡ Some id → plain.Has nodes n tree → Represents columns items id tree
+  pub stand : (n id : ℕ) (tree : plain.Tree) → slice_get ids n ≡ Some id → plain.Has nodes n tree
+      → Represents columns items id tree
+
+-- the items of some nodes are read, over which the next node is formed
+pub record IsNext (columns : List ℕ) (items : List Item) (ids : List ℕ) (node : Plain) : Type 0 where
+  pub before : List Plain
+  pub read : AreRead columns items before ids
+  pub formed : plain.IsFormed (length columns) (plain.trees before) node
 
 -- item n is a core formula
 pub record IsCoreAt (items : List Item) (n : ℕ) : Type 0 where

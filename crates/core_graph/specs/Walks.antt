@@ -1,6 +1,7 @@
 -- A walk over a forest that completes items, operands first.
 
-use Rattle.std.specs.Prelude.{◌≡◌, ◌⊎◌, ℕ, suc, ◌+◌, ◌*◌, ◌<◌, Bool, true, false, Some, List, [], ◌∷◌, length, map, slice_get, ⊤}
+use Rattle.std.specs.Prelude.{◌≡◌, ◌⊎◌, ℕ, suc, ◌+◌, ◌*◌, ◌<◌, Bool, true, false, Some, List, [], ◌∷◌, length, map}
+use Rattle.std.specs.Prelude.{slice_get, ⊤}
 use Rattle.mltl_base.specs.Subformulas.{listed}
 use Rattle.core_graph.specs.declared.item.Item.{Item}
 use Rattle.core_graph.specs.declared.item.Operands.{Operands}

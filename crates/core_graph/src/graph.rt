@@ -1,15 +1,16 @@
 //! From a specification that is unfolded to its core graph.
 
 ghost use Rattle.std.specs.Prelude.{◌≡◌, Err, length, All, OnOk, IfOk};
-ghost use Rattle.mltl_base.specs.Subformulas.{IsGraphOf};
+ghost use Rattle.mltl_base.specs.Subformulas.{IsGraphOf, IsTensed};
 ghost use Rattle.plain_nodes.specs.Nodes.{AreSound, trees};
-ghost use Rattle.plain_nodes.specs.Outputs.{NamesFormulas, asked_in};
+ghost use Rattle.plain_nodes.specs.Outputs.{NamesFormulas, asked, asked_in};
 ghost use Rattle.core_graph.specs.Limits.{AreFew, AreMany};
 ghost use Rattle.core_graph.specs.Listings.{asked_from};
 
 use crate::forest::Forest;
 use crate::listing::list;
 use crate::ops::{bz_ops, ft_ops, numbered_outs, pt_ops};
+use crate::reach::reached;
 use crate::reading::read;
 use mltl_base::{Columns, Graph, Part};
 use plain_nodes::{Expanded, Plain, PlainOut};
@@ -36,13 +37,15 @@ impl From<AllocError> for GraphFault {
     }
 }
 
-/// The instructions and the outputs of a specification, over the columns of its signals.
+/// The instructions and the outputs of a specification, over the columns of its signals. No output mixes tenses.
 ///
 /// `TooManyNodes` comes exactly where one of the three lists would have more than `MAX_INSTRUCTIONS` members. The time
-/// is linear in the nodes, and formulas may be as deep as there are nodes.
+/// is linear in the nodes, of which only those that outputs reach are put into the forest. Formulas may be as deep as there
+/// are nodes.
 pub fn to_core(alloc: Global, spec: &Expanded, columns: &Columns) -> Result<Graph, GraphFault>
     requires nodes { AreSound (length columns.now.of_signal) spec.now.nodes }
     requires outs { All (NamesFormulas (trees spec.now.nodes)) spec.now.outs }
+    requires tensed { All IsTensed (asked spec.now) }
     ensures graph { IfOk result
         (λ graph. IsGraphOf (asked_in columns.now.of_signal spec.now) graph) }
     ensures few { OnOk result (AreFew (asked_in columns.now.of_signal spec.now)) }
@@ -70,7 +73,8 @@ fn graph_of(
         → AreMany (asked_from columns.now nodes.now outs.now) }
 {
     let mut forest = Forest::new(alloc);
-    let ids = read(alloc, &mut forest, nodes, columns)?;
+    let marks = reached(alloc, nodes, outs)?;
+    let ids = read(alloc, &mut forest, nodes, &marks, columns)?;
     let bz = list(alloc, &forest, outs, &ids, Part::Bz)?;
     let ft = list(alloc, &forest, outs, &ids, Part::Ft)?;
     let pt = list(alloc, &forest, outs, &ids, Part::Pt)?;

@@ -11,6 +11,7 @@ mod graph;
 mod item;
 mod listing;
 mod ops;
+mod reach;
 mod reading;
 mod walk;
 

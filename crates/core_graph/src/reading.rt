@@ -1,51 +1,56 @@
-//! The items of plain nodes: one pass over the nodes, children first.
+//! The items of the plain nodes that outputs reach: one pass over the nodes, operands first.
 
-ghost use Rattle.std.specs.Prelude.{◌≡◌, ◌+◌, ◌<◌, [], ◌∷◌, ◌++◌, length, take, slice_get, Some, OnOk, IfOk};
+ghost use Rattle.std.specs.Prelude.{◌≡◌, [], List, length, OnOk, IfOk};
+ghost use Rattle.plain_nodes.specs.declared.nodes.Plain.{Plain as Node};
 ghost use Rattle.plain_nodes.specs.Nodes.{AreSound, IsFormed, tree_of, trees};
-ghost use Rattle.core_graph.specs.Items.{Grows, IsForest};
-ghost use Rattle.core_graph.specs.Reading.{AreRead, Represents};
+ghost use Rattle.core_graph.specs.Items.{Grows};
+ghost use Rattle.core_graph.specs.Reached.{marked_nodes};
+ghost use Rattle.core_graph.specs.Reading.{AreRead, IsNext, Represents};
 
 use crate::forest::Forest;
 use crate::item::Item;
+use crate::reach::marked_node;
 use plain_nodes::Plain;
 use std::alloc::{AllocError, Global};
 
-/// The items of all nodes, in order.
+/// The items of all nodes, in order. For each that isn't marked it is true.
 pub fn read(
     alloc: Global,
     forest: &mut Forest,
     nodes: &[Plain],
+    marks: &[bool],
     columns: &[u32],
 ) -> Result<Vec<usize>, AllocError>
     requires empty { forest.old ≡ [] }
-    requires sound { AreSound (length columns.now) nodes.now }
-    ensures read { IfOk result (λ ids. AreRead columns.now forest.new nodes.now ids.items) }
+    requires count { length marks.now ≡ length nodes.now }
+    requires sound { AreSound (length columns.now) (marked_nodes marks.now nodes.now) }
+    ensures read { IfOk result (λ ids.
+        AreRead columns.now forest.new (marked_nodes marks.now nodes.now) ids.items) }
 {
     let mut ids = Vec::new(alloc);
     for i in 0..nodes.len() {
-        let id = read_node(forest, &ids, nodes, i, columns)?;
+        let node = marked_node(marks, nodes, i);
+        let id = read_node(forest, &ids, node, columns)?;
         ids.push(id)?;
     }
     Ok(ids)
 }
 
-/// The item of node `i`, given those of the nodes before it.
+/// The item of a node, given those of the nodes before it.
 fn read_node(
     forest: &mut Forest,
     ids: &[usize],
-    nodes: &[Plain],
-    i: usize,
+    node: Plain,
     columns: &[u32],
 ) -> Result<usize, AllocError>
-    requires next { i < length nodes.now }
-    requires sound { AreSound (length columns.now) nodes.now }
-    requires read { AreRead columns.now forest.old (take i nodes.now) ids.now }
+    requires { IsNext columns.now forest.old ids.now node }
     ensures grows { OnOk result (Grows forest.old forest.new) }
-    ensures stands { (node : Plain) → slice_get nodes.now i ≡ Some node
+    ensures stands { (before : List Node) → AreRead columns.now forest.old before ids.now
+        → IsFormed (length columns.now) (trees before) node
         → IfOk result (λ id.
-        Represents columns.now forest.new id (tree_of (trees (take i nodes.now)) node)) }
+        Represents columns.now forest.new id (tree_of (trees before) node)) }
 {
-    match nodes[i] {
+    match node {
         Plain::Truth(value) => forest.truth(value),
         Plain::Flag(signal) => {
             let atom = forest.share(Item::IsTrue(columns[signal as usize]))?;

@@ -1,6 +1,7 @@
 -- Counting quantifiers as formulas over numbered bodies, and what they count.
 
-use Rattle.std.specs.Prelude.{ℕ, zero, suc, ◌+◌, Bool, true, false, not, ◌&&◌, ◌||◌, if◌then◌else◌, List, nat_eq, nat_le, slice_index_or, count_by}
+use Rattle.std.specs.Prelude.{ℕ, zero, suc, ◌+◌, Bool, true, false, not, ◌&&◌, ◌||◌, if◌then◌else◌, List, nat_eq}
+use Rattle.std.specs.Prelude.{nat_le, slice_index_or, count_by}
 use Rattle.mltl_base.specs.declared.operators.CountOp.{CountOp}
 use Rattle.mltl_base.specs.declared.operators.CountOp.TheVariants.{Exactly, AtLeast, AtMost}
 

@@ -1,6 +1,7 @@
 -- Networks of gates: what each gate stands for, and what comes out of it.
 
-use Rattle.std.specs.Prelude.{◌≡◌, ℕ, ◌-◌, ◌<◌, Bool, false, not, ◌&&◌, ◌||◌, List, [], ◌∷◌, ◌++◌, length, slice_get, slice_index_or, Option, Some, fold, ⊤}
+use Rattle.std.specs.Prelude.{◌≡◌, ℕ, ◌-◌, ◌<◌, Bool, false, not, ◌&&◌, ◌||◌, List, [], ◌∷◌, ◌++◌, length, slice_get}
+use Rattle.std.specs.Prelude.{slice_index_or, Option, Some, fold, ⊤}
 use Rattle.count_sets.specs.declared.gate.Gate.{Gate}
 use Rattle.count_sets.specs.declared.gate.Gate.TheVariants.{Truth, Body, Both, Either, Not}
 use Rattle.count_sets.specs.Counting.{Counted, truth, body, both, either, negation}

@@ -7,8 +7,8 @@ use Rattle.count_sets.specs.declared.table.Plan.{Plan}
 use Rattle.count_sets.specs.Counting.{Counted, least}
 use Rattle.count_sets.specs.Gates.{formulas, formula_at, IsNetwork, IsShared}
 
--- a plan of thresholds that a table can hold: the lowest is within the bodies, the highest is not below it and at least 1,
--- and the numbers of gates have 32 bits
+-- a plan of thresholds that a table can hold: the lowest is within the bodies, the highest is not below it and at least
+-- 1, and the numbers of gates have 32 bits
 pub record IsPlan (plan : Plan) : Type 0 where
   pub asked : plan.lowest ≤ plan.bodies
   pub order : plan.lowest ≤ plan.highest
@@ -33,6 +33,6 @@ pub record IsTable (plan : Plan) (k : ℕ) (gates : List Gate) (row : List ℕ) 
 pub record IsRising (plan : Plan) (k : ℕ) (gates : List Gate) (row : List ℕ) : Type 0 where
   pub shared : IsShared gates
   pub bodies : (i b : ℕ) → slice_get gates i ≡ Some (Body b) → b < k
-  pub nots : (i a : ℕ) → slice_get gates i ≡ Some (Not a) → ⊥
+  pub nots : (i a : ℕ) → ¬ (slice_get gates i ≡ Some (Not a))
   pub rising : (j : ℕ) → j + 1 ≤ k → j + 1 ≤ plan.highest → plan.lowest + k ≤ j + plan.bodies
       → slice_index row j < slice_index row (j + 1)

@@ -1,6 +1,7 @@
 //! The networks of counting quantifiers.
 
 ghost use Rattle.std.specs.Prelude.{◌≡◌, ℕ, ◌+◌, ◌*◌, ◌^◌, ◌<◌, ◌≤◌, min, List as Seq, Bool, Some, length, IfOk};
+ghost use Rattle.mltl_base.specs.declared.limits.TheConstants.{MAX_WEIGHT};
 ghost use Rattle.count_sets.specs.Counting.{counting, compares, true_count};
 ghost use Rattle.count_sets.specs.Gates.{last_formula, last_truth, IsNetwork, IsShared};
 
@@ -15,7 +16,7 @@ use std::alloc::{AllocError, Global};
 /// The only error is want of memory.
 pub fn network(alloc: Global, op: CountOp, n: u32, m: u32) -> Result<List<Gate>, AllocError>
     requires some { 1 ≤ n }
-    requires weight { 2 * n * (min m n + 1) + 4 ≤ 65536 }
+    requires weight { 2 * n * (min m n + 1) + 4 ≤ MAX_WEIGHT }
     // over any truths of the bodies the last gate says how the number of true ones compares to m
     ensures counts { IfOk result (λ gates. (bodies : Seq Bool) → length bodies ≡ n
         → last_truth bodies gates ≡ Some (compares op m (true_count bodies))) }
@@ -36,7 +37,7 @@ pub fn network(alloc: Global, op: CountOp, n: u32, m: u32) -> Result<List<Gate>,
 /// As many as `m`: `true` alone where none are asked for, `false` alone where there are fewer bodies.
 fn at_least(alloc: Global, n: u32, m: u32) -> Result<List<Gate>, AllocError>
     requires some { 1 ≤ n }
-    requires weight { 2 * n * (min m n + 1) + 4 ≤ 65536 }
+    requires weight { 2 * n * (min m n + 1) + 4 ≤ MAX_WEIGHT }
     ensures formula { IfOk result (λ gates.
         last_formula gates ≡ Some (counting CountOp.AtLeast n m)) }
     ensures formed { IfOk result (λ gates. IsNetwork n gates) }
@@ -63,7 +64,7 @@ fn at_least(alloc: Global, n: u32, m: u32) -> Result<List<Gate>, AllocError>
 /// Not more than `m`: `!false` where there are no more bodies.
 fn at_most(alloc: Global, n: u32, m: u32) -> Result<List<Gate>, AllocError>
     requires some { 1 ≤ n }
-    requires weight { 2 * n * (min m n + 1) + 4 ≤ 65536 }
+    requires weight { 2 * n * (min m n + 1) + 4 ≤ MAX_WEIGHT }
     ensures formula { IfOk result (λ gates.
         last_formula gates ≡ Some (counting CountOp.AtMost n m)) }
     ensures formed { IfOk result (λ gates. IsNetwork n gates) }
@@ -92,7 +93,7 @@ fn at_most(alloc: Global, n: u32, m: u32) -> Result<List<Gate>, AllocError>
 /// As many as `m` and not more.
 fn exactly(alloc: Global, n: u32, m: u32) -> Result<List<Gate>, AllocError>
     requires some { 1 ≤ n }
-    requires weight { 2 * n * (min m n + 1) + 4 ≤ 65536 }
+    requires weight { 2 * n * (min m n + 1) + 4 ≤ MAX_WEIGHT }
     ensures formula { IfOk result (λ gates.
         last_formula gates ≡ Some (counting CountOp.Exactly n m)) }
     ensures formed { IfOk result (λ gates. IsNetwork n gates) }

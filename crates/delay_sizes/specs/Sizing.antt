@@ -5,7 +5,8 @@ use Rattle.mltl_base.specs.declared.limits.TheConstants.{MAX_BOUND, MAX_DELAY}
 use Rattle.mltl_base.specs.declared.operators.FtOp.{FtOp}
 use Rattle.mltl_base.specs.declared.program.Graph.{Graph}
 use Rattle.mltl_base.specs.declared.program.Sizes.{Sizes}
-use Rattle.mltl_base.specs.Queues.{AreInOrder, HasBounds, HasPastBounds, NamesInstructions, best_delays, worst_delays, queue_lengths, box_counts}
+use Rattle.mltl_base.specs.Queues.{AreInOrder, HasBounds, HasPastBounds, NamesInstructions, best_delays, worst_delays}
+use Rattle.mltl_base.specs.Queues.{queue_lengths, box_counts}
 use Rattle.delay_sizes.specs.declared.delay_lists.Delays.{Delays}
 
 -- the delays are those of the instructions, and none is above the limit

@@ -15,4 +15,4 @@ pub use boxes::{box_count, box_counts, few_boxes};
 pub use delay_lists::Delays;
 pub use laws::delays_of_formulas;
 pub use propagation::{DelayFault, delays};
-pub use queues::{SizeFault, queue_lengths, queue_sizes, slot_count};
+pub use queues::{SizeFault, queue_lengths, queue_sizes, slot_count, total};

@@ -199,7 +199,8 @@ pub fn slot_count(sizes: &Sizes) -> u64
     total(sizes.ft.as_slice()) + total(sizes.pt.as_slice())
 }
 
-fn total(sizes: &[u32]) -> u64
+/// The sum of sizes.
+pub fn total(sizes: &[u32]) -> u64
     requires { sum sizes.now < 2 ^ 64 }
     ensures { result ≡ sum sizes.now }
 {

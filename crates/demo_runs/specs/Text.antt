@@ -22,7 +22,15 @@ b = atom (is_true 1)
 -- the outputs of the text, in its order
 abbrev pub demo_outputs : List Asked
 demo_outputs =
-    record { engine = Ft; name = codes "resp"; output = formula (implication a (finally (record { lo = 0; hi = 3 }) b)) }
-    ∷ record { engine = Ft; name = codes "low"; output = formula (globally (record { lo = 0; hi = 2 }) (atom (less (column 2) (constant (pos 0))))) }
+    record {
+      engine = Ft;
+      name = codes "resp";
+      output = formula (implication a (finally (record { lo = 0; hi = 3 }) b));
+    }
+    ∷ record {
+      engine = Ft;
+      name = codes "low";
+      output = formula (globally (record { lo = 0; hi = 2 }) (atom (less (column 2) (constant (pos 0)))));
+    }
     ∷ record { engine = Ft; name = codes "agc"; output = contract a (finally (record { lo = 0; hi = 1 }) b) }
     ∷ record { engine = Pt; name = codes "once"; output = formula (once (record { lo = 0; hi = 4 }) a) } ∷ []

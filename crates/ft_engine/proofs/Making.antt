@@ -121,11 +121,11 @@ module _ (ops : List FtOp) (sizes : List ℕ) (queues : List Queue) (slab : List
   }
 
 -- new queues stand for no rows
-pub made_stands : (program : Program) (ft : Ft) → RunsFuture program → length ft.queues.items ≡ length program.ft
-    → Started program.ft program.sizes.ft ft.queues.items (length ft.slab.items) (length program.ft) → length ft.slab.items ≡ sum program.sizes.ft → Stands program [] ft
+pub made_stands : (program : Program) (ft : Ft) → RunsFuture program → length ft.queues ≡ length program.ft
+    → Started program.ft program.sizes.ft ft.queues (length ft.slab) (length program.ft) → length ft.slab ≡ sum program.sizes.ft → Stands program [] ft
 made_stands program ft runs same_length started total =
-    let queues : List Queue = ft.queues.items in
-    let slab : List Slot = ft.slab.items in
+    let queues : List Queue = ft.queues in
+    let slab : List Slot = ft.slab in
     stands_with program [] ft runs
     (made_paced program.ft program.sizes.ft queues slab same_length started (plan_of program.ft program.outs) (program_planned program runs))
     (made_table program.ft program.sizes.ft queues slab same_length started (known_table [] (atoms program.bz) program.ft) (λ i. nothing (atoms program.bz) program.ft i))

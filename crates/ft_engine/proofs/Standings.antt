@@ -65,11 +65,11 @@ reads_kept program queues n i (Until l r window) queue s frontier a = (omega (ar
 pub paced_sound : (plan : Plan) (ops : List FtOp) (queues : List Queue) (slab : List Slot) (n : ℕ) → IsPaced plan ops queues slab n → AreSound queues slab
 paced_sound plan ops queues slab n p = record { within = p.laid.within; belongs = λ j h. (p.paced j h).belongs }
 
-pub stands_with : (program : Program) (rows : List Row) (ft : Ft) → RunsFuture program → IsPaced (plan_of program.ft program.outs) program.ft ft.queues.items ft.slab.items (length rows)
-    → HaveVerdicts program.ft (known_table rows (atoms program.bz) program.ft) ft.queues.items ft.slab.items → length ft.slab.items ≡ sum program.sizes.ft → Stands program rows ft
+pub stands_with : (program : Program) (rows : List Row) (ft : Ft) → RunsFuture program → IsPaced (plan_of program.ft program.outs) program.ft ft.queues ft.slab (length rows)
+    → HaveVerdicts program.ft (known_table rows (atoms program.bz) program.ft) ft.queues ft.slab → length ft.slab ≡ sum program.sizes.ft → Stands program rows ft
 unfolding instruction_count frontier_at lowest_at kept_verdict slot_total slots_at place_of
 stands_with program rows ft r paced table total =
-    let queues : List Queue = ft.queues.items in
+    let queues : List Queue = ft.queues in
     let planned = program_planned program r in
     let same : length queues ≡ length program.ft = paced.same_length in
     let exists : (i : ℕ) → i < length program.ft → i < length queues = λ i h. omega arith in
@@ -86,12 +86,12 @@ stands_with program rows ft r paced table total =
           reads_kept program queues (length rows) i (op_at program.ft i) (queue_at queues i) (planned.planned i h).seated
           (λ g g_in. (paced.paced g (omega arith)).at_least) (paced.ahead i (exists i h));
       lows = λ i h. (paced.paced i (exists i h)).low;
-      sizes = λ i h. sym (length-part ft.slab.items (queue_at queues i).seat (paced.laid.within i (exists i h))) ∙ (paced.paced i (exists i h)).long ∙ sym (planned.sizes i h);
+      sizes = λ i h. sym (length-part ft.slab (queue_at queues i).seat (paced.laid.within i (exists i h))) ∙ (paced.paced i (exists i h)).long ∙ sym (planned.sizes i h);
       total = total;
     }
 
 -- the slots of an engine that has taken rows are those of the program
-pub total_of : (program : Program) (rows : List Row) (ft : Ft) → Stands program rows ft → length ft.slab.items ≡ sum program.sizes.ft
+pub total_of : (program : Program) (rows : List Row) (ft : Ft) → Stands program rows ft → length ft.slab ≡ sum program.sizes.ft
 unfolding slot_total
 total_of program rows ft s = s.total
 
@@ -110,7 +110,7 @@ work_by_sizes ops size size' (suc n) order h same =
     (sizes_in_order (op_at ops n) size size' n (size n) (size' n) (order n True (omega arith)) (λ i i_in. same i (omega arith)) (same n (omega arith)))
 
 -- what the ring of an instruction shows, the engine shows
-pub shows_from : (ft : Ft) (i from : ℕ) (seen : Seen) → Shows (queue_at ft.queues.items i).ring (part ft.slab.items (queue_at ft.queues.items i).seat) from seen → ShowsFrom ft i from seen
+pub shows_from : (ft : Ft) (i from : ℕ) (seen : Seen) → Shows (queue_at ft.queues i).ring (part ft.slab (queue_at ft.queues i).seat) from seen → ShowsFrom ft i from seen
 unfolding frontier_at kept_verdict
 shows_from ft i from (Run end v) s = s
 shows_from ft i from Nothing s = s

@@ -45,8 +45,8 @@ agree_last program rows row numbers runs given = λ i i_in k v is gives.
     ∙ sym (gives row program.bz (get_or (atoms program.bz) k (is_true 0)) given (truth_there (expressions program.bz) k (runs.loads i k i_in is)))
 
 pub row_stands : (program : Program) (rows : List Row) (row : Row) (old new : Ft) (numbers : List ℤ) → RunsFuture program → length rows < 2 ^ 40 → numbers ≡ numbers_on row program.bz
-    → TookRow (plan_of program.ft program.outs) program.ft numbers (length rows) old.queues.items old.slab.items new.queues.items new.slab.items
-    → length new.slab.items ≡ length old.slab.items → Stands program rows old → Stands program (rows ++ row ∷ []) new
+    → TookRow (plan_of program.ft program.outs) program.ft numbers (length rows) old.queues old.slab new.queues new.slab
+    → length new.slab ≡ length old.slab → Stands program rows old → Stands program (rows ++ row ∷ []) new
 row_stands program rows row old new numbers runs few given took long stands =
     let plan : Plan = plan_of program.ft program.outs in
     let loaded : List Atom = atoms program.bz in
@@ -57,7 +57,7 @@ row_stands program rows row old new numbers runs few given took long stands =
     let table : IsTable program.ft (truth_at more loaded) (length rows + 1) after =
     subst (λ (m : ℕ). IsTable program.ft (truth_at more loaded) m after) size (is_table plan more loaded program.ft (program_planned program runs).planned) in
     stands_with program more new runs
-    (subst (λ (m : ℕ). IsPaced plan program.ft new.queues.items new.slab.items m) (sym size) (took.paced stands.paced))
+    (subst (λ (m : ℕ). IsPaced plan program.ft new.queues new.slab m) (sym size) (took.paced stands.paced))
     (took.verdicts (truth_at more loaded) before after
     (record { few = few; paced = stands.paced; table = table; extends = extends rows (row ∷ []) loaded program.ft; verdicts = stands.table })
     (agree_last program rows row numbers runs given))

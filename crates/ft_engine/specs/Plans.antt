@@ -1,5 +1,6 @@
 -- How far the queues of instructions go after n rows (Kempa and others 2020), and which verdicts they keep.
 use Rattle.std.specs.Prelude.{◌≡◌, ℕ, ◌+◌, ◌-◌, ◌≤◌, ◌<◌, ◌^◌, List, length, slice_index, min, max, ⊤}
+use Rattle.mltl_base.specs.declared.limits.TheConstants.{MAX_MISSION}
 use Rattle.mltl_base.specs.declared.operators.FtOp.{FtOp}
 use Rattle.mltl_base.specs.declared.operators.FtOp.TheVariants.{True, Load, Not, And, Until}
 use Rattle.mltl_base.specs.declared.program.Out.{Out}
@@ -94,7 +95,7 @@ pub record IsReady (plan : Plan) (n : ℕ) (op : FtOp) (before : List Queue) (ea
   pub operands : ArePaced plan before earlier (n + 1) (length before)
   pub paced : Paced plan (length before) queue own n
   pub placed : IsPlaced plan (length before) op queue n
-  pub few : n < 2 ^ 40
+  pub few : n < MAX_MISSION
 
 -- by some plan, an instruction is to take a row, after those before it
 abbrev pub CanTakeRow : FtOp → List Queue → List Slot → Queue → List Slot → Type 0

@@ -1,5 +1,6 @@
 -- What an until knows of its operands between two decisions.
 use Rattle.std.specs.Prelude.{◌≡◌, ℕ, ◌+◌, ◌*◌, ◌^◌, ◌-◌, ◌<◌, ◌≤◌, ◌⊎◌, max, min, true, false, List, Some, None}
+use Rattle.mltl_base.specs.declared.limits.TheConstants.{TIME_END}
 use Rattle.mltl_base.specs.declared.interval.Interval.{Interval}
 use Rattle.mltl_base.specs.Verdicts.{Known, k_until}
 use Rattle.scq_ring.specs.declared.Ring.{Ring}
@@ -23,15 +24,15 @@ pub record Scan (i : Interval) (p q : Known) (t reads_at seen : ℕ) : Type 0 wh
 pub record CanScan (until : Until) (t reads_at : ℕ) : Type 0 where
   pub left : IsReadable until.left reads_at
   pub right : IsReadable until.right reads_at
-  pub right_in_time : frontier_of until.right.ring.now ≤ 2 ^ 41
+  pub right_in_time : frontier_of until.right.ring.now ≤ TIME_END
   pub ordered : until.window.lo ≤ until.window.hi
   pub reach : t + until.window.lo ≤ reads_at
-  pub in_time : reads_at ≤ 2 ^ 41
+  pub in_time : reads_at ≤ TIME_END
 
 -- what is seen of the right operand goes ahead of the reading time, no further than that operand does
 pub record IsReadingOf (until : Until) (at : Reading) : Type 0 where
   pub order : at.reads_at ≤ at.seen
-  pub in_time : at.seen ≤ 2 ^ 41
+  pub in_time : at.seen ≤ TIME_END
 
 -- with a queue up to time t, as much is decided as the operand that ends first allows
 abbrev pub HasEnough : Until → ℕ → Type 0
@@ -45,8 +46,8 @@ pub record IsNextRead (until : Until) (t reads_at reads_at' : ℕ) : Type 0 wher
   pub ahead : min (frontier_of until.left.ring.now) (frontier_of until.right.ring.now) ≤ reads_at'
   pub in_time : reads_at' ≤ max reads_at (frontier_of until.right.ring.now)
 
--- The most steps of a row: three for each time of the right operand from the reading time on, one for each decided time,
--- and two.
+-- The most steps of a row: three for each time of the right operand from the reading time on, one for each decided
+-- time, and two.
 abbrev pub row_steps : Until → ℕ → Ring → Ring → ℕ
 row_steps until reads_at old new =
     3 * (max reads_at (frontier_of until.right.ring.now) - reads_at) + (frontier_of new - frontier_of old) + 2

@@ -20,28 +20,28 @@ use Rattle.ft_engine.specs.Tables.{HaveVerdicts, known_table}
 
 -- how many instructions there are
 unfoldable pub instruction_count : Ft → ℕ
-instruction_count ft = length ft.queues.items
+instruction_count ft = length ft.queues
 
 -- the first time at which instruction i has no verdict yet
 unfoldable pub frontier_at : Ft → ℕ → ℕ
-frontier_at ft i = frontier_of (queue_at ft.queues.items i).ring
+frontier_at ft i = frontier_of (queue_at ft.queues i).ring
 
 -- the first time whose verdict it keeps
 unfoldable pub lowest_at : Ft → ℕ → ℕ
-lowest_at ft i = low_of (queue_at ft.queues.items i).ring
+lowest_at ft i = low_of (queue_at ft.queues i).ring
 
 -- its verdict at a time that it keeps
 unfoldable pub kept_verdict : Ft → ℕ → ℕ → Bool
 kept_verdict ft i t =
-    verdict_at (queue_at ft.queues.items i).ring (part ft.slab.items (queue_at ft.queues.items i).seat) t
+    verdict_at (queue_at ft.queues i).ring (part ft.slab (queue_at ft.queues i).seat) t
 
 -- its slots
 unfoldable pub slots_at : Ft → ℕ → ℕ
-slots_at ft i = (queue_at ft.queues.items i).seat.size
+slots_at ft i = (queue_at ft.queues i).seat.size
 
 -- the slots of all instructions together
 unfoldable pub slot_total : Ft → ℕ
-slot_total ft = length ft.slab.items
+slot_total ft = length ft.slab
 
 -- a run of the verdicts of instruction i from time `from` on; nothing exactly at or past its frontier
 abbrev pub ShowsFrom : Ft → ℕ → ℕ → Seen → Type 0
@@ -51,7 +51,7 @@ ShowsFrom ft i from Nothing = frontier_at ft i ≤ from
 
 -- where an instruction of these reads its operands next
 unfoldable pub place_of : List FtOp → Ft → ℕ → ℕ
-place_of ops ft i = reads_from (op_at ops i) (queue_at ft.queues.items i)
+place_of ops ft i = reads_from (op_at ops i) (queue_at ft.queues i)
 
 -- the reading time lies at or past so early a time of each operand
 abbrev pub ReadsFrom : FtOp → (ℕ → ℕ) → ℕ → Type 0
@@ -71,8 +71,8 @@ width_of program i = widest (worst_delays program.ft) (readers program.ft progra
 
 -- the engine has taken the rows of this program
 pub record Stands (program : Program) (rows : List Row) (ft : Ft) : Type 0 where
-  pub paced : IsPaced (plan_of program.ft program.outs) program.ft ft.queues.items ft.slab.items (length rows)
-  pub table : HaveVerdicts program.ft (known_table rows (atoms program.bz) program.ft) ft.queues.items ft.slab.items
+  pub paced : IsPaced (plan_of program.ft program.outs) program.ft ft.queues ft.slab (length rows)
+  pub table : HaveVerdicts program.ft (known_table rows (atoms program.bz) program.ft) ft.queues ft.slab
   -- the frontier is the number of known verdicts, and each verdict from the low time on is kept
   pub count : instruction_count ft ≡ length program.ft
   pub frontiers : (i : ℕ) → i < length program.ft → frontier_at ft i ≡ length (known_of program rows i)

@@ -1,5 +1,7 @@
 -- The verdicts of instructions that are known after some rows, and a queue that has them.
-use Rattle.std.specs.Prelude.{◌≡◌, ℕ, ◌+◌, ◌≤◌, ◌<◌, ◌^◌, Bool, true, List, [], length, ℤ, Some, None, slice_get, slice_index_or, if◌then◌else◌, nat_lt, ⊤}
+use Rattle.std.specs.Prelude.{◌≡◌, ℕ, ◌+◌, ◌≤◌, ◌<◌, ◌^◌, Bool, true, List, [], length, ℤ, Some, None, slice_get}
+use Rattle.std.specs.Prelude.{slice_index_or, if◌then◌else◌, nat_lt, ⊤}
+use Rattle.mltl_base.specs.declared.limits.TheConstants.{MAX_MISSION}
 use Rattle.mltl_base.specs.declared.operators.FtOp.{FtOp}
 use Rattle.mltl_base.specs.declared.operators.FtOp.TheVariants.{True, Load, Not, And, Until}
 use Rattle.mltl_base.specs.Atoms.{Row, Atom, holds, is_true}
@@ -87,7 +89,7 @@ pub record HaveVerdicts (ops : List FtOp) (table : Table) (queues : List Queue) 
 -- what a row meets: the queues after n rows with the verdicts of the older table, and the table after one row more
 pub record TakesRow (plan : Plan) (truth : Loads) (n : ℕ) (ops : List FtOp) (queues : List Queue) (slab : List Slot)
     (old new : Table) : Type 0 where
-  pub few : n < 2 ^ 40
+  pub few : n < MAX_MISSION
   pub paced : IsPaced plan ops queues slab n
   pub table : IsTable ops truth (n + 1) new
   pub extends : Extends old new

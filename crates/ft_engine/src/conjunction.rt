@@ -1,6 +1,7 @@
 //! One row of a conjunction.
 
 ghost use Rattle.std.specs.Prelude.{◌≡◌, ℕ, ◌+◌, ◌-◌, ◌*◌, ◌^◌, ◌<◌, ◌≤◌, max, min};
+ghost use Rattle.mltl_base.specs.declared.limits.TheConstants.{TIME_END};
 ghost use Rattle.mltl_base.specs.Verdicts.{Known, k_conjunction};
 ghost use Rattle.scq_ring.specs.Runs.{Belongs, frontier_of};
 ghost use Rattle.ft_engine.specs.Decisions.{Decides, GoesAsFar, GoesOn, IsReadable, IsStoppedAfter, IsStretch, IsWithin, ShownBy};
@@ -21,7 +22,7 @@ pub fn and_row<L: Ledger>(
     requires belongs { Belongs own.old own_slots.old }
     requires left { IsReadable left (frontier_of own.old) }
     requires right { IsReadable right (frontier_of own.old) }
-    requires in_time { max (frontier_of left.ring.now) (frontier_of right.ring.now) ≤ 2 ^ 41 }
+    requires in_time { max (frontier_of left.ring.now) (frontier_of right.ring.now) ≤ TIME_END }
     ensures goes_on { GoesOn own.old own_slots.old own.new own_slots.new }
     ensures as_far { GoesAsFar left.entry right.entry own.old own.new }
     ensures counted { steps.new ≤ steps.old + 3 * (frontier_of own.new - frontier_of own.old) + 2 }

@@ -6,8 +6,10 @@ ghost use Rattle.ft_engine.specs.Queues.{AreSound};
 ghost use Rattle.ft_engine.specs.Sound.{AreSound-prop};
 
 use crate::queue::{Queue, first_read, operand};
+use crate::restart::restart;
 use crate::rows::row_of;
 use booleanizer::Bz;
+use fixed_list::Fixed;
 use mltl_base::Program;
 use obs_verify::Checked;
 use scq_ring::steps::Steps;
@@ -19,13 +21,14 @@ use std::sync::ledger::{Blank, Ledger};
 /// The queues of a program's future-time instructions. Their rings share one slab of slots; no two have a slot in common.
 #[derive(Drop)]
 pub struct Ft {
-    queues: Vec<Queue>,
-    slab: Vec<Slot>,
-    ghost sound: { AreSound queues.items slab.items } by { AreSound-prop queues.items slab.items },
+    queues: Fixed<Queue>,
+    slab: Fixed<Slot>,
+    ghost sound: { AreSound queues slab } by { AreSound-prop queues slab },
 }
 
 impl Ft {
     ghost use Rattle.std.specs.Prelude.{ℕ, ◌+◌, ◌^◌, ◌<◌, ◌≤◌, List, [], ◌∷◌, ◌++◌, length, IfOk, MatchOption};
+    ghost use Rattle.mltl_base.specs.declared.limits.TheConstants.{MAX_MISSION};
     ghost use Rattle.mltl_base.specs.Atoms.{Row};
     ghost use Rattle.booleanizer.specs.Evaluation.{numbers_on};
     ghost use Rattle.ft_engine.specs.Running.{row_work};
@@ -38,27 +41,37 @@ impl Ft {
         let program = program_of(checked);
         let ops = program.ft.as_slice();
         let sizes = program.sizes.ft.as_slice();
-        let mut queues = Vec::new(alloc);
+        let mut queues = Vec::with_capacity(alloc, ops.len())?;
         let mut start = 0;
         for (i, op) in ops.iter().enumerate() {
             let size = sizes[i] as usize;
-            queues.push(Queue {
+            queues.push_reserved(Queue {
                 ring: Ring::make(),
                 reads_at: first_read(*op),
                 seat: Seat { start, size },
-            })?;
+            });
             start += size;
         }
-        let slab = vec![in alloc; Slot::clear(); start]?;
+        let slab = Fixed::filled(alloc, Slot::clear(), start)?;
+        let queues = Fixed::of(queues);
         Ok(Ft { queues, slab })
+    }
+
+    /// Stands for no rows again, in the memory that it has.
+    pub fn reset(&mut self, checked: &Checked)
+        requires stands { (rows : List Row) × Stands checked.now rows self.old }
+        ensures stands { Stands checked.now [] self.new }
+    {
+        let program = program_of(checked);
+        restart(program.ft.as_slice(), self.queues.as_mut_slice());
     }
 
     /// Takes the row that the Booleanizer took last. It takes no memory.
     pub fn row<L: Ledger>(&mut self, checked: &Checked, bz: &Bz, steps: &mut Steps<L>)
         requires given { (row : Row) × (bz.now ≡ numbers_on row checked.now.bz) }
         requires stands { (rows : List Row) × Stands checked.now rows self.old
-            × (length rows < 2 ^ 40) }
-        ensures stands { (rows : List Row) (row : Row) → length rows < 2 ^ 40
+            × (length rows < MAX_MISSION) }
+        ensures stands { (rows : List Row) (row : Row) → length rows < MAX_MISSION
             → bz.now ≡ numbers_on row checked.now.bz → Stands checked.now rows self.old
             → Stands checked.now (rows ++ row ∷ []) self.new }
         ensures counted { steps.new ≤ steps.old + row_work checked.now }
@@ -67,26 +80,28 @@ impl Ft {
         row_of(
             program.ft.as_slice(),
             bz,
-            &mut self.queues,
-            &mut self.slab,
+            self.queues.as_mut_slice(),
+            self.slab.as_mut_slice(),
             steps,
         );
     }
 
     /// The first time at which instruction `i` has no verdict yet.
+    #[tactic(auto, unfolding(crate::specs::Standing::instruction_count, crate::specs::Standing::frontier_at))]
     pub fn front(&self, i: u32) -> u64
         requires exists { i < instruction_count self.now }
         ensures front { result ≡ frontier_at self.now i }
     {
-        self.queues[i as usize].ring.frontier()
+        self.queues.as_slice()[i as usize].ring.frontier()
     }
 
     /// The first time whose verdict instruction `i` keeps.
+    #[tactic(auto, unfolding(crate::specs::Standing::instruction_count, crate::specs::Standing::lowest_at))]
     pub fn low(&self, i: u32) -> u64
         requires exists { i < instruction_count self.now }
         ensures low { result ≡ lowest_at self.now i }
     {
-        self.queues[i as usize].ring.low()
+        self.queues.as_slice()[i as usize].ring.low()
     }
 
     /// The verdict of instruction `i` at time `t`: none exactly at or past its frontier.
@@ -122,7 +137,7 @@ impl Ft {
         ensures shows { ShowsFrom self.now i from result }
     {
         let mut steps = Steps::<L>::start(blank);
-        let queue = operand(&self.queues, &self.slab, i);
+        let queue = operand(self.queues.as_slice(), self.slab.as_slice(), i);
         queue.ring.read(queue.slots, from, &mut steps)
     }
 }

@@ -4,12 +4,14 @@
 //! is known of its operands, so it answers as early as that value is known.
 #![tactic(auto)]
 
+pub mod bytes;
 mod conjunction;
 mod engine;
 pub mod laws;
 mod negation;
 mod operand;
 mod queue;
+mod restart;
 mod rows;
 mod until;
 

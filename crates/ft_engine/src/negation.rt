@@ -1,6 +1,7 @@
 //! One row of a negation.
 
 ghost use Rattle.std.specs.Prelude.{◌≡◌, ℕ, ◌+◌, ◌-◌, ◌*◌, ◌^◌, ◌<◌, ◌≤◌, max};
+ghost use Rattle.mltl_base.specs.declared.limits.TheConstants.{TIME_END};
 ghost use Rattle.mltl_base.specs.Verdicts.{Known, k_negation};
 ghost use Rattle.scq_ring.specs.Runs.{Belongs, frontier_of};
 ghost use Rattle.ft_engine.specs.Decisions.{Decides, GoesOn, IsReadable, ShownBy};
@@ -19,7 +20,7 @@ pub fn not_row<L: Ledger>(
 )
     requires belongs { Belongs own.old own_slots.old }
     requires operand { IsReadable operand (frontier_of own.old) }
-    requires in_time { frontier_of operand.ring.now ≤ 2 ^ 41 }
+    requires in_time { frontier_of operand.ring.now ≤ TIME_END }
     ensures goes_on { GoesOn own.old own_slots.old own.new own_slots.new }
     ensures frontier { frontier_of own.new
         ≡ max (frontier_of own.old) (frontier_of operand.entry.ring.now) }

@@ -1,6 +1,7 @@
 //! One row of all future-time instructions.
 
 ghost use Rattle.std.specs.Prelude.{◌≡◌, ℕ, ◌+◌, ◌^◌, ◌<◌, ◌≤◌, length};
+ghost use Rattle.mltl_base.specs.declared.limits.TheConstants.{MAX_MISSION};
 ghost use Rattle.mltl_base.specs.declared.operators.FtOp.TheVariants.{Load as loads};
 ghost use Rattle.ft_engine.specs.Plans.{CanTakeRow, IsOnPlan, IsPaced, IsReady, Plan};
 ghost use Rattle.ft_engine.specs.Queues.{KeepsSeats, op_at, size_in, work_before, work_of};
@@ -68,10 +69,10 @@ pub fn row_of<L: Ledger>(
 )
     requires loaded { (i k : ℕ) → i < length ops.now → op_at ops.now i ≡ loads k
         → k < length bz.now }
-    requires ready { (plan : Plan) × (n : ℕ) × (n < 2 ^ 40)
+    requires ready { (plan : Plan) × (n : ℕ) × (n < MAX_MISSION)
         × IsPaced plan ops.now queues.old slab.old n }
     ensures seats { KeepsSeats queues.old queues.new }
-    ensures paced { (plan : Plan) (n : ℕ) → n < 2 ^ 40 → IsPaced plan ops.now queues.old slab.old n
+    ensures paced { (plan : Plan) (n : ℕ) → n < MAX_MISSION → IsPaced plan ops.now queues.old slab.old n
         → IsPaced plan ops.now queues.new slab.new (n + 1) }
     ensures counted { steps.new
         ≤ steps.old + work_before ops.now (size_in queues.old) (length ops.now) }

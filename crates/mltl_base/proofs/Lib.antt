@@ -25,3 +25,4 @@ pub mod Picking
 pub mod Graphs
 pub mod Returning
 pub mod Ranging
+pub mod Rooms

@@ -1,7 +1,8 @@
 -- Whole-number expressions and atoms, and what they are on one row.
 -- A reader of the contracts needs this file.
 
-use Rattle.std.specs.Prelude.{ℕ, ℤ, pos, neg_ℤ, ◌+ℤ◌, ◌-ℤ◌, ◌*ℤ◌, int_div, int_rem, int_lt, int_le, Bool, not, List, slice_index_or, slice_index}
+use Rattle.std.specs.Prelude.{ℕ, ℤ, pos, neg_ℤ, ◌+ℤ◌, ◌-ℤ◌, ◌*ℤ◌, int_div, int_rem, int_lt, int_le, Bool, not, List}
+use Rattle.std.specs.Prelude.{slice_index_or, slice_index}
 use Rattle.std.specs.Ordering.{int_eq}
 
 -- a row: one whole number for each column

@@ -2,8 +2,10 @@
 -- A reader of the contracts needs this file.
 
 use Rattle.std.specs.Prelude.{◌≡◌, ◌≢◌, ◌<◌, ℕ, Bool, true, false, Some, List, map, slice_get, All, ⊤}
-use Rattle.mltl_base.specs.Atoms.{Term, column, constant, negative, plus, minus, times, quotient, remainder, Atom, is_true, equal, different, less, at_most, greater, at_least}
-use Rattle.mltl_base.specs.Formula.{Formula, truth, falsity, atom, negation, conjunction, disjunction, implication, equivalence, finally, globally, until, release, once, historically, since}
+use Rattle.mltl_base.specs.Atoms.{Term, column, constant, negative, plus, minus, times, quotient, remainder, Atom}
+use Rattle.mltl_base.specs.Atoms.{is_true, equal, different, less, at_most, greater, at_least}
+use Rattle.mltl_base.specs.Formula.{Formula, truth, falsity, atom, negation, conjunction, disjunction, implication}
+use Rattle.mltl_base.specs.Formula.{equivalence, finally, globally, until, release, once, historically, since}
 use Rattle.mltl_base.specs.Subformulas.{Asked, formulas_of}
 use Rattle.mltl_base.specs.declared.signal.Signal.{Signal}
 
@@ -56,4 +58,5 @@ ReadsSignals kinds asked = All (ReadsKinds kinds) (formulas_of asked.output)
 
 -- no two signals have one name
 abbrev pub HaveOwnNames : List Signal → Type 0
-HaveOwnNames signals = (i j : ℕ) (s t : Signal) → i < j → slice_get signals i ≡ Some s → slice_get signals j ≡ Some t → s.name ≢ t.name
+HaveOwnNames signals =
+    (i j : ℕ) (s t : Signal) → i < j → slice_get signals i ≡ Some s → slice_get signals j ≡ Some t → s.name ≢ t.name

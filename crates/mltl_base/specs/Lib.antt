@@ -11,5 +11,6 @@ pub mod Programs
 pub mod Subformulas
 pub mod Ranges
 pub mod Queues
+pub mod Room
 pub mod Kinds
 pub mod Blanks

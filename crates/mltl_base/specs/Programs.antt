@@ -1,9 +1,10 @@
--- What the instructions of an observer program unfold to, and the rows that fit it. Every list of instructions unfolds to
--- something: an operand that names nothing stands for 0, for the truth of column 0, or for true. A well-formed program has
--- no such operand, which `well_formed_programs_are_sound` and `well_formed_programs_run` of `obs_verify` say.
--- A reader of the contracts needs this file.
+-- What the instructions of an observer program unfold to, and the rows that fit it. Every list of instructions unfolds
+-- to something: an operand that names nothing stands for 0, for the truth of column 0, or for true. A well-formed
+-- program has no such operand, which `well_formed_programs_are_sound` and `well_formed_programs_run` of `obs_verify`
+-- say. A reader of the contracts needs this file.
 
-use Rattle.std.specs.Prelude.{ℕ, ◌≡◌, ◌⊎◌, pos, Option, Some, None, List, [], ◌∷◌, ◌++◌, length, map, slice_get, slice_index_or, All, FitsSigned, ⊤}
+use Rattle.std.specs.Prelude.{ℕ, ◌≡◌, ◌⊎◌, pos, Option, Some, None, List, [], ◌∷◌, ◌++◌, length, map, slice_get}
+use Rattle.std.specs.Prelude.{slice_index_or, All, FitsSigned, ⊤}
 use Rattle.std.specs.Int.{w32}
 use Rattle.mltl_base.specs.declared.interval.Engine.{Engine}
 use Rattle.mltl_base.specs.declared.interval.Engine.TheVariants.{Ft, Pt}
@@ -12,7 +13,8 @@ use Rattle.mltl_base.specs.declared.operators.FtOp as ft
 use Rattle.mltl_base.specs.declared.operators.PtOp as pt
 use Rattle.mltl_base.specs.declared.program.Out as out
 use Rattle.mltl_base.specs.declared.program.Program.{Program}
-use Rattle.mltl_base.specs.Atoms.{Row, Term, column, constant, negative, plus, minus, times, quotient, remainder, Atom, is_true, equal, less, at_most, in_column}
+use Rattle.mltl_base.specs.Atoms.{Row, Term, column, constant, negative, plus, minus, times, quotient, remainder, Atom}
+use Rattle.mltl_base.specs.Atoms.{is_true, equal, less, at_most, in_column}
 use Rattle.mltl_base.specs.Formula.{Core, ctrue, catom, cnot, cand, cuntil, csince, plain}
 use Rattle.mltl_base.specs.Reports.{Output, formula, contract}
 
@@ -93,7 +95,8 @@ formulas_after loaded before (op ∷ ops) = formulas_after loaded (before ++ for
 -- the formulas of further pt instructions, after those before
 unfoldable pub past_formulas_after : List Atom → List Core → List pt.PtOp → List Core
 past_formulas_after loaded before [] = before
-past_formulas_after loaded before (op ∷ ops) = past_formulas_after loaded (before ++ past_formula_of loaded before op ∷ []) ops
+past_formulas_after loaded before (op ∷ ops) =
+    past_formulas_after loaded (before ++ past_formula_of loaded before op ∷ []) ops
 
 -- the formulas of all ft instructions, in order
 abbrev pub formulas : List Atom → List ft.FtOp → List Core

@@ -3,7 +3,8 @@
 -- and the boxes of the past, are this product's own.
 -- A reader of the contracts needs this file.
 
-use Rattle.std.specs.Prelude.{ℕ, ◌+◌, ◌-◌, ◌/◌, ◌≤◌, ◌<◌, ◌==◌, List, [], ◌∷◌, ◌++◌, min, max, map, sum, length, slice_index, slice_index_or, if◌then◌else◌, ⊤}
+use Rattle.std.specs.Prelude.{ℕ, ◌+◌, ◌-◌, ◌/◌, ◌≤◌, ◌<◌, ◌==◌, List, [], ◌∷◌, ◌++◌, min, max, map, sum, length}
+use Rattle.std.specs.Prelude.{slice_index, slice_index_or, if◌then◌else◌, ⊤}
 use Rattle.std.specs.List.{list_any, range_with_len}
 use Rattle.mltl_base.specs.declared.interval.Engine.TheVariants.{Ft, Pt}
 use Rattle.mltl_base.specs.declared.interval.Interval.{Interval}

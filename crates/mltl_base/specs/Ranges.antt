@@ -2,10 +2,12 @@
 -- of its operands.
 -- A reader of the contracts needs this file.
 
-use Rattle.std.specs.Prelude.{◌-◌, ℤ, pos, negsuc, neg_ℤ, ◌+ℤ◌, ◌-ℤ◌, ◌*ℤ◌, ◌≤ℤ◌, int_div, int_le, unsigned_abs, Bool, not, ◌&&◌, if◌then◌else◌, FitsSigned, Result, Ok, Err, ⊤}
+use Rattle.std.specs.Prelude.{◌-◌, ℤ, pos, negsuc, neg_ℤ, ◌+ℤ◌, ◌-ℤ◌, ◌*ℤ◌, ◌≤ℤ◌, int_div, int_le, unsigned_abs, Bool}
+use Rattle.std.specs.Prelude.{not, ◌&&◌, if◌then◌else◌, FitsSigned, Result, Ok, Err, ⊤}
 use Rattle.std.specs.Ordering.{int_eq}
 use Rattle.std.specs.Int.{int_min, int_max, w32}
-use Rattle.mltl_base.specs.Atoms.{Row, Term, column, constant, negative, plus, minus, times, quotient, remainder, in_column}
+use Rattle.mltl_base.specs.Atoms.{Row, Term, column, constant, negative, plus, minus, times, quotient, remainder}
+use Rattle.mltl_base.specs.Atoms.{in_column}
 
 -- the whole numbers from the least to the greatest
 pub record Range : Type 0 where
@@ -61,12 +63,15 @@ lessened r s = range_from (r.least -ℤ s.greatest) (r.greatest -ℤ s.least)
 abbrev pub multiplied : Range → Range → Range
 multiplied r s =
     range_from
-    (int_min (int_min (r.least *ℤ s.least) (r.least *ℤ s.greatest)) (int_min (r.greatest *ℤ s.least) (r.greatest *ℤ s.greatest)))
-    (int_max (int_max (r.least *ℤ s.least) (r.least *ℤ s.greatest)) (int_max (r.greatest *ℤ s.least) (r.greatest *ℤ s.greatest)))
+    (int_min (int_min (r.least *ℤ s.least) (r.least *ℤ s.greatest))
+    (int_min (r.greatest *ℤ s.least) (r.greatest *ℤ s.greatest)))
+    (int_max (int_max (r.least *ℤ s.least) (r.least *ℤ s.greatest))
+    (int_max (r.greatest *ℤ s.least) (r.greatest *ℤ s.greatest)))
 
 -- the range of x / c: from the least to the greatest of the two quotients of ends
 abbrev pub divided : Range → ℤ → Range
-divided r c = range_from (int_min (int_div r.least c) (int_div r.greatest c)) (int_max (int_div r.least c) (int_div r.greatest c))
+divided r c =
+    range_from (int_min (int_div r.least c) (int_div r.greatest c)) (int_max (int_div r.least c) (int_div r.greatest c))
 
 -- the range of x % c: up to one less than the divisor's magnitude, with the signs that the left operand may have
 abbrev pub left_over : Range → ℤ → Range

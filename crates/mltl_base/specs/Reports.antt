@@ -1,7 +1,8 @@
 -- The words of an output that are known, and the reports that a monitor makes of them.
 -- A reader of the contracts needs this file.
 
-use Rattle.std.specs.Prelude.{ℕ, suc, ◌+◌, ◌-◌, ◌<◌, ◌≤◌, ◌≡◌, ◌==◌, Bool, true, false, if◌then◌else◌, MatchBool, max, Option, Some, None, List, [], ◌∷◌, ◌++◌, length, map, drop, replicate, slice_get, ⊤}
+use Rattle.std.specs.Prelude.{ℕ, suc, ◌+◌, ◌-◌, ◌<◌, ◌≤◌, ◌≡◌, ◌==◌, Bool, true, false, if◌then◌else◌, MatchBool, max}
+use Rattle.std.specs.Prelude.{Option, Some, None, List, [], ◌∷◌, ◌++◌, length, map, drop, replicate, slice_get, ⊤}
 use Rattle.std.specs.List.{filter, AllAdjacentBelow}
 use Rattle.mltl_base.specs.declared.report.Word.{Word}
 use Rattle.mltl_base.specs.declared.report.Word.TheVariants.{T, F, Inactive, Invalid, Verified}
@@ -79,7 +80,8 @@ unfoldable pub of_words : Style → ℕ → ℕ → List Word → List Report
 of_words style k t [] = []
 of_words Each k t (w ∷ ws) = record { out = k; time = t; word = w } ∷ of_words Each k (suc t) ws
 of_words Runs k t (w ∷ ws) =
-    if goes_on w ws then of_words Runs k (suc t) ws else record { out = k; time = t; word = w } ∷ of_words Runs k (suc t) ws
+    if goes_on w ws then of_words Runs k (suc t) ws
+    else record { out = k; time = t; word = w } ∷ of_words Runs k (suc t) ws
 
 -- the reports that one further row brings, for each output in order, of which the first has the number k
 unfoldable pub of_row : Style → ℕ → List Output → List Row → Row → List Report
@@ -101,8 +103,8 @@ reports style outs rows = reports_after style outs [] rows
 abbrev pub told_by : ℕ → Report → List Word
 told_by t r = replicate (suc r.time - t) r.word
 
--- the words that the reports of output k tell, one for each time from t on: each report tells its word for the times that
--- none before it has told, up to its own
+-- the words that the reports of output k tell, one for each time from t on: each report tells its word for the times
+-- that none before it has told, up to its own
 unfoldable pub told : ℕ → ℕ → List Report → List Word
 told k t [] = []
 told k t (r ∷ rs) = if r.out == k then told_by t r ++ told k (suc r.time) rs else told k t rs
@@ -113,7 +115,7 @@ reports_of k rs = filter (λ r. r.out == k) rs
 
 -- neighbours among the reports differ in their word
 abbrev pub AreDistinctBeside : List Report → Type 0
-AreDistinctBeside rs = AllAdjacentBelow (λ r s. r.word ≡ s.word → ⊥) rs (length rs)
+AreDistinctBeside rs = AllAdjacentBelow (λ r s. ¬ (r.word ≡ s.word)) rs (length rs)
 
 -- the reports of output k speak of later and later times, from t on
 unfoldable pub IsRising : ℕ → ℕ → List Report → Type 0

@@ -2,7 +2,8 @@
 -- instructions that stand for them.
 -- A reader of the contracts needs this file.
 
-use Rattle.std.specs.Prelude.{◌≡◌, ℕ, suc, ◌==◌, Bool, true, false, ◌&&◌, ◌||◌, if◌then◌else◌, List, [], ◌∷◌, ◌++◌, map, flat_map, fold, All}
+use Rattle.std.specs.Prelude.{◌≡◌, ℕ, suc, ◌==◌, Bool, true, false, ◌&&◌, ◌||◌, if◌then◌else◌, List, [], ◌∷◌, ◌++◌, map}
+use Rattle.std.specs.Prelude.{flat_map, fold, All}
 use Rattle.std.specs.Ordering.{int_eq}
 use Rattle.mltl_base.specs.declared.interval.Interval.{Interval}
 use Rattle.mltl_base.specs.declared.interval.Engine.{Engine}
@@ -13,7 +14,8 @@ use Rattle.mltl_base.specs.declared.operators.PtOp as pt
 use Rattle.mltl_base.specs.declared.program.Out as out
 use Rattle.mltl_base.specs.declared.program.Graph.{Graph}
 use Rattle.mltl_base.specs.declared.program.Program.{Program}
-use Rattle.mltl_base.specs.Atoms.{Term, column, constant, negative, plus, minus, times, quotient, remainder, Atom, is_true, equal, less, at_most, different, greater, at_least}
+use Rattle.mltl_base.specs.Atoms.{Term, column, constant, negative, plus, minus, times, quotient, remainder, Atom}
+use Rattle.mltl_base.specs.Atoms.{is_true, equal, less, at_most, different, greater, at_least}
 use Rattle.mltl_base.specs.Formula.{Formula, Core, ctrue, catom, cnot, cand, cuntil, csince, plain, core}
 use Rattle.mltl_base.specs.Settled.{IsFuture, IsPast}
 use Rattle.mltl_base.specs.Reports.{Output, formula, contract}
@@ -148,7 +150,8 @@ all_cores outs = flat_map (λ asked. cores_of_output asked.output) outs
 
 -- the core formulas of the outputs that an engine evaluates, outputs in order
 abbrev pub cores_for : Engine → List Asked → List Core
-cores_for engine outs = flat_map (λ asked. if same_engine asked.engine engine then cores_of_output asked.output else []) outs
+cores_for engine outs =
+    flat_map (λ asked. if same_engine asked.engine engine then cores_of_output asked.output else []) outs
 
 -- the distinct core subformulas of the outputs of an engine
 abbrev pub subformulas : Engine → List Asked → List Core
@@ -162,8 +165,8 @@ bz_expressions outs = fold (λ es p. add_expressions p es) [] (all_cores outs)
 abbrev pub instruction_of : List Expression → Term → ℕ
 instruction_of es a = place_of same_expression (whole a) es
 
--- the instruction of an expression, its operands by the numbers of their instructions. Core formulas have the first three
--- comparisons alone, so the last line is for none of theirs
+-- the instruction of an expression, its operands by the numbers of their instructions. Core formulas have the first
+-- three comparisons alone, so the last line is for none of theirs
 abbrev pub bz_instruction : List Expression → Expression → bz.BzOp
 bz_instruction es (whole (column c)) = bz.TheVariants.Column c
 bz_instruction es (whole (constant n)) = bz.TheVariants.Const n
@@ -189,8 +192,8 @@ ft_instruction es ps (cand p q) = ft.TheVariants.And (place_of same p ps) (place
 ft_instruction es ps (cuntil i p q) = ft.TheVariants.Until (place_of same p ps) (place_of same q ps) i
 ft_instruction es ps (csince i p q) = ft.TheVariants.True
 
--- the instruction of a core formula of the past. The last line is for formulas of the future, which the past-time engine
--- has none of
+-- the instruction of a core formula of the past. The last line is for formulas of the future, which the past-time
+-- engine has none of
 abbrev pub pt_instruction : List Expression → List Core → Core → pt.PtOp
 pt_instruction es ps ctrue = pt.TheVariants.True
 pt_instruction es ps (catom a) = pt.TheVariants.Load (place_of same_expression (truth a) es)
@@ -214,7 +217,8 @@ pt_list outs = map (pt_instruction (bz_expressions outs) (subformulas Pt outs)) 
 -- an output of a program: its formulas by the numbers of their instructions
 abbrev pub out_by : List Core → Engine → List ℕ → Output → out.Out
 out_by ps engine name (formula p) = out.TheVariants.Formula engine (place_of same (core p) ps) name
-out_by ps engine name (contract p q) = out.TheVariants.Contract engine (place_of same (core p) ps) (place_of same (core q) ps) name
+out_by ps engine name (contract p q) =
+    out.TheVariants.Contract engine (place_of same (core p) ps) (place_of same (core q) ps) name
 
 -- the outputs of the program of a specification
 abbrev pub out_list : List Asked → List out.Out

@@ -1,10 +1,12 @@
 -- The table of the operators, in words: what a formula says of the rows at a time.
--- A reader of the contracts needs this file: it is the meaning to be read, and a law says that the function is the same.
+-- A reader of the contracts needs this file: it is the meaning to be read, and a law says that the function is the
+-- same.
 
 use Rattle.std.specs.Prelude.{ℕ, ◌+◌, ◌-◌, ◌<◌, ◌≤◌, ◌⊎◌, IsTrue, List, [], slice_index_or, ⊤}
 use Rattle.mltl_base.specs.declared.interval.Interval.{Interval}
 use Rattle.mltl_base.specs.Atoms.{Row, holds}
-use Rattle.mltl_base.specs.Formula.{Formula, truth, falsity, atom, negation, conjunction, disjunction, implication, equivalence, finally, globally, until, release, once, historically, since}
+use Rattle.mltl_base.specs.Formula.{Formula, truth, falsity, atom, negation, conjunction, disjunction, implication}
+use Rattle.mltl_base.specs.Formula.{equivalence, finally, globally, until, release, once, historically, since}
 
 -- some k of the interval has q at t + k, and p holds at t + j for every j from its lower end and below k
 abbrev pub UntilAt : Interval → (ℕ → Type 0) → (ℕ → Type 0) → ℕ → Type 0
@@ -19,7 +21,7 @@ unfoldable pub Holds : List Row → Formula → ℕ → Type 0
 Holds rows truth t = ⊤
 Holds rows falsity t = ⊥
 Holds rows (atom a) t = IsTrue (holds a (slice_index_or rows t []))
-Holds rows (negation p) t = Holds rows p t → ⊥
+Holds rows (negation p) t = ¬ Holds rows p t
 Holds rows (conjunction p q) t = Holds rows p t × Holds rows q t
 Holds rows (disjunction p q) t = Holds rows p t ⊎ Holds rows q t
 Holds rows (implication p q) t = Holds rows p t → Holds rows q t
@@ -27,7 +29,7 @@ Holds rows (equivalence p q) t = (Holds rows p t → Holds rows q t) × (Holds r
 Holds rows (finally i p) t = (k : ℕ) × (i.lo ≤ k) × (k ≤ i.hi) × Holds rows p (t + k)
 Holds rows (globally i p) t = (k : ℕ) → i.lo ≤ k → k ≤ i.hi → Holds rows p (t + k)
 Holds rows (until i p q) t = UntilAt i (Holds rows p) (Holds rows q) t
-Holds rows (release i p q) t = UntilAt i (λ s. Holds rows p s → ⊥) (λ s. Holds rows q s → ⊥) t → ⊥
+Holds rows (release i p q) t = ¬ UntilAt i (λ s. ¬ Holds rows p s) (λ s. ¬ Holds rows q s) t
 Holds rows (once i p) t = (m : ℕ) × (m ≤ t) × (i.lo ≤ t - m) × (t - m ≤ i.hi) × Holds rows p m
 Holds rows (historically i p) t = (m : ℕ) → m ≤ t → i.lo ≤ t - m → t - m ≤ i.hi → Holds rows p m
 Holds rows (since i p q) t = SinceAt i (Holds rows p) (Holds rows q) t

@@ -2,12 +2,15 @@
 -- formula's operator is known, over what is known of its operands.
 -- A reader of the contracts needs this file.
 
-use Rattle.std.specs.Prelude.{ℕ, zero, suc, ◌+◌, ◌-◌, ◌<◌, ◌≤◌, ◌≡◌, nat_lt, Bool, true, false, not, ◌&&◌, if◌then◌else◌, Option, Some, None, List, [], ◌∷◌, length, map, slice_get}
+use Rattle.std.specs.Prelude.{ℕ, zero, suc, ◌+◌, ◌-◌, ◌<◌, ◌≤◌, ◌≡◌, nat_lt, Bool, true, false, not, ◌&&◌}
+use Rattle.std.specs.Prelude.{if◌then◌else◌, Option, Some, None, List, [], ◌∷◌, length, map, slice_get}
 use Rattle.std.specs.Option.{is_some}
 use Rattle.mltl_base.specs.declared.interval.Interval.{Interval}
 use Rattle.mltl_base.specs.Atoms.{Row, holds}
-use Rattle.mltl_base.specs.Formula.{Formula, truth, falsity, atom, negation, conjunction, disjunction, implication, equivalence, finally, globally, until, release, once, historically, since}
-use Rattle.mltl_base.specs.Kleene.{every_below, k_not, k_and, k_or, k_implies, k_some_below, k_every_below, k_some_in, k_every_in}
+use Rattle.mltl_base.specs.Formula.{Formula, truth, falsity, atom, negation, conjunction, disjunction, implication}
+use Rattle.mltl_base.specs.Formula.{equivalence, finally, globally, until, release, once, historically, since}
+use Rattle.mltl_base.specs.Kleene.{every_below, k_not, k_and, k_or, k_implies, k_some_below, k_every_below, k_some_in}
+use Rattle.mltl_base.specs.Kleene.{k_every_in}
 use Rattle.mltl_base.specs.Meaning.{within}
 
 -- what is known by time
@@ -60,7 +63,8 @@ k_historically i p t = k_every_below (suc t) (λ m. k_or (Some (not (within i (t
 
 -- what is known of since: the right operand at some time back in the window, and the left one after it up to now
 abbrev pub k_since : Interval → Known → Known → Known
-k_since i p q t = k_some_below (suc t) (λ m. k_and (Some (within i (t - m))) (k_and (q m) (k_every_in (suc m) (suc t) p)))
+k_since i p q t =
+    k_some_below (suc t) (λ m. k_and (Some (within i (t - m))) (k_and (q m) (k_every_in (suc m) (suc t) p)))
 
 -- the list with a value before it; without a value there is no list
 abbrev pub followed : {X : Type 0} → Option X → List X → List X
@@ -72,17 +76,21 @@ unfoldable pub known_front : {X : Type 0} → (ℕ → Option X) → ℕ → Lis
 known_front k zero = []
 known_front k (suc n) = followed (k 0) (known_front (λ t. k (suc t)) n)
 
--- the strong Kleene value of a formula at each time: that of its operator over what `seen` lets through of the values of
--- its operands; a truth or an atom is known at the times of the rows
+-- the strong Kleene value of a formula at each time: that of its operator over what `seen` lets through of the values
+-- of its operands; a truth or an atom is known at the times of the rows
 unfoldable pub kleene_over : (Known → Known) → List Row → Formula → Known
 kleene_over seen rows truth = slice_get (map (λ r. true) rows)
 kleene_over seen rows falsity = slice_get (map (λ r. false) rows)
 kleene_over seen rows (atom a) = slice_get (map (holds a) rows)
 kleene_over seen rows (negation p) = k_negation (seen (kleene_over seen rows p))
-kleene_over seen rows (conjunction p q) = k_conjunction (seen (kleene_over seen rows p)) (seen (kleene_over seen rows q))
-kleene_over seen rows (disjunction p q) = k_disjunction (seen (kleene_over seen rows p)) (seen (kleene_over seen rows q))
-kleene_over seen rows (implication p q) = k_implication (seen (kleene_over seen rows p)) (seen (kleene_over seen rows q))
-kleene_over seen rows (equivalence p q) = k_equivalence (seen (kleene_over seen rows p)) (seen (kleene_over seen rows q))
+kleene_over seen rows (conjunction p q) =
+    k_conjunction (seen (kleene_over seen rows p)) (seen (kleene_over seen rows q))
+kleene_over seen rows (disjunction p q) =
+    k_disjunction (seen (kleene_over seen rows p)) (seen (kleene_over seen rows q))
+kleene_over seen rows (implication p q) =
+    k_implication (seen (kleene_over seen rows p)) (seen (kleene_over seen rows q))
+kleene_over seen rows (equivalence p q) =
+    k_equivalence (seen (kleene_over seen rows p)) (seen (kleene_over seen rows q))
 kleene_over seen rows (finally i p) = k_finally i (seen (kleene_over seen rows p))
 kleene_over seen rows (globally i p) = k_globally i (seen (kleene_over seen rows p))
 kleene_over seen rows (until i p q) = k_until i (seen (kleene_over seen rows p)) (seen (kleene_over seen rows q))

@@ -32,3 +32,5 @@ pub const MAX_SHOWN_BYTES: usize = 1_048_576;
 pub const MAX_MISSION: u64 = 1_099_511_627_776;
 /// The mission time of a stamped trace where none is given, in times.
 pub const TIMED_MISSION: u64 = 16_777_216;
+/// Every time that a queue is asked for lies below this: twice the longest mission time.
+pub const TIME_END: u64 = 2_199_023_255_552;

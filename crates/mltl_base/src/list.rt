@@ -1,32 +1,31 @@
 //! Lists that grow at their end.
 
-ghost use Rattle.std.specs.Prelude.{◌≡◌, ℕ, ◌==◌, ◌<◌, [], ◌∷◌, ◌++◌, length, slice_get, slice_set, Some, OnOk, OnErr, IfErr};
+ghost use Rattle.std.specs.Prelude.{◌≡◌, ℕ, ◌==◌, ◌<◌, ◌≤◌, ◌+◌, ◌*◌, ◌^◌, [], ◌∷◌, ◌++◌, length, slice_get, slice_set, vec_capacity, vec_len, Some, OnOk, OnErr, IfErr, IfOk};
+ghost use Rattle.mltl_base.specs.Room.{room, room_by};
 
-use std::alloc::{AllocFailed, Global};
+use std::alloc::{AllocError, AllocFailed, Global};
 use std::marker::Model;
 use std::mem;
 
-/// A list of members of one type, which contracts see as that list.
+/// The most members of a list.
+pub const MAX_MEMBERS: usize = 1_152_921_504_606_846_976;
+
+/// A list of members of one type, which contracts see as that list. Its block has room for as many members as `room` says
+/// of its length, however the list was made.
 #[derive(Drop)]
 pub struct List<T> {
     items: Vec<T>,
 }
 
 impl<T> Model for List<T> {
-    ghost use Rattle.std.specs.Prelude.{List as Members};
+    ghost use Rattle.std.specs.Prelude.{List as Members, ◌≡◌, vec_capacity, vec_len};
+    ghost use Rattle.mltl_base.specs.Room.{room};
 
     ghost Value = { Members T };
 
     ghost view = { λ list. list.items.items };
-}
 
-/// The members of a vector, in its memory.
-impl<T> From<Vec<T>> for List<T> {
-    ghost from_gives = { λ items list. list ≡ items.items };
-
-    fn from(items: Vec<T>) -> List<T> {
-        List { items }
-    }
+    ghost invariant = { λ list. vec_capacity list.items ≡ room (vec_len list.items) };
 }
 
 /// The members of a list, in its memory.
@@ -38,8 +37,51 @@ impl<T> From<List<T>> for Vec<T> {
     }
 }
 
+/// The members that a list of `n` members has room for, at most an eighth more than these.
+#[tactic(auto, using(crate::proofs::Rooms::enough, crate::proofs::Rooms::close))]
+pub fn room_of(n: usize) -> usize
+    requires few { n ≤ MAX_MEMBERS }
+    ensures room { result ≡ room n }
+    ensures enough { n ≤ result }
+    ensures close { 8 * result ≤ 9 * n }
+{
+    room_by(60, n)
+}
+
+#[tactic(auto, unfolding(crate::specs::Room::room_by), using(crate::proofs::Rooms::close))]
+fn room_by(halvings: u32, n: usize) -> usize
+    requires few { n ≤ MAX_MEMBERS }
+    ensures { result ≡ room_by halvings n }
+{
+    if halvings == 0 || n < 16 {
+        return n;
+    }
+    2 * room_by(halvings - 1, n.div_ceil(2))
+}
+
+/// Makes room for one more item in the vector of a list.
+#[tactic(auto, using(crate::proofs::Rooms::enough, crate::proofs::Rooms::stays))]
+fn make_room<T>(items: &mut Vec<T>) -> Result<(), AllocError>
+    requires fit { vec_capacity items.old ≡ room (vec_len items.old) }
+    ensures items { items.new.items ≡ items.old.items }
+    ensures len { vec_len items.new ≡ vec_len items.old }
+    ensures more { OnOk result (vec_len items.new < vec_capacity items.new) }
+    ensures fit { OnOk result (vec_capacity items.new ≡ room (vec_len items.old + 1)) }
+    ensures kept { OnErr result (vec_capacity items.new ≡ vec_capacity items.old) }
+{
+    let len = items.len();
+    if len < items.capacity() {
+        return Ok(());
+    }
+    if len >= MAX_MEMBERS {
+        return Err(AllocError);
+    }
+    items.reserve_exact(room_of(len + 1) - len)
+}
+
 impl<T> List<T> {
     /// The empty list. It takes no memory.
+    #[tactic(auto, using(crate::proofs::Rooms::none))]
     pub fn new(alloc: Global) -> Self
         ensures { result ≡ [] }
     {
@@ -48,13 +90,38 @@ impl<T> List<T> {
         }
     }
 
+    /// An empty vector with the room of a list of `n` members, which it becomes by `of` once it has these.
+    pub fn room_for(alloc: Global, n: usize) -> Result<Vec<T>, AllocError>
+        ensures items { IfOk result (λ items. items.items ≡ []) }
+        ensures len { IfOk result (λ items. vec_len items ≡ 0) }
+        ensures room { IfOk result (λ items. vec_capacity items ≡ room n) }
+        ensures enough { IfOk result (λ items. n ≤ vec_capacity items) }
+    {
+        if n > MAX_MEMBERS {
+            return Err(AllocError);
+        }
+        Vec::with_capacity(alloc, room_of(n))
+    }
+
+    /// The members of a vector that has room for as many as a list of its length, in its memory.
+    pub fn of(items: Vec<T>) -> Self
+        requires { vec_capacity items ≡ room (vec_len items) }
+        ensures { result ≡ items.items }
+    {
+        List { items }
+    }
+
     /// Puts an item after the last member. When out of memory, the item is handed back.
     pub fn push(&mut self, item: T) -> Result<(), AllocFailed<T>>
         ensures pushed { OnOk result (self.new ≡ self.old ++ item ∷ []) }
         ensures kept { OnErr result (self.new ≡ self.old) }
         ensures handed_back { IfErr result (λ refused. refused.value ≡ item) }
     {
-        self.items.push(item)
+        if make_room(&mut self.items).is_err() {
+            return Err(AllocFailed { value: item });
+        }
+        self.items.push_reserved(item);
+        Ok(())
     }
 
     /// The number of members.

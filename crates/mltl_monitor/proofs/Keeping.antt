@@ -1,7 +1,7 @@
 -- What stays of what a monitor stands for, and what that says of its queues and next times.
 
 use Rattle.std.proofs.Common.{◌≡◌, ℕ, ◌+◌, ◌<◌, ◌≤◌, ◌^◌, List, [], ◌∷◌, ◌++◌, slice_get, slice_index, length, sum, ap, ap₂, sym, subst, ◌∙◌, arith}
-use Rattle.std.specs.Prelude.{Some, Contains, vec_len}
+use Rattle.std.specs.Prelude.{Some, Contains}
 use Rattle.std.proofs.lemmas.List.{ext_get_or, get_or-map}
 use Rattle.std.proofs.lemmas.List.FromFn.{get_or-map-range_with_len, length-map-range_with_len}
 use Rattle.std.proofs.lemmas.Option.{get_or_from_slice_get, slice_get_within}
@@ -21,13 +21,13 @@ use Rattle.mltl_monitor.specs.declared.running.Running.{Running}
 use Rattle.mltl_monitor.specs.declared.state.State.{State}
 use Rattle.mltl_monitor.specs.Running.{HasTaken}
 use Rattle.mltl_monitor.specs.Running as running
-use Rattle.mltl_monitor.specs.Monitoring.{IsDrained, IsSame, IsSound, Stands, last_of, places_of, program_of, room_total_of, slot_total_of, slots_of}
+use Rattle.mltl_monitor.specs.Monitoring.{IsDrained, IsSame, IsSound, Stands, last_of, places_of, program_of, read_of, room_total_of, slot_total_of, slots_of}
 use Rattle.mltl_monitor.proofs.LastRows.{all_last, ends_with, same_last}
 use Rattle.mltl_monitor.proofs.Taking.{drained_places}
 
 -- a sound monitor that takes a row is sound
 pub sound_after : (before after : State) (row : Row) → IsSound before → running.TakesRow row before.running after.running → before.running.taken < 2 ^ 40 → last_of after ≡ row
-    → length after.running.bz ≡ length (program_of before).bz → vec_len after.last ≡ (program_of before).width → vec_len after.read ≡ (program_of before).width → IsSound after
+    → length after.running.bz ≡ length (program_of before).bz → length (last_of after) ≡ (program_of before).width → length (read_of after) ≡ (program_of before).width → IsSound after
 sound_after before after row sound takes early last numbers wide wide' = record {
   some = (
     sound.some.0 ++ row ∷ [],

@@ -1,5 +1,6 @@
 pub mod Running
 pub mod Monitoring
+pub mod Bytes
 pub mod RowFaults
 pub mod TakingLines
 pub use Rattle.mltl_base.specs.Atoms

@@ -1,7 +1,9 @@
 -- What a monitor stands for.
 
-use Rattle.std.specs.Prelude.{◌≡◌, ◌↔◌, ℕ, ◌+◌, ◌^◌, ◌<◌, ◌≤◌, Option, List, [], ◌∷◌, ◌++◌, length, map, vec_len, IfNone, IfSome, IsNone}
+use Rattle.std.specs.Prelude.{◌≡◌, ◌↔◌, ℕ, ◌+◌, ◌^◌, ◌<◌, ◌≤◌, Option, List, [], ◌∷◌, ◌++◌, length, map, IfNone, IfSome}
+use Rattle.std.specs.Prelude.{IsNone}
 use Rattle.std.specs.List.{range_with_len}
+use Rattle.mltl_base.specs.declared.limits.TheConstants.{MAX_MISSION}
 use Rattle.mltl_base.specs.declared.program.Program.{Program}
 use Rattle.mltl_base.specs.declared.report.Report.{Report}
 use Rattle.mltl_base.specs.declared.report.Style.{Style}
@@ -39,11 +41,11 @@ room_total_of monitor = room_total monitor.running.pt
 
 -- the last row that the monitor has taken
 abbrev pub last_of : State → Row
-last_of monitor = monitor.last.items
+last_of monitor = monitor.last
 
 -- the row that the monitor has read, to be taken next
 abbrev pub read_of : State → Row
-read_of monitor = monitor.read.items
+read_of monitor = monitor.read
 
 -- the monitor has taken these rows
 pub record Stands (monitor : State) (rows : List Row) : Type 0 where
@@ -78,7 +80,7 @@ pub record IsGiven (report : Report) (before after : State) : Type 0 where
   pub moved : HasGiven report before after
   pub exists : report.out < length (program_of before).outs
   pub taken : report.time < taken_by before
-  pub early : report.time < 2 ^ 40
+  pub early : report.time < MAX_MISSION
   pub fewer : left_to_tell after < left_to_tell before
 
 -- The first report that was still to be given in a style was given, and the others still are; where there was none,
@@ -110,7 +112,7 @@ pub record TakesRow (row : Row) (before after : State) : Type 0 where
 -- what holds of each monitor: it stands for some rows, at most 2 ^ 40 of them, and has room for a row
 pub record IsSound (monitor : State) : Type 0 where
   pub some : (rows : List Row) × Stands monitor rows
-  pub early : taken_by monitor ≤ 2 ^ 40
+  pub early : taken_by monitor ≤ MAX_MISSION
   pub numbers : length monitor.running.bz ≡ length (program_of monitor).bz
-  pub last_wide : vec_len monitor.last ≡ (program_of monitor).width
-  pub read_wide : vec_len monitor.read ≡ (program_of monitor).width
+  pub last_wide : length (last_of monitor) ≡ (program_of monitor).width
+  pub read_wide : length (read_of monitor) ≡ (program_of monitor).width

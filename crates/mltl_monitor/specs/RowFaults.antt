@@ -2,6 +2,7 @@
 
 use Rattle.std.specs.Prelude.{◌≡◌, ⊤, ◌⊎◌, ℕ, ◌+◌, ◌<◌, ◌^◌, ℤ, pos, FitsSigned, List, ◌++◌, length, codes, decimal}
 use Rattle.std.specs.Int.{w32}
+use Rattle.mltl_base.specs.declared.limits.TheConstants.{MAX_MISSION}
 use Rattle.mltl_base.specs.declared.program.Program.{Program}
 use Rattle.mltl_base.specs.Atoms.{Row, in_column}
 use Rattle.mltl_base.specs.Programs.{IsFit}
@@ -41,14 +42,14 @@ pub record IsUnfitAt (program : Program) (row : Row) (column : ℕ) : Type 0 whe
 pub record IsReady (monitor : State) (row : Row) : Type 0 where
   pub drained : IsDrained monitor
   pub fit : IsFit (program_of monitor) row
-  pub early : taken_by monitor < 2 ^ 40
+  pub early : taken_by monitor < MAX_MISSION
 
 -- the first that stands against the row: reports that are left, then the row itself, then the number of rows
 abbrev pub IsRowCause : RowFault → State → Row → Type 0
 IsRowCause ReportsLeft monitor row = ¬ IsDrained monitor
 IsRowCause (NotARow column) monitor row = IsDrained monitor × IsUnfitAt (program_of monitor) row column
 IsRowCause TooManyRows monitor row =
-    IsDrained monitor × IsFit (program_of monitor) row × (taken_by monitor ≡ 2 ^ 40)
+    IsDrained monitor × IsFit (program_of monitor) row × (taken_by monitor ≡ MAX_MISSION)
 
 -- why a row isn't taken, in words; a column counts from 1 here
 abbrev pub row_fault_text : RowFault → List ℕ

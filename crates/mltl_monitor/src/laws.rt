@@ -13,7 +13,8 @@ ghost use Rattle.ft_engine.specs.Standing.{lowest_at, width_of};
 ghost use Rattle.contract_status.specs.Open.{known_counts_of};
 ghost use Rattle.trace_feed.specs.Rows.{reading_of};
 ghost use Rattle.mltl_monitor.specs.declared.state.State.{State as Shown};
-ghost use Rattle.mltl_monitor.specs.Monitoring.{IsDrained, Stands, open_of, places_of, program_of, room_total_of, slot_total_of, slots_of};
+ghost use Rattle.mltl_monitor.specs.Bytes.{bytes_of, monitor_bytes};
+ghost use Rattle.mltl_monitor.specs.Monitoring.{IsDrained, IsSound, Stands, open_of, places_of, program_of, room_total_of, slot_total_of, slots_of};
 ghost use Rattle.mltl_monitor.specs.RowFaults.{FitsColumn};
 
 /// Each future-time instruction has the slots that are stored for it, which are as many as it needs.
@@ -37,6 +38,13 @@ pub fn no_slot_is_left_over()
     ensures needed { (monitor : Shown) (rows : List Row) → Stands monitor rows
         → slot_total_of monitor + room_total_of monitor ≡ slot_count
         (program_of monitor).ft (program_of monitor).pt (program_of monitor).outs }
+{}
+
+/// A monitor holds the bytes that its program says, at any time.
+#[tactic(auto, using(crate::proofs::Holding::holds_what_it_takes))]
+pub fn monitors_keep_their_bytes()
+    ensures { (monitor : Shown) → IsSound monitor
+        → bytes_of monitor ≡ monitor_bytes (program_of monitor) }
 {}
 
 /// A monitor has no report to give exactly where nothing is open after rows that it stands for, in either style.

@@ -5,16 +5,20 @@
 //! [`rebind`].
 #![tactic(auto)]
 
+pub mod bytes;
 pub mod laws;
 mod monitor;
+mod queries;
 mod row_fault;
 mod running;
 mod state;
 mod unfit;
 
+pub use bytes::monitor_bytes;
 pub use mltl_base::{Report, Style, Word};
 pub use monitor::Monitor;
 pub use obs_verify::{Checked, rebind};
+pub use queries::{delay_of, row_steps};
 pub use row_fault::RowFault;
 pub use scq_ring::steps::Steps;
 pub use trace_feed::{HeaderFault, RowAnswer, header_of};

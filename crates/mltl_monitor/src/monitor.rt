@@ -6,6 +6,7 @@ use crate::state::State;
 use crate::unfit::unfit_column;
 use arrayvec::ArrayVec;
 use contract_status::{Cursor, line_of};
+use fixed_list::Fixed;
 use mltl_base::limits::MAX_MISSION;
 use mltl_base::{Report, Style};
 use obs_verify::Checked;
@@ -48,28 +49,31 @@ impl Model for Monitor {
 
 impl Monitor {
     ghost use Rattle.std.specs.Prelude.{◌≡◌, ◌+◌, ◌^◌, ◌<◌, ◌≤◌, ◌↔◌, List, [], IfErr, IfOk, IsOk, IsTrue, MatchOption, OnErr, OnOk, length};
+    ghost use Rattle.mltl_base.specs.declared.limits.TheConstants.{MAX_MISSION, TIME_END};
     ghost use Rattle.arrayvec.specs.ArrayVec.{array_vec_len};
     ghost use Rattle.mltl_base.specs.declared.report.Style.{Style as Form};
     ghost use Rattle.mltl_base.specs.declared.report.Style.TheVariants.{Each, Runs};
     ghost use Rattle.mltl_base.specs.Atoms.{Row};
     ghost use Rattle.mltl_base.specs.Lines.{line};
     ghost use Rattle.mltl_base.specs.Programs.{IsFit, output_names};
+    ghost use Rattle.mltl_monitor.specs.Bytes.{bytes_of, monitor_bytes};
     ghost use Rattle.mltl_monitor.specs.Running.{row_work};
     ghost use Rattle.trace_feed.specs.Rows.{Tells, line_meaning};
     ghost use Rattle.mltl_monitor.specs.TakingLines.{TakesLine};
     ghost use Rattle.mltl_monitor.specs.Monitoring.{GivesNext, IsDrained, IsSame, Stands, TakesRow, last_of, open_of, program_of, read_of, taken_by};
     ghost use Rattle.mltl_monitor.specs.RowFaults.{IsReady, IsRowCause, IsUnfitAt};
 
-    /// A monitor that has taken no rows. All its memory is taken here.
+    /// A monitor that has taken no rows. All its memory is taken here, in blocks of as many bytes as its program says.
     pub fn load(alloc: Global, checked: Checked) -> Result<Monitor, AllocError>
         ensures program { IfOk result (λ monitor. program_of monitor ≡ checked) }
         ensures taken { IfOk result (λ monitor. taken_by monitor ≡ 0) }
         ensures stands { IfOk result (λ monitor. Stands monitor []) }
         ensures drained { IfOk result IsDrained }
+        ensures bytes { IfOk result (λ monitor. bytes_of monitor ≡ monitor_bytes checked) }
     {
         let width = checked.program().width as usize;
-        let last = vec![in alloc; 0; width]?;
-        let read = vec![in alloc; 0; width]?;
+        let last = Fixed::filled(alloc, 0, width)?;
+        let read = Fixed::filled(alloc, 0, width)?;
         let readings = Readings::of(alloc, &checked)?;
         let running = Running::load(alloc, checked)?;
         Ok(Monitor {
@@ -83,6 +87,17 @@ impl Monitor {
         })
     }
 
+    /// The monitor stands for no rows again, and can take up to 2 ^ 40 more. No memory is asked for or given back.
+    pub fn reset(&mut self)
+        ensures program { program_of self.new ≡ program_of self.old }
+        ensures taken { taken_by self.new ≡ 0 }
+        ensures stands { Stands self.new [] }
+        ensures drained { IsDrained self.new }
+    {
+        self.state.running.reset();
+        self.cursor = Cursor::start();
+    }
+
     /// The program.
     pub fn checked(&self) -> &Checked
         ensures program { result.now ≡ program_of self.now }
@@ -93,7 +108,7 @@ impl Monitor {
     /// The number of rows that it has taken, at most 2 ^ 40.
     pub fn rows_taken(&self) -> u64
         ensures taken { result ≡ taken_by self.now }
-        ensures early { result ≤ 2 ^ 40 }
+        ensures early { result ≤ MAX_MISSION }
     {
         self.state.running.taken
     }
@@ -142,12 +157,12 @@ impl Monitor {
     /// Takes the next row, of one number for each column. Its steps are the reads and writes of queues and boxes.
     pub fn advance<L: Ledger>(&mut self, fields: &[i64], steps: &mut Steps<L>)
         requires drained { IsDrained self.old }
-        requires early { taken_by self.old < 2 ^ 40 }
+        requires early { taken_by self.old < MAX_MISSION }
         requires fit { IsFit (program_of self.old) fields.now }
         ensures takes { TakesRow fields.now self.old self.new }
         ensures counted { steps.new ≤ steps.old + row_work (program_of self.old) }
     {
-        self.state.last.copy_from_slice(fields);
+        self.state.last.as_mut_slice().copy_from_slice(fields);
         self.state.running.take(fields, steps);
         self.cursor = Cursor::start();
     }
@@ -155,7 +170,7 @@ impl Monitor {
     /// Takes the row of a line, if the line is one. `Good`: its row was taken; otherwise nothing changed.
     pub fn take_line<L: Ledger>(&mut self, line: &[u8], steps: &mut Steps<L>) -> RowAnswer
         requires drained { IsDrained self.old }
-        requires early { taken_by self.old < 2 ^ 40 }
+        requires early { taken_by self.old < MAX_MISSION }
         ensures line { TakesLine result line.now self.old self.new }
         ensures program { program_of self.new ≡ program_of self.old }
         ensures counted { steps.new ≤ steps.old + row_work (program_of self.old) }
@@ -179,7 +194,7 @@ impl Monitor {
             line,
             &state.running.checked,
             &self.readings,
-            &mut state.read,
+            state.read.as_mut_slice(),
         )
     }
 
@@ -187,12 +202,12 @@ impl Monitor {
     pub fn repeat_last<L: Ledger>(&mut self, steps: &mut Steps<L>)
         requires begun { 0 < taken_by self.old }
         requires drained { IsDrained self.old }
-        requires early { taken_by self.old < 2 ^ 40 }
+        requires early { taken_by self.old < MAX_MISSION }
         ensures takes { TakesRow (last_of self.old) self.old self.new }
         ensures read { read_of self.new ≡ read_of self.old }
         ensures counted { steps.new ≤ steps.old + row_work (program_of self.old) }
     {
-        self.state.running.take(&self.state.last, steps);
+        self.state.running.take(self.state.last.as_slice(), steps);
         self.cursor = Cursor::start();
     }
 
@@ -200,12 +215,12 @@ impl Monitor {
     pub fn take_read<L: Ledger>(&mut self, steps: &mut Steps<L>)
         requires fit { IsFit (program_of self.old) (read_of self.old) }
         requires drained { IsDrained self.old }
-        requires early { taken_by self.old < 2 ^ 40 }
+        requires early { taken_by self.old < MAX_MISSION }
         ensures takes { TakesRow (read_of self.old) self.old self.new }
         ensures counted { steps.new ≤ steps.old + row_work (program_of self.old) }
     {
         mem::swap(&mut self.state.last, &mut self.state.read);
-        self.state.running.take(&self.state.last, steps);
+        self.state.running.take(self.state.last.as_slice(), steps);
         self.cursor = Cursor::start();
     }
 
@@ -235,7 +250,7 @@ impl Monitor {
     /// The line of a report that was given: the name of its output, its time and its word, with a newline.
     pub fn line_of(&self, report: &Report) -> ArrayVec<u8, 128>
         requires exists { report.now.out < length (program_of self.now).outs }
-        requires early { report.now.time < 2 ^ 41 }
+        requires early { report.now.time < TIME_END }
         ensures line { result.items ≡ line (output_names (program_of self.now)) report.now }
         ensures short { array_vec_len result ≤ 88 }
     {

@@ -23,6 +23,7 @@ pub struct Running {
 
 impl Running {
     ghost use Rattle.std.specs.Prelude.{◌≡◌, ◌+◌, ◌^◌, ◌<◌, ◌≤◌, ◌↔◌, List, [], length, IfOk, IfSome, IsNone, IsTrue};
+    ghost use Rattle.mltl_base.specs.declared.limits.TheConstants.{MAX_MISSION};
     ghost use Rattle.mltl_base.specs.declared.report.Style.{Style as Form};
     ghost use Rattle.mltl_base.specs.Atoms.{Row};
     ghost use Rattle.mltl_base.specs.Programs.{IsFit};
@@ -50,11 +51,26 @@ impl Running {
         })
     }
 
+    /// Stands for no rows again, in the memory that it has.
+    pub fn reset(&mut self)
+        requires some { (rows : List Row) × HasTaken self.old rows }
+        ensures program { self.new.checked ≡ self.old.checked }
+        ensures taken { self.new.taken ≡ 0 }
+        ensures numbers { length self.new.bz ≡ length self.old.bz }
+        ensures stands { HasTaken self.new [] }
+        ensures drained { IsDrained self.new }
+    {
+        self.ft.reset(&self.checked);
+        self.pt.reset(&self.checked);
+        self.outs.reset();
+        self.taken = 0;
+    }
+
     /// Takes a row. Its steps are the reads and writes of queues and boxes. It takes no memory.
     pub fn take<L: Ledger>(&mut self, fields: &[i64], steps: &mut Steps<L>)
         requires some { (rows : List Row) × HasTaken self.old rows }
         requires drained { IsDrained self.old }
-        requires early { self.old.taken < 2 ^ 40 }
+        requires early { self.old.taken < MAX_MISSION }
         requires numbers { length self.old.bz ≡ length self.old.checked.bz }
         requires fit { IsFit self.old.checked fields.now }
         ensures takes { TakesRow fields.now self.old self.new }
@@ -71,7 +87,7 @@ impl Running {
     #[inline(always)]
     pub fn next(&mut self, style: Style, cursor: &mut Cursor) -> Option<Report>
         requires some { (rows : List Row) × HasTaken self.old rows }
-        requires early { self.old.taken ≤ 2 ^ 40 }
+        requires early { self.old.taken ≤ MAX_MISSION }
         requires cursor { Fits self.old cursor.old }
         ensures first { (rows : List Row) → HasTaken self.old rows
             → GivesFirst style result self.old self.new rows }

@@ -1,7 +1,8 @@
 -- What the program may say of expressions, and Kleene values over lists of known verdicts.
 -- A reader of the contracts needs this file.
 
-use Rattle.std.specs.Prelude.{◌≡◌, Bool, true, false, List, ℤ, pos, neg_ℤ, ◌+ℤ◌, ◌-ℤ◌, ◌*ℤ◌, int_div, int_rem, int_lt, int_le, not, FitsSigned, slice_get, All, ⊤}
+use Rattle.std.specs.Prelude.{◌≡◌, ◌≢◌, Bool, true, false, List, ℤ, pos, neg_ℤ, ◌+ℤ◌, ◌-ℤ◌, ◌*ℤ◌, int_div, int_rem}
+use Rattle.std.specs.Prelude.{int_lt, int_le, not, FitsSigned, slice_get, All, ⊤}
 use Rattle.std.specs.Ordering.{int_eq}
 use Rattle.std.specs.Int.{w64}
 use Rattle.mltl_base.specs.declared.interval.Interval.{Interval}
@@ -10,12 +11,15 @@ use Rattle.mltl_base.specs.declared.operators.CompareOp as compare_op
 use Rattle.mltl_base.specs.declared.operators.LogicOp as logic_op
 use Rattle.mltl_base.specs.declared.operators.WindowOp as window_op
 use Rattle.mltl_base.specs.declared.operators.BetweenOp as between_op
-use Rattle.mltl_base.specs.Atoms.{Row, Term, column, constant, negative, plus, minus, times, quotient, remainder, Atom, is_true, equal, less, at_most, different, greater, at_least, value}
-use Rattle.mltl_base.specs.Formula.{Formula, truth, falsity, atom, negation, conjunction, disjunction, implication, equivalence, finally, globally, until, release, once, historically, since}
+use Rattle.mltl_base.specs.Atoms.{Row, Term, column, constant, negative, plus, minus, times, quotient, remainder, Atom}
+use Rattle.mltl_base.specs.Atoms.{is_true, equal, less, at_most, different, greater, at_least, value}
+use Rattle.mltl_base.specs.Formula.{Formula, truth, falsity, atom, negation, conjunction, disjunction, implication}
+use Rattle.mltl_base.specs.Formula.{equivalence, finally, globally, until, release, once, historically, since}
 use Rattle.mltl_base.specs.Kleene.{k_not}
 use Rattle.mltl_base.specs.Reports.{Output, formula, contract}
 use Rattle.mltl_plain.specs.declared.verdict.Operator as operator
-use Rattle.mltl_base.specs.Verdicts.{Known, k_negation, k_conjunction, k_disjunction, k_implication, k_equivalence, k_finally, k_globally, k_until, k_release, k_once, k_historically, k_since}
+use Rattle.mltl_base.specs.Verdicts.{Known, k_negation, k_conjunction, k_disjunction, k_implication, k_equivalence}
+use Rattle.mltl_base.specs.Verdicts.{k_finally, k_globally, k_until, k_release, k_once, k_historically, k_since}
 
 -- the result of an arithmetic operator between two numbers
 abbrev pub result_of : arith_op.ArithOp → ℤ → ℤ → ℤ
@@ -30,8 +34,8 @@ abbrev pub CanCompute : arith_op.ArithOp → ℤ → ℤ → Type 0
 CanCompute arith_op.TheVariants.Add x y = FitsSigned w64 (x +ℤ y)
 CanCompute arith_op.TheVariants.Sub x y = FitsSigned w64 (x -ℤ y)
 CanCompute arith_op.TheVariants.Mul x y = FitsSigned w64 (x *ℤ y)
-CanCompute arith_op.TheVariants.Div x y = (y ≡ pos 0 → ⊥) × FitsSigned w64 (int_div x y)
-CanCompute arith_op.TheVariants.Rem x y = y ≡ pos 0 → ⊥
+CanCompute arith_op.TheVariants.Div x y = (y ≢ pos 0) × FitsSigned w64 (int_div x y)
+CanCompute arith_op.TheVariants.Rem x y = y ≢ pos 0
 
 -- a comparison of two numbers
 abbrev pub compares : compare_op.CompareOp → ℤ → ℤ → Bool
@@ -47,11 +51,16 @@ abbrev pub Computes : Row → Term → Type 0
 Computes row (column c) = ⊤
 Computes row (constant n) = ⊤
 Computes row (negative a) = Computes row a × FitsSigned w64 (neg_ℤ (value a row))
-Computes row (plus a b) = Computes row a × Computes row b × CanCompute arith_op.TheVariants.Add (value a row) (value b row)
-Computes row (minus a b) = Computes row a × Computes row b × CanCompute arith_op.TheVariants.Sub (value a row) (value b row)
-Computes row (times a b) = Computes row a × Computes row b × CanCompute arith_op.TheVariants.Mul (value a row) (value b row)
-Computes row (quotient a b) = Computes row a × Computes row b × CanCompute arith_op.TheVariants.Div (value a row) (value b row)
-Computes row (remainder a b) = Computes row a × Computes row b × CanCompute arith_op.TheVariants.Rem (value a row) (value b row)
+Computes row (plus a b) =
+    Computes row a × Computes row b × CanCompute arith_op.TheVariants.Add (value a row) (value b row)
+Computes row (minus a b) =
+    Computes row a × Computes row b × CanCompute arith_op.TheVariants.Sub (value a row) (value b row)
+Computes row (times a b) =
+    Computes row a × Computes row b × CanCompute arith_op.TheVariants.Mul (value a row) (value b row)
+Computes row (quotient a b) =
+    Computes row a × Computes row b × CanCompute arith_op.TheVariants.Div (value a row) (value b row)
+Computes row (remainder a b) =
+    Computes row a × Computes row b × CanCompute arith_op.TheVariants.Rem (value a row) (value b row)
 
 -- each part of the two sides of a comparison can be computed on the row
 abbrev pub ComputesAtom : Row → Atom → Type 0

@@ -18,4 +18,5 @@ is_told Runs w ws = not (goes_on w ws)
 unfoldable pub of_outputs : Style → ℕ → List Output → List Row → List Row → List Report
 of_outputs style k [] before now = []
 of_outputs style k (o ∷ outs) before now =
-    of_words style k (length (words before o)) (drop (length (words before o)) (words now o)) ++ of_outputs style (suc k) outs before now
+    of_words style k (length (words before o)) (drop (length (words before o)) (words now o))
+    ++ of_outputs style (suc k) outs before now

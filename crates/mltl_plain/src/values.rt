@@ -13,7 +13,7 @@ use mltl_base::{ArithOp, CompareOp};
 #[tactic(auto, unfolding(mltl_base::specs::Atoms::value))]
 pub fn value(e: &Term, row: &[i64]) -> Option<i64>
     ensures value { IfSome result (λ v. v ≡ value_on (term_of e.now) row.now) }
-    ensures none { IfNone result (Computes row.now (term_of e.now) → ⊥) }
+    ensures none { IfNone result (¬ Computes row.now (term_of e.now)) }
 {
     match e {
         Term::Column(c) => Some(in_column(row, *c)),
@@ -33,7 +33,7 @@ pub fn value(e: &Term, row: &[i64]) -> Option<i64>
 #[tactic(auto, unfolding(mltl_base::specs::Atoms::holds))]
 pub fn holds(a: &Atom, row: &[i64]) -> Option<bool>
     ensures truth { IfSome result (λ v. v ≡ holds_on (atom_of a.now) row.now) }
-    ensures none { IfNone result (ComputesAtom row.now (atom_of a.now) → ⊥) }
+    ensures none { IfNone result (¬ ComputesAtom row.now (atom_of a.now)) }
 {
     match a {
         Atom::IsTrue(c) => Some(in_column(row, *c) == 1),
@@ -58,7 +58,7 @@ fn in_column(row: &[i64], column: u32) -> i64
 /// An operator between two numbers; quotient and remainder truncate toward zero.
 fn compute(op: ArithOp, a: i64, b: i64) -> Option<i64>
     ensures value { IfSome result (λ v. v ≡ result_of op a b) }
-    ensures none { IfNone result (CanCompute op a b → ⊥) }
+    ensures none { IfNone result (¬ CanCompute op a b) }
 {
     match op {
         ArithOp::Add => a.checked_add(b),

@@ -2,6 +2,7 @@
 //! body.
 
 ghost use Rattle.std.specs.Prelude.{◌≡◌, ◌+◌, ◌<◌, ◌≤◌, ℕ, All, Bool, true, List, Some, length, slice_get};
+ghost use Rattle.mltl_base.specs.declared.limits.TheConstants.{MAX_BOUND};
 ghost use Rattle.mltl_base.specs.Atoms.{Atom, Row};
 ghost use Rattle.mltl_base.specs.Formula.{Formula, conjunction, disjunction, finally, formula_over, once, truth, wpd};
 ghost use Rattle.mltl_base.specs.Kinds.{ReadsKinds};
@@ -65,8 +66,8 @@ pub fn simplified_examples()
     ensures joined { simp (finally (from_to 0 2) (finally (from_to 1 3) (signal 0)))
         ≡ finally (from_to 1 5) (signal 0) }
     ensures limit { (p : Formula) → p ≡ finally (from_to 0 1) (signal 0) →
-        simp (finally (from_to 0 1048576) (finally (from_to 0 1) p))
-        ≡ finally (from_to 0 1048576) (finally (from_to 0 2) (signal 0)) }
+        simp (finally (from_to 0 MAX_BOUND) (finally (from_to 0 1) p))
+        ≡ finally (from_to 0 MAX_BOUND) (finally (from_to 0 2) (signal 0)) }
     ensures truths { simp (conjunction (signal 1) (disjunction truth (signal 0))) ≡ signal 1 }
     ensures stays { simp (once (from_to 1 1) truth) ≡ once (from_to 1 1) truth }
 {}

@@ -3,24 +3,29 @@
 ghost use Rattle.std.specs.Prelude.{◌≡◌, ◌<◌, ◌++◌, ◌∷◌, [], None, Some, length, option_map, slice_get, OnOk};
 ghost use Rattle.name_table.specs.Tables.{entry_of, is_named};
 
-use indexmap::IndexMap;
 use mltl_base::Name;
 use std::alloc::{AllocError, Global};
+use std::collections::BTreeMap;
 use std::marker::Model;
 
 /// Names with what they stand for, in the order in which they were added.
 #[derive(Drop)]
 pub struct NameTable<V> {
-    entries: IndexMap<Vec<u8>, V>,
+    /// What the names stand for.
+    values: Vec<V>,
+    /// Of each name the number of its value.
+    numbers: BTreeMap<Vec<u8>, usize>,
 }
 
 impl<V> Model for NameTable<V> {
-    ghost use Rattle.std.specs.Prelude.{List, ℕ, map};
-    ghost use Rattle.name_table.specs.Entries.{plain_entry};
+    ghost use Rattle.std.specs.Prelude.{List, ℕ};
+    ghost use Rattle.name_table.specs.Entries.{AreNumbered, entries_from};
 
     ghost Value = { List (List ℕ × V) };
 
-    ghost view = { λ table. map plain_entry table.entries.entries };
+    ghost view = { λ table. entries_from 0 table.numbers.entries table.values.items };
+
+    ghost invariant = { λ table. AreNumbered table.numbers.entries table.values.items };
 }
 
 impl<V> NameTable<V> {
@@ -29,7 +34,8 @@ impl<V> NameTable<V> {
         ensures { result ≡ [] }
     {
         NameTable {
-            entries: IndexMap::new(alloc),
+            values: Vec::new(alloc),
+            numbers: BTreeMap::new(alloc),
         }
     }
 
@@ -37,14 +43,14 @@ impl<V> NameTable<V> {
     pub fn len(&self) -> usize
         ensures { result ≡ length self.now }
     {
-        self.entries.len()
+        self.values.len()
     }
 
     /// Whether a name is there.
     pub fn contains(&self, name: &Name) -> bool
         ensures { result ≡ is_named name.now self.now }
     {
-        self.entries.get(name.bytes()).is_some()
+        self.numbers.contains_key(name.bytes())
     }
 }
 
@@ -53,7 +59,10 @@ impl<V: Copy> NameTable<V> {
     pub fn find(&self, name: &Name) -> Option<V>
         ensures { result ≡ entry_of name.now self.now }
     {
-        self.entries.get(name.bytes()).copied()
+        match self.numbers.get(name.bytes()) {
+            Some(number) => Some(self.values[*number]),
+            None => None,
+        }
     }
 
     /// What the name stands for that was added with this number, counted from 0.
@@ -61,7 +70,7 @@ impl<V: Copy> NameTable<V> {
         requires { number < length self.now }
         ensures { option_map (λ e. e.1) (slice_get self.now number) ≡ Some result }
     {
-        self.entries[number]
+        self.values[number]
     }
 }
 
@@ -72,7 +81,9 @@ impl<V: Drop> NameTable<V> {
         ensures added { OnOk result (self.new ≡ self.old ++ (name.now, value) ∷ []) }
     {
         let key = Vec::from_slice(alloc, name.bytes())?;
-        self.entries.insert(key, value)?;
+        self.values.reserve(1)?;
+        self.numbers.insert(key, self.values.len())?;
+        self.values.push(value)?;
         Ok(())
     }
 }

@@ -1,5 +1,6 @@
 -- The bytes of observer programs: each program has one spelling. Numbers are little-endian.
-use Rattle.std.specs.Prelude.{◌≡◌, ◌≤◌, ◌<◌, ◌^◌, ◌+◌, ◌*◌, ◌||◌, ◌==◌, ℕ, ℤ, Bool, if◌then◌else◌, IsTrue, List, [], ◌∷◌, ◌++◌, length, Option, Some, None, FitsSigned, unwrap_or, codes, ◌⊎◌, ⊤}
+use Rattle.std.specs.Prelude.{◌≡◌, ◌≤◌, ◌<◌, ◌^◌, ◌+◌, ◌*◌, ◌||◌, ◌==◌, ℕ, ℤ, Bool, if◌then◌else◌, IsTrue, List, []}
+use Rattle.std.specs.Prelude.{◌∷◌, ◌++◌, length, Option, Some, None, FitsSigned, unwrap_or, codes, ◌⊎◌, ⊤}
 use Rattle.std.specs.Int.{w16, w32, w64, to_le_bytes, cast_unsigned, is_in_range}
 use Rattle.std.specs.List.{flat_map, zip, list_all, AllByRecursion}
 use Rattle.mltl_base.specs.declared.interval.Engine.{Engine}

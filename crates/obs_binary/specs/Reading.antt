@@ -1,5 +1,7 @@
 -- Reading the bytes of an observer program, with the first fault in the order in which faults are looked for.
-use Rattle.std.specs.Prelude.{◌≡◌, ◌+◌, ◌-◌, ◌&&◌, ◌||◌, ◌==◌, not, ℕ, ℤ, suc, zero, Bool, if◌then◌else◌, List, [], ◌∷◌, length, take, drop, map, slice_index, Option, Some, None, Result, Ok, Err, nat_lt, nat_le, nat_eq, codes, ⊤}
+use Rattle.std.specs.Prelude.{◌≡◌, ◌+◌, ◌-◌, ◌&&◌, ◌||◌, ◌==◌, not, ℕ, ℤ, suc, zero, Bool, if◌then◌else◌, List, [], ◌∷◌}
+use Rattle.std.specs.Prelude.{length, take, drop, map, slice_index, Option, Some, None, Result, Ok, Err, nat_lt, nat_le}
+use Rattle.std.specs.Prelude.{nat_eq, codes, ⊤}
 use Rattle.std.specs.Int.{w16, w32, w64, from_le_bytes, cast_signed, is_in_range}
 use Rattle.std.specs.List.{list_all, starts_with}
 use Rattle.std.specs.Option.{option_map_or}
@@ -20,8 +22,10 @@ use Rattle.obs_binary.specs.declared.head.OutHead.{OutHead}
 use Rattle.obs_binary.specs.declared.head.SignalHead.{SignalHead}
 use Rattle.obs_binary.specs.declared.header.Header.{Header}
 use Rattle.obs_binary.specs.declared.fault.ReadFault.{ReadFault}
-use Rattle.obs_binary.specs.declared.fault.ReadFault.TheVariants.{Short, Magic, Version, Reserved, Opcode, Trailing, NameBytes, SignalBytes, Memory}
-use Rattle.obs_binary.specs.Layout.{bz_entry, ft_entry, pt_entry, out_entry, signal_entry, header_len, body_len, is_letter}
+use Rattle.obs_binary.specs.declared.fault.ReadFault.TheVariants.{Short, Magic, Version, Reserved, Opcode, Trailing}
+use Rattle.obs_binary.specs.declared.fault.ReadFault.TheVariants.{NameBytes, SignalBytes, Memory}
+use Rattle.obs_binary.specs.Layout.{bz_entry, ft_entry, pt_entry, out_entry, signal_entry, header_len, body_len}
+use Rattle.obs_binary.specs.Layout.{is_letter}
 
 -- ---- numbers
 
@@ -59,7 +63,8 @@ abbrev pub ◌>>=◌ : {A B : Type 0} → Result A ReadFault → (A → Result B
 unfoldable pub first_other : ℕ → List ℕ → List ℕ → Option ℕ
 first_other offset [] bytes = None
 first_other offset (must ∷ musts) [] = Some offset
-first_other offset (must ∷ musts) (byte ∷ bytes) = if byte == must then first_other (suc offset) musts bytes else Some offset
+first_other offset (must ∷ musts) (byte ∷ bytes) =
+    if byte == must then first_other (suc offset) musts bytes else Some offset
 
 -- what was read, unless a byte of its entry isn't as it must be
 abbrev pub unless_other : {A : Type 0} → Option ℕ → A → Result A ReadFault
@@ -69,16 +74,19 @@ unless_other (Some offset) x = Err (Reserved offset)
 -- an entry that holds x, with the bytes after it; without x its opcode is at fault
 abbrev pub as_spelled : {X : Type 0} → ℕ → (X → List ℕ) → ℕ → List ℕ → Option X → Result (X × List ℕ) ReadFault
 as_spelled len spelled offset bytes None = Err (Opcode offset)
-as_spelled len spelled offset bytes (Some x) = unless_other (first_other offset (spelled x) (take len bytes)) (x, drop len bytes)
+as_spelled len spelled offset bytes (Some x) =
+    unless_other (first_other offset (spelled x) (take len bytes)) (x, drop len bytes)
 
 -- The entry of `len` bytes in front of others. `content` is what its opcode and its fields say, if the opcode is of its
--- part. An entry that isn't as its content is spelled has a byte other than 0 at an offset without content, or an engine
--- or a kind above 1. The file has `size` bytes, so the offset of the entry is the number of those before it.
-unfoldable pub entry_at : {X : Type 0} → ℕ → (X → List ℕ) → (List ℕ → Option X) → ℕ → List ℕ → Result (X × List ℕ) ReadFault
+-- part. An entry that isn't as its content is spelled has a byte other than 0 at an offset without content, or an
+-- engine or a kind above 1. The file has `size` bytes, so the offset of the entry is the number of those before it.
+unfoldable pub entry_at : {X : Type 0} → ℕ → (X → List ℕ) → (List ℕ → Option X) → ℕ → List ℕ
+    → Result (X × List ℕ) ReadFault
 entry_at len spelled content size bytes = as_spelled len spelled (size - length bytes) bytes (content (take len bytes))
 
 -- so many entries, one after the other
-unfoldable pub each_at : {X : Type 0} → (List ℕ → Result (X × List ℕ) ReadFault) → ℕ → List ℕ → Result (List X × List ℕ) ReadFault
+unfoldable pub each_at : {X : Type 0} → (List ℕ → Result (X × List ℕ) ReadFault) → ℕ → List ℕ
+    → Result (List X × List ℕ) ReadFault
 each_at read zero bytes = Ok ([], bytes)
 each_at read (suc n) bytes = do
   first ← read bytes
@@ -145,7 +153,8 @@ engine_at bytes = if slice_index bytes 1 == 1 then Pt else Ft
 
 -- the fields of an output's entry, with the right instruction that a contract has
 abbrev pub out_at : List ℕ → Option ℕ → OutHead
-out_at bytes right = record { engine = engine_at bytes; left = number_at bytes 4; right = right; name_len = number_at bytes 12 }
+out_at bytes right =
+    record { engine = engine_at bytes; left = number_at bytes 4; right = right; name_len = number_at bytes 12 }
 
 -- what an output's entry says, if its opcode is that of a formula or of a contract
 unfoldable pub out_content : List ℕ → Option OutHead
@@ -168,16 +177,19 @@ is_name_in_front len bytes = is_in_range 1 64 len && nat_le len (length bytes) &
 
 -- The names of `heads`, one after the other, which take all bytes. The fault of head k comes where its name isn't one,
 -- and that of the number of heads where bytes are left over.
-unfoldable pub named : {H X : Type 0} → (H → ℕ) → (H → List ℕ → X) → (ℕ → ReadFault) → ℕ → List H → List ℕ → Result (List X) ReadFault
+unfoldable pub named : {H X : Type 0} → (H → ℕ) → (H → List ℕ → X) → (ℕ → ReadFault) → ℕ → List H → List ℕ
+    → Result (List X) ReadFault
 named len_of with_name fault k [] bytes = if length bytes == 0 then Ok [] else Err (fault k)
 named len_of with_name fault k (head ∷ heads) bytes =
     if is_name_in_front (len_of head) bytes
-    then (named len_of with_name fault (suc k) heads (drop (len_of head) bytes) >>= λ others. Ok (with_name head (take (len_of head) bytes) ∷ others))
+    then (named len_of with_name fault (suc k) heads (drop (len_of head) bytes) >>= λ others.
+    Ok (with_name head (take (len_of head) bytes) ∷ others))
     else Err (fault k)
 
 -- the output that has these fields and this name
 abbrev pub out_of : OutHead → List ℕ → Out
-out_of head name = option_map_or (λ right. Contract head.engine head.left right name) head.right (Formula head.engine head.left name)
+out_of head name =
+    option_map_or (λ right. Contract head.engine head.left right name) head.right (Formula head.engine head.left name)
 
 -- the signal that has these fields and this name
 abbrev pub signal_of : SignalHead → List ℕ → StoredSignal

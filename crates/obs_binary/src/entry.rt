@@ -106,12 +106,12 @@ pub(crate) fn entries<X: Entry>(
     ensures count { IfOk result (λ x. length x.0 ≡ count) }
     ensures left { IfOk result (λ x. length x.1.now + X.LEN * count ≡ length bytes.now) }
 {
-    let mut found = List::new(alloc);
+    let mut found = List::room_for(alloc, count as usize)?;
     let mut rest = bytes;
     for _ in 0..count {
         let (entry, behind) = read_entry(size, rest)?;
-        found.push(entry)?;
+        found.push_reserved(entry);
         rest = behind;
     }
-    Ok((found, rest))
+    Ok((List::of(found), rest))
 }

@@ -76,17 +76,17 @@ pub(crate) fn named<H: Head>(
     ensures { Gives (λ wholes. wholes) result
         (named H.name_len H.with_name H.fault 0 heads.now names.now) }
 {
-    let mut wholes = List::new(alloc);
+    let mut wholes = List::room_for(alloc, heads.len())?;
     let mut rest = names;
     for (k, head) in heads.iter().enumerate() {
         let Some((name, behind)) = name_in_front(head.name_len(), rest) else {
             return Err(H::fault(k as u32));
         };
-        wholes.push(head.with_name(name))?;
+        wholes.push_reserved(head.with_name(name));
         rest = behind;
     }
     if !rest.is_empty() {
         return Err(H::fault(heads.len() as u32));
     }
-    Ok(wholes)
+    Ok(List::of(wholes))
 }

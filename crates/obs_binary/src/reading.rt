@@ -18,13 +18,13 @@ fn split<O: Copy>(alloc: Global, sized: &[(O, u32)]) -> Result<(List<O>, List<u3
     ensures ops { IfOk result (λ parts. parts.0 ≡ map (λ x. x.0) sized.now) }
     ensures sizes { IfOk result (λ parts. parts.1 ≡ map (λ x. x.1) sized.now) }
 {
-    let mut ops = List::new(alloc);
-    let mut sizes = List::new(alloc);
+    let mut ops = List::room_for(alloc, sized.len())?;
+    let mut sizes = List::room_for(alloc, sized.len())?;
     for &(op, size) in sized {
-        ops.push(op)?;
-        sizes.push(size)?;
+        ops.push_reserved(op);
+        sizes.push_reserved(size);
     }
-    Ok((ops, sizes))
+    Ok((List::of(ops), List::of(sizes)))
 }
 
 /// The program whose header and whose bytes after it are these, in a file of `size` bytes.

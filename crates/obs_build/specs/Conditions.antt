@@ -11,8 +11,8 @@ use Rattle.mltl_base.specs.declared.signal.Signal.{Signal}
 use Rattle.obs_verify.specs.Bound.{AreDifferent}
 use Rattle.mltl_base.specs.Kinds.{HaveOwnNames, ReadsSignals, kinds_of}
 
--- a specification that is unfolded can be built over columns: it is sound and without faults, and each signal has a name
--- and a column of its own
+-- a specification that is unfolded can be built over columns: it is sound and without faults, and each signal has a
+-- name and a column of its own
 pub record IsBuildable (spec : Expanded) (signals : List Signal) (columns : Columns) : Type 0 where
   pub sound : IsSound spec (length signals)
   pub faultless : All HasRanges (asked spec)

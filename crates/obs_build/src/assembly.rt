@@ -2,7 +2,7 @@
 
 ghost use Rattle.std.specs.Prelude.{◌≡◌, ◌≤◌, All, IfErr, IfOk, OnOk, length};
 ghost use Rattle.mltl_base.specs.Queues.{slot_count, worst_delays};
-ghost use Rattle.mltl_base.specs.Subformulas.{IsGraphOf};
+ghost use Rattle.mltl_base.specs.Subformulas.{IsGraphOf, IsTensed};
 ghost use Rattle.plain_nodes.specs.Nodes.{AreSound, trees};
 ghost use Rattle.plain_nodes.specs.Outputs.{NamesFormulas, asked, asked_in};
 ghost use Rattle.core_graph.specs.Limits.{AreFew};
@@ -60,6 +60,7 @@ pub fn build(
 fn graph_of(alloc: Global, spec: &Expanded, columns: &Columns) -> Result<Graph, BuildFault>
     requires nodes { AreSound (length columns.now.of_signal) spec.now.nodes }
     requires outs { All (NamesFormulas (trees spec.now.nodes)) spec.now.outs }
+    requires tensed { All IsTensed (asked spec.now) }
     ensures graph { IfOk result
         (λ graph. IsGraphOf (asked_in columns.now.of_signal spec.now) graph) }
     ensures few { OnOk result (AreFew (asked_in columns.now.of_signal spec.now)) }

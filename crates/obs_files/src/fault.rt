@@ -6,6 +6,8 @@ ghost use Rattle.obs_files.specs.Faults.{of_reading, of_verifying};
 use mltl_base::Part;
 use obs_binary::ReadFault;
 use obs_verify::VerifyFault;
+use std::error::Error;
+use std::fmt;
 
 /// What is wrong with a program: with its bytes, up to `SignalBytes`, or with its instructions. Numbers count from 0.
 #[derive(Clone, Copy)]
@@ -56,6 +58,28 @@ pub enum FileFault {
     /// Out of memory.
     Memory,
 }
+
+impl fmt::Display for FileFault {
+    ghost use Rattle.std.specs.Prelude.{Some};
+    ghost use Rattle.obs_files.specs.Texts.{file_fault_text};
+
+    ghost output = { λ fault. Some (file_fault_text fault) };
+
+    fn fmt<W: fmt::Write>(&self, f: &mut fmt::Formatter<W>) -> fmt::Result {
+        match *self {
+            FileFault::Program(why) => write!(f, "program: {why}"),
+            FileFault::Memory => write!(f, "out of memory"),
+        }
+    }
+}
+
+impl fmt::Debug for FileFault {
+    fn fmt<W: fmt::Write>(&self, f: &mut fmt::Formatter<W>) -> fmt::Result {
+        fmt::Display::fmt(self, f)
+    }
+}
+
+impl Error for FileFault {}
 
 impl From<ReadFault> for FileFault {
     ghost from_gives = { λ fault told. told ≡ of_reading fault };

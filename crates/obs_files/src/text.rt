@@ -2,12 +2,15 @@
 
 ghost use Rattle.std.specs.Prelude.{◌≡◌, ◌+◌, ◌≤◌, ◌++◌, decimal, length};
 ghost use Rattle.arrayvec.specs.ArrayVec.{array_vec_len};
-ghost use Rattle.obs_files.specs.Texts.{fault_text, numbered, part_name, parted};
+ghost use Rattle.obs_files.specs.Texts.{fault_text};
+ghost use Rattle.obs_verify.specs.FaultTexts.{numbered, parted};
 
 use crate::ProgramFault;
 use arrayvec::ArrayVec;
 use itoa::Buffer;
 use mltl_base::Part;
+use obs_verify::name_of_part;
+use std::{fmt, str};
 
 /// The bytes of a text.
 type Text = ArrayVec<u8, 40>;
@@ -20,6 +23,19 @@ impl ProgramFault {
         let mut text = ArrayVec::new();
         add_fault(&mut text, self);
         text
+    }
+}
+
+impl fmt::Display for ProgramFault {
+    ghost use Rattle.std.specs.Prelude.{Some};
+    ghost use Rattle.obs_files.specs.Texts.{fault_text};
+
+    ghost output = { λ fault. Some (fault_text fault) };
+
+    fn fmt<W: fmt::Write>(&self, f: &mut fmt::Formatter<W>) -> fmt::Result {
+        let text = self.text();
+        let text = str::from_utf8(&text).map_err(|_| fmt::Error)?;
+        write!(f, "{text}")
     }
 }
 
@@ -67,17 +83,6 @@ fn add_parted(text: &mut Text, name: &[u8], part: Part, n: u32)
     add(text, name_of_part(part).as_bytes());
     add(text, b" ");
     add_number(text, u64::from(n));
-}
-
-fn name_of_part(part: Part) -> &'static str
-    ensures text { result.now ≡ part_name part }
-    ensures short { length result.now ≡ 2 }
-{
-    match part {
-        Part::Bz => "bz",
-        Part::Ft => "ft",
-        Part::Pt => "pt",
-    }
 }
 
 /// Puts a number after a text that has room for it.

@@ -1,43 +1,19 @@
 -- Names of signals as they are put into a set, and the numbers that are free beside them.
-use Rattle.std.proofs.Common.{◌≡◌, ℕ, zero, suc, ◌+◌, ◌<◌, Bool, true, false, cond, not, List, [], ◌∷◌, ◌++◌, length, take, get_or, filter, refl, ap, sym, ◌∙◌, arith}
-use Rattle.std.specs.Prelude.{◌||◌, Vec}
-use Rattle.std.specs.Bool.{MatchBool}
-use Rattle.std.specs.List.{list_any, range_with_len}
-use Rattle.std.specs.List.Sorted.{IsPermutation}
+use Rattle.std.proofs.Common.{◌≡◌, ℕ, zero, suc, ◌+◌, ◌<◌, Bool, true, false, cond, List, [], ◌∷◌, ◌++◌, length, take, get_or, filter, refl, ap, sym, ◌∙◌, arith}
+use Rattle.std.specs.Prelude.{◌||◌}
+use Rattle.std.specs.List.{range_with_len}
 use Rattle.std.specs.Str.{bytes_eq}
-use Rattle.std.specs.declared.alloc.Global.{Global}
 use Rattle.std.proofs.lemmas.List.{append-nil, take_more}
 use Rattle.std.proofs.lemmas.List.Elements.{filter-append}
-use Rattle.std.proofs.lemmas.List.Sorted.{list_any-IsPermutation}
-use Rattle.std.proofs.lemmas.Slice.Eq.{bytes_eq-Decides}
 use Rattle.mltl_base.specs.declared.program.StoredSignal.{StoredSignal}
 use Rattle.obs_verify.proofs.SignalLaws.{any-push}
 use Rattle.obs_show.specs.Naming.{is_signal_name}
-
-is_true : (b : Bool) → false ≡ not b → b ≡ true
-is_true true h = refl
-is_true false h = absurd (cc)
 
 swapped : (a b : Bool) → (a || b) ≡ (b || a)
 swapped true true = refl
 swapped true false = refl
 swapped false true = refl
 swapped false false = refl
-
--- a name that is there already adds nothing
-there : (b rest : Bool) → (b ≡ true → rest ≡ true) → rest ≡ (b || rest)
-there true rest h = h refl
-there false rest h = refl
-
--- a set of names after a name was put into it
-pub inserted : (old new : List (Vec ℕ Global)) (key : Vec ℕ Global) (added : Bool) (name : List ℕ)
-    → added ≡ not (list_any (λ k. bytes_eq key.items k.items) old) → MatchBool added (IsPermutation (key ∷ old) new) (new ≡ old)
-    → list_any (λ k. bytes_eq name k.items) new ≡ (bytes_eq name key.items || list_any (λ k. bytes_eq name k.items) old)
-inserted old new key true name is puts = sym (list_any-IsPermutation (λ k. bytes_eq name k.items) (key ∷ old) new puts)
-inserted old new key false name is same =
-    ap (list_any (λ k. bytes_eq name k.items)) same
-    ∙ there (bytes_eq name key.items) (list_any (λ k. bytes_eq name k.items) old) (λ h.
-    ap (λ (bytes : List ℕ). list_any (λ k. bytes_eq bytes k.items) old) ((bytes_eq-Decides name key.items).0 h) ∙ is_true _ is)
 
 -- the names of signals, one more at a time
 pub one_more_name : (signals : List StoredSignal) (i : ℕ) (d : StoredSignal) (name : List ℕ) → i < length signals

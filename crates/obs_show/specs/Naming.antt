@@ -1,7 +1,8 @@
--- What the instructions of a program are called as text: an operation by a defined name, other instructions by what they
--- read.
+-- What the instructions of a program are called as text: an operation by a defined name, other instructions by what
+-- they read.
 
-use Rattle.std.specs.Prelude.{ℕ, ◌+◌, ◌==◌, Bool, true, false, not, if◌then◌else◌, Option, Some, None, List, [], ◌∷◌, ◌++◌, length, take, filter, count_by, slice_get, slice_index, codes, decimal}
+use Rattle.std.specs.Prelude.{ℕ, ◌+◌, ◌==◌, Bool, true, false, not, if◌then◌else◌, Option, Some, None, List, [], ◌∷◌}
+use Rattle.std.specs.Prelude.{◌++◌, length, take, filter, count_by, slice_get, slice_index, codes, decimal}
 use Rattle.std.specs.List.{list_any, range_with_len}
 use Rattle.std.specs.Str.{bytes_eq}
 use Rattle.mltl_base.specs.declared.operators.BzOp as bz
@@ -56,7 +57,8 @@ is_signal_name signals name = list_any (λ signal. bytes_eq name signal.name) si
 
 -- the numbers n, by rising n, for which dn isn't a signal's name; each signal may take one of them
 abbrev pub free_numbers : List StoredSignal → ℕ → List ℕ
-free_numbers signals needed = filter (λ n. not (is_signal_name signals (numbered_name n))) (range_with_len 0 (needed + length signals))
+free_numbers signals needed =
+    filter (λ n. not (is_signal_name signals (numbered_name n))) (range_with_len 0 (needed + length signals))
 
 -- the defined name of operation k of a program, counted from 0 over all its parts
 abbrev pub defined_name : Program → ℕ → List ℕ
@@ -72,7 +74,8 @@ ft_name program i = defined_name program (bz_operations program.bz + ft_operatio
 
 -- those of past time follow the ones of future time
 abbrev pub pt_name : Program → ℕ → List ℕ
-pt_name program i = defined_name program (bz_operations program.bz + ft_operations program.ft + pt_operations (take i program.pt))
+pt_name program i =
+    defined_name program (bz_operations program.bz + ft_operations program.ft + pt_operations (take i program.pt))
 
 -- the name of the signal that stands in a column
 abbrev pub name_in : List StoredSignal → ℕ → List ℕ

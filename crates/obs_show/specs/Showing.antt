@@ -1,13 +1,15 @@
 -- How the code keeps what instructions are called, and what it writes.
 
-use Rattle.std.specs.Prelude.{◌≡◌, ℕ, ◌+◌, ◌<◌, Bool, Option, Some, None, List, [], length, take, count_by, slice_index, slice_index_or, MatchOption}
+use Rattle.std.specs.Prelude.{◌≡◌, ℕ, ◌+◌, ◌<◌, Bool, Option, Some, None, List, [], length, take, count_by, slice_index}
+use Rattle.std.specs.Prelude.{slice_index_or, MatchOption}
 use Rattle.mltl_base.specs.declared.interval.Part.{Part}
 use Rattle.mltl_base.specs.declared.interval.Part.TheVariants.{Bz, Ft, Pt}
 use Rattle.mltl_base.specs.declared.program.Program.{Program}
 use Rattle.mltl_base.specs.declared.program.StoredSignal.{StoredSignal}
 use Rattle.obs_show.specs.declared.naming.Naming.{Naming as Kept}
 use Rattle.obs_show.specs.Lines.{Reference, Form, Line}
-use Rattle.obs_show.specs.Naming.{bz_operations, bz_reference, free_numbers, ft_operations, ft_reference, name_in, operations, pt_operations, pt_reference}
+use Rattle.obs_show.specs.Naming.{bz_operations, bz_reference, free_numbers, ft_operations, ft_reference, name_in}
+use Rattle.obs_show.specs.Naming.{operations, pt_operations, pt_reference}
 use Rattle.obs_show.specs.Text.{form_text, line_text}
 
 -- a list has these numbers at the places below its length

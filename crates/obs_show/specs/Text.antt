@@ -1,6 +1,7 @@
 -- A program as the text of a specification: its lines, and how each is written.
 
-use Rattle.std.specs.Prelude.{ℕ, Bool, true, false, if◌then◌else◌, Option, Some, None, List, [], ◌++◌, map, option_map, codes, decimal}
+use Rattle.std.specs.Prelude.{ℕ, Bool, true, false, if◌then◌else◌, Option, Some, None, List, [], ◌++◌, map, option_map}
+use Rattle.std.specs.Prelude.{codes, decimal}
 use Rattle.std.specs.Fmt.{signed_decimal}
 use Rattle.std.specs.List.{enumerate_from, filter_map, flat_map}
 use Rattle.std.specs.Str.{bytes_eq}
@@ -17,34 +18,47 @@ use Rattle.mltl_base.specs.declared.operators.PtOp as pt
 use Rattle.mltl_base.specs.declared.program.Out as out
 use Rattle.mltl_base.specs.declared.program.Program.{Program}
 use Rattle.mltl_base.specs.declared.program.StoredSignal.{StoredSignal}
-use Rattle.obs_show.specs.Lines.{Reference, always, named, number, Form, minus, arith, compare, negation, logic, between, Line, input, define, formula, contract}
+use Rattle.obs_show.specs.Lines.{Reference, always, named, number, Form, minus, arith, compare, negation, logic}
+use Rattle.obs_show.specs.Lines.{between, Line, input, define, formula, contract}
 use Rattle.obs_show.specs.Naming.{bz_name, bz_reference, ft_name, ft_reference, pt_name, pt_reference}
 
 -- the form of an operation of the Booleanizer
 abbrev pub bz_form : Program → bz.BzOp → Option Form
 bz_form program (bz.TheVariants.Neg a) = Some (minus (bz_reference program a))
-bz_form program (bz.TheVariants.Add a b) = Some (arith arith_op.TheVariants.Add (bz_reference program a) (bz_reference program b))
-bz_form program (bz.TheVariants.Sub a b) = Some (arith arith_op.TheVariants.Sub (bz_reference program a) (bz_reference program b))
-bz_form program (bz.TheVariants.Mul a b) = Some (arith arith_op.TheVariants.Mul (bz_reference program a) (bz_reference program b))
-bz_form program (bz.TheVariants.Div a b) = Some (arith arith_op.TheVariants.Div (bz_reference program a) (bz_reference program b))
-bz_form program (bz.TheVariants.Rem a b) = Some (arith arith_op.TheVariants.Rem (bz_reference program a) (bz_reference program b))
-bz_form program (bz.TheVariants.Eq a b) = Some (compare compare_op.TheVariants.Eq (bz_reference program a) (bz_reference program b))
-bz_form program (bz.TheVariants.Lt a b) = Some (compare compare_op.TheVariants.Lt (bz_reference program a) (bz_reference program b))
-bz_form program (bz.TheVariants.Le a b) = Some (compare compare_op.TheVariants.Le (bz_reference program a) (bz_reference program b))
+bz_form program (bz.TheVariants.Add a b) =
+    Some (arith arith_op.TheVariants.Add (bz_reference program a) (bz_reference program b))
+bz_form program (bz.TheVariants.Sub a b) =
+    Some (arith arith_op.TheVariants.Sub (bz_reference program a) (bz_reference program b))
+bz_form program (bz.TheVariants.Mul a b) =
+    Some (arith arith_op.TheVariants.Mul (bz_reference program a) (bz_reference program b))
+bz_form program (bz.TheVariants.Div a b) =
+    Some (arith arith_op.TheVariants.Div (bz_reference program a) (bz_reference program b))
+bz_form program (bz.TheVariants.Rem a b) =
+    Some (arith arith_op.TheVariants.Rem (bz_reference program a) (bz_reference program b))
+bz_form program (bz.TheVariants.Eq a b) =
+    Some (compare compare_op.TheVariants.Eq (bz_reference program a) (bz_reference program b))
+bz_form program (bz.TheVariants.Lt a b) =
+    Some (compare compare_op.TheVariants.Lt (bz_reference program a) (bz_reference program b))
+bz_form program (bz.TheVariants.Le a b) =
+    Some (compare compare_op.TheVariants.Le (bz_reference program a) (bz_reference program b))
 bz_form program op = None
 
 -- the form of an operation of future time
 abbrev pub ft_form : Program → ft.FtOp → Option Form
 ft_form program (ft.TheVariants.Not g) = Some (negation (ft_reference program g))
-ft_form program (ft.TheVariants.And l r) = Some (logic logic_op.TheVariants.And (ft_reference program l) (ft_reference program r))
-ft_form program (ft.TheVariants.Until l r window) = Some (between between_op.TheVariants.U window (ft_reference program l) (ft_reference program r))
+ft_form program (ft.TheVariants.And l r) =
+    Some (logic logic_op.TheVariants.And (ft_reference program l) (ft_reference program r))
+ft_form program (ft.TheVariants.Until l r window) =
+    Some (between between_op.TheVariants.U window (ft_reference program l) (ft_reference program r))
 ft_form program op = None
 
 -- the form of an operation of past time
 abbrev pub pt_form : Program → pt.PtOp → Option Form
 pt_form program (pt.TheVariants.Not g) = Some (negation (pt_reference program g))
-pt_form program (pt.TheVariants.And l r) = Some (logic logic_op.TheVariants.And (pt_reference program l) (pt_reference program r))
-pt_form program (pt.TheVariants.Since l r window) = Some (between between_op.TheVariants.S window (pt_reference program l) (pt_reference program r))
+pt_form program (pt.TheVariants.And l r) =
+    Some (logic logic_op.TheVariants.And (pt_reference program l) (pt_reference program r))
+pt_form program (pt.TheVariants.Since l r window) =
+    Some (between between_op.TheVariants.S window (pt_reference program l) (pt_reference program r))
 pt_form program op = None
 
 -- the line of a signal
@@ -74,8 +88,10 @@ reference_in program Pt i = pt_reference program i
 
 -- the line of output k
 abbrev pub output_line : Program → ℕ → out.Out → Line
-output_line program k (out.TheVariants.Formula engine i name) = formula engine (label_of k name) (reference_in program engine i)
-output_line program k (out.TheVariants.Contract engine i j name) = contract engine (label_of k name) (reference_in program engine i) (reference_in program engine j)
+output_line program k (out.TheVariants.Formula engine i name) =
+    formula engine (label_of k name) (reference_in program engine i)
+output_line program k (out.TheVariants.Contract engine i j name) =
+    contract engine (label_of k name) (reference_in program engine i) (reference_in program engine j)
 
 -- the lines that a rule gives to members with their numbers, which count from 0
 abbrev pub lines_by : {X : Type 0} → (ℕ → X → Option Line) → List X → List Line
@@ -166,9 +182,11 @@ label_text (Some name) = name ++ codes ": "
 abbrev pub line_text : Line → List ℕ
 line_text (input name truth) = codes "INPUT " ++ name ++ codes ": " ++ kind_text truth ++ codes ";\n"
 line_text (define name form) = codes "DEFINE " ++ name ++ codes " := " ++ form_text form ++ codes ";\n"
-line_text (formula engine label x) = section_text engine ++ codes " " ++ label_text label ++ reference_text x ++ codes ";\n"
+line_text (formula engine label x) =
+    section_text engine ++ codes " " ++ label_text label ++ reference_text x ++ codes ";\n"
 line_text (contract engine label x y) =
-    section_text engine ++ codes " " ++ label_text label ++ reference_text x ++ codes " => " ++ reference_text y ++ codes ";\n"
+    section_text engine ++ codes " " ++ label_text label ++ reference_text x ++ codes " => " ++ reference_text y
+    ++ codes ";\n"
 
 -- how lines are written, one after the other
 abbrev pub lines_text : List Line → List ℕ

@@ -55,7 +55,8 @@ ft_weight loaded before ft.TheVariants.True = 1
 ft_weight loaded before (ft.TheVariants.Load a) = slice_index loaded a
 ft_weight loaded before (ft.TheVariants.Not g) = operator_weight (slice_index before g) 0
 ft_weight loaded before (ft.TheVariants.And l r) = operator_weight (slice_index before l) (slice_index before r)
-ft_weight loaded before (ft.TheVariants.Until l r window) = operator_weight (slice_index before l) (slice_index before r)
+ft_weight loaded before (ft.TheVariants.Until l r window) =
+    operator_weight (slice_index before l) (slice_index before r)
 
 -- the weight of a past-time instruction, in the same way
 abbrev pub pt_weight : List ℕ → List ℕ → pt.PtOp → ℕ
@@ -63,7 +64,8 @@ pt_weight loaded before pt.TheVariants.True = 1
 pt_weight loaded before (pt.TheVariants.Load a) = slice_index loaded a
 pt_weight loaded before (pt.TheVariants.Not g) = operator_weight (slice_index before g) 0
 pt_weight loaded before (pt.TheVariants.And l r) = operator_weight (slice_index before l) (slice_index before r)
-pt_weight loaded before (pt.TheVariants.Since l r window) = operator_weight (slice_index before l) (slice_index before r)
+pt_weight loaded before (pt.TheVariants.Since l r window) =
+    operator_weight (slice_index before l) (slice_index before r)
 
 -- the weight of an output, from those of the instructions of both engines
 abbrev pub out_weight : List ℕ → List ℕ → out.Out → ℕ

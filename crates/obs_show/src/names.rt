@@ -7,7 +7,7 @@ ghost use Rattle.obs_show.specs.Naming.{free_numbers as free, is_signal_name, nu
 use itoa::{Buffer, Integer};
 use mltl_base::StoredSignal;
 use std::alloc::{AllocError, Global};
-use std::collections::HashSet;
+use std::collections::BTreeSet;
 
 /// Adds the digits of a number.
 pub(crate) fn add_number<I: Integer>(text: &mut Vec<u8>, n: I) -> Result<(), AllocError>
@@ -26,11 +26,11 @@ pub(crate) fn add_name(text: &mut Vec<u8>, n: usize) -> Result<(), AllocError>
 }
 
 /// The names of signals.
-fn signal_names(alloc: Global, signals: &[StoredSignal]) -> Result<HashSet<Vec<u8>>, AllocError>
+fn signal_names(alloc: Global, signals: &[StoredSignal]) -> Result<BTreeSet<Vec<u8>>, AllocError>
     ensures { IfOk result (λ names. (name : List ℕ)
         → has_name names name ≡ is_signal_name signals.now name) }
 {
-    let mut names = HashSet::new(alloc);
+    let mut names = BTreeSet::new(alloc);
     for signal in signals {
         let name = Vec::from_slice(alloc, signal.name.bytes())?;
         names.insert(name)?;

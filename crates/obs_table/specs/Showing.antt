@@ -15,11 +15,14 @@ field_of text (Some n) = text n
 
 -- the fields from operation to high
 abbrev pub shown_fields : Shown → List Field
-shown_fields shown = shown.name.now ∷ field_of signed_decimal shown.left ∷ field_of decimal shown.right ∷ field_of decimal shown.low ∷ field_of decimal shown.high ∷ []
+shown_fields shown =
+    shown.name.now ∷ field_of signed_decimal shown.left ∷ field_of decimal shown.right ∷ field_of decimal shown.low
+    ∷ field_of decimal shown.high ∷ []
 
 -- the fields from best to size
 abbrev pub figure_fields : Figures → List Field
-figure_fields figures = field_of decimal figures.best ∷ field_of decimal figures.worst ∷ field_of decimal figures.size ∷ []
+figure_fields figures =
+    field_of decimal figures.best ∷ field_of decimal figures.worst ∷ field_of decimal figures.size ∷ []
 
 -- this text was written in csv's default form, to memory and to the buffer before it, and the next line begins
 pub record HasText (lines : Lines) (text : List ℕ) : Type 0 where

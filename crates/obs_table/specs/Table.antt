@@ -25,7 +25,9 @@ blank = []
 
 -- the names of the columns
 abbrev pub columns : List Field
-columns = codes "engine" ∷ codes "number" ∷ codes "operation" ∷ codes "left" ∷ codes "right" ∷ codes "low" ∷ codes "high" ∷ codes "best" ∷ codes "worst" ∷ codes "size" ∷ []
+columns =
+    codes "engine" ∷ codes "number" ∷ codes "operation" ∷ codes "left" ∷ codes "right" ∷ codes "low" ∷ codes "high"
+    ∷ codes "best" ∷ codes "worst" ∷ codes "size" ∷ []
 
 -- the fields from operation to high of an instruction without operands: its name, and blanks
 abbrev pub bare : Field → List Field
@@ -77,7 +79,8 @@ pt_fields (pt.Since l r window) = temporal (codes "since") l r window
 -- the best delay, the worst delay and the size of future-time instruction i
 abbrev pub ft_figure_fields : Program → ℕ → List Field
 ft_figure_fields program i =
-    decimal (slice_index (best_delays program.ft) i) ∷ decimal (slice_index (worst_delays program.ft) i) ∷ decimal (slice_index program.sizes.ft i) ∷ []
+    decimal (slice_index (best_delays program.ft) i) ∷ decimal (slice_index (worst_delays program.ft) i)
+    ∷ decimal (slice_index program.sizes.ft i) ∷ []
 
 -- the size of past-time instruction i, which has no delays: their fields are blank
 abbrev pub pt_figure_fields : Program → ℕ → List Field
@@ -101,7 +104,8 @@ numbered record_of ops = map (λ p. record_of p.0 p.1) (enumerate_from 0 ops)
 
 -- the records of a program: the Booleanizer's, then future time's, then past time's
 abbrev pub records : Program → List (List Field)
-records program = numbered bz_record program.bz ++ (numbered (ft_record program) program.ft ++ numbered (pt_record program) program.pt)
+records program = numbered bz_record program.bz
+    ++ (numbered (ft_record program) program.ft ++ numbered (pt_record program) program.pt)
 
 -- the lines of records, as csv writes them by default
 abbrev pub lines : List (List Field) → List ℕ

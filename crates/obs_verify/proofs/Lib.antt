@@ -12,3 +12,4 @@ pub mod SoundOps
 pub mod UpgradeLaws
 pub mod WellRaised
 pub mod BoundOutputs
+pub mod NameSets

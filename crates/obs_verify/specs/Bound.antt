@@ -35,7 +35,11 @@ bound_signals (signal ∷ signals) (new ∷ columns) = record signal { column = 
 -- the program over rows of this width, with signal k in column k of the list
 abbrev pub bound : Program → ℕ → List ℕ → Program
 bound program width columns =
-    record program { width = width; bz = map (bound_op program.signals columns) program.bz; signals = bound_signals program.signals columns }
+    record program {
+      width = width;
+      bz = map (bound_op program.signals columns) program.bz;
+      signals = bound_signals program.signals columns;
+    }
 
 -- no two columns are the same
 abbrev pub AreDifferent : List ℕ → Type 0

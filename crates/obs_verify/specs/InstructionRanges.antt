@@ -3,7 +3,8 @@
 use Rattle.std.specs.Prelude.{ℕ, ◌≡◌, ◌<◌, pos, Ok, List, length, slice_index_or, ⊤}
 use Rattle.mltl_base.specs.declared.operators.BzOp as bz
 use Rattle.mltl_base.specs.Programs.{expressions, term_at}
-use Rattle.mltl_base.specs.Ranges.{Range, Ranged, divided, in_word, left_over, lessened, multiplied, negated, over, over_both, over_divisor, range, range_from, signal_range, summed}
+use Rattle.mltl_base.specs.Ranges.{Range, Ranged, divided, in_word, left_over, lessened, multiplied, negated, over}
+use Rattle.mltl_base.specs.Ranges.{over_both, over_divisor, range, range_from, signal_range, summed}
 
 -- the range of an earlier instruction
 abbrev pub range_at : List Range → ℕ → Ranged

@@ -9,3 +9,4 @@ pub mod Running
 pub mod Soundness
 pub mod Upgrade
 pub mod Reading
+pub mod FaultTexts

@@ -1,6 +1,7 @@
 -- What the engines rely on in a program.
 
-use Rattle.std.specs.Prelude.{◌≡◌, ℕ, ◌≤◌, ◌<◌, Option, Some, None, List, length, sum, slice_get, slice_index_or, All, ⊤}
+use Rattle.std.specs.Prelude.{◌≡◌, ℕ, ◌≤◌, ◌<◌, Option, Some, None, List, length, sum, slice_get, slice_index_or, All}
+use Rattle.std.specs.Prelude.{⊤}
 use Rattle.mltl_base.specs.declared.limits.TheConstants.{MAX_BOUND, MAX_SLOTS}
 use Rattle.mltl_base.specs.declared.operators.FtOp.TheVariants as ft
 use Rattle.mltl_base.specs.declared.operators.PtOp as pt
@@ -20,7 +21,8 @@ pub record RunsFuture (program : Program) : Type 0 where
   pub bounds : All (HasBounds MAX_BOUND) program.ft
   pub sizes : program.sizes.ft ≡ queue_lengths program.ft program.outs
   pub few : sum program.sizes.ft ≤ MAX_SLOTS
-  pub loads : (i k : ℕ) → i < length program.ft → slice_index_or program.ft i ft.True ≡ ft.Load k → IsTruthExpression (slice_get (expressions program.bz) k)
+  pub loads : (i k : ℕ) → i < length program.ft → slice_index_or program.ft i ft.True ≡ ft.Load k
+      → IsTruthExpression (slice_get (expressions program.bz) k)
 
 -- the operands of pt instruction i stand before it
 abbrev pub IsAfterPastOperands : ℕ → pt.PtOp → Type 0
@@ -40,4 +42,6 @@ pub record RunsPast (program : Program) : Type 0 where
   pub bounds : All (HasPastBounds MAX_BOUND) program.pt
   pub sizes : program.sizes.pt ≡ box_counts program.pt
   pub few : sum program.sizes.pt ≤ MAX_SLOTS
-  pub loads : (i k : ℕ) → i < length program.pt → slice_index_or program.pt i pt.TheVariants.True ≡ pt.TheVariants.Load k → IsTruthExpression (slice_get (expressions program.bz) k)
+  pub loads : (i k : ℕ) → i < length program.pt
+      → slice_index_or program.pt i pt.TheVariants.True ≡ pt.TheVariants.Load k
+      → IsTruthExpression (slice_get (expressions program.bz) k)

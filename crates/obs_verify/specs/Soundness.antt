@@ -2,7 +2,8 @@
 
 use Rattle.std.specs.Prelude.{◌<◌, ℕ, Option, Some, None, List, [], ◌∷◌, ◌++◌, IsOk, slice_get, ⊤}
 use Rattle.mltl_base.specs.declared.operators.BzOp.{BzOp}
-use Rattle.mltl_base.specs.declared.operators.BzOp.TheVariants.{Column, IsTrue, Const, Neg, Add, Sub, Mul, Div, Rem, Eq, Lt, Le}
+use Rattle.mltl_base.specs.declared.operators.BzOp.TheVariants.{Column, IsTrue, Const, Neg, Add, Sub, Mul, Div, Rem, Eq}
+use Rattle.mltl_base.specs.declared.operators.BzOp.TheVariants.{Lt, Le}
 use Rattle.mltl_base.specs.Atoms.{negative, plus, minus, times, quotient, remainder}
 use Rattle.mltl_base.specs.Programs.{Expression, whole, truth, expression_of, term_at}
 use Rattle.mltl_base.specs.Ranges.{range}

@@ -1,6 +1,7 @@
 -- A program of version 1 with a stored signal for each column that its instructions read.
 
-use Rattle.std.specs.Prelude.{ℕ, ◌≡◌, ◌==◌, Bool, true, false, ◌++◌, if◌then◌else◌, Option, Some, None, List, [], ◌∷◌, length, codes, decimal, ⊤}
+use Rattle.std.specs.Prelude.{ℕ, ◌≡◌, ◌==◌, Bool, true, false, ◌++◌, if◌then◌else◌, Option, Some, None, List, [], ◌∷◌}
+use Rattle.std.specs.Prelude.{length, codes, decimal, ⊤}
 use Rattle.std.specs.List.{filter_map, range_with_len}
 use Rattle.mltl_base.specs.declared.operators.BzOp as bz
 use Rattle.mltl_base.specs.declared.program.Program.{Program}
@@ -55,9 +56,11 @@ clashes earlier op = false
 -- the number of the first such instruction, after those before
 unfoldable pub first_clash : List bz.BzOp → List bz.BzOp → Option ℕ
 first_clash earlier [] = None
-first_clash earlier (op ∷ ops) = if clashes earlier op then Some (length earlier) else first_clash (earlier ++ op ∷ []) ops
+first_clash earlier (op ∷ ops) =
+    if clashes earlier op then Some (length earlier) else first_clash (earlier ++ op ∷ []) ops
 
--- where one column of a program of version 1 is read in both ways, there is no program of version 2: the instruction that shows it
+-- where one column of a program of version 1 is read in both ways, there is no program of version 2: the instruction
+-- that shows it
 abbrev pub clash_of : Program → Option ℕ
 clash_of program = if program.version == 2 then None else first_clash [] program.bz
 

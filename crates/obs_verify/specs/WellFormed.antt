@@ -1,6 +1,8 @@
 -- The first fault of an observer program, by eight rules in order. A program without a fault is well-formed.
 
-use Rattle.std.specs.Prelude.{ℕ, ◌≡◌, ◌==◌, Bool, true, false, ◌&&◌, ◌||◌, not, if◌then◌else◌, nat_lt, nat_le, Option, Some, None, List, [], ◌∷◌, length, take, slice_get, slice_index, suc, ◌≢◌, Result, Ok, Err, MatchResult}
+use Rattle.std.specs.Prelude.{ℕ, ◌≡◌, ◌==◌, Bool, true, false, ◌&&◌, ◌||◌, not, if◌then◌else◌, nat_lt, nat_le, Option}
+use Rattle.std.specs.Prelude.{Some, None, List, [], ◌∷◌, length, take, slice_get, slice_index, suc, ◌≢◌, Result, Ok}
+use Rattle.std.specs.Prelude.{Err, MatchResult}
 use Rattle.std.specs.List.{list_any}
 use Rattle.std.specs.Str.{bytes_eq}
 use Rattle.mltl_base.specs.declared.interval.Engine.TheVariants as engine
@@ -18,7 +20,9 @@ use Rattle.mltl_base.specs.Programs.{expressions, term_at}
 use Rattle.mltl_base.specs.Queues.{worst_delays, queue_lengths, box_counts, slot_count}
 use Rattle.mltl_base.specs.Ranges.{Ranged, divisor, wide, range}
 use Rattle.obs_verify.specs.declared.fault.VerifyFault.{VerifyFault}
-use Rattle.obs_verify.specs.declared.fault.VerifyFault.TheVariants.{Width, Signal, Operand, Interval as BadInterval, Divisor, Range, TooLate, Output, Size, TooManySlots, Memory}
+use Rattle.obs_verify.specs.declared.fault.VerifyFault.TheVariants.{Width, Signal, Operand, Interval as BadInterval}
+use Rattle.obs_verify.specs.declared.fault.VerifyFault.TheVariants.{Divisor, Range, TooLate, Output, Size, TooManySlots}
+use Rattle.obs_verify.specs.declared.fault.VerifyFault.TheVariants.{Memory}
 
 -- no fault where a test holds
 abbrev pub unless : Bool → VerifyFault → Option VerifyFault
@@ -77,7 +81,8 @@ is_whole_before program i a = is_whole (slice_get (take i program.bz) a)
 
 -- a signal of this kind stands in the column
 abbrev pub has_kind : List StoredSignal → ℕ → Bool → Bool
-has_kind signals c truth = list_any (λ signal. (signal.column == c) && (if truth then signal.truth else not signal.truth)) signals
+has_kind signals c truth =
+    list_any (λ signal. (signal.column == c) && (if truth then signal.truth else not signal.truth)) signals
 
 -- the column is one of a row, and in version 2 that of a stored signal of this kind
 abbrev pub is_column_of : Program → ℕ → Bool → Bool
@@ -108,7 +113,9 @@ range_fault i (Err wide) = Some (Range i)
 
 -- the fault of instruction i of the Booleanizer
 abbrev pub bz_fault : Program → ℕ → bz.BzOp → Option VerifyFault
-bz_fault program i op = or_else (unless (has_operands program i op) (Operand Bz i)) (range_fault i (range (term_at (expressions program.bz) i)))
+bz_fault program i op =
+    or_else (unless (has_operands program i op) (Operand Bz i))
+    (range_fault i (range (term_at (expressions program.bz) i)))
 
 -- 4. Instructions of the future-time engine load truths and read earlier instructions, over intervals within the limit;
 -- none is too late.
@@ -135,7 +142,9 @@ has_future_window (ft.TheVariants.Until l r window) = is_window window
 
 -- the fault of instruction i of the future-time engine, by its operands or its interval
 abbrev pub ft_fault : Program → ℕ → ft.FtOp → Option VerifyFault
-ft_fault program i op = or_else (unless (has_future_operands program i op) (Operand Ft i)) (unless (has_future_window op) (BadInterval Ft i))
+ft_fault program i op =
+    or_else (unless (has_future_operands program i op) (Operand Ft i))
+    (unless (has_future_window op) (BadInterval Ft i))
 
 -- the fault of instruction i whose worst-case delay is over the limit
 abbrev pub late_fault : ℕ → ℕ → Option VerifyFault
@@ -161,7 +170,8 @@ has_past_window (pt.TheVariants.Since l r window) = is_window window
 
 -- the fault of instruction i of the past-time engine, by its operands or its interval
 abbrev pub pt_fault : Program → ℕ → pt.PtOp → Option VerifyFault
-pt_fault program i op = or_else (unless (has_past_operands program i op) (Operand Pt i)) (unless (has_past_window op) (BadInterval Pt i))
+pt_fault program i op =
+    or_else (unless (has_past_operands program i op) (Operand Pt i)) (unless (has_past_window op) (BadInterval Pt i))
 
 -- 6. Outputs report instructions of their engine.
 

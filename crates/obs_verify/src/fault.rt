@@ -1,9 +1,12 @@
 //! Why a program isn't well-formed.
 
-ghost use Rattle.std.specs.Prelude.{◌≡◌};
+ghost use Rattle.std.specs.Prelude.{◌≡◌, length};
+ghost use Rattle.obs_verify.specs.FaultTexts.{part_name};
 
 use mltl_base::Part;
 use std::alloc::{AllocError, AllocFailed};
+use std::error::Error;
+use std::fmt;
 
 /// The first fault of a program, by the rules of well-formed programs in their order. Numbers count from 0.
 #[derive(Clone, Copy)]
@@ -29,6 +32,58 @@ pub enum VerifyFault {
     /// The instructions need too many slots and boxes.
     TooManySlots,
     Memory,
+}
+
+impl fmt::Display for VerifyFault {
+    ghost use Rattle.std.specs.Prelude.{Some};
+    ghost use Rattle.obs_verify.specs.FaultTexts.{verify_fault_text};
+
+    ghost output = { λ fault. Some (verify_fault_text fault) };
+
+    fn fmt<W: fmt::Write>(&self, f: &mut fmt::Formatter<W>) -> fmt::Result {
+        match *self {
+            VerifyFault::Width => write!(f, "width"),
+            VerifyFault::Signal(k) => write!(f, "signal {k}"),
+            VerifyFault::Operand(part, i) => {
+                let part = name_of_part(part);
+                write!(f, "operand {part} {i}")
+            }
+            VerifyFault::Interval(part, i) => {
+                let part = name_of_part(part);
+                write!(f, "interval {part} {i}")
+            }
+            VerifyFault::Divisor(i) => write!(f, "divisor {i}"),
+            VerifyFault::Range(i) => write!(f, "range {i}"),
+            VerifyFault::TooLate(i) => write!(f, "toolate {i}"),
+            VerifyFault::Output(k) => write!(f, "output {k}"),
+            VerifyFault::Size(part, i) => {
+                let part = name_of_part(part);
+                write!(f, "size {part} {i}")
+            }
+            VerifyFault::TooManySlots => write!(f, "toomanyslots"),
+            VerifyFault::Memory => write!(f, "out of memory"),
+        }
+    }
+}
+
+impl fmt::Debug for VerifyFault {
+    fn fmt<W: fmt::Write>(&self, f: &mut fmt::Formatter<W>) -> fmt::Result {
+        fmt::Display::fmt(self, f)
+    }
+}
+
+impl Error for VerifyFault {}
+
+/// The name of a part of a program, as faults tell it.
+pub fn name_of_part(part: Part) -> &'static str
+    ensures text { result.now ≡ part_name part }
+    ensures short { length result.now ≡ 2 }
+{
+    match part {
+        Part::Bz => "bz",
+        Part::Ft => "ft",
+        Part::Pt => "pt",
+    }
 }
 
 impl From<AllocError> for VerifyFault {

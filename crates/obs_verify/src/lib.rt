@@ -16,7 +16,7 @@ mod rules;
 mod signals;
 
 pub use checked::{Checked, rebind, upgrade, verify};
-pub use fault::{UpgradeFault, VerifyFault};
+pub use fault::{UpgradeFault, VerifyFault, name_of_part};
 pub use laws::{
     upgraded_programs_tell_the_same, well_formed_programs_are_sound, well_formed_programs_run,
 };

@@ -12,7 +12,7 @@ ghost use Rattle.obs_verify.specs.WellFormed.{IsAnswer, first_in, is_new_signal,
 use crate::fault::VerifyFault;
 use mltl_base::{Name, Program, StoredSignal};
 use std::alloc::{AllocError, Global};
-use std::collections::HashSet;
+use std::collections::BTreeSet;
 
 /// Which kinds of stored signals stand in a column.
 #[derive(Clone, Copy)]
@@ -22,7 +22,11 @@ pub struct Kinds {
 }
 
 /// Puts a name into a set, and says whether it is new there.
-fn insert_name(alloc: Global, names: &mut HashSet<Vec<u8>>, name: &Name) -> Result<bool, AllocError>
+fn insert_name(
+    alloc: Global,
+    names: &mut BTreeSet<Vec<u8>>,
+    name: &Name,
+) -> Result<bool, AllocError>
     ensures new { IfOk result (λ new. new ≡ not (has_name names.old name.now)) }
     ensures grown { IfOk result (λ new. new ≡ true
         → (bytes : List ℕ) → has_name names.new bytes
@@ -56,7 +60,7 @@ fn note_signals(alloc: Global, program: &Program, kinds: &mut [Kinds]) -> Result
     ensures answer { IsAnswer result (first_in (signal_fault program.now) 0 program.now.signals) }
     ensures kinds { OnOk result (AreKinds program.now.signals kinds.new) }
 {
-    let mut names = HashSet::new(alloc);
+    let mut names = BTreeSet::new(alloc);
     for (k, signal) in program.signals.as_slice().iter().enumerate() {
         check_signal(alloc, kinds, &mut names, k as u32, signal)?;
         note_kind(kinds, signal.column, signal.truth);
@@ -68,7 +72,7 @@ fn note_signals(alloc: Global, program: &Program, kinds: &mut [Kinds]) -> Result
 fn check_signal(
     alloc: Global,
     kinds: &[Kinds],
-    names: &mut HashSet<Vec<u8>>,
+    names: &mut BTreeSet<Vec<u8>>,
     k: u32,
     signal: &StoredSignal,
 ) -> Result<(), VerifyFault>

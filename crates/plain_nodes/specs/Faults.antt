@@ -3,7 +3,8 @@
 
 use Rattle.std.specs.Prelude.{◌≡◌, Option, Some, None, Ok, Err, All}
 use Rattle.mltl_base.specs.Atoms.{Term, Atom, is_true, equal, less, at_most, different, greater, at_least}
-use Rattle.mltl_base.specs.Formula.{Formula, truth, falsity, atom, negation, conjunction, disjunction, implication, equivalence, finally, globally, until, release, once, historically, since}
+use Rattle.mltl_base.specs.Formula.{Formula, truth, falsity, atom, negation, conjunction, disjunction, implication}
+use Rattle.mltl_base.specs.Formula.{equivalence, finally, globally, until, release, once, historically, since}
 use Rattle.mltl_base.specs.Ranges.{NoRange, Ranged, range}
 use Rattle.mltl_base.specs.Subformulas.{Asked, formulas_of}
 use Rattle.plain_nodes.specs.Nodes.{Tree, number, formula}

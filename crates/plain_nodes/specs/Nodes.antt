@@ -1,7 +1,8 @@
 -- Nodes of plain formulas: what they unfold to, and which are sound.
 -- A reader of the contracts needs this file.
 
-use Rattle.std.specs.Prelude.{◌≡◌, ℕ, ◌<◌, ◌≤◌, pos, Bool, true, false, Option, Some, None, List, [], ◌∷◌, ◌++◌, take, fold, slice_get, ⊤}
+use Rattle.std.specs.Prelude.{◌≡◌, ℕ, ◌<◌, ◌≤◌, pos, Bool, true, false, Option, Some, None, List, [], ◌∷◌, ◌++◌, take}
+use Rattle.std.specs.Prelude.{fold, slice_get, ⊤}
 use Rattle.mltl_base.specs.declared.limits.TheConstants.{MAX_BOUND}
 use Rattle.mltl_base.specs.declared.interval.Interval.{Interval}
 use Rattle.mltl_base.specs.declared.operators.ArithOp as arith
@@ -9,10 +10,13 @@ use Rattle.mltl_base.specs.declared.operators.CompareOp as compare
 use Rattle.mltl_base.specs.declared.operators.LogicOp as logic
 use Rattle.mltl_base.specs.declared.operators.WindowOp as window
 use Rattle.mltl_base.specs.declared.operators.BetweenOp as between
-use Rattle.mltl_base.specs.Atoms.{Term, column, constant, negative, plus, minus, times, quotient, remainder, Atom, is_true, equal, different, less, at_most, greater, at_least}
-use Rattle.mltl_base.specs.Formula.{Formula, truth, falsity, atom, negation, conjunction, disjunction, implication, equivalence, finally, globally, until, release, once, historically, since}
+use Rattle.mltl_base.specs.Atoms.{Term, column, constant, negative, plus, minus, times, quotient, remainder, Atom}
+use Rattle.mltl_base.specs.Atoms.{is_true, equal, different, less, at_most, greater, at_least}
+use Rattle.mltl_base.specs.Formula.{Formula, truth, falsity, atom, negation, conjunction, disjunction, implication}
+use Rattle.mltl_base.specs.Formula.{equivalence, finally, globally, until, release, once, historically, since}
 use Rattle.plain_nodes.specs.declared.nodes.Plain.{Plain}
-use Rattle.plain_nodes.specs.declared.nodes.Plain.TheVariants.{Truth, Flag, Number, Signal, Minus, Arith, Compare, Not, Logic, Window, Between}
+use Rattle.plain_nodes.specs.declared.nodes.Plain.TheVariants.{Truth, Flag, Number, Signal, Minus, Arith, Compare, Not}
+use Rattle.plain_nodes.specs.declared.nodes.Plain.TheVariants.{Logic, Window, Between}
 
 -- what a node unfolds to, over signals by their numbers
 pub data Tree : Type 0 where

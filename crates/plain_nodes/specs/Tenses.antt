@@ -2,7 +2,8 @@
 -- A reader of the contracts needs this file.
 
 use Rattle.std.specs.Prelude.{Bool, true, false, ◌||◌}
-use Rattle.mltl_base.specs.Formula.{Formula, truth, falsity, atom, negation, conjunction, disjunction, implication, equivalence, finally, globally, until, release, once, historically, since}
+use Rattle.mltl_base.specs.Formula.{Formula, truth, falsity, atom, negation, conjunction, disjunction, implication}
+use Rattle.mltl_base.specs.Formula.{equivalence, finally, globally, until, release, once, historically, since}
 
 -- an operator of the past is in the formula
 unfoldable pub has_past : Formula → Bool

@@ -45,14 +45,14 @@ started_more sizes nodes start i new count s fresh begins = record {
 }
 
 -- no boxes are apart, belong to any spans, and tell what no rows tell
-first_apart : (op : PtOp) (boxes : List Span) → boxes ≡ [] → HasBoxes op 0 boxes
+pub first_apart : (op : PtOp) (boxes : List Span) → boxes ≡ [] → HasBoxes op 0 boxes
 first_apart True boxes e = tt
 first_apart (Load k) boxes e = tt
 first_apart (Not g) boxes e = tt
 first_apart (And l r) boxes e = tt
 first_apart (Since l r window) boxes e = subst (λ (xs : List Span). AreApart window 0 0 xs) (sym e) (none_apart window 0)
 
-first_told : (op : PtOp) (table : Table) (boxes : List Span) → boxes ≡ [] → IsTold op table 0 boxes
+pub first_told : (op : PtOp) (table : Table) (boxes : List Span) → boxes ≡ [] → IsTold op table 0 boxes
 unfolding some_below
 first_told True table boxes e = tt
 first_told (Load k) table boxes e = tt
@@ -60,15 +60,15 @@ first_told (Not g) table boxes e = tt
 first_told (And l r) table boxes e = tt
 first_told (Since l r window) table boxes e = subst (λ (xs : List Span). IsTold (Since l r window) table 0 xs) (sym e) (record { each = λ u h. refl })
 
-first_belongs : (boxes : Boxes) (spans : List Span) → boxes ≡ no_boxes → Belongs boxes spans
+pub first_belongs : (boxes : Boxes) (spans : List Span) → boxes ≡ no_boxes → Belongs boxes spans
 first_belongs boxes spans e = subst (λ (b : Boxes). Belongs b spans) (sym e) (record { oldest_in = λ h. h; used_in = omega arith })
 
 -- new nodes stand for no rows
-pub made_stands : (program : Program) (pt : Pt) → RunsPast program → length pt.nodes.items ≡ length program.pt → Started program.sizes.pt pt.nodes.items (length pt.slab.items) (length program.pt) → pt.rows ≡ 0
-    → length pt.slab.items ≡ sum program.sizes.pt → Stands program [] pt
+pub made_stands : (program : Program) (pt : Pt) → RunsPast program → length pt.nodes ≡ length program.pt → Started program.sizes.pt pt.nodes (length pt.slab) (length program.pt) → pt.rows ≡ 0
+    → length pt.slab ≡ sum program.sizes.pt → Stands program [] pt
 made_stands program pt runs same_length started none total =
-    let nodes : List Node = pt.nodes.items in
-    let slab : List Span = pt.slab.items in
+    let nodes : List Node = pt.nodes in
+    let slab : List Span = pt.slab in
     let nothing : (i : ℕ) → i < length program.pt → boxes_in slab (node_at nodes i) ≡ [] =
     λ i h. none_kept (node_at nodes i).boxes (part slab (node_at nodes i).seat) (ap (λ (b : Boxes). b.used) (started.fresh i h).boxes) in
     stands_with program [] pt

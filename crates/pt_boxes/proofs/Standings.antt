@@ -15,12 +15,12 @@ use Rattle.pt_boxes.specs.Standing.{Stands, boxes_at, instruction_count, meaning
 use Rattle.pt_boxes.specs.Tables.{HasTable, IsTold, Table}
 use Rattle.pt_boxes.proofs.Rings.{length-kept}
 
-pub stands_with : (program : Program) (rows : List Row) (pt : Pt) → AreKept program.pt (length rows) pt.nodes.items pt.slab.items → pt.rows ≡ length rows
-    → HasTable program.pt (meaning_of program rows) (length rows) pt.nodes.items pt.slab.items → length pt.slab.items ≡ sum program.sizes.pt → Stands program rows pt
+pub stands_with : (program : Program) (rows : List Row) (pt : Pt) → AreKept program.pt (length rows) pt.nodes pt.slab → pt.rows ≡ length rows
+    → HasTable program.pt (meaning_of program rows) (length rows) pt.nodes pt.slab → length pt.slab ≡ sum program.sizes.pt → Stands program rows pt
 unfolding boxes_at instruction_count now_at room_at room_total row_count
 stands_with program rows pt kept taken has total =
-    let nodes = pt.nodes.items in
-    let slab = pt.slab.items in
+    let nodes = pt.nodes in
+    let slab = pt.slab in
     let same = kept.same_length in
     record {
       seated = kept;
@@ -46,14 +46,14 @@ told_of (Not g) table n boxes h = tt
 told_of (And l r) table n boxes h = tt
 told_of (Since l r window) table n boxes h = h l r window refl
 
-pub table_of : (program : Program) (rows : List Row) (pt : Pt) → Stands program rows pt → HasTable program.pt (meaning_of program rows) (length rows) pt.nodes.items pt.slab.items
+pub table_of : (program : Program) (rows : List Row) (pt : Pt) → Stands program rows pt → HasTable program.pt (meaning_of program rows) (length rows) pt.nodes pt.slab
 unfolding boxes_at now_at
 table_of program rows pt s = record {
-  told = λ i h. told_of (op_at program.pt i) (meaning_of program rows) (length rows) (boxes_in pt.slab.items (node_at pt.nodes.items i)) (λ l r window is. s.told i l r window h is);
+  told = λ i h. told_of (op_at program.pt i) (meaning_of program rows) (length rows) (boxes_in pt.slab (node_at pt.nodes i)) (λ l r window is. s.told i l r window h is);
   truths = λ i h some. s.now i h some;
 }
 
-pub total_of : (program : Program) (rows : List Row) (pt : Pt) → Stands program rows pt → length pt.slab.items ≡ sum program.sizes.pt
+pub total_of : (program : Program) (rows : List Row) (pt : Pt) → Stands program rows pt → length pt.slab ≡ sum program.sizes.pt
 unfolding room_total
 total_of program rows pt s = s.total
 

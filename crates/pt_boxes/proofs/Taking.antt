@@ -47,19 +47,19 @@ agree_last program rows row numbers runs given = λ i k v i_in is gives.
     ∙ sym (loaded_last program rows row k)
 
 pub row_stands : (program : Program) (rows : List Row) (row : Row) (old new : Pt) (numbers : List ℤ) → RunsPast program → numbers ≡ numbers_on row program.bz → new.rows ≡ length rows + 1
-    → TakesRow program.pt numbers (length rows) old.nodes.items old.slab.items new.nodes.items new.slab.items → length new.slab.items ≡ length old.slab.items → Stands program rows old → Stands program (rows ++ row ∷ []) new
+    → TakesRow program.pt numbers (length rows) old.nodes old.slab new.nodes new.slab → length new.slab ≡ length old.slab → Stands program rows old → Stands program (rows ++ row ∷ []) new
 row_stands program rows row old new numbers runs given taken takes long stands =
     let more : List Row = rows ++ row ∷ [] in
     let size : length more ≡ length rows + 1 = length_push rows row in
-    let has : HasTable program.pt (meaning_of program more) (length rows) old.nodes.items old.slab.items =
-    has_same program.pt (meaning_of program rows) (meaning_of program more) (length rows) old.nodes.items old.slab.items runs.order
+    let has : HasTable program.pt (meaning_of program more) (length rows) old.nodes old.slab =
+    has_same program.pt (meaning_of program rows) (meaning_of program more) (length rows) old.nodes old.slab runs.order
     (λ g t g_in t_in. meaning_stays program rows (row ∷ []) runs.order g t g_in t_in) (table_of program rows old stands) in
-    let table : HasTable program.pt (meaning_of program more) (length rows + 1) new.nodes.items new.slab.items =
+    let table : HasTable program.pt (meaning_of program more) (length rows + 1) new.nodes new.slab =
     takes.table (loaded_of program more) (meaning_of program more) (meaning_table program more (length rows + 1) runs.order) (agree_last program rows row numbers runs given) has in
     stands_with program more new
-    (subst (λ (k : ℕ). AreKept program.pt k new.nodes.items new.slab.items) (sym size) takes.kept)
+    (subst (λ (k : ℕ). AreKept program.pt k new.nodes new.slab) (sym size) takes.kept)
     (taken ∙ sym size)
-    (subst (λ (k : ℕ). HasTable program.pt (meaning_of program more) k new.nodes.items new.slab.items) (sym size) table)
+    (subst (λ (k : ℕ). HasTable program.pt (meaning_of program more) k new.nodes new.slab) (sym size) table)
     (long ∙ total_of program rows old stands)
 
 -- the work of a row by the sizes that the program stores

@@ -53,4 +53,5 @@ pub record IsKept (op : PtOp) (n : ℕ) (boxes : Boxes) (own : List Span) : Type
 pub record AreKept (ops : List PtOp) (n : ℕ) (nodes : List Node) (slab : List Span) : Type 0 where
   pub same_length : length nodes ≡ length ops
   pub laid : AreLaid nodes slab
-  pub kept : (i : ℕ) → i < length nodes → IsKept (op_at ops i) n (node_at nodes i).boxes (part slab (node_at nodes i).seat)
+  pub kept : (i : ℕ) → i < length nodes → IsKept (op_at ops i) n (node_at nodes i).boxes
+      (part slab (node_at nodes i).seat)

@@ -1,6 +1,7 @@
 -- Boxes: stretches of times at which a Since will hold if its left operand stays true.
 
-use Rattle.std.specs.Prelude.{◌≡◌, ℕ, suc, ◌+◌, ◌-◌, ◌<◌, ◌≤◌, nat_le, nat_lt, Bool, false, ◌&&◌, if◌then◌else◌, List, [], ◌∷◌, ◌++◌, ⊤}
+use Rattle.std.specs.Prelude.{◌≡◌, ℕ, suc, ◌+◌, ◌-◌, ◌<◌, ◌≤◌, nat_le, nat_lt, Bool, false, ◌&&◌, if◌then◌else◌, List}
+use Rattle.std.specs.Prelude.{[], ◌∷◌, ◌++◌, ⊤}
 use Rattle.std.specs.List.{list_any}
 use Rattle.mltl_base.specs.declared.interval.Interval.{Interval}
 use Rattle.mltl_base.specs.Kleene.{some_below, every_in}
@@ -28,7 +29,9 @@ pub record Tells (i : Interval) (p q : ℕ → Bool) (n : ℕ) (boxes : List Spa
 -- first starts at or past `low`, and each later one at least 2 after the end of the one before.
 unfoldable pub AreApart : Interval → ℕ → ℕ → List Span → Type 0
 AreApart i n low [] = ⊤
-AreApart i n low (s ∷ ss) = (low ≤ s.first) × (s.first + (i.hi - i.lo) ≤ s.last) × (n ≤ s.last + 1) × (s.last < n + i.hi) × AreApart i n (s.last + 2) ss
+AreApart i n low (s ∷ ss) =
+    (low ≤ s.first) × (s.first + (i.hi - i.lo) ≤ s.last) × (n ≤ s.last + 1) × (s.last < n + i.hi)
+    × AreApart i n (s.last + 2) ss
 
 -- the boxes without the first one where it ended before this time
 unfoldable pub without_ended : ℕ → List Span → List Span

@@ -17,7 +17,7 @@ use Rattle.pt_boxes.specs.Spans.{AreApart, Tells}
 
 -- how many instructions there are
 unfoldable pub instruction_count : Pt → ℕ
-instruction_count pt = length pt.nodes.items
+instruction_count pt = length pt.nodes
 
 -- how many rows were taken
 unfoldable pub row_count : Pt → ℕ
@@ -25,19 +25,19 @@ row_count pt = pt.rows
 
 -- instruction i at the last row
 unfoldable pub now_at : Pt → ℕ → Bool
-now_at pt i = (node_at pt.nodes.items i).truth
+now_at pt i = (node_at pt.nodes i).truth
 
 -- the boxes of instruction i, oldest first: none unless it is a Since
 unfoldable pub boxes_at : Pt → ℕ → List Span
-boxes_at pt i = boxes_in pt.slab.items (node_at pt.nodes.items i)
+boxes_at pt i = boxes_in pt.slab (node_at pt.nodes i)
 
 -- how many boxes it has room for
 unfoldable pub room_at : Pt → ℕ → ℕ
-room_at pt i = (node_at pt.nodes.items i).seat.size
+room_at pt i = (node_at pt.nodes i).seat.size
 
 -- the room of all instructions together
 unfoldable pub room_total : Pt → ℕ
-room_total pt = length pt.slab.items
+room_total pt = length pt.slab
 
 -- the formula of instruction i on the rows, by time
 abbrev pub meaning_of : Program → List Row → ℕ → ℕ → Bool
@@ -45,17 +45,19 @@ meaning_of program rows i t = sat rows (plain (formula_at program past i)) t
 
 -- the engine has taken the rows of this program
 pub record Stands (program : Program) (rows : List Row) (pt : Pt) : Type 0 where
-  pub seated : AreKept program.pt (length rows) pt.nodes.items pt.slab.items
+  pub seated : AreKept program.pt (length rows) pt.nodes pt.slab
   pub taken : row_count pt ≡ length rows
   -- each instruction holds at the last row exactly where its formula does
   pub count : instruction_count pt ≡ length program.pt
-  pub now : (i : ℕ) → i < length program.pt → 0 < length rows → now_at pt i ≡ meaning_of program rows i (length rows - 1)
+  pub now : (i : ℕ) → i < length program.pt → 0 < length rows
+      → now_at pt i ≡ meaning_of program rows i (length rows - 1)
   -- the room for boxes is fixed, and no instruction has more
   pub rooms : (i : ℕ) → i < length program.pt → room_at pt i ≡ boxes_of (op_at program.pt i)
   pub few : (i : ℕ) → i < length program.pt → length (boxes_at pt i) ≤ boxes_of (op_at program.pt i)
   -- the room of all together is as much as the program states
   pub total : room_total pt ≡ sum program.sizes.pt
   -- the boxes of a Since are long enough, lie apart, end from n - 1 to n - 1 + hi, and tell when it holds
-  pub apart : (i l r : ℕ) (window : Interval) → i < length program.pt → op_at program.pt i ≡ Since l r window → AreApart window (length rows) 0 (boxes_at pt i)
+  pub apart : (i l r : ℕ) (window : Interval) → i < length program.pt → op_at program.pt i ≡ Since l r window
+      → AreApart window (length rows) 0 (boxes_at pt i)
   pub told : (i l r : ℕ) (window : Interval) → i < length program.pt → op_at program.pt i ≡ Since l r window
       → Tells window (meaning_of program rows l) (meaning_of program rows r) (length rows) (boxes_at pt i)

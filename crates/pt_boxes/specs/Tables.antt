@@ -38,17 +38,20 @@ pub record HasTable (ops : List PtOp) (table : Table) (n : ℕ) (nodes : List No
 
 -- what instructions load is what the table of loaded truths has at time t
 abbrev pub AgreeOnLoads : List PtOp → List ℤ → Table → ℕ → Type 0
-AgreeOnLoads ops numbers loaded t = (i k : ℕ) (v : Bool) → i < length ops → op_at ops i ≡ Load k → IsTruthIn numbers k v → v ≡ loaded k t
+AgreeOnLoads ops numbers loaded t =
+    (i k : ℕ) (v : Bool) → i < length ops → op_at ops i ≡ Load k → IsTruthIn numbers k v → v ≡ loaded k t
 
 -- an instruction is to take the row at time `now`: the nodes before it hold its truths at that time, its boxes tell the
 -- table before it, and the table's next truth is that of the instruction
-pub record IsTurn (op : PtOp) (numbers : List ℤ) (loaded table : Table) (now : ℕ) (before : List Node) (boxes : List Span) : Type 0 where
+pub record IsTurn (op : PtOp) (numbers : List ℤ) (loaded table : Table) (now : ℕ) (before : List Node)
+    (boxes : List Span) : Type 0 where
   pub operands : (g : ℕ) → g < length before → (node_at before g).truth ≡ table g now
   pub told : IsTold op table now boxes
   pub here : table (length before) now ≡ op_truth op loaded table now
   pub loads : (k : ℕ) (v : Bool) → op ≡ Load k → IsTruthIn numbers k v → v ≡ loaded k now
 
 -- an instruction has taken the row at time `now`: its truth is that of the table, which its boxes tell from then on
-pub record TookTurn (op : PtOp) (table : Table) (now : ℕ) (before : List Node) (value : Bool) (boxes : List Span) : Type 0 where
+pub record TookTurn (op : PtOp) (table : Table) (now : ℕ) (before : List Node) (value : Bool)
+    (boxes : List Span) : Type 0 where
   pub told : IsTold op table (now + 1) boxes
   pub truth : value ≡ table (length before) now

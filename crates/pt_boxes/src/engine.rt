@@ -4,8 +4,10 @@ ghost use Rattle.std.specs.Prelude.{◌≡◌};
 ghost use Rattle.obs_verify.specs.Running.{RunsPast};
 
 use crate::boxes::{Boxes, Span};
+use crate::restart::restart;
 use crate::rows::{Node, row_of};
 use booleanizer::Bz;
+use fixed_list::Fixed;
 use mltl_base::Program;
 use obs_verify::Checked;
 use scq_ring::Seat;
@@ -16,13 +18,14 @@ use std::sync::ledger::Ledger;
 /// The truths of a program's past-time instructions at the last row, and the boxes of each Since in one slab.
 #[derive(Drop)]
 pub struct Pt {
-    nodes: Vec<Node>,
-    slab: Vec<Span>,
+    nodes: Fixed<Node>,
+    slab: Fixed<Span>,
     rows: u64,
 }
 
 impl Pt {
     ghost use Rattle.std.specs.Prelude.{ℕ, ◌+◌, ◌^◌, ◌<◌, ◌≤◌, List, [], ◌∷◌, ◌++◌, length, IfOk};
+    ghost use Rattle.mltl_base.specs.declared.limits.TheConstants.{MAX_MISSION};
     ghost use Rattle.mltl_base.specs.Atoms.{Row};
     ghost use Rattle.booleanizer.specs.Evaluation.{numbers_on};
     ghost use Rattle.pt_boxes.specs.Running.{row_work};
@@ -33,31 +36,41 @@ impl Pt {
         ensures stands { IfOk result (Stands checked.now []) }
     {
         let program = program_of(checked);
-        let mut nodes = Vec::new(alloc);
+        let sizes = program.sizes.pt.as_slice();
+        let mut nodes = Vec::with_capacity(alloc, sizes.len())?;
         let mut start = 0;
-        for size in program.sizes.pt.as_slice() {
+        for size in sizes {
             let size = *size as usize;
-            nodes.push(Node {
+            nodes.push_reserved(Node {
                 boxes: Boxes::none(),
                 truth: false,
                 seat: Seat { start, size },
-            })?;
+            });
             start += size;
         }
-        let slab = vec![in alloc; Span { first: 0, last: 0 }; start]?;
+        let slab = Fixed::filled(alloc, Span { first: 0, last: 0 }, start)?;
         Ok(Pt {
-            nodes,
+            nodes: Fixed::of(nodes),
             slab,
             rows: 0,
         })
+    }
+
+    /// Stands for no rows again, in the memory that it has.
+    pub fn reset(&mut self, checked: &Checked)
+        requires stands { (rows : List Row) × Stands checked.now rows self.old }
+        ensures stands { Stands checked.now [] self.new }
+    {
+        restart(self.nodes.as_mut_slice());
+        self.rows = 0;
     }
 
     /// Takes the row that the Booleanizer took last. It takes no memory.
     pub fn row<L: Ledger>(&mut self, checked: &Checked, bz: &Bz, steps: &mut Steps<L>)
         requires given { (row : Row) × (bz.now ≡ numbers_on row checked.now.bz) }
         requires stands { (rows : List Row) × Stands checked.now rows self.old
-            × (length rows < 2 ^ 40) }
-        ensures stands { (rows : List Row) (row : Row) → length rows < 2 ^ 40
+            × (length rows < MAX_MISSION) }
+        ensures stands { (rows : List Row) (row : Row) → length rows < MAX_MISSION
             → bz.now ≡ numbers_on row checked.now.bz → Stands checked.now rows self.old
             → Stands checked.now (rows ++ row ∷ []) self.new }
         ensures counted { steps.new ≤ steps.old + row_work checked.now }
@@ -67,8 +80,8 @@ impl Pt {
             program.pt.as_slice(),
             bz,
             self.rows,
-            &mut self.nodes,
-            &mut self.slab,
+            self.nodes.as_mut_slice(),
+            self.slab.as_mut_slice(),
             steps,
         );
         self.rows += 1;
@@ -80,7 +93,7 @@ impl Pt {
         requires exists { i < instruction_count self.now }
         ensures now { result ≡ now_at self.now i }
     {
-        self.nodes[i as usize].truth
+        self.nodes.as_slice()[i as usize].truth
     }
 }
 

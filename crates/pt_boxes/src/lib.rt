@@ -4,7 +4,9 @@
 #![tactic(auto)]
 
 mod boxes;
+pub mod bytes;
 mod engine;
+mod restart;
 mod rows;
 mod since;
 

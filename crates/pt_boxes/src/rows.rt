@@ -1,6 +1,7 @@
 //! One row of all past-time instructions.
 
 ghost use Rattle.std.specs.Prelude.{◌≡◌, ℕ, ◌+◌, ◌^◌, ◌<◌, ◌≤◌, length, sum_by};
+ghost use Rattle.mltl_base.specs.declared.limits.TheConstants.{MAX_MISSION};
 ghost use Rattle.mltl_base.specs.declared.operators.PtOp.TheVariants.{Load as loads};
 ghost use Rattle.mltl_base.specs.Queues.{HasPastBounds, boxes_of};
 ghost use Rattle.obs_verify.specs.Running.{ArePastInOrder, IsAfterPastOperands};
@@ -47,7 +48,7 @@ fn step<L: Ledger>(
     requires order { IsAfterPastOperands (length before.now) op }
     requires bounded { HasPastBounds MAX_BOUND op }
     requires loaded { (k : ℕ) → op ≡ loads k → k < length bz.now }
-    requires early { now < 2 ^ 40 }
+    requires early { now < MAX_MISSION }
     requires kept { IsKept op now boxes.old own.old }
     ensures kept { IsKept op (now + 1) boxes.new own.new }
     ensures told { (loaded table : Table)
@@ -86,7 +87,7 @@ pub fn row_of<L: Ledger>(
     requires bounded { (i : ℕ) → i < length ops.now → HasPastBounds MAX_BOUND (op_at ops.now i) }
     requires loaded { (i k : ℕ) → i < length ops.now → op_at ops.now i ≡ loads k
         → k < length bz.now }
-    requires early { now < 2 ^ 40 }
+    requires early { now < MAX_MISSION }
     requires kept { AreKept ops.now now nodes.old slab.old }
     ensures kept { AreKept ops.now (now + 1) nodes.new slab.new }
     ensures table { (loaded table : Table) → IsTable ops.now loaded (now + 1) table

@@ -1,6 +1,7 @@
 //! One row of a Since over its boxes.
 
 ghost use Rattle.std.specs.Prelude.{◌≡◌, ℕ, Bool, ◌+◌, ◌^◌, ◌<◌, ◌≤◌, [], if◌then◌else◌};
+ghost use Rattle.mltl_base.specs.declared.limits.TheConstants.{MAX_MISSION};
 ghost use Rattle.mltl_base.specs.declared.interval.Interval.{Interval};
 ghost use Rattle.pt_boxes.specs.Boxes.{Belongs, kept};
 ghost use Rattle.pt_boxes.specs.Nodes.{KeepsSince};
@@ -33,7 +34,7 @@ fn age(boxes: &mut Boxes, spans: &[Span], now: u64, left: bool)
 fn stretch_from(window: Interval, now: u64) -> Span
     requires ordered { window.lo ≤ window.hi }
     requires bounded { window.hi ≤ MAX_BOUND }
-    requires early { now < 2 ^ 40 }
+    requires early { now < MAX_MISSION }
     ensures { result ≡ stretch_at window now }
 {
     Span {
@@ -46,7 +47,7 @@ fn stretch_from(window: Interval, now: u64) -> Span
 fn open(boxes: &mut Boxes, spans: &mut [Span], window: Interval, now: u64, right: bool)
     requires ordered { window.lo ≤ window.hi }
     requires bounded { window.hi ≤ MAX_BOUND }
-    requires early { now < 2 ^ 40 }
+    requires early { now < MAX_MISSION }
     requires kept { KeepsSince window (now + 1) boxes.old spans.old }
     ensures kept { KeepsSince window (now + 1) boxes.new spans.new }
     ensures opened { kept boxes.new spans.new
@@ -84,7 +85,7 @@ pub fn since_row<L: Ledger>(
 ) -> bool
     requires ordered { window.lo ≤ window.hi }
     requires bounded { window.hi ≤ MAX_BOUND }
-    requires early { now < 2 ^ 40 }
+    requires early { now < MAX_MISSION }
     requires kept { KeepsSince window now boxes.old spans.old }
     ensures kept { KeepsSince window (now + 1) boxes.new spans.new }
     ensures told { (p q : ℕ → Bool) → Tells window p q now (kept boxes.old spans.old)

@@ -1,9 +1,21 @@
 //! The monitor `r2u2`: verdicts of requirements on a running system, as its trace comes in.
 #![tactic(auto)]
 
-use mltl_tools::{Status, r2u2_main, words_of};
+ghost use Rattle.r2u2.specs.Ending.{EndsByRun};
+
+use mltl_tools::{Status, Words, r2u2_main, words_of};
+use std::alloc::Global;
 use std::process::ExitCode;
-use tool_io::RealHost;
+use tool_io::{Host, RealHost};
+
+/// Does what the words ask for. Answers the code that the program ends with.
+fn run<H: Host>(alloc: Global, words: &Words, host: &mut H) -> u8
+    ensures { EndsByRun words.now result (H.faults host.old) (H.faults host.new)
+        (H.log host.old) (H.log host.new) }
+{
+    let mut kept = None;
+    r2u2_main(alloc, words, host, &mut kept).code()
+}
 
 fn main(rt: HostRuntime) -> ExitCode {
     let alloc = rt.alloc();
@@ -11,7 +23,5 @@ fn main(rt: HostRuntime) -> ExitCode {
         return ExitCode::from(Status::Memory.code());
     };
     let mut host = RealHost::new(rt);
-    let mut kept = None;
-    let status = r2u2_main(alloc, &words, &mut host, &mut kept);
-    ExitCode::from(status.code())
+    ExitCode::from(run(alloc, &words, &mut host))
 }

@@ -1,18 +1,22 @@
 -- What the calls of C tell, from what their parts do.
 
-use Rattle.std.specs.Prelude.{⊤}
-use Rattle.std.proofs.Common.{◌≡◌, ◌<◌, ◌≤◌, ℕ, true, false, Option, Some, Result, Ok, Err, IfOk, IfErr, IsSomeAnd, Contains, [], ◌∷◌, refl, sym, ap, subst, lit<, arith, ◌∙◌}
+use Rattle.std.specs.Prelude.{⊤, option_map, slice_get, slice_index, unwrap_or}
+use Rattle.std.proofs.lemmas.Option.{slice_get-map, unwrap_or-slice_get}
+use Rattle.std.proofs.Common.{◌≡◌, ◌<◌, ◌≤◌, ℕ, true, false, Option, Some, Result, Ok, Err, IfOk, IfErr, IsSomeAnd, Contains, List, [], ◌∷◌, map, refl, sym, ap, subst, lit<, arith, ◌∙◌}
 use Rattle.mltl_base.specs.declared.report.Style.{Style}
 use Rattle.mltl_base.specs.Atoms.{Row}
+use Rattle.mltl_base.specs.Programs.{outputs}
+use Rattle.mltl_base.specs.Reports.{Output, delay}
 use Rattle.mltl_monitor.specs.declared.state.State.{State}
 use Rattle.mltl_monitor.specs.declared.row_fault.RowFault.{RowFault}
 use Rattle.mltl_monitor.specs.declared.row_fault.RowFault.TheVariants.{ReportsLeft, NotARow, TooManyRows}
-use Rattle.mltl_monitor.specs.Monitoring.{IsDrained}
+use Rattle.mltl_monitor.specs.Monitoring.{IsDrained, program_of}
 use Rattle.mltl_monitor.specs.RowFaults.{IsRowCause}
 use Rattle.r2u2_c.specs.declared.codes.TheConstants.{DONE, NOT_OPEN, REPORTS_LEFT, NOT_A_ROW, TOO_MANY_ROWS, NO_REPORT}
 use Rattle.r2u2_c.specs.declared.report.Told.{Told}
 use Rattle.r2u2_c.specs.declared.row_why.RowWhy.{RowWhy}
 use Rattle.r2u2_c.specs.Exports.{HoldsBack, TellsFirst, TellsWhy, Tells, why_of}
+use Rattle.r2u2_c.specs.Queries.{delays_of}
 
 -- the monitor after a box is the one that was open
 pub is_open_as : (m box : State) (before : Option State) → before ≡ Some box → m ≡ box → before ≡ Some m
@@ -92,3 +96,11 @@ row_codes (Ok t) code before after answers = (0, lit< tt, sym answers.0.0)
 row_codes (Err ReportsLeft) code before after answers = (2, lit< tt, sym (fault_code ReportsLeft code after answers.1.0 answers.1.1))
 row_codes (Err (NotARow column)) code before after answers = (3, lit< tt, sym (fault_code (NotARow column) code after answers.1.0 answers.1.1))
 row_codes (Err TooManyRows) code before after answers = (4, lit< tt, sym (fault_code TooManyRows code after answers.1.0 answers.1.1))
+
+-- the delay of an output, or 0 where there is none
+pub delay_told : (m : State) (before : Option State) (k : ℕ) (found : Option ℕ) (told : ℕ) → before ≡ Some m
+    → found ≡ option_map delay (slice_get (outputs (program_of m)) k) → told ≡ unwrap_or found 0 → told ≡ slice_index (delays_of before) k
+delay_told m before k found told is finds tells =
+    let outs : List Output = outputs (program_of m) in
+    tells ∙ ap (λ (o : Option ℕ). unwrap_or o 0) (finds ∙ sym (slice_get-map delay outs k)) ∙ unwrap_or-slice_get (map delay outs) k 0
+    ∙ ap (λ (o : Option State). slice_index (delays_of o) k) (sym is)

@@ -1,13 +1,12 @@
 -- What the calls of C tell, over what C keeps: the state of a monitor, if one is open.
 
-use Rattle.std.specs.Prelude.{ℕ, ◌≡◌, ◌≢◌, ◌<◌, ◌≤◌, Option, Some, None, Result, Ok, Err, List, [], ◌∷◌}
+use Rattle.std.specs.Prelude.{ℕ, ◌≡◌, ◌≢◌, ◌<◌, ◌≤◌, Option, Some, None, Result, Ok, Err, List, ◌∷◌}
 use Rattle.mltl_base.specs.declared.program.Program.{Program}
 use Rattle.mltl_base.specs.declared.report.Report.{Report}
 use Rattle.mltl_base.specs.declared.report.Style.{Style}
 use Rattle.mltl_base.specs.Atoms.{Row}
-use Rattle.mltl_base.specs.Programs.{output_names}
 use Rattle.mltl_monitor.specs.declared.state.State.{State}
-use Rattle.mltl_monitor.specs.Monitoring.{HasGiven, Stands, TakesRow, open_of, program_of}
+use Rattle.mltl_monitor.specs.Monitoring.{HasGiven, Stands, TakesRow, open_of}
 use Rattle.mltl_monitor.specs.declared.row_fault.RowFault.{RowFault}
 use Rattle.mltl_monitor.specs.declared.row_fault.RowFault.TheVariants.{ReportsLeft, NotARow, TooManyRows}
 use Rattle.mltl_monitor.specs.RowFaults.{IsRowCause}
@@ -30,16 +29,6 @@ Opens found (Some before) after = ⊥
 abbrev pub Refuses : Result Program Refusal → Fault → Type 0
 Refuses (Err why) fault = fault ≡ fault_of why
 Refuses (Ok program) fault = ⊥
-
--- the number of columns of a row
-abbrev pub width_of : Option State → ℕ
-width_of (Some monitor) = (program_of monitor).width
-width_of None = 0
-
--- the names of the outputs
-abbrev pub names_of : Option State → List (List ℕ)
-names_of (Some monitor) = output_names (program_of monitor)
-names_of None = []
 
 -- the monitor that is open has taken the row
 abbrev pub Takes : Row → Option State → Option State → Type 0

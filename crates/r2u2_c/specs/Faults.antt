@@ -6,7 +6,8 @@ use Rattle.obs_files.specs.declared.fault.ProgramFault as fault
 use Rattle.obs_files.specs.Texts.{fault_text}
 use Rattle.r2u2_c.specs.declared.fault.Fault.{Fault}
 use Rattle.r2u2_c.specs.declared.opening.Refusal.{Refusal}
-use Rattle.r2u2_c.specs.declared.opening.Refusal.TheVariants.{Program, NoSignals, LongHeader, NoHeader, Missing, Twice, Memory}
+use Rattle.r2u2_c.specs.declared.opening.Refusal.TheVariants.{Program, NoSignals, LongHeader, NoHeader, Missing, Twice}
+use Rattle.r2u2_c.specs.declared.opening.Refusal.TheVariants.{Memory}
 
 -- what is wrong, in words
 abbrev pub text_of : Refusal → List ℕ

@@ -3,3 +3,4 @@ pub mod Reports
 pub mod Opening
 pub mod Faults
 pub mod Exports
+pub mod Queries

@@ -1,6 +1,7 @@
 -- The program of a monitor that is opened, or why none is.
 
 use Rattle.std.specs.Prelude.{ℕ, ◌≡◌, ◌==◌, nat_lt, if◌then◌else◌, List, [], map, length, Result, Ok, Err}
+use Rattle.mltl_base.specs.declared.limits.TheConstants.{MAX_LINE_BYTES}
 use Rattle.mltl_base.specs.declared.program.Columns.{Columns}
 use Rattle.mltl_base.specs.declared.program.Program.{Program}
 use Rattle.obs_verify.specs.Bound.{bound}
@@ -45,7 +46,8 @@ bound_over program (Err fault) = Err (of_header fault)
 abbrev pub bound_by : List ℕ → Program → Result Program Refusal
 bound_by line program =
     if program.version == 2
-    then (if nat_lt (length line) 65536 then bound_over program (header_meaning (map (λ s. s.name) program.signals) line) else Err refusal.LongHeader)
+    then (if nat_lt (length line) MAX_LINE_BYTES then bound_over program
+    (header_meaning (map (λ s. s.name) program.signals) line) else Err refusal.LongHeader)
     else Err refusal.NoSignals
 
 -- the same of what was found before

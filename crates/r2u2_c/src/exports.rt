@@ -1,11 +1,10 @@
 //! The calls of C.
 
-ghost use Rattle.std.specs.Prelude.{◌≡◌, ◌≢◌, ◌↔◌, ◌<◌, ◌≤◌, [], ◌∷◌, Contains, IsSome, IsSomeAnd, IfErr, IfOk, None, Some, drop, length, slice_get, take};
-ghost use Rattle.mltl_base.specs.Programs.{name_of};
+ghost use Rattle.std.specs.Prelude.{◌≡◌, ◌≢◌, ◌↔◌, ◌<◌, [], ◌∷◌, Contains, IsSome, IsSomeAnd, IfErr, IfOk, None};
 ghost use Rattle.mltl_monitor.specs.Monitoring.{IsDrained};
 ghost use Rattle.r2u2_c.specs.declared.opening.Refusal.TheVariants.{Memory};
 ghost use Rattle.mltl_monitor.specs.declared.row_fault.RowFault.TheVariants.{NotARow, ReportsLeft, TooManyRows};
-ghost use Rattle.r2u2_c.specs.Exports.{HoldsBack, Opens, Refuses, Takes, Tells, TellsWhy, names_of, why_of, width_of};
+ghost use Rattle.r2u2_c.specs.Exports.{HoldsBack, Opens, Refuses, Takes, Tells, TellsWhy, why_of};
 ghost use Rattle.r2u2_c.specs.Faults.{fault_of};
 ghost use Rattle.r2u2_c.specs.Opening.{program_by, program_under};
 ghost use Rattle.r2u2_c.specs.Reports.{style_of};
@@ -14,13 +13,12 @@ use crate::codes::{
     ALREADY_OPEN, DONE, NO_MEMORY, NO_REPORT, NOT_A_ROW, NOT_OPEN, REFUSED, REPORTS_LEFT,
     TOO_MANY_ROWS,
 };
-use crate::fault::{Fault, fill_front};
+use crate::fault::Fault;
 use crate::handle::R2u2;
 use crate::opening::{Refusal, open_monitor, open_under};
 use crate::report::{Told, next_of};
 use crate::row_why::RowWhy;
-use mltl_base::Out;
-use mltl_monitor::{Monitor, RowFault};
+use mltl_monitor::RowFault;
 use std::alloc::Global;
 
 /// Opens the program that these bytes spell. Rows have the columns that it was compiled for.
@@ -84,58 +82,6 @@ fn refuse(why: Refusal, fault: &mut Fault) -> u32
         why => {
             *fault = Fault::of(&why);
             REFUSED
-        }
-    }
-}
-
-/// The number of columns of a row; 0 where none is open.
-#[unsafe(no_mangle)]
-pub extern "C" fn r2u2_width(it: &mut R2u2, alloc: Global) -> u32
-    ensures width { result ≡ width_of it.old.value }
-    ensures kept { it.new.value ≡ it.old.value }
-{
-    match it.take(alloc) {
-        None => 0,
-        Some(monitor) => {
-            let width = monitor.checked().program().width;
-            it.put(monitor);
-            width
-        }
-    }
-}
-
-/// The number of outputs; 0 where none is open.
-#[unsafe(no_mangle)]
-pub extern "C" fn r2u2_outputs(it: &mut R2u2, alloc: Global) -> u32
-    ensures outputs { result ≡ length (names_of it.old.value) }
-    ensures kept { it.new.value ≡ it.old.value }
-{
-    match it.take(alloc) {
-        None => 0,
-        Some(monitor) => {
-            let count = count_of(&monitor);
-            it.put(monitor);
-            count
-        }
-    }
-}
-
-/// Writes the name of output `k`, counted from 0, to the front of a buffer, and answers its length.
-#[unsafe(no_mangle)]
-pub extern "C" fn r2u2_name(it: &mut R2u2, alloc: Global, k: u32, buffer: &mut [u8]) -> u32
-    ensures named { 0 < result
-        → slice_get (names_of it.old.value) k ≡ Some (take result buffer.new) }
-    ensures rest { drop result buffer.new ≡ drop result buffer.old }
-    ensures enough { k < length (names_of it.old.value) → 64 ≤ length buffer.old
-        → 0 < result }
-    ensures kept { it.new.value ≡ it.old.value }
-{
-    match it.take(alloc) {
-        None => 0,
-        Some(monitor) => {
-            let length = name_in(&monitor, k, buffer);
-            it.put(monitor);
-            length
         }
     }
 }
@@ -210,40 +156,4 @@ pub extern "C" fn r2u2_close(it: &mut R2u2, alloc: Global)
     ensures closed { it.new.value ≡ None }
 {
     it.close(alloc);
-}
-
-fn count_of(monitor: &Monitor) -> u32
-    ensures { result ≡ length (names_of (Some monitor.now)) }
-{
-    monitor.checked().program().outs.len() as u32
-}
-
-/// Writes the name of an output to the front of a buffer that has room for it, and answers its length.
-fn name_in(monitor: &Monitor, k: u32, buffer: &mut [u8]) -> u32
-    ensures named { 0 < result
-        → slice_get (names_of (Some monitor.now)) k ≡ Some (take result buffer.new) }
-    ensures rest { drop result buffer.new ≡ drop result buffer.old }
-    ensures enough { k < length (names_of (Some monitor.now)) → 64 ≤ length buffer.old
-        → 0 < result }
-{
-    let outs = monitor.checked().program().outs.as_slice();
-    match outs.get(k as usize) {
-        None => 0,
-        Some(out) => write_name(out, buffer),
-    }
-}
-
-fn write_name(out: &Out, buffer: &mut [u8]) -> u32
-    ensures named { 0 < result → name_of out.now ≡ take result buffer.new }
-    ensures rest { drop result buffer.new ≡ drop result buffer.old }
-    ensures enough { 64 ≤ length buffer.old → 0 < result }
-{
-    let name = match out {
-        Out::Formula(_, _, name) | Out::Contract(_, _, _, name) => name.bytes(),
-    };
-    if name.len() > buffer.len() {
-        return 0;
-    }
-    fill_front(buffer, name);
-    name.len() as u32
 }

@@ -25,6 +25,9 @@ impl Model for R2u2 {
     ghost also_owns = { λ it. handle_owns it.at it.value };
 }
 
+// What it owns says the same to every thread, so one thread may open it and another take rows.
+unsafe impl Send for R2u2 {}
+
 impl R2u2 {
     fn empty() -> R2u2
         ensures { result.value ≡ None }

@@ -1,12 +1,12 @@
 -- Runs by what the words ask for: help, a demo, nothing, or a file for which it is out of memory before it is read.
 
-use Rattle.std.proofs.Common.{◌≡◌, ◌≢◌, ◌↔◌, ℕ, ◌<◌, ◌⊎◌, Bool, false, Option, None, List, [], ◌∷◌, ◌++◌, refl, sym, ◌∙◌, subst, arith, inl, inr}
+use Rattle.std.proofs.Common.{◌≡◌, ◌≢◌, ◌↔◌, ℕ, ◌<◌, ◌⊎◌, Bool, false, Option, None, List, [], ◌∷◌, ◌++◌, refl, sym, ◌∙◌, ap, subst, arith, inl, inr}
 use Rattle.std.proofs.lemmas.List.{append-nil}
 use Rattle.tool_io.specs.declared.host.Place as place
 use Rattle.tool_io.specs.declared.host.Place.TheVariants.{Trace, Out}
 use Rattle.tool_io.specs.declared.host.Place.TheVariants as at
 use Rattle.tool_io.specs.Log.{Event, Took, given, names_of, Writes, WritesFront}
-use Rattle.tool_io.proofs.LogLaws.{WritesFront-misses, Writes-given, Writes-given_elsewhere, Writes-names}
+use Rattle.tool_io.proofs.LogLaws.{WritesFront-misses, Writes-given, Writes-names}
 use Rattle.tool_io.proofs.Prompting.{Prompt-from_by, Writes-prompt}
 use Rattle.tool_words.specs.R2u2Words.{Asked, RunAsked, help, run, demo, nothing}
 use Rattle.mltl_monitor.specs.declared.state.State.{State}
@@ -14,8 +14,9 @@ use Rattle.tool_runs.specs.declared.message.Tool.TheVariants.{R2u2}
 use Rattle.tool_runs.specs.declared.status.Status as status
 use Rattle.tool_runs.specs.Messages.{usage}
 use Rattle.tool_runs.specs.Attaching.{OpensAsTold}
-use Rattle.tool_runs.specs.Telling.{HelpLog}
+use Rattle.tool_runs.specs.Telling.{is_used, HelpLog}
 use Rattle.tool_runs.proofs.AttachLaws.{no_reads_none, writes_unread}
+use Rattle.tool_runs.proofs.UseLaws.{writes_unused}
 use Rattle.r2u2_runs.specs.Asking.{asked_names}
 use Rattle.demo_runs.specs.Summary.{demo_summary}
 use Rattle.r2u2_runs.specs.Demo.{DemoLog, DemoOutcome, KeepsDemo, SummaryLog}
@@ -33,7 +34,7 @@ help_ran answer sent events writes outcome opened some = record {
   opened = opened;
   begun = tt;
   early = λ memory. absurd (some memory);
-  quiet = Writes-given_elsewhere Out at.Err sent events refl writes;
+  quiet = ap (is_used at.Err) writes.are ∙ writes_unused at.Err Out writes.pieces refl;
 }
 
 pub run_help : (answer : status.Status) (events : List Event) → HelpLog R2u2 answer events → Ran help answer None events
@@ -104,7 +105,7 @@ demo_ran seed rows answer kept sent events writes outcome opened some = record {
   opened = opened;
   begun = tt;
   early = λ memory. absurd (some memory);
-  quiet = Writes-given_elsewhere Out at.Err sent events refl writes;
+  quiet = ap (is_used at.Err) writes.are ∙ writes_unused at.Err Out writes.pieces refl;
 }
 
 pub demo_told : (answer : status.Status) (seed rows : ℕ) (text : List ℕ) (kept : Option State) (events : List Event) → text ≡ demo_summary seed rows → KeepsDemo seed rows kept

@@ -6,7 +6,7 @@ use Rattle.std.proofs.lemmas.List.{append-nil}
 use Rattle.tool_io.specs.declared.host.Place as place
 use Rattle.tool_io.specs.declared.host.Place.TheVariants.{Trace, Out}
 use Rattle.tool_io.specs.declared.host.Place.TheVariants as at
-use Rattle.tool_io.specs.Log.{Event, Attached, Missed, Took, taken, given, ended_from, names_of, Reads, Prompt}
+use Rattle.tool_io.specs.Log.{Event, Attached, Missed, Took, same_place, taken, given, ended_from, names_of, Reads, Prompt}
 use Rattle.tool_io.specs.Whole.{Takes}
 use Rattle.tool_io.specs.Cutting.{HasNoNewline, lines_of}
 use Rattle.tool_io.proofs.LogLaws.{same_place-self, taken-append, given-append, ended_from-append, names_of-append, Reads-taken, Reads-taken_elsewhere, Reads-given, Reads-names, Reads-ended, Reads-ended_elsewhere}
@@ -20,13 +20,19 @@ use Rattle.tool_runs.specs.Attaching.{OpensAsTold, ReadsAttached, is_attached}
 use Rattle.tool_runs.specs.Files.{file_limit, file_place}
 use Rattle.tool_runs.specs.Reading.{FileLog}
 use Rattle.tool_runs.proofs.AttachLaws.{ReadsAttached-append, file_attached, file_reads, is_attached-append, missed_none, no_reads_none, or_true, split_at}
+use Rattle.tool_runs.proofs.UseLaws.{reads_unused, unused-append}
 use Rattle.tool_runs.specs.FirstLine.{begins_long}
+use Rattle.tool_runs.specs.Telling.{is_used}
 use Rattle.r2u2_runs.specs.ProgramBy.{file_refusal, unless_long, unless_refused, header_in, program_by, program_over}
 use Rattle.r2u2_runs.specs.Outcome.{due_by, Silent}
 use Rattle.r2u2_runs.specs.Run.{file_ended, trace_of, trace_ended, lines_in, found_in, IsReadable, ReadsFirstLine, FileOutcome, BegunFor, RefusesAfter, Ran}
 use Rattle.r2u2_runs.specs.Phases.{IsOpened, RanFile, TraceOutcome}
 use Rattle.r2u2_runs.proofs.Refusing.{Refuses, file_refuses}
 use Rattle.r2u2_runs.proofs.TraceRuns.{trace_elsewhere}
+
+err_elsewhere : (kind : FileKind) → same_place at.Err (file_place kind) ≡ false
+err_elsewhere Spec = refl
+err_elsewhere Program = refl
 
 no_trace : (kind : FileKind) (before after : List Event) (pieces : List (List ℕ)) (piece : List ℕ) → map (Took (file_place kind)) pieces ≡ before ++ Took Trace piece ∷ after → ⊥
 no_trace Spec before after pieces piece is = let same = file_reads at.Spec before after pieces Trace piece is in cc
@@ -55,7 +61,7 @@ pub record HasRead (kind : FileKind) (name bytes : List ℕ) (ended : Bool) (eve
   pub no_trace_bytes : taken Trace events ≡ []
   pub no_trace_end : ended_from false Trace events ≡ false
   pub no_lines : given Out events ≡ []
-  pub quiet : given at.Err events ≡ []
+  pub quiet : is_used at.Err events ≡ false
   pub prompt : (due_of : List ℕ → List ℕ) → PromptBy due_of [] [] events
   pub opened : is_attached (file_place kind) events ≡ true
   pub unopened : is_attached Trace events ≡ false
@@ -74,7 +80,7 @@ has_read kind name bytes ended log takes =
       no_trace_bytes = Reads-taken_elsewhere p Trace pieces log (trace_elsewhere kind) are;
       no_trace_end = Reads-ended_elsewhere false p Trace pieces log (trace_elsewhere kind) are;
       no_lines = Reads-given p Out pieces log are;
-      quiet = Reads-given p at.Err pieces log are;
+      quiet = ap (λ v. v || is_used at.Err log) (err_elsewhere kind) ∙ ap (is_used at.Err) are ∙ reads_unused at.Err p pieces (err_elsewhere kind);
       prompt = λ due_of. subst (PromptBy due_of [] []) (sym are) (file_prompt kind due_of [] [] pieces);
       opened = ap (λ v. v || is_attached p log) (same_place-self p);
       unopened = ap (λ v. v || is_attached Trace log) (trace_elsewhere kind) ∙ ap (is_attached Trace) are ∙ not_attached Trace p pieces;
@@ -124,7 +130,7 @@ missed asked events (inl is) = subst (Ran (run asked) (status.TheVariants.OpenFa
   opened = refl;
   begun = λ unrefused. tt;
   early = λ memory. cc;
-  quiet = refl;
+  quiet = ap (λ v. v || false) (err_elsewhere asked.kind);
 })
 missed asked events (inr is) = subst (Ran (run asked) (status.TheVariants.OpenFault (file_place asked.kind)) None) (sym is) (record {
   names = record { rest = (file_place asked.kind, asked.file) ∷ (Trace, asked.trace) ∷ []; split = refl };
@@ -249,7 +255,7 @@ module _ (asked : RunAsked) (bytes : List ℕ) (answer : status.Status) (kept : 
     begun = λ unrefused.
         subst (λ v. BegunFor answer v (lines_of v (trace_of all))) (sym all_ended) (subst (λ b. BegunFor answer (trace_ended second) (lines_of (trace_ended second) b)) (sym all_trace) is.ran.begun);
     early = λ memory. early_both first second read.early read.no_trace_bytes (is.ran.early memory);
-    quiet = given-append at.Err first second ∙ ap (λ b. b ++ given at.Err second) read.quiet ∙ is.ran.quiet;
+    quiet = unused-append at.Err first second read.quiet is.ran.quiet;
   }
 
 -- the file is refused by itself

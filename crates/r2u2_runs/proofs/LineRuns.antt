@@ -23,10 +23,10 @@ use Rattle.trace_watch.specs.Trace.{TraceRows, stamped_rows, trace_rows, due}
 use Rattle.trace_watch.specs.Watch.{OnlyRun, IsTold, Outcome}
 use Rattle.trace_watch.proofs.LineLaws.{reads_prompt, OnlyRun-append, OnlyRun-reads, row_line}
 use Rattle.tool_runs.specs.declared.status.Status as status
-use Rattle.tool_runs.specs.FirstLine.{begins_long}
+use Rattle.tool_runs.specs.FirstLine.{begins_long, HasBegun}
 use Rattle.r2u2_runs.specs.ProgramBy.{file_refusal, program_by, header_in, unless_long, unless_refused, program_over}
 use Rattle.r2u2_runs.specs.Outcome.{due_by, rows_by, AllTold, LinesOutcome}
-use Rattle.r2u2_runs.specs.Run.{trace_of, trace_ended, lines_in, BegunFor, HasBegun, ReadsFirstLine}
+use Rattle.r2u2_runs.specs.Run.{trace_of, trace_ended, lines_in, BegunFor, ReadsFirstLine}
 use Rattle.r2u2_runs.specs.Phases.{FirstRead, StandsFirst, IsFirst, header_of_row, header_at, FirstLog, RanLoop, RanRows, RanLines, status_of}
 use Rattle.r2u2_runs.proofs.Refusing.{Refuses, IsMarked, program_refuses}
 
@@ -100,13 +100,13 @@ found_over kind bytes row lines none has =
 
 -- what the loop left is what the run leaves
 told_all : (program : Program) (asked : RunAsked) (ended : Bool) (bytes out : List ℕ) (monitor : State) → IsTold program asked.style (rows_by asked program 1) ended bytes out monitor → AllTold asked (Ok program) ended bytes out (Some monitor)
-told_all program asked ended bytes out monitor told = record { out_is = told.told; keeps = told.kept; some_kept = λ none. cc }
+told_all program asked ended bytes out monitor told = record { out_is = told.told; keeps = told.kept }
 
 lines_outcome : (answer : watched.Watched) (program : Program) (asked : RunAsked) (ended : Bool) (bytes out : List ℕ) (monitor : State) → Outcome answer program asked.style (rows_by asked program 1) ended bytes out monitor → LinesOutcome (status_of answer) asked (Ok program) ended bytes out (Some monitor)
-lines_outcome watched.TheVariants.Done program asked ended bytes out monitor is = (is.0, is.1, told_all program asked ended bytes out monitor is.2, refl)
+lines_outcome watched.TheVariants.Done program asked ended bytes out monitor is = (is.0, is.1, told_all program asked ended bytes out monitor is.2)
 lines_outcome watched.TheVariants.TooLong program asked ended bytes out monitor is = (is.0, told_all program asked ended bytes out monitor is.1)
 lines_outcome (watched.TheVariants.BadTrace number why) program asked ended bytes out monitor is = inr (is.0, told_all program asked ended bytes out monitor is.1)
-lines_outcome watched.TheVariants.ReadFault program asked ended bytes out monitor is = (is.0, inr is.1, told_all program asked false bytes out monitor is.2)
+lines_outcome watched.TheVariants.ReadFault program asked ended bytes out monitor is = (is.0, inr (is.1, told_all program asked false bytes out monitor is.2))
 lines_outcome watched.TheVariants.WriteFault program asked ended bytes out monitor is = (is.0, is.1)
 
 -- where the first line stands in front, or the trace has none, it has begun
@@ -289,12 +289,10 @@ lines_unread asked bytes cut events has plain short unmet =
       prompt = Prompt-from_by (due_by asked found false) [] events (first_prompt asked found cut events has);
       outcome = (
         first_ended cut events has ∙ unmet,
-        inl (ap (lines_of false) (first_taken cut events has) ∙ lines_of-none cut.pending plain short),
-        record {
-          out_is = first_given cut events has ∙ sym (ap (due_by asked found false) (first_taken cut events has) ∙ due_none asked found cut.pending plain short);
-          keeps = tt;
-          some_kept = λ none. first_given cut events has;
-        },
+        inl (record {
+          no_line = ap (lines_of false) (first_taken cut events has) ∙ lines_of-none cut.pending plain short;
+          silent = record { no_lines = first_given cut events has; no_monitor = refl };
+        }),
       );
       begun = tt;
       early = λ is. cc;

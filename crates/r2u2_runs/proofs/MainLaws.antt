@@ -8,7 +8,7 @@ use Rattle.tool_io.specs.declared.host.Place.TheVariants.{Trace, Out}
 use Rattle.tool_io.specs.declared.host.Place.TheVariants as at
 use Rattle.tool_io.specs.declared.host.Put as put
 use Rattle.tool_io.specs.Log.{Event, Took, taken, given, Prompt, Writes}
-use Rattle.tool_io.specs.Host.{Rose, WriteCause}
+use Rattle.tool_io.specs.Host.{WriteCause}
 use Rattle.tool_io.specs.Cutting.{lines_of}
 use Rattle.tool_io.specs.Whole.{PutAllLog}
 use Rattle.tool_io.proofs.LogLaws.{given-append, Writes-given}
@@ -23,8 +23,9 @@ use Rattle.tool_runs.specs.Causes.{NoOtherRose, RunCause}
 use Rattle.tool_runs.specs.Files.{file_limit, file_place}
 use Rattle.tool_runs.specs.Telling.{ToldWhole}
 use Rattle.tool_runs.proofs.AttachLaws.{ReadsAttached-append, opened_still, split_at, writes_unread}
-use Rattle.tool_runs.proofs.CauseLaws.{err_stays, rose_at}
+use Rattle.tool_runs.proofs.CauseLaws.{err_stays, message_rose, rose_at}
 use Rattle.tool_runs.proofs.MessageLaws.{Leaves, message_leaves, unattached}
+use Rattle.tool_runs.proofs.UseLaws.{unused-given}
 use Rattle.r2u2_runs.specs.Demo.{DemoOutcome}
 use Rattle.r2u2_runs.specs.ProgramBy.{file_refusal, program_over}
 use Rattle.r2u2_runs.specs.Outcome.{due_by, StopsBy, LinesOutcome}
@@ -166,16 +167,17 @@ run_told asked answer kept before between now first second sent unsent ran cause
         | inl found ↦ ran.early memory start found.0 piece found.1
         | inr found ↦ absurd (writes_unread at.Err writes.pieces found.0 after Trace piece (sym writes.are ∙ found.2))
       ];
-      told_user = record { rest = unsent; split = split ∙ ap (λ b. b ++ unsent) (sym (given-append at.Err first second ∙ ap (λ b. b ++ given at.Err second) ran.quiet ∙ Writes-given at.Err sent second writes)) };
+      told_user = record { rest = unsent; split = split ∙ ap (λ b. b ++ unsent) (sym (given-append at.Err first second ∙ ap (λ b. b ++ given at.Err second) (unused-given at.Err first ran.quiet) ∙ Writes-given at.Err sent second writes)) };
       told_whole = whole;
+      told_last = record { run = first; pieces = writes.pieces; split = ap (λ sends. first ++ sends) writes.are; unused = ran.quiet };
       complete = complete_run asked answer kept before between now all cause same outcome;
     }
 
 pub main_ran : (asked : Asked) (answer : status.Status) (kept : Option State) (before between now : place.Place → ℕ) (first second : List Event) (sending : put.Put) → Ran asked answer kept first → RunCause answer before between → WriteCause sending between now at.Err → PutAllLog sending at.Err (told_to_user R2u2 answer) second → IsRun asked answer kept before now (first ++ second)
 main_ran asked answer kept before between now first second (put.TheVariants.Wrote n) ran cause wrote writes =
     let text = told_to_user R2u2 answer in
-    let out : given at.Err (first ++ second) ≡ text = given-append at.Err first second ∙ ap (λ b. b ++ given at.Err second) ran.quiet ∙ Writes-given at.Err text second writes in
+    let out : given at.Err (first ++ second) ≡ text = given-append at.Err first second ∙ ap (λ b. b ++ given at.Err second) (unused-given at.Err first ran.quiet) ∙ Writes-given at.Err text second writes in
     run_told asked answer kept before between now first second text [] ran cause (λ q other. wrote q) writes (sym (append-nil text)) (λ unrisen. out)
 main_ran asked answer kept before between now first second put.TheVariants.Failed ran cause failed fronts =
     run_told asked answer kept before between now first second fronts.sent fronts.unsent ran cause (λ q other. failed.others q other) fronts.writes fronts.split
-    (λ unrisen. absurd (unrisen (subst (λ n. Rose n (now at.Err)) (err_stays answer before between cause) failed.rose)))
+    (λ unrisen. absurd (unrisen (message_rose before between now (err_stays answer before between cause) failed)))

@@ -39,7 +39,7 @@ long_found : (long : Bool) (found : Result Program Status) (program : Program) �
 long_found false found program is = is
 long_found true found program is = absurd (cc)
 
-over_found : (kind : FileKind) (bytes : List ℕ) (raws : List (List ℕ)) (program : Program) → program_over kind bytes raws ≡ Ok program → program_by kind bytes (header_in raws) ≡ Ok program
+pub over_found : (kind : FileKind) (bytes : List ℕ) (raws : List (List ℕ)) (program : Program) → program_over kind bytes raws ≡ Ok program → program_by kind bytes (header_in raws) ≡ Ok program
 unfolding program_over
 over_found kind bytes raws program is =
     long_found (begins_long raws) (program_by kind bytes (header_in raws)) program

@@ -16,6 +16,7 @@ use Rattle.trace_watch.specs.Watch.{OnlyRun}
 use Rattle.tool_runs.specs.declared.status.Status as status
 use Rattle.tool_runs.specs.Attaching.{OpensAsTold, ReadsAttached, is_attached}
 use Rattle.tool_runs.specs.Files.{file_place}
+use Rattle.tool_runs.specs.Telling.{is_used}
 use Rattle.tool_runs.proofs.AttachLaws.{missed_none, no_reads_none}
 use Rattle.r2u2_runs.specs.ProgramBy.{program_over}
 use Rattle.r2u2_runs.specs.Outcome.{due_by, LinesOutcome}
@@ -50,7 +51,7 @@ run_file_end p other (Took Trace piece ∷ events) ended only = ap (λ b. ended_
 run_file_end p other (Gave Out piece ∷ events) ended only = run_file_end p other events ended only
 run_file_end p other (event ∷ events) ended only = absurd only
 
-run_quiet : (events : List Event) → OnlyRun events → given at.Err events ≡ []
+run_quiet : (events : List Event) → OnlyRun events → is_used at.Err events ≡ false
 run_quiet [] only = refl
 run_quiet (Took Trace piece ∷ events) only = run_quiet events only
 run_quiet (Gave Out piece ∷ events) only = run_quiet events only

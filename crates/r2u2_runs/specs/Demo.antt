@@ -22,19 +22,22 @@ pub record KeepsDemo (seed rows : ℕ) (kept : Option State) : Type 0 where
 -- the summary is out whole, or a front of it that misses some; when out of memory nothing is
 abbrev pub DemoOutcome : status.Status → ℕ → ℕ → List ℕ → Option State → Type 0
 DemoOutcome status.TheVariants.Done seed rows out kept = (out ≡ demo_summary seed rows) × KeepsDemo seed rows kept
-DemoOutcome (status.TheVariants.WriteFault place.TheVariants.Out) seed rows out kept = IsProperFront out (demo_summary seed rows) × KeepsDemo seed rows kept
+DemoOutcome (status.TheVariants.WriteFault place.TheVariants.Out) seed rows out kept =
+    IsProperFront out (demo_summary seed rows) × KeepsDemo seed rows kept
 DemoOutcome status.TheVariants.Memory seed rows out kept = Silent out kept
 DemoOutcome answer seed rows out kept = ⊥
 
 -- the log of a summary that is written
 abbrev pub SummaryLog : status.Status → List ℕ → List Event → Type 0
 SummaryLog status.TheVariants.Done text events = Writes place.TheVariants.Out text events
-SummaryLog (status.TheVariants.WriteFault place.TheVariants.Out) text events = WritesFront place.TheVariants.Out text events
+SummaryLog (status.TheVariants.WriteFault place.TheVariants.Out) text events =
+    WritesFront place.TheVariants.Out text events
 SummaryLog answer text events = ⊥
 
 -- the log of a demo
 abbrev pub DemoLog : status.Status → ℕ → ℕ → Option State → List Event → Type 0
-DemoLog status.TheVariants.Done seed rows kept events = Writes place.TheVariants.Out (demo_summary seed rows) events × KeepsDemo seed rows kept
+DemoLog status.TheVariants.Done seed rows kept events =
+    Writes place.TheVariants.Out (demo_summary seed rows) events × KeepsDemo seed rows kept
 DemoLog (status.TheVariants.WriteFault place.TheVariants.Out) seed rows kept events =
     WritesFront place.TheVariants.Out (demo_summary seed rows) events × KeepsDemo seed rows kept
 DemoLog status.TheVariants.Memory seed rows kept events = (events ≡ []) × (kept ≡ None)

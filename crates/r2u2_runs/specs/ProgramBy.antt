@@ -1,7 +1,8 @@
 -- The program that runs over the lines of a trace, or what refuses it: a specification compiled over the header of the
 -- trace, or a program file whose stored signals stand in the columns of that header.
 
-use Rattle.std.specs.Prelude.{ℕ, ◌==◌, Bool, true, false, if◌then◌else◌, Option, Some, None, option_map, Result, Ok, Err, List, [], ◌∷◌, map}
+use Rattle.std.specs.Prelude.{ℕ, ◌==◌, Bool, true, false, if◌then◌else◌, Option, Some, None, option_map, Result, Ok}
+use Rattle.std.specs.Prelude.{Err, List, [], ◌∷◌, map}
 use Rattle.mltl_base.specs.declared.program.Columns.{Columns}
 use Rattle.mltl_base.specs.declared.program.Program.{Program}
 use Rattle.tool_io.specs.Cutting.{line_text}
@@ -63,7 +64,8 @@ bound_over program (Err fault) = Err (header_status fault)
 abbrev pub bound_under : Option (List ℕ) → Program → Result Program Status
 bound_under None program = Ok program
 bound_under (Some line) program =
-    if program.version == 2 then bound_over program (header_meaning (map (λ s. s.name) program.signals) line) else Ok program
+    if program.version == 2 then bound_over program (header_meaning (map (λ s. s.name) program.signals) line)
+    else Ok program
 
 -- the same of a file, where it is a program
 abbrev pub opened_under : Option (List ℕ) → Result Program FileFault → Result Program Status

@@ -1,6 +1,7 @@
 -- What a whole run of r2u2 tells: from its words to its message.
 
-use Rattle.std.specs.Prelude.{◌≡◌, ◌≢◌, ℕ, ◌<◌, ◌≤◌, ◌⊎◌, Bool, true, false, Option, None, Result, List, [], ◌∷◌, ◌++◌, length, ⊤}
+use Rattle.std.specs.Prelude.{◌≡◌, ℕ, ◌<◌, ◌≤◌, ◌⊎◌, Bool, true, false, Option, None, Result}
+use Rattle.std.specs.Prelude.{List, [], ◌∷◌, ◌++◌, length, ⊤}
 use Rattle.mltl_base.specs.declared.program.Program.{Program}
 use Rattle.tool_io.specs.declared.host.Place as place
 use Rattle.tool_io.specs.Log.{Event, Took, taken, given, ended_from, names_of, IsFront, IsProperFront, Prompt}
@@ -14,7 +15,8 @@ use Rattle.tool_runs.specs.Messages.{usage, told_to_user}
 use Rattle.tool_runs.specs.Causes.{NoOtherRose}
 use Rattle.tool_runs.specs.Attaching.{OpensAsTold, ReadsAttached}
 use Rattle.tool_runs.specs.Files.{file_limit, file_place}
-use Rattle.tool_runs.specs.Telling.{ToldWhole}
+use Rattle.tool_runs.specs.FirstLine.{HasBegun}
+use Rattle.tool_runs.specs.Telling.{is_used, ToldWhole, MessageLast}
 use Rattle.r2u2_runs.specs.Asking.{asked_names}
 use Rattle.r2u2_runs.specs.ProgramBy.{file_refusal, header_in, program_over}
 use Rattle.r2u2_runs.specs.Demo.{DemoOutcome}
@@ -53,12 +55,15 @@ pub record IsReadable (asked : RunAsked) (file : List ℕ) (ended : Bool) : Type
 
 -- the trace, which comes second, is tried only after a file that is readable
 abbrev pub TriesSecond : Asked → List Event → Type 0
-TriesSecond (run asked) events = 1 < length (names_of events) → IsReadable asked (file_of asked events) (file_ended asked events)
+TriesSecond (run asked) events =
+    1 < length (names_of events) → IsReadable asked (file_of asked events) (file_ended asked events)
 TriesSecond other events = ⊤
 
 -- before each read of the trace no newline was taken
 abbrev pub ReadsFirstLine : List Event → Type 0
-ReadsFirstLine events = (before after : List Event) (piece : List ℕ) → events ≡ before ++ Took place.TheVariants.Trace piece ∷ after → HasNoNewline (taken place.TheVariants.Trace before)
+ReadsFirstLine events =
+    (before after : List Event) (piece : List ℕ) → events ≡ before ++ Took place.TheVariants.Trace piece ∷ after
+    → HasNoNewline (taken place.TheVariants.Trace before)
 
 -- before each read of the trace, the lines that are due for what was taken are out, and nothing else
 abbrev pub IsPrompt : Asked → List Event → Type 0
@@ -68,32 +73,39 @@ IsPrompt other events = Prompt (λ bytes. []) [] events
 -- the lines tell the formulas of the file
 abbrev pub TellsFormulas : Asked → List Event → Type 0
 TellsFormulas (run asked) events =
-    IsSettledBy asked (file_of asked events) (header_in (lines_in events)) (found_in asked events) (trace_ended events) (trace_of events)
+    IsSettledBy asked (file_of asked events) (header_in (lines_in events)) (found_in asked events) (trace_ended events)
+    (trace_of events)
 TellsFormulas other events = ⊤
 
 -- the file was read to its end, and the answer follows from the lines of the trace
-pub record ByLines (answer : status.Status) (asked : RunAsked) (file : List ℕ) (file_end : Bool) (bytes : List ℕ) (ended : Bool) (out : List ℕ) (kept : Option State) : Type 0 where
+pub record ByLines (answer : status.Status) (asked : RunAsked) (file : List ℕ) (file_end : Bool) (bytes : List ℕ)
+    (ended : Bool) (out : List ℕ) (kept : Option State) : Type 0 where
   pub whole : file_end ≡ true
   pub within : length file ≤ file_limit asked.kind
   pub lines : LinesOutcome answer asked (program_over asked.kind file (lines_of ended bytes)) ended bytes out kept
 
 -- how each answer of a run over a trace follows from the bytes that were taken and given
 abbrev pub FileOutcome : status.Status → RunAsked → List ℕ → Bool → List ℕ → Bool → List ℕ → Option State → Type 0
-FileOutcome (status.TheVariants.OpenFault place.TheVariants.Trace) asked file file_end bytes ended out kept = IsReadable asked file file_end × Silent out kept
-FileOutcome (status.TheVariants.OpenFault p) asked file file_end bytes ended out kept = (p ≡ file_place asked.kind) × (file ≡ []) × Silent out kept
+FileOutcome (status.TheVariants.OpenFault place.TheVariants.Trace) asked file file_end bytes ended out kept =
+    IsReadable asked file file_end × Silent out kept
+FileOutcome (status.TheVariants.OpenFault p) asked file file_end bytes ended out kept =
+    (p ≡ file_place asked.kind) × (file ≡ []) × Silent out kept
 FileOutcome (status.TheVariants.ReadFault place.TheVariants.Trace) asked file file_end bytes ended out kept =
-    IsReadable asked file file_end × ByLines (status.TheVariants.ReadFault place.TheVariants.Trace) asked file file_end bytes ended out kept
+    IsReadable asked file file_end × ByLines
+    (status.TheVariants.ReadFault place.TheVariants.Trace) asked file file_end bytes ended out kept
 FileOutcome (status.TheVariants.ReadFault p) asked file file_end bytes ended out kept =
     (p ≡ file_place asked.kind) × (file_end ≡ false) × (length file ≤ file_limit asked.kind) × Silent out kept
 FileOutcome (status.TheVariants.TextTooLong p) asked file file_end bytes ended out kept =
     (p ≡ file_place asked.kind) × (file_limit asked.kind < length file) × Silent out kept
-FileOutcome status.TheVariants.Memory asked file file_end bytes ended out kept = (length file ≤ file_limit asked.kind) × Silent out kept
+FileOutcome status.TheVariants.Memory asked file file_end bytes ended out kept =
+    (length file ≤ file_limit asked.kind) × Silent out kept
 FileOutcome answer asked file file_end bytes ended out kept = ByLines answer asked file file_end bytes ended out kept
 
 -- the usage line is out whole, or a front of it that misses some
 abbrev pub HelpOutcome : status.Status → List ℕ → Option State → Type 0
 HelpOutcome status.TheVariants.Helped out kept = (out ≡ usage R2u2) × (kept ≡ None)
-HelpOutcome (status.TheVariants.WriteFault place.TheVariants.Out) out kept = IsProperFront out (usage R2u2) × (kept ≡ None)
+HelpOutcome (status.TheVariants.WriteFault place.TheVariants.Out) out kept =
+    IsProperFront out (usage R2u2) × (kept ≡ None)
 HelpOutcome status.TheVariants.Memory out kept = Silent out kept
 HelpOutcome answer out kept = ⊥
 
@@ -109,11 +121,8 @@ OutcomeOf answer help events kept = HelpOutcome answer (given place.TheVariants.
 OutcomeOf answer nothing events kept = NothingOutcome answer (given place.TheVariants.Out events) kept
 OutcomeOf answer (demo seed rows) events kept = DemoOutcome answer seed rows (given place.TheVariants.Out events) kept
 OutcomeOf answer (run asked) events kept =
-    FileOutcome answer asked (file_of asked events) (file_ended asked events) (trace_of events) (trace_ended events) (given place.TheVariants.Out events) kept
-
--- the first line of a trace is there, or its end was met
-abbrev pub HasBegun : Bool → List (List ℕ) → Type 0
-HasBegun ended lines = (ended ≡ true) ⊎ (lines ≢ [])
+    FileOutcome answer asked (file_of asked events) (file_ended asked events) (trace_of events) (trace_ended events)
+    (given place.TheVariants.Out events) kept
 
 -- the limits of a program refuse it only where the trace has begun
 abbrev pub BegunFor : status.Status → Bool → List (List ℕ) → Type 0
@@ -136,7 +145,7 @@ pub record Ran (asked : Asked) (answer : status.Status) (kept : Option State) (e
   pub opened : OpensAsTold answer events
   pub begun : RefusesAfter asked answer events
   pub early : answer ≡ status.TheVariants.Memory → ReadsFirstLine events
-  pub quiet : given place.TheVariants.Err events ≡ []
+  pub quiet : is_used place.TheVariants.Err events ≡ false
 
 -- A file and a header that give a program, and a trace without a faulty line and within the mission time, give Done,
 -- unless out of memory, and so does a demo; help is given where it is asked for.
@@ -151,7 +160,8 @@ CompletesBy nothing answer events = ⊤
 
 -- The log of a whole run: the message is out, or a front of it, and the run completes where no call failed but those at
 -- Err.
-pub record IsRun (asked : Asked) (answer : status.Status) (kept : Option State) (before now : place.Place → ℕ) (events : List Event) : Type 0 where
+pub record IsRun (asked : Asked) (answer : status.Status) (kept : Option State) (before now : place.Place → ℕ)
+    (events : List Event) : Type 0 where
   pub names : IsFront (names_of events) (asked_names asked)
   pub second : TriesSecond asked events
   pub attached : ReadsAttached [] events
@@ -163,4 +173,5 @@ pub record IsRun (asked : Asked) (answer : status.Status) (kept : Option State) 
   pub early : answer ≡ status.TheVariants.Memory → ReadsFirstLine events
   pub told_user : IsFront (given place.TheVariants.Err events) (told_to_user R2u2 answer)
   pub told_whole : ToldWhole R2u2 answer (before place.TheVariants.Err) (now place.TheVariants.Err) events
+  pub told_last : MessageLast events
   pub complete : NoOtherRose before now → CompletesBy asked answer events

@@ -21,7 +21,8 @@ pub record AreSettled (style : Style) (outs : List Output) (rows : List Row) : T
   pub in_time : (o : Output) (t : ℕ) → t + delay o < length rows → slice_get (words rows o) t ≡ Some (meaning rows o t)
 
 -- the lines of a program's rows are those of these outputs under these names, and tell them so
-pub record TellsOf (style : Style) (program : Program) (names : List (List ℕ)) (outs : List Output) (rows : List Row) : Type 0 where
+pub record TellsOf (style : Style) (program : Program) (names : List (List ℕ)) (outs : List Output)
+    (rows : List Row) : Type 0 where
   pub lines_are : lines style (output_names program) (outputs program) rows ≡ lines style names outs rows
   pub settled : AreSettled style outs rows
 

@@ -2,6 +2,7 @@
 
 ghost use Rattle.std.specs.Prelude.{◌≡◌, ◌≢◌, ◌≤◌, Err, List as Seq, ℕ, None, Ok, OnOk, Option as Maybe, Some, IfErr, IfOk, length};
 ghost use Rattle.std.specs.Option.{ForSome, option_copied};
+ghost use Rattle.mltl_base.specs.declared.limits.TheConstants.{MAX_LINE_BYTES, MAX_SPEC_BYTES};
 ghost use Rattle.obs_files.specs.Faults.{opened as opened_by};
 ghost use Rattle.tool_runs.specs.Causes.{TellsNoCall};
 ghost use Rattle.tool_runs.specs.Files.{file_limit};
@@ -43,7 +44,7 @@ pub(crate) fn open_file(alloc: Global, kind: FileKind, bytes: &[u8]) -> Result<O
 }
 
 fn open_spec(alloc: Global, text: &[u8]) -> Result<Opened, Status>
-    requires { length text.now ≤ 1048576 }
+    requires { length text.now ≤ MAX_SPEC_BYTES }
     ensures opens { IfOk result (λ opened. Opens opened FileKind.Spec text.now) }
     ensures unrefused { OnOk result (file_refusal FileKind.Spec text.now ≡ None) }
     ensures refused { IfErr result (λ status. status ≢ Status.Memory →
@@ -71,7 +72,7 @@ pub(crate) fn program_for(
     opened: Opened,
     header: Option<&[u8]>,
 ) -> Result<Checked, Status>
-    requires line { ForSome header (λ line. length line.now ≤ 65535) }
+    requires line { ForSome header (λ line. length line.now < MAX_LINE_BYTES) }
     ensures program { IfOk result (λ checked.
         (kind : FileKind) (bytes : Seq ℕ) → Opens opened kind bytes →
         program_by kind bytes (option_copied header.entry) ≡ Ok checked) }
@@ -88,7 +89,7 @@ pub(crate) fn program_for(
 
 /// The program of a specification, whose signals stand in the columns of a header.
 fn compiled(alloc: Global, spec: &TypedSpec, header: Option<&[u8]>) -> Result<Checked, Status>
-    requires line { ForSome header (λ line. length line.now ≤ 65535) }
+    requires line { ForSome header (λ line. length line.now < MAX_LINE_BYTES) }
     ensures program { IfOk result (λ checked.
         (kind : FileKind) (bytes : Seq ℕ) → Opens (Opened.Spec spec.now) kind bytes →
         program_by kind bytes (option_copied header.entry) ≡ Ok checked) }
@@ -103,7 +104,7 @@ fn compiled(alloc: Global, spec: &TypedSpec, header: Option<&[u8]>) -> Result<Ch
 
 /// A program whose stored signals stand in the columns of a header. One of version 1 stores none.
 fn bound_to(alloc: Global, checked: Checked, header: Option<&[u8]>) -> Result<Checked, Status>
-    requires line { ForSome header (λ line. length line.now ≤ 65535) }
+    requires line { ForSome header (λ line. length line.now < MAX_LINE_BYTES) }
     ensures program { IfOk result (λ bound.
         bound_under (option_copied header.entry) checked ≡ Ok bound) }
     ensures refused { IfErr result (λ status. status ≢ Status.Memory →
@@ -119,7 +120,7 @@ fn bound_to(alloc: Global, checked: Checked, header: Option<&[u8]>) -> Result<Ch
 /// A program of version 2 whose stored signals stand in the columns of a header.
 fn bound_by(alloc: Global, checked: Checked, line: &[u8]) -> Result<Checked, Status>
     requires version { checked.version ≡ 2 }
-    requires line { length line.now ≤ 65535 }
+    requires line { length line.now < MAX_LINE_BYTES }
     ensures program { IfOk result (λ bound. bound_under (Some line.now) checked ≡ Ok bound) }
     ensures refused { IfErr result (λ status. status ≢ Status.Memory →
         bound_under (Some line.now) checked ≡ Err status) }

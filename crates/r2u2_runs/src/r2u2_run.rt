@@ -1,6 +1,7 @@
 //! The top call of the monitor.
 
 ghost use Rattle.std.specs.Prelude.{◌≡◌, ◌≢◌, ◌≤◌, ◌↔◌, ◌^◌, None, length};
+ghost use Rattle.mltl_base.specs.declared.limits.TheConstants.{MAX_MISSION};
 ghost use Rattle.tool_io.specs.Log.{OnLog};
 ghost use Rattle.tool_io.specs.declared.host.Place.{Place as Where};
 ghost use Rattle.tool_io.specs.declared.host.Place.TheVariants.{Err};
@@ -28,7 +29,7 @@ fn run_bytes<H: Host>(
     kept: &mut Option<Monitor>,
 ) -> Status
     requires within { length bytes.items ≤ file_limit asked.now.kind }
-    requires mission { asked.now.mission ≤ 2 ^ 40 }
+    requires mission { asked.now.mission ≤ MAX_MISSION }
     requires none_kept { kept.old ≡ None }
     ensures cause { RunCause result (H.faults host.old) (H.faults host.new) }
     ensures log { OnLog (H.log host.old) (H.log host.new)
@@ -49,7 +50,7 @@ fn run_file<H: Host>(
     host: &mut H,
     kept: &mut Option<Monitor>,
 ) -> Status
-    requires mission { asked.now.mission ≤ 2 ^ 40 }
+    requires mission { asked.now.mission ≤ MAX_MISSION }
     requires none_kept { kept.old ≡ None }
     ensures cause { RunCause result (H.faults host.old) (H.faults host.new) }
     ensures log { OnLog (H.log host.old) (H.log host.new)

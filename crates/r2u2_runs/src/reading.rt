@@ -2,6 +2,7 @@
 
 ghost use Rattle.std.specs.Prelude.{◌≡◌, ◌≤◌, IfOk, is_some, length};
 ghost use Rattle.std.specs.Option.{ForSome, option_copied};
+ghost use Rattle.mltl_base.specs.declared.limits.TheConstants.{MAX_LINE_BYTES};
 ghost use Rattle.tool_io.specs.Log.{OnLog};
 ghost use Rattle.tool_io.specs.Cutting.{fresh};
 ghost use Rattle.tool_runs.specs.Causes.{PhaseCause};
@@ -36,7 +37,7 @@ pub(crate) fn header_line(cut: &LineCut, any: bool) -> Option<&[u8]>
     requires any { any ≡ is_some cut.now.row }
     requires first { IsFirst cut.now }
     ensures header { option_copied result ≡ header_at cut.now }
-    ensures short { ForSome result (λ line. length line.now ≤ 65535) }
+    ensures short { ForSome result (λ line. length line.now < MAX_LINE_BYTES) }
 {
     if !any {
         return None;

@@ -1,6 +1,7 @@
 //! A run over a trace, from its attachment to its end.
 
 ghost use Rattle.std.specs.Prelude.{◌≡◌, ◌≤◌, ◌^◌, List as Seq, ℕ, None, [], is_some};
+ghost use Rattle.mltl_base.specs.declared.limits.TheConstants.{MAX_MISSION};
 ghost use Rattle.tool_io.specs.Log.{OnLog};
 ghost use Rattle.tool_words.specs.R2u2Words.{run_of};
 ghost use Rattle.tool_runs.specs.Causes.{RunCause};
@@ -27,7 +28,7 @@ pub(crate) fn run_trace<H: Host>(
     host: &mut H,
     kept: &mut Option<Monitor>,
 ) -> Status
-    requires mission { asked.now.mission ≤ 2 ^ 40 }
+    requires mission { asked.now.mission ≤ MAX_MISSION }
     requires none_kept { kept.old ≡ None }
     ensures cause { RunCause result (H.faults host.old) (H.faults host.new) }
     ensures log { (bytes : Seq ℕ) → Opens opened asked.now.kind bytes →
@@ -48,7 +49,7 @@ fn run_lines<H: Host>(
     host: &mut H,
     kept: &mut Option<Monitor>,
 ) -> Status
-    requires mission { asked.now.mission ≤ 2 ^ 40 }
+    requires mission { asked.now.mission ≤ MAX_MISSION }
     requires none_kept { kept.old ≡ None }
     ensures cause { RunCause result (H.faults host.old) (H.faults host.new) }
     ensures log { (bytes : Seq ℕ) → Opens opened asked.now.kind bytes →
@@ -75,7 +76,7 @@ fn run_rows<H: Host>(
     host: &mut H,
     kept: &mut Option<Monitor>,
 ) -> Status
-    requires mission { asked.now.mission ≤ 2 ^ 40 }
+    requires mission { asked.now.mission ≤ MAX_MISSION }
     requires first { IsFirst cut.old }
     requires any { any ≡ is_some cut.old.row }
     requires none_kept { kept.old ≡ None }
@@ -99,7 +100,7 @@ fn watch_rows<H: Host>(
     host: &mut H,
     kept: &mut Option<Monitor>,
 ) -> Status
-    requires mission { asked.now.mission ≤ 2 ^ 40 }
+    requires mission { asked.now.mission ≤ MAX_MISSION }
     requires numbered { cut.old.number ≤ 1 }
     requires none_kept { kept.old ≡ None }
     ensures cause { RunCause result (H.faults host.old) (H.faults host.new) }
@@ -124,7 +125,7 @@ fn watch_asked<H: Host>(
 ) -> Watched
     requires no_rows { Stands monitor.old [] }
     requires drained { IsDrained monitor.old }
-    requires mission { asked.now.mission ≤ 2 ^ 40 }
+    requires mission { asked.now.mission ≤ MAX_MISSION }
     requires numbered { cut.old.number ≤ 1 }
     ensures cause { WatchCause result (H.faults host.old) (H.faults host.new) }
     ensures log { OnLog (H.log host.old) (H.log host.new)

@@ -1,5 +1,7 @@
--- What a ring and its slots stand for: a frontier, a low time, and a verdict for each time from the low time to the frontier - 1.
-use Rattle.std.specs.Prelude.{◌≡◌, ℕ, ◌+◌, ◌-◌, ◌<◌, ◌≤◌, ◌⊎◌, Bool, false, List, [], ◌∷◌, ◌++◌, length, slice_index_or, take, drop, if◌then◌else◌, nat_le, nat_lt}
+-- What a ring and its slots stand for: a frontier, a low time, and a verdict for each time from the low time to the
+-- frontier - 1.
+use Rattle.std.specs.Prelude.{◌≡◌, ℕ, ◌+◌, ◌-◌, ◌<◌, ◌≤◌, ◌⊎◌, Bool, false, List, [], ◌∷◌, ◌++◌, length, slice_index_or}
+use Rattle.std.specs.Prelude.{take, drop, if◌then◌else◌, nat_le, nat_lt}
 use Rattle.scq_ring.specs.declared.runs.Ring.{Ring}
 use Rattle.scq_ring.specs.declared.runs.Slot.{Slot}
 use Rattle.scq_ring.specs.declared.runs.Seen.{Seen}
@@ -71,8 +73,10 @@ pub record IsClosed (old : Ring) (old_slots : List Slot) (new : Ring) (new_slots
   pub bounded : (new.low ≡ old.low) ⊎ (new.low + length old_slots ≤ old.frontier)
   pub kept : (t : ℕ) → new.low ≤ t → t < old.frontier → value_in (runs_of new new_slots) t ≡ verdict_at old old_slots t
 
--- the ring has got the value at each time from its frontier up to this one; where the slots were full, the oldest run was let go
-pub record IsTurned (old : Ring) (old_slots : List Slot) (upto : ℕ) (value : Bool) (new : Ring) (new_slots : List Slot) : Type 0 where
+-- the ring has got the value at each time from its frontier up to this one; where the slots were full, the oldest run
+-- was let go
+pub record IsTurned (old : Ring) (old_slots : List Slot) (upto : ℕ) (value : Bool) (new : Ring)
+    (new_slots : List Slot) : Type 0 where
   pub belongs : Belongs new new_slots
   pub frontier : new.frontier ≡ upto + 1
   pub rises : old.low ≤ new.low
@@ -80,7 +84,8 @@ pub record IsTurned (old : Ring) (old_slots : List Slot) (upto : ℕ) (value : B
   pub kept : (t : ℕ) → new.low ≤ t → t < old.frontier → verdict_at new new_slots t ≡ verdict_at old old_slots t
   pub written : (t : ℕ) → old.frontier ≤ t → t ≤ upto → verdict_at new new_slots t ≡ value
 
--- the run in the slots that holds a time is one of those from `first` to `last`: those before end earlier, and the last one doesn't
+-- the run in the slots that holds a time is one of those from `first` to `last`: those before end earlier, and the last
+-- one doesn't
 pub record IsAround (ring : Ring) (slots : List Slot) (from first last : ℕ) : Type 0 where
   pub ordered : first ≤ last
   pub within : last < ring.used

@@ -12,6 +12,8 @@ no_seat = record { start = 0; size = 0 }
 
 -- the parts of the first i members follow one another, and end at `end`
 pub record AreSeated {N : Type 0} (none : N) (seat : N → Seat) (nodes : List N) (end i : ℕ) : Type 0 where
-  pub within : (j : ℕ) → j < i → (seat (slice_index_or nodes j none)).start + (seat (slice_index_or nodes j none)).size ≤ end
+  pub within : (j : ℕ) → j < i → (seat (slice_index_or nodes j none)).start
+      + (seat (slice_index_or nodes j none)).size ≤ end
   pub apart : (j k : ℕ) → j < k → k < i
-      → (seat (slice_index_or nodes j none)).start + (seat (slice_index_or nodes j none)).size ≤ (seat (slice_index_or nodes k none)).start
+      → (seat (slice_index_or nodes j none)).start
+      + (seat (slice_index_or nodes j none)).size ≤ (seat (slice_index_or nodes k none)).start

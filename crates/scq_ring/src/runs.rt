@@ -1,6 +1,7 @@
 //! A ring of merged runs, and its slots.
 
 ghost use Rattle.std.specs.Prelude.{◌≡◌, ℕ, ◌+◌, ◌-◌, ◌^◌, ◌<◌, ◌≤◌, max, length, List, nat_lt, if◌then◌else◌};
+ghost use Rattle.mltl_base.specs.declared.limits.TheConstants.{TIME_END};
 ghost use Rattle.scq_ring.specs.Runs.{Belongs, IsAround, IsClear, IsClosed, IsTurned, KeepsNewest, Shows, frontier_of, low_of, ring_index_of, verdict_at};
 ghost use Rattle.scq_ring.specs.declared.runs.Slot.{Slot};
 
@@ -109,7 +110,7 @@ impl Ring {
     )
         requires belongs { Belongs self.old slots.old }
         requires ahead { frontier_of self.old ≤ upto }
-        requires in_time { upto < 2 ^ 41 }
+        requires in_time { upto < TIME_END }
         ensures belongs { Belongs self.new slots.new }
         ensures frontier { frontier_of self.new ≡ upto + 1 }
 
@@ -157,7 +158,7 @@ impl Ring {
     fn turn(&mut self, slots: &mut [Slot], upto: u64, value: bool)
         requires belongs { Belongs self.old slots.old }
         requires ahead { self.old.frontier ≤ upto }
-        requires in_time { upto < 2 ^ 41 }
+        requires in_time { upto < TIME_END }
         ensures turned { IsTurned self.old slots.old upto value self.new slots.new }
     {
         self.close(slots);
@@ -169,7 +170,7 @@ impl Ring {
     /// Puts the newest run after those in the slots, if it has some time.
     fn close(&mut self, slots: &mut [Slot])
         requires belongs { Belongs self.old slots.old }
-        requires in_time { self.old.frontier < 2 ^ 41 }
+        requires in_time { self.old.frontier < TIME_END }
         ensures closed { IsClosed self.old slots.old self.new slots.new }
     {
         if self.since == self.frontier {
@@ -186,7 +187,7 @@ impl Ring {
         requires belongs { Belongs self.old slots.old }
         requires free { self.old.used < length slots.old }
         requires some_time { self.old.since < self.old.frontier }
-        requires in_time { self.old.frontier < 2 ^ 41 }
+        requires in_time { self.old.frontier < TIME_END }
         ensures low { self.new.low ≡ self.old.low }
         ensures closed { IsClosed self.old slots.old self.new slots.new }
     {

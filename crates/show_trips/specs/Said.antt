@@ -18,7 +18,8 @@ use Rattle.c2po_tree.specs.Shape as tree
 use Rattle.c2po_tree.specs.Shape.{Shape}
 use Rattle.c2po_tree.specs.ItemShape as item
 use Rattle.c2po_tree.specs.ItemShape.{BodyShape, ItemShape, type_named}
-use Rattle.obs_show.specs.Lines.{Reference, always, named, number, Form, minus, arith, compare, negation, logic, between, Line, input, define, formula, contract}
+use Rattle.obs_show.specs.Lines.{Reference, always, named, number, Form, minus, arith, compare, negation, logic}
+use Rattle.obs_show.specs.Lines.{between, Line, input, define, formula, contract}
 use Rattle.show_trips.specs.Written.{Mark, token, space, newline, IsName, IsToken, IsNumber}
 
 -- the token of a reference
@@ -97,16 +98,19 @@ label_marks (Some x) = token (what.Word x) ∷ token (what.Sign sign.Colon) ∷ 
 
 -- what stands between the section's word and the `;`
 abbrev pub body_marks : Line → List Mark
-body_marks (input x truth) = token (what.Word x) ∷ token (what.Sign sign.Colon) ∷ space ∷ token (what.Reserved (kind_word truth)) ∷ []
+body_marks (input x truth) =
+    token (what.Word x) ∷ token (what.Sign sign.Colon) ∷ space ∷ token (what.Reserved (kind_word truth)) ∷ []
 body_marks (define x form) = token (what.Word x) ∷ space ∷ token (what.Sign sign.Becomes) ∷ space ∷ form_marks form
 body_marks (formula engine label x) = label_marks label ++ token (reference_token x) ∷ []
 body_marks (contract engine label x y) =
-    label_marks label ++ token (reference_token x) ∷ space ∷ token (what.Sign sign.Promises) ∷ space ∷ token (reference_token y) ∷ []
+    label_marks label ++ token (reference_token x) ∷ space ∷ token (what.Sign sign.Promises) ∷ space
+    ∷ token (reference_token y) ∷ []
 
 -- how a line is written
 abbrev pub line_marks : Line → List Mark
 line_marks line =
-    token (what.Reserved (section_word line)) ∷ space ∷ body_marks line ++ token (what.Sign sign.Semicolon) ∷ newline ∷ []
+    token (what.Reserved (section_word line)) ∷ space ∷ body_marks line ++ token (what.Sign sign.Semicolon) ∷ newline
+    ∷ []
 
 -- how lines are written, one after the other
 abbrev pub lines_marks : List Line → List Mark
@@ -155,7 +159,8 @@ form_shape line (arith op x y) = tree.arith line op (reference_shape line x) (re
 form_shape line (compare op x y) = tree.compare line op (reference_shape line x) (reference_shape line y)
 form_shape line (negation x) = tree.negation line (reference_shape line x)
 form_shape line (logic op x y) = tree.logic line op (reference_shape line x) (reference_shape line y)
-form_shape line (between op window x y) = tree.between line op window.lo window.hi (reference_shape line x) (reference_shape line y)
+form_shape line (between op window x y) =
+    tree.between line op window.lo window.hi (reference_shape line x) (reference_shape line y)
 
 -- the word of a kind
 abbrev pub kind_name : Bool → List ℕ

@@ -1,6 +1,7 @@
 -- Written texts: tokens, with spaces and ends of lines between them.
 
-use Rattle.std.specs.Prelude.{◌≡◌, ◌≤◌, ◌+◌, ℕ, ℤ, pos, negsuc, Bool, true, not, ◌==◌, ◌||◌, List, [], ◌∷◌, length, slice_index, flat_map, decimal, None, ⊤}
+use Rattle.std.specs.Prelude.{◌≡◌, ◌≤◌, ◌+◌, ℕ, ℤ, pos, negsuc, Bool, true, not, ◌==◌, ◌||◌, List, [], ◌∷◌, length}
+use Rattle.std.specs.Prelude.{slice_index, flat_map, decimal, None, ⊤}
 use Rattle.std.specs.List.{AllPass}
 use Rattle.std.specs.Char.{is_ascii_digit}
 use Rattle.c2po_lexer.specs.Spelling.{keyword_text, keyword_of, sign_text}

@@ -1,6 +1,7 @@
 -- The time that a line of a stamped trace begins with.
 
-use Rattle.std.specs.Prelude.{ℕ, ◌-◌, ◌+◌, ◌==◌, min, Bool, true, ◌&&◌, if◌then◌else◌, nat_lt, nat_le, Option, Some, None, List, [], ◌∷◌, length, take, drop, slice_index, ⊤}
+use Rattle.std.specs.Prelude.{ℕ, ◌-◌, ◌+◌, ◌==◌, min, Bool, true, ◌&&◌, if◌then◌else◌, nat_lt, nat_le, Option, Some}
+use Rattle.std.specs.Prelude.{None, List, [], ◌∷◌, length, take, drop, slice_index, ⊤}
 use Rattle.std.specs.Char.{is_ascii_digit}
 use Rattle.std.specs.List.{prefix_len}
 use Rattle.std.specs.Str.Parse.{digits_value}
@@ -23,7 +24,9 @@ ends_stamp (byte ∷ bytes) = byte == 44
 
 -- a line begins with a stamp: the sign `@`, one or more digits, and then a comma or the line's end
 abbrev pub has_stamp : List ℕ → Bool
-has_stamp line = (slice_index line 0 == 64) && (nat_lt 0 (prefix_len is_ascii_digit (drop 1 line)) && ends_stamp (after_digits (drop 1 line)))
+has_stamp line =
+    (slice_index line 0 == 64) && (nat_lt 0 (prefix_len is_ascii_digit (drop 1 line))
+    && ends_stamp (after_digits (drop 1 line)))
 
 -- the digits of a stamp
 unfoldable pub stamp_digits : List ℕ → List ℕ

@@ -1,6 +1,6 @@
 -- What programs in simplified form tell.
 
-use Rattle.std.proofs.Common.{◌≡◌, ◌∙◌, ◌+◌, ◌<◌, ◌≤◌, ℕ, zero, suc, Bool, true, false, Option, Some, List, [], ◌∷◌, ◌++◌, map, length, slice_get, Ok, refl, sym, ap, ap₂, subst, arith, if◌then◌else◌, option_map}
+use Rattle.std.proofs.Common.{◌≡◌, ◌∙◌, ◌+◌, ◌<◌, ◌≤◌, ℕ, zero, suc, Bool, true, false, Option, Some, None, List, [], ◌∷◌, ◌++◌, map, length, slice_get, Ok, refl, sym, ap, ap₂, subst, arith, if◌then◌else◌, option_map}
 use Rattle.std.specs.Prelude.{All}
 use Rattle.std.proofs.Math.Nat.{le-max_left, le-max_right, max-le}
 use Rattle.std.proofs.lemmas.List.Elements.{All-cons, All-head, All-nil, All-tail}
@@ -27,9 +27,9 @@ use Rattle.plain_nodes.specs.Outputs.{asked_over, output_over}
 use Rattle.obs_build.proofs.Tenses.{image_names, image_tells}
 use Rattle.set_expand.proofs.Signalling.{outputs-read}
 use Rattle.spec_compile.specs.Compiled.{columns_by, outputs_in, signals_in}
-use Rattle.spec_compile.specs.Front.{items_in}
+use Rattle.spec_compile.specs.Front.{first_refusal, items_in}
 use Rattle.spec_compile.specs.Image.{image, over_columns, plain_outputs}
-use Rattle.spec_compile.specs.Simplified.{CanMoveSimple, TellsSettled, are_smaller, moved_simple_image, simple_image, simple_image_of_text, smaller_outputs}
+use Rattle.spec_compile.specs.Simplified.{CanMoveSimple, TellsSettled, are_smaller, moved_simple_image, simple_image_in, simple_image_of_text, smaller_outputs}
 use Rattle.spec_compile.proofs.ImageLaws.{image_of}
 use Rattle.spec_compile.proofs.MovedImages.{moved_image_outputs}
 use Rattle.spec_compile.proofs.OrderedValues.{IsOrderedOutput, outputs_ordered}
@@ -154,15 +154,20 @@ smaller_told style p columns new outs rows k o ordered is =
 text_ordered : (text : List ℕ) → All IsOrderedOutput (outputs_in text)
 text_ordered text = outputs_ordered (items_in text)
 
+-- the simplified image of a text tells its plain outputs
+pub simple_image_told : (style : Style) (text : List ℕ) (columns : Columns) (rows : List Row) (k : ℕ) (o : Output) → first_refusal text ≡ None
+    → slice_get (plain_outputs columns (outputs_in text)) k ≡ Some o → TellsSettled style (simple_image_in text columns) k o rows
+simple_image_told style text columns rows k o none at =
+    let outs = smaller_outputs columns (outputs_in text) in
+    smaller_told style (simple_image_in text columns) columns columns (outputs_in text) rows k o (text_ordered text) at
+    (image_tells style (signals_in text) columns outs (simple_image_in text columns) rows (smaller_tensed columns (outputs_in text) (tensed text none)) (image_of columns (signals_in text) outs))
+
 pub simple_told : (style : Style) (text : List ℕ) (header : Option (List ℕ)) (columns : Columns) (p : Program) (rows : List Row) (k : ℕ) (o : Output)
     → simple_image_of_text text header ≡ Ok p → columns_by (signals_in text) header ≡ Ok columns → slice_get (plain_outputs columns (outputs_in text)) k ≡ Some o
     → TellsSettled style p k o rows
 simple_told style text header columns p rows k o is found at =
     let has = simple_found text header columns p is found in
-    let outs = smaller_outputs columns (outputs_in text) in
-    smaller_told style p columns columns (outputs_in text) rows k o (text_ordered text) at
-    (ap (λ q. reports style (outputs q) rows) has.1
-    ∙ image_tells style (signals_in text) columns outs (simple_image columns (signals_in text) (outputs_in text)) rows (smaller_tensed columns (outputs_in text) (tensed text has.0)) (image_of columns (signals_in text) outs))
+    subst (λ q. TellsSettled style q k o rows) (sym has.1) (simple_image_told style text columns rows k o has.0 at)
 
 pub moved_told : (style : Style) (text : List ℕ) (old new : Columns) (rows : List Row) (k : ℕ) (o : Output) → CanMoveSimple text old new
     → slice_get (plain_outputs new (outputs_in text)) k ≡ Some o → TellsSettled style (moved_simple_image text old new) k o rows
@@ -180,11 +185,16 @@ names_simple : (outs : List Asked) → map (λ (a : Asked). a.name) (simple_outp
 names_simple [] = refl
 names_simple (a ∷ outs) = ap (λ names. a.name ∷ names) (names_simple outs)
 
+pub simple_image_called : (text : List ℕ) (columns : Columns) → output_names (simple_image_in text columns) ≡ map (λ (a : Asked). a.name) (outputs_in text)
+simple_image_called text columns =
+    let outs = smaller_outputs columns (outputs_in text) in
+    image_names (signals_in text) columns outs (simple_image_in text columns) (image_of columns (signals_in text) outs)
+    ∙ smaller_has (λ xs. map (λ (a : Asked). a.name) xs ≡ map (λ (a : Asked). a.name) (outputs_in text)) columns (outputs_in text) (names_simple (outputs_in text)) refl
+
 pub simple_named : (text : List ℕ) (header : Option (List ℕ)) (columns : Columns) (p : Program) → simple_image_of_text text header ≡ Ok p → columns_by (signals_in text) header ≡ Ok columns
     → output_names p ≡ map (λ (a : Asked). a.name) (outputs_in text)
-simple_named text header columns p is found =
-    let has = simple_found text header columns p is found in
-    let outs = smaller_outputs columns (outputs_in text) in
-    ap output_names has.1
-    ∙ image_names (signals_in text) columns outs (simple_image columns (signals_in text) (outputs_in text)) (image_of columns (signals_in text) outs)
-    ∙ smaller_has (λ xs. map (λ (a : Asked). a.name) xs ≡ map (λ (a : Asked). a.name) (outputs_in text)) columns (outputs_in text) (names_simple (outputs_in text)) refl
+simple_named text header columns p is found = ap output_names (simple_found text header columns p is found).1 ∙ simple_image_called text columns
+
+-- moved to other columns too
+pub moved_simple_called : (text : List ℕ) (old new : Columns) → output_names (moved_simple_image text old new) ≡ map (λ (a : Asked). a.name) (outputs_in text)
+moved_simple_called text old new = simple_image_called text old

@@ -3,6 +3,7 @@
 use Rattle.std.specs.Prelude.{◌≡◌, ◌+◌, ◌<◌, ℕ, nat_le, Bool, true, false, ◌&&◌, if◌then◌else◌, is_none, List, length, slice_get, Option, Some, None, Result, Ok, sum}
 use Rattle.mltl_base.specs.declared.program.Columns.{Columns}
 use Rattle.mltl_base.specs.declared.program.Program.{Program}
+use Rattle.mltl_base.specs.declared.report.Report.{Report}
 use Rattle.mltl_base.specs.declared.report.Style.{Style}
 use Rattle.mltl_base.specs.declared.report.Word.{Word}
 use Rattle.mltl_base.specs.declared.signal.Signal.{Signal}
@@ -22,6 +23,7 @@ use Rattle.spec_compile.specs.declared.fault.CompileFault.{CompileFault}
 use Rattle.spec_compile.specs.Compiled.{signals_in, outputs_in, columns_by, image_of_text}
 use Rattle.spec_compile.specs.Front.{first_refusal}
 use Rattle.spec_compile.specs.Image.{AreColumnsFor, image, over_columns}
+use Rattle.spec_compile.specs.ImageFiles.{IsFileOf}
 use Rattle.spec_compile.specs.Limits.{limit_refusal}
 
 -- the fault is a limit that is exceeded, and not want of memory
@@ -75,9 +77,17 @@ pub record CanMoveSimple (text : List ℕ) (old new : Columns) : Type 0 where
   pub well_formed : IsWellFormed (simple_image_in text old)
   pub one_each : length new.of_signal ≡ length (signals_in text)
 
--- what the reports of a program tell of its output k, for an output: later and later times, each with a word that is
--- settled for it whatever rows follow, and none later than its worst-case delay
-pub record TellsSettled (style : Style) (program : Program) (k : ℕ) (o : Output) (rows : List Row) : Type 0 where
-  pub in_order : IsRising k 0 (reports style (outputs program) rows)
-  pub settled : (t : ℕ) (w : Word) → slice_get (told k 0 (reports style (outputs program) rows)) t ≡ Some w → IsSettled rows o t w
-  pub in_time : (t : ℕ) → t + delay o < length rows → slice_get (told k 0 (reports style (outputs program) rows)) t ≡ Some (meaning rows o t)
+-- a file has the bytes of the image of a text in simplified form
+abbrev pub IsSimpleImageFile : List ℕ → Columns → List ℕ → Type 0
+IsSimpleImageFile text columns file = IsFileOf text columns (simple_image_in text columns) file
+
+-- what reports tell of output k, for an output: later and later times, each with a word that is settled for it whatever
+-- rows follow, and none later than its worst-case delay
+pub record TellWords (told_so : List Report) (k : ℕ) (o : Output) (rows : List Row) : Type 0 where
+  pub in_order : IsRising k 0 told_so
+  pub settled : (t : ℕ) (w : Word) → slice_get (told k 0 told_so) t ≡ Some w → IsSettled rows o t w
+  pub in_time : (t : ℕ) → t + delay o < length rows → slice_get (told k 0 told_so) t ≡ Some (meaning rows o t)
+
+-- the reports of a program do so
+abbrev pub TellsSettled : Style → Program → ℕ → Output → List Row → Type 0
+TellsSettled style program k o rows = TellWords (reports style (outputs program) rows) k o rows

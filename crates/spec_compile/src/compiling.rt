@@ -2,6 +2,7 @@
 
 ghost use Rattle.std.specs.Prelude.{◌≡◌, ◌≢◌, ◌≤◌, Err, Ok, None, Some, length, IfErr, IfOk};
 ghost use Rattle.std.specs.Option.{ForSome, option_copied};
+ghost use Rattle.mltl_base.specs.declared.limits.TheConstants.{MAX_LINE_BYTES};
 ghost use Rattle.c2po_tree.specs.ItemShape.{spec_shape};
 ghost use Rattle.c2po_types.specs.Signals.{signals_of as declared};
 ghost use Rattle.obs_files.specs.Names.{NamesFit};
@@ -30,7 +31,7 @@ pub fn compile(
     header_line: Option<&[u8]>,
 ) -> Result<Checked, CompileFault>
     requires text { length text.now ≤ MAX_SPEC_BYTES }
-    requires line { ForSome header_line (λ line. length line.now ≤ 65535) }
+    requires line { ForSome header_line (λ line. length line.now < MAX_LINE_BYTES) }
     ensures program { IfOk result (λ checked.
         image_of_text text.now (option_copied header_line.entry) ≡ Ok checked) }
     ensures refused { IfErr result (λ fault. fault ≢ CompileFault.Memory →
@@ -51,7 +52,7 @@ pub fn columns_of(
     spec: &TypedSpec,
     header_line: Option<&[u8]>,
 ) -> Result<Columns, CompileFault>
-    requires line { ForSome header_line (λ line. length line.now ≤ 65535) }
+    requires line { ForSome header_line (λ line. length line.now < MAX_LINE_BYTES) }
     ensures columns { IfOk result (λ columns.
         columns_by (declared (spec_shape spec.now)) (option_copied header_line.entry)
         ≡ Ok columns) }
@@ -69,7 +70,7 @@ pub fn columns_of(
 
 /// The columns that a header line names.
 fn columns_named(alloc: Global, spec: &TypedSpec, line: &[u8]) -> Result<Columns, CompileFault>
-    requires { length line.now ≤ 65535 }
+    requires { length line.now < MAX_LINE_BYTES }
     ensures columns { IfOk result
         (λ columns. columns_by (declared (spec_shape spec.now)) (Some line.now) ≡ Ok columns) }
     ensures fault { IfErr result (λ fault. fault ≢ CompileFault.Memory →

@@ -74,4 +74,7 @@ pub fn simple_programs_tell_plain_outputs()
         simple_image_of_text text header ≡ Ok program →
         columns_by (signals_in text) header ≡ Ok columns →
         output_names program ≡ map (λ asked. asked.name) (outputs_in text) }
+    ensures moved_names { (text : Seq ℕ) (old new : Places) →
+        output_names (moved_simple_image text old new)
+        ≡ map (λ asked. asked.name) (outputs_in text) }
 {}

@@ -31,25 +31,25 @@ pending-plain cut plain = ap (λ kept. (if kept then row_bytes cut else []) ++ r
 
 pub length-rest_bytes : (cut : Inside) → HoldsRows cut → length (rest_bytes cut) ≡ cut.end - cut.next
 length-rest_bytes cut holds =
-    omega (arith, length-take (cut.end - cut.next) (drop cut.next cut.buffer.items), length-drop cut.next cut.buffer.items, holds.room, holds.to, holds.within)
+    omega (arith, length-take (cut.end - cut.next) (drop cut.next cut.buffer), length-drop cut.next cut.buffer, holds.room, holds.to, holds.within)
 
 -- the bytes after those that were seen
-pub unseen-is : (cut : Inside) (now : Cutting) (seen : ℕ) (bytes : List ℕ) → HoldsRows cut → cut_of cut ≡ now → now.kept ≡ false → seen ≤ length now.pending → bytes ≡ cut.buffer.items → slice_range bytes (cut.next + seen) cut.end ≡ drop seen now.pending
+pub unseen-is : (cut : Inside) (now : Cutting) (seen : ℕ) (bytes : List ℕ) → HoldsRows cut → cut_of cut ≡ now → now.kept ≡ false → seen ≤ length now.pending → bytes ≡ cut.buffer → slice_range bytes (cut.next + seen) cut.end ≡ drop seen now.pending
 unseen-is cut now seen bytes holds view plain within is =
     let kept : cut.kept ≡ false = ap (λ (v : Cutting). v.kept) view ∙ plain in
     let pending : now.pending ≡ rest_bytes cut = ap (λ (v : Cutting). v.pending) (sym view) ∙ pending-plain cut kept in
     let fits : seen ≤ cut.end - cut.next = omega (arith, within, ap length pending, length-rest_bytes cut holds) in
-    ap (λ items. slice_range items (cut.next + seen) cut.end) is ∙ part_rest cut.buffer.items cut.next cut.end seen fits ∙ ap (λ rest. drop seen rest) (sym pending)
+    ap (λ items. slice_range items (cut.next + seen) cut.end) is ∙ part_rest cut.buffer cut.next cut.end seen fits ∙ ap (λ rest. drop seen rest) (sym pending)
 
 -- the fields after the first bytes became the row
 pub CutsFront-of : (cut : Inside) (len number : ℕ) → HoldsRows cut → cut.kept ≡ false → len ≤ length (rest_bytes cut) → number ≡ min (cut.number + 1) (2 ^ 64 - 1) → CutsFront len (cut_of cut) (cut_of record cut { start = cut.next; next = cut.next + len; row = true; number = number })
 CutsFront-of cut len number holds plain within is =
     let fits : len ≤ cut.end - cut.next = omega (arith, within, length-rest_bytes cut holds) in
     record {
-      row = ap Some (part_front cut.buffer.items cut.next cut.end len fits) ∙ ap (λ bytes. Some (take len bytes)) (sym (pending-plain cut plain));
+      row = ap Some (part_front cut.buffer cut.next cut.end len fits) ∙ ap (λ bytes. Some (take len bytes)) (sym (pending-plain cut plain));
       pending =
-          ap (λ kept. (if kept then slice_range cut.buffer.items cut.next (cut.next + len) else []) ++ slice_range cut.buffer.items (cut.next + len) cut.end) plain
-          ∙ part_rest cut.buffer.items cut.next cut.end len fits
+          ap (λ kept. (if kept then slice_range cut.buffer cut.next (cut.next + len) else []) ++ slice_range cut.buffer (cut.next + len) cut.end) plain
+          ∙ part_rest cut.buffer cut.next cut.end len fits
           ∙ ap (λ bytes. drop len bytes) (sym (pending-plain cut plain));
       number = is ∙ ap (λ kept. if kept then cut.number else min (cut.number + 1) (2 ^ 64 - 1)) (sym plain);
       kept = plain;

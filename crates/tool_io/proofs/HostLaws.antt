@@ -1,8 +1,17 @@
 -- Laws of the counts of faults and of what is left: calls one after another.
-use Rattle.std.proofs.Common.{◌≡◌, ℕ, ◌≤◌, Option, List, refl, sym, ◌∙◌, subst}
+use Rattle.std.proofs.Common.{◌≡◌, ℕ, Option, List, refl, sym, ◌∙◌, ap, subst, arith}
+use Rattle.std.proofs.lemmas.Bool.Decides.{nat_tests}
 use Rattle.tool_io.specs.declared.host.Place.{Place}
 use Rattle.tool_io.specs.declared.host.Got as got
-use Rattle.tool_io.specs.Host.{Rose, RoseAt, NoFault, ReadCause, LeftAlone, LeftElsewhere}
+use Rattle.tool_io.specs.Counts.{one_more}
+use Rattle.tool_io.specs.Host.{Rose, RoseByOne, RoseAt, NoFault, ReadCause, LeftAlone, LeftElsewhere}
+
+one_more-rose : (count : ℕ) → Rose count (one_more count)
+one_more-rose count = grind (arith, nat_tests)
+
+-- a count that rose by one rose
+pub Rose-by_one : (before now : ℕ) → RoseByOne before now → Rose before now
+Rose-by_one before now one = subst (λ n. Rose before n) (sym one) (one_more-rose before)
 
 -- no call changes no count
 pub NoFault-none : (counts : Place → ℕ) → NoFault counts counts
@@ -16,8 +25,7 @@ NoFault-then before between now first second place = second place ∙ first plac
 pub RoseAt-after : (before between now : Place → ℕ) (place : Place) → NoFault before between → RoseAt between now place → RoseAt before now place
 RoseAt-after before between now place first second =
     record {
-      rose = subst (λ n. Rose n (now place)) (first place) second.rose;
-      later = λ p. subst (λ n. n ≤ now p) (first p) (second.later p);
+      rose = second.rose ∙ ap one_more (first place);
       others = λ p other. second.others p other ∙ first p;
     }
 
@@ -25,8 +33,7 @@ RoseAt-after before between now place first second =
 pub RoseAt-before : (before between now : Place → ℕ) (place : Place) → RoseAt before between place → NoFault between now → RoseAt before now place
 RoseAt-before before between now place first second =
     record {
-      rose = subst (λ n. Rose (before place) n) (sym (second place)) first.rose;
-      later = λ p. subst (λ n. before p ≤ n) (sym (second p)) (first.later p);
+      rose = second place ∙ first.rose;
       others = λ p other. second p ∙ first.others p other;
     }
 

@@ -11,27 +11,21 @@ use Rattle.tool_io.specs.declared.host.Got as got
 use Rattle.tool_io.specs.declared.host.Put as put
 use Rattle.tool_io.specs.declared.counts.Counts.{Counts}
 use Rattle.tool_io.specs.Log.{Event, Attached, Missed, Took, Gave}
-use Rattle.tool_io.specs.Host.{IsSource, Rose, RoseAt, AttachCause, ReadCause, ReadLeft, WriteCause, LeftElsewhere}
-use Rattle.tool_io.specs.Counts.{count_at, raised, one_more}
+use Rattle.tool_io.specs.Host.{IsSource, RoseByOne, RoseAt, AttachCause, ReadCause, ReadLeft, WriteCause, LeftElsewhere}
+use Rattle.tool_io.specs.Counts.{count_at, raised}
 use Rattle.tool_io.specs.Tape.{has_room}
 use Rattle.tool_io.specs.MemFiles.{Stored, Reading, Readings, reading_at, left_of, with_reading, opened, skipped, file_of}
 use Rattle.tool_io.specs.MemHost.{Held, faults_of, left_in, counted, failed, told, told_in_room, stands, attach_fails, attach_answer, after_attach, at_most, read_bytes, read_fails, gives, read_answer, after_read, read_into, write_fails, write_answer, after_write}
 
 -- ---- counts
 
-one_more-rose : (count : ℕ) → Rose count (one_more count)
-one_more-rose count = grind (arith, nat_tests)
-
-one_more-later : (count : ℕ) → count ≤ one_more count
-one_more-later count = grind (arith, nat_tests)
-
-raised-rose : (counts : Counts) (place : Place) → Rose (count_at counts place) (count_at (raised counts place) place)
-raised-rose counts Spec = one_more-rose counts.spec
-raised-rose counts Header = one_more-rose counts.header
-raised-rose counts Program = one_more-rose counts.program
-raised-rose counts Trace = one_more-rose counts.trace
-raised-rose counts Out = one_more-rose counts.out
-raised-rose counts Err = one_more-rose counts.err
+raised-rose : (counts : Counts) (place : Place) → RoseByOne (count_at counts place) (count_at (raised counts place) place)
+raised-rose counts Spec = refl
+raised-rose counts Header = refl
+raised-rose counts Program = refl
+raised-rose counts Trace = refl
+raised-rose counts Out = refl
+raised-rose counts Err = refl
 
 raised-other : (counts : Counts) (place other : Place) → other ≢ place → count_at (raised counts place) other ≡ count_at counts other
 raised-other counts Spec Spec differs = absurd (differs refl)
@@ -42,18 +36,9 @@ raised-other counts Out Out differs = absurd (differs refl)
 raised-other counts Err Err differs = absurd (differs refl)
 raised-other counts place other differs = refl
 
-raised-later : (counts : Counts) (place other : Place) → count_at counts other ≤ count_at (raised counts place) other
-raised-later counts Spec Spec = one_more-later counts.spec
-raised-later counts Header Header = one_more-later counts.header
-raised-later counts Program Program = one_more-later counts.program
-raised-later counts Trace Trace = one_more-later counts.trace
-raised-later counts Out Out = one_more-later counts.out
-raised-later counts Err Err = one_more-later counts.err
-raised-later counts place other = omega arith
-
 -- a counter that was raised is a fault at its place
 pub raised-cause : (counts : Counts) (place : Place) → RoseAt (count_at counts) (count_at (raised counts place)) place
-raised-cause counts place = record { rose = raised-rose counts place; later = raised-later counts place; others = raised-other counts place }
+raised-cause counts place = record { rose = raised-rose counts place; others = raised-other counts place }
 
 -- ---- what is left
 

@@ -163,7 +163,7 @@ CutsLine-again place cut holds kept =
         row_bytes cut,
         record {
           row = ap (λ v. if v then Some (row_bytes cut) else None) row;
-          fits = omega (arith, length-take (cut.next - cut.start) (drop cut.start cut.buffer.items), holds.from, holds.to, holds.within);
+          fits = omega (arith, length-take (cut.next - cut.start) (drop cut.start cut.buffer), holds.from, holds.to, holds.within);
           split = append-nil ((if cut.kept then row_bytes cut else []) ++ rest_bytes cut) ∙ ap (λ v. (if v then row_bytes cut else []) ++ rest_bytes cut) kept;
           number = ap (λ v. if v then cut.number else min (cut.number + 1) (2 ^ 64 - 1)) (sym kept);
           plain = refl;

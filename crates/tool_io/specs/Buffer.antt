@@ -1,6 +1,8 @@
 -- How the fields of a LineCut stand for a cut, and what its steps do to it.
-use Rattle.std.specs.Prelude.{◌≡◌, ℕ, ◌+◌, ◌<◌, ◌≤◌, true, false, if◌then◌else◌, Option, Some, None, List, [], ◌∷◌, ◌++◌, length, take, drop}
+use Rattle.std.specs.Prelude.{◌≡◌, ℕ, ◌+◌, ◌<◌, ◌≤◌, true, false, if◌then◌else◌, Option, Some, None, List, [], ◌∷◌}
+use Rattle.std.specs.Prelude.{◌++◌, length, take, drop}
 use Rattle.std.specs.List.{slice_range}
+use Rattle.mltl_base.specs.declared.limits.TheConstants.{MAX_LINE_BYTES}
 use Rattle.tool_io.specs.declared.host.Place.{Place}
 use Rattle.tool_io.specs.declared.host.Got as got
 use Rattle.tool_io.specs.declared.line_cut.LineCut.TheInside.{Inside}
@@ -9,11 +11,11 @@ use Rattle.tool_io.specs.Cutting.{Cutting, IsRow, next_number}
 
 -- the line that the last Row gave
 abbrev pub row_bytes : Inside → List ℕ
-row_bytes cut = slice_range cut.buffer.items cut.start cut.next
+row_bytes cut = slice_range cut.buffer cut.start cut.next
 
 -- the bytes after that line
 abbrev pub rest_bytes : Inside → List ℕ
-rest_bytes cut = slice_range cut.buffer.items cut.next cut.end
+rest_bytes cut = slice_range cut.buffer cut.next cut.end
 
 -- the cut that the fields stand for
 abbrev pub cut_of : Inside → Cutting
@@ -27,18 +29,20 @@ cut_of cut = record {
 
 -- what the fields keep
 pub record HoldsRows (cut : Inside) : Type 0 where
-  pub room : length cut.buffer.items ≡ 65536
+  pub room : length cut.buffer ≡ MAX_LINE_BYTES
   pub from : cut.start ≤ cut.next
   pub to : cut.next ≤ cut.end
-  pub within : cut.end ≤ 65536
+  pub within : cut.end ≤ MAX_LINE_BYTES
   pub row : cut.row ≡ true → IsRow (row_bytes cut) (rest_bytes cut) cut.ended
   pub kept : cut.kept ≡ true → cut.row ≡ true
 
 -- a read adds a piece to what is pending, or meets the end, or changes nothing
 abbrev pub FillsCut : got.Got → Cutting → Cutting → Option (List Event) → Option (List Event) → Place → Type 0
 FillsCut (got.TheVariants.Bytes n) old new before now place =
-    (piece : List ℕ) × (length piece ≡ n) × (0 < n) × (length old.pending + n ≤ 65536) × Appends before now (Took place piece ∷ []) × (new ≡ record old { pending = old.pending ++ piece })
-FillsCut got.TheVariants.End old new before now place = Appends before now (Took place [] ∷ []) × (new ≡ record old { ended = true })
+    (piece : List ℕ) × (length piece ≡ n) × (0 < n) × (length old.pending + n ≤ MAX_LINE_BYTES)
+    × Appends before now (Took place piece ∷ []) × (new ≡ record old { pending = old.pending ++ piece })
+FillsCut got.TheVariants.End old new before now place =
+    Appends before now (Took place [] ∷ []) × (new ≡ record old { ended = true })
 FillsCut got.TheVariants.Failed old new before now place = Appends before now [] × (new ≡ old)
 
 -- the first bytes are given as a row

@@ -1,6 +1,9 @@
 -- How a stream of bytes is cut into lines, and what a LineCut stands for.
-use Rattle.std.specs.Prelude.{◌≡◌, ℕ, ◌+◌, ◌-◌, ◌^◌, ◌<◌, ◌≤◌, ◌⊎◌, ◌==◌, ◌&&◌, ◌||◌, not, nat_lt, nat_le, min, Bool, true, false, if◌then◌else◌, Option, Some, None, IsSome, unwrap_or, List, [], ◌∷◌, ◌++◌, length, take, slice_index, ⊤}
+use Rattle.std.specs.Prelude.{◌≡◌, ℕ, ◌+◌, ◌-◌, ◌^◌, ◌<◌, ◌≤◌, ◌⊎◌, ◌==◌, ◌&&◌, ◌||◌, not, nat_lt, nat_le, min, Bool}
+use Rattle.std.specs.Prelude.{true, false, if◌then◌else◌, Option, Some, None, IsSome, unwrap_or, List, [], ◌∷◌, ◌++◌}
+use Rattle.std.specs.Prelude.{length, take, slice_index, ⊤}
 use Rattle.std.specs.List.{concat}
+use Rattle.mltl_base.specs.declared.limits.TheConstants.{MAX_LINE_BYTES}
 use Rattle.tool_io.specs.declared.host.Place.{Place}
 use Rattle.tool_io.specs.declared.line_cut.Line as line
 use Rattle.tool_io.specs.Log.{Event, Reads, meets_end}
@@ -61,7 +64,8 @@ rest_of (byte ∷ bytes) = if has_newline (byte ∷ bytes) then rest_of bytes el
 -- they are a line too where the bytes have ended, or where they are too long for one
 abbrev pub last_line : Bool → List ℕ → List (List ℕ)
 last_line ended [] = []
-last_line ended (byte ∷ bytes) = if ended || nat_le 65536 (length (byte ∷ bytes)) then (byte ∷ bytes) ∷ [] else []
+last_line ended (byte ∷ bytes) =
+    if ended || nat_le MAX_LINE_BYTES (length (byte ∷ bytes)) then (byte ∷ bytes) ∷ [] else []
 
 -- the lines of bytes
 abbrev pub lines_of : Bool → List ℕ → List (List ℕ)
@@ -69,7 +73,7 @@ lines_of ended bytes = whole_lines bytes ++ last_line ended (rest_of bytes)
 
 -- the first 65,536 bytes of the line hold no newline
 abbrev pub is_long : List ℕ → Bool
-is_long raw = nat_le 65536 (length raw) && not (has_newline (take 65536 raw))
+is_long raw = nat_le MAX_LINE_BYTES (length raw) && not (has_newline (take MAX_LINE_BYTES raw))
 
 -- before the first byte was taken
 abbrev pub fresh : Cutting
@@ -90,12 +94,13 @@ next_number cut = if cut.kept then cut.number else min (cut.number + 1) (2 ^ 64 
 -- a read is made only where the bytes before it hold no newline, and are fewer than the buffer holds
 abbrev pub OnlyWhereNeeded : List ℕ → List (List ℕ) → Type 0
 OnlyWhereNeeded pending [] = ⊤
-OnlyWhereNeeded pending (piece ∷ pieces) = HasNoNewline pending × (length pending < 65536) × OnlyWhereNeeded (pending ++ piece) pieces
+OnlyWhereNeeded pending (piece ∷ pieces) =
+    HasNoNewline pending × (length pending < MAX_LINE_BYTES) × OnlyWhereNeeded (pending ++ piece) pieces
 
 -- The last line, without a newline: the bytes after it are none, and the end was met.
 pub record IsLastRow (raw rest : List ℕ) (ended : Bool) : Type 0 where
   pub some : 0 < length raw
-  pub short : length raw < 65536
+  pub short : length raw < MAX_LINE_BYTES
   pub no_newline : HasNoNewline raw
   pub no_rest : rest ≡ []
   pub at_end : ended ≡ true
@@ -107,7 +112,7 @@ IsRow raw rest ended = EndsLine raw ⊎ IsLastRow raw rest ended
 -- the first of all bytes that were there or were taken are cut as a row
 pub record GivesRow (all : List ℕ) (old new : Cutting) (raw : List ℕ) : Type 0 where
   pub row : new.row ≡ Some raw
-  pub fits : length raw ≤ 65536
+  pub fits : length raw ≤ MAX_LINE_BYTES
   pub split : all ≡ raw ++ new.pending
   pub number : new.number ≡ next_number old
   pub plain : new.kept ≡ false
@@ -125,8 +130,9 @@ pub record GivesNone (all : List ℕ) (old new : Cutting) : Type 0 where
 abbrev pub Answer : line.Line → List ℕ → Cutting → Cutting → Type 0
 Answer line.TheVariants.Row all old new = (raw : List ℕ) × GivesRow all old new raw
 Answer line.TheVariants.End all old new = GivesNone all old new × (all ≡ []) × (new.ended ≡ true)
-Answer line.TheVariants.LongLine all old new = GivesNone all old new × (length all ≡ 65536)
-Answer line.TheVariants.ReadFault all old new = GivesNone all old new × (length all < 65536) × (new.ended ≡ false)
+Answer line.TheVariants.LongLine all old new = GivesNone all old new × (length all ≡ MAX_LINE_BYTES)
+Answer line.TheVariants.ReadFault all old new =
+    GivesNone all old new × (length all < MAX_LINE_BYTES) × (new.ended ≡ false)
 
 -- a line stands ready after a Row, and after no other answer
 abbrev pub IsReady : line.Line → Cutting → Type 0

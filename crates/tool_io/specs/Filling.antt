@@ -7,6 +7,8 @@ use Rattle.tool_io.specs.Log.{Event, Took, Appends}
 -- a read after the first bytes of a buffer leaves those, puts its own after them, and tells them
 abbrev pub Fills : got.Got → List ℕ → List ℕ → Option (List Event) → Option (List Event) → Place → Type 0
 Fills (got.TheVariants.Bytes n) kept buffer before now place =
-    (piece : List ℕ) × (length piece ≡ n) × (0 < n) × (length kept + n ≤ length buffer) × (take (length kept + n) buffer ≡ kept ++ piece) × Appends before now (Took place piece ∷ [])
-Fills got.TheVariants.End kept buffer before now place = (take (length kept) buffer ≡ kept) × Appends before now (Took place [] ∷ [])
+    (piece : List ℕ) × (length piece ≡ n) × (0 < n) × (length kept + n ≤ length buffer)
+    × (take (length kept + n) buffer ≡ kept ++ piece) × Appends before now (Took place piece ∷ [])
+Fills got.TheVariants.End kept buffer before now place =
+    (take (length kept) buffer ≡ kept) × Appends before now (Took place [] ∷ [])
 Fills got.TheVariants.Failed kept buffer before now place = (take (length kept) buffer ≡ kept) × Appends before now []

@@ -1,10 +1,12 @@
 -- What the calls of a host do to its counts of faults, to its log and to what is left to be read.
-use Rattle.std.specs.Prelude.{◌≡◌, ◌≢◌, ℕ, ◌+◌, ◌-◌, ◌^◌, ◌<◌, ◌≤◌, ◌⊎◌, min, Option, Some, None, List, [], ◌∷◌, ◌++◌, length, take, drop, ⊤}
+use Rattle.std.specs.Prelude.{◌≡◌, ◌≢◌, ℕ, ◌+◌, ◌-◌, ◌^◌, ◌<◌, ◌≤◌, ◌⊎◌, min, Option, Some, None, List, [], ◌∷◌, ◌++◌}
+use Rattle.std.specs.Prelude.{length, take, drop, ⊤}
 use Rattle.tool_io.specs.declared.host.Place.{Place}
 use Rattle.tool_io.specs.declared.host.Place.TheVariants.{Out, Err}
 use Rattle.tool_io.specs.declared.host.Attached as attached
 use Rattle.tool_io.specs.declared.host.Got as got
 use Rattle.tool_io.specs.declared.host.Put as put
+use Rattle.tool_io.specs.Counts.{one_more}
 use Rattle.tool_io.specs.Log.{Event, Attached, Missed, Took, Gave, Appends}
 
 -- Out and Err are written
@@ -23,32 +25,31 @@ IsSource p = ⊤
 abbrev pub Rose : ℕ → ℕ → Type 0
 Rose before now = min (before + 1) (2 ^ 64 - 1) ≤ now
 
--- no count has fallen
-abbrev pub NoneFell : (Place → ℕ) → (Place → ℕ) → Type 0
-NoneFell before now = (place : Place) → before place ≤ now place
+-- it rose by one, as a counter does: so one call failed and no more
+abbrev pub RoseByOne : ℕ → ℕ → Type 0
+RoseByOne before now = now ≡ one_more before
 
--- the count of this place rose, and the others stayed
+-- the count of this place rose by one, and the others stayed
 pub record RoseAt (before now : Place → ℕ) (place : Place) : Type 0 where
-  pub rose : Rose (before place) (now place)
-  pub later : NoneFell before now
+  pub rose : RoseByOne (before place) (now place)
   pub others : (other : Place) → other ≢ place → now other ≡ before other
 
 -- no count changed
 abbrev pub NoFault : (Place → ℕ) → (Place → ℕ) → Type 0
 NoFault before now = (place : Place) → now place ≡ before place
 
--- a failed attach raised the count of its place, and no other attach changes a count
+-- a failed attach raised the count of its place by one, and no other attach changes a count
 abbrev pub AttachCause : attached.Attached → (Place → ℕ) → (Place → ℕ) → Place → Type 0
 AttachCause attached.TheVariants.Ready before now place = NoFault before now
 AttachCause attached.TheVariants.Failed before now place = RoseAt before now place
 
--- a failed read raised the count of its place, and no other read changes a count
+-- a failed read raised the count of its place by one, and no other read changes a count
 abbrev pub ReadCause : got.Got → (Place → ℕ) → (Place → ℕ) → Place → Type 0
 ReadCause got.TheVariants.Failed before now place = RoseAt before now place
 ReadCause (got.TheVariants.Bytes n) before now place = NoFault before now
 ReadCause got.TheVariants.End before now place = NoFault before now
 
--- a failed write raised the count of its place, and no other write changes a count
+-- a failed write raised the count of its place by one, and no other write changes a count
 abbrev pub WriteCause : put.Put → (Place → ℕ) → (Place → ℕ) → Place → Type 0
 WriteCause put.TheVariants.Failed before now place = RoseAt before now place
 WriteCause (put.TheVariants.Wrote n) before now place = NoFault before now
@@ -56,7 +57,8 @@ WriteCause (put.TheVariants.Wrote n) before now place = NoFault before now
 -- an attach tells its place and name, and a failed one need not
 abbrev pub AttachLog : attached.Attached → Option (List Event) → Option (List Event) → Place → List ℕ → Type 0
 AttachLog attached.TheVariants.Ready before now place name = Appends before now (Attached place name ∷ [])
-AttachLog attached.TheVariants.Failed before now place name = Appends before now (Missed place name ∷ []) ⊎ Appends before now []
+AttachLog attached.TheVariants.Failed before now place name =
+    Appends before now (Missed place name ∷ []) ⊎ Appends before now []
 
 -- a read gives bytes at the front of the slice and tells them, or tells that it met the end
 abbrev pub ReadLog : got.Got → Option (List Event) → Option (List Event) → Place → List ℕ → Type 0
@@ -72,7 +74,8 @@ ReadRange got.TheVariants.Failed into = ⊤
 
 -- where what is left is told, a read gives its front, and meets the end exactly where nothing is left
 abbrev pub ReadLeft : got.Got → Option (List ℕ) → Option (List ℕ) → List ℕ → Type 0
-ReadLeft (got.TheVariants.Bytes n) (Some left) now into = (left ≡ take n into ++ drop n left) × (now ≡ Some (drop n left))
+ReadLeft (got.TheVariants.Bytes n) (Some left) now into =
+    (left ≡ take n into ++ drop n left) × (now ≡ Some (drop n left))
 ReadLeft got.TheVariants.End (Some left) now into = (left ≡ []) × (now ≡ Some [])
 ReadLeft got.TheVariants.Failed (Some left) now into = now ≡ Some left
 ReadLeft result None now into = ⊤

@@ -1,5 +1,6 @@
 -- What a host tells of its calls: a list of events, the oldest first, and what follows from it.
-use Rattle.std.specs.Prelude.{◌≡◌, ◌≢◌, ℕ, Bool, true, false, if◌then◌else◌, Option, Some, None, List, [], ◌∷◌, ◌++◌, map, ⊤}
+use Rattle.std.specs.Prelude.{◌≡◌, ◌≢◌, ℕ, Bool, true, false, if◌then◌else◌, Option, Some, None, List, [], ◌∷◌, ◌++◌}
+use Rattle.std.specs.Prelude.{map, ⊤}
 use Rattle.std.specs.List.{concat}
 use Rattle.tool_io.specs.declared.host.Place.{Place}
 use Rattle.tool_io.specs.declared.host.Place.TheVariants.{Spec, Header, Program, Trace, Out, Err}
@@ -46,7 +47,8 @@ is_empty (byte ∷ bytes) = false
 -- whether the last read of a place met the end, where `ended` says so of the reads before
 abbrev pub ended_from : Bool → Place → List Event → Bool
 ended_from ended place [] = ended
-ended_from ended place (Took q piece ∷ events) = ended_from (if same_place place q then is_empty piece else ended) place events
+ended_from ended place (Took q piece ∷ events) =
+    ended_from (if same_place place q then is_empty piece else ended) place events
 ended_from ended place (Gave q piece ∷ events) = ended_from ended place events
 ended_from ended place (Attached q name ∷ events) = ended_from ended place events
 ended_from ended place (Missed q name ∷ events) = ended_from ended place events
@@ -108,4 +110,5 @@ pub record WritesFront (place : Place) (bytes : List ℕ) (events : List Event) 
 -- `bytes` are those that were taken before these events.
 abbrev pub Prompt : (List ℕ → List ℕ) → List ℕ → List Event → Type 0
 Prompt due_of bytes events =
-    (before after : List Event) (piece : List ℕ) → events ≡ before ++ Took Trace piece ∷ after → given Out before ≡ due_of (bytes ++ taken Trace before)
+    (before after : List Event) (piece : List ℕ) → events ≡ before ++ Took Trace piece ∷ after
+    → given Out before ≡ due_of (bytes ++ taken Trace before)

@@ -71,9 +71,11 @@ with_place stored place reading = record stored { readings = with_reading stored
 
 -- the files after a place was attached to the file of this name, which changes nothing where there is none
 abbrev pub opened : Stored → Place → List ℕ → Stored
-opened stored place name = option_map_or (λ bytes. with_place stored place (record { name = name; left = bytes })) (file_of stored name) stored
+opened stored place name =
+    option_map_or (λ bytes. with_place stored place (record { name = name; left = bytes })) (file_of stored name) stored
 
 -- the files after a place passed over so many bytes
 abbrev pub skipped : Stored → Place → ℕ → Stored
 skipped stored place count =
-    option_map_or (λ reading. with_place stored place (record reading { left = drop count reading.left })) (reading_at stored.readings place) stored
+    option_map_or (λ reading. with_place stored place (record reading { left = drop count reading.left }))
+    (reading_at stored.readings place) stored

@@ -15,7 +15,10 @@ file_at files i = slice_index_or files i (record { name = []; bytes = [] })
 -- what a cursor reads
 abbrev pub reading_of : List NamedBytes → Cursor → Reading
 reading_of files cursor =
-    let file = file_at files cursor.file in record { name = file.name; left = drop (length file.bytes - cursor.left) file.bytes }
+    let file = file_at files cursor.file in record {
+      name = file.name;
+      left = drop (length file.bytes - cursor.left) file.bytes;
+    }
 
 -- what all cursors read
 abbrev pub readings_of : List NamedBytes → Cursors → Readings

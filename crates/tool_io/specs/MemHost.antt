@@ -1,5 +1,6 @@
 -- What a host in memory holds, when a call of it fails, what it answers, and what it holds afterwards.
-use Rattle.std.specs.Prelude.{◌≡◌, ◌==◌, ℕ, Bool, false, ◌&&◌, ◌||◌, not, if◌then◌else◌, min, Option, Some, None, List, [], ◌++◌, length, take, drop, unwrap_or}
+use Rattle.std.specs.Prelude.{◌≡◌, ◌==◌, ℕ, Bool, false, ◌&&◌, ◌||◌, not, if◌then◌else◌, min, Option, Some, None, List}
+use Rattle.std.specs.Prelude.{[], ◌++◌, length, take, drop, unwrap_or}
 use Rattle.std.specs.Option.{is_none, option_map_or}
 use Rattle.std.specs.List.{list_any}
 use Rattle.tool_io.specs.declared.host.Place.{Place}
@@ -26,7 +27,15 @@ pub record Held : Type 0 where
 
 -- a new host, with its room
 abbrev pub new_host : ℕ → ℕ → Held
-new_host events bytes = record { store = no_files; tape = new_tape events bytes; calls = no_counts; faults = no_counts; listed = []; block = None }
+new_host events bytes =
+    record {
+      store = no_files;
+      tape = new_tape events bytes;
+      calls = no_counts;
+      faults = no_counts;
+      listed = [];
+      block = None;
+    }
 
 -- the count of a place's faults, as the host tells it
 abbrev pub faults_of : Held → Place → ℕ
@@ -42,7 +51,8 @@ left_in host place = left_of host.store place
 
 -- whether the next call of a place is one that is to fail
 abbrev pub is_listed : Held → Place → Bool
-is_listed host place = list_any (λ entry. same_place entry.place place && (entry.call == count_at host.calls place)) host.listed
+is_listed host place =
+    list_any (λ entry. same_place entry.place place && (entry.call == count_at host.calls place)) host.listed
 
 -- whether a place can't stand at a name: one that is read needs a file there
 abbrev pub is_missing : Held → Place → List ℕ → Bool
@@ -76,11 +86,13 @@ stands host place name = record host { store = opened host.store place name }
 
 -- the call is listed, or there is no room, or no file of that name
 abbrev pub attach_fails : Held → Place → List ℕ → Bool
-attach_fails host place name = is_listed host place || not (has_room host.tape (length name)) || is_missing host place name
+attach_fails host place name =
+    is_listed host place || not (has_room host.tape (length name)) || is_missing host place name
 
 -- what an attach answers: it failed, or the place stands ready
 abbrev pub attach_answer : Held → Place → List ℕ → attached.Attached
-attach_answer host place name = if attach_fails host place name then attached.TheVariants.Failed else attached.TheVariants.Ready
+attach_answer host place name =
+    if attach_fails host place name then attached.TheVariants.Failed else attached.TheVariants.Ready
 
 -- a failed attach tells Missed where there is room
 abbrev pub after_attach : Held → Place → List ℕ → Held
@@ -100,7 +112,9 @@ read_bytes host place room = take (at_most host.block room) (unwrap_or (left_of 
 
 -- the call is listed, or the place isn't attached, or there is no room
 abbrev pub read_fails : Held → Place → ℕ → Bool
-read_fails host place room = is_listed host place || is_none (left_of host.store place) || not (has_room host.tape (length (read_bytes host place room)))
+read_fails host place room =
+    is_listed host place || is_none (left_of host.store place)
+    || not (has_room host.tape (length (read_bytes host place room)))
 
 -- the answer of a read that gives so many bytes
 abbrev pub gives : ℕ → got.Got
@@ -108,13 +122,15 @@ gives count = if count == 0 then got.TheVariants.End else got.TheVariants.Bytes 
 
 -- what a read answers: it failed, or the end is met, or so many bytes are given
 abbrev pub read_answer : Held → Place → ℕ → got.Got
-read_answer host place room = if read_fails host place room then got.TheVariants.Failed else gives (length (read_bytes host place room))
+read_answer host place room =
+    if read_fails host place room then got.TheVariants.Failed else gives (length (read_bytes host place room))
 
 -- a failed read tells nothing
 abbrev pub after_read : Held → Place → ℕ → Held
 after_read host place room =
     if read_fails host place room then failed host place
-    else told (record (counted host place) { store = skipped host.store place (length (read_bytes host place room)) }) (Took place (read_bytes host place room))
+    else told (record (counted host place) { store = skipped host.store place (length (read_bytes host place room)) })
+    (Took place (read_bytes host place room))
 
 -- the slice after a read
 abbrev pub read_into : Held → Place → List ℕ → List ℕ
@@ -136,8 +152,10 @@ write_fails host place piece = is_listed host place || not (has_room host.tape (
 
 -- what a write answers: it failed, or the whole piece is taken
 abbrev pub write_answer : Held → Place → List ℕ → put.Put
-write_answer host place piece = if write_fails host place piece then put.TheVariants.Failed else put.TheVariants.Wrote (length piece)
+write_answer host place piece =
+    if write_fails host place piece then put.TheVariants.Failed else put.TheVariants.Wrote (length piece)
 
 -- a failed write tells nothing, another takes the whole piece
 abbrev pub after_write : Held → Place → List ℕ → Held
-after_write host place piece = if write_fails host place piece then failed host place else told (counted host place) (Gave place piece)
+after_write host place piece =
+    if write_fails host place piece then failed host place else told (counted host place) (Gave place piece)

@@ -26,7 +26,8 @@ bytes_in (event ∷ events) = length (event_bytes event) + bytes_in events
 
 -- whether one more event with so many bytes finds room
 abbrev pub has_room : Taped → ℕ → Bool
-has_room tape count = nat_lt (length tape.events) tape.most_events && nat_le (bytes_in tape.events + count) tape.most_bytes
+has_room tape count =
+    nat_lt (length tape.events) tape.most_events && nat_le (bytes_in tape.events + count) tape.most_bytes
 
 -- the log with one more event
 abbrev pub with_event : Taped → Event → Taped

@@ -19,7 +19,8 @@ event_of Give place bytes = Gave place bytes
 -- the events of marks, the bytes of which stand one after another
 abbrev pub events_of : List Mark → List ℕ → List Event
 events_of [] bytes = []
-events_of (mark ∷ marks) bytes = event_of mark.deed mark.place (take mark.len bytes) ∷ events_of marks (drop mark.len bytes)
+events_of (mark ∷ marks) bytes =
+    event_of mark.deed mark.place (take mark.len bytes) ∷ events_of marks (drop mark.len bytes)
 
 -- how many bytes marks speak of
 abbrev pub bytes_of : List Mark → ℕ
@@ -28,7 +29,12 @@ bytes_of (mark ∷ marks) = mark.len + bytes_of marks
 
 -- the log that a tape keeps
 abbrev pub view_of : Inside → Taped
-view_of tape = record { events = events_of tape.marks.items tape.bytes.items; most_events = tape.most_events; most_bytes = tape.most_bytes }
+view_of tape =
+    record {
+      events = events_of tape.marks.items tape.bytes.items;
+      most_events = tape.most_events;
+      most_bytes = tape.most_bytes;
+    }
 
 -- the marks cover the buffer, what Out and Err were given stands beside it, and none outgrows its room
 pub record IsTape (tape : Inside) : Type 0 where

@@ -29,9 +29,12 @@ pub record Takes (place : Place) (bytes : List ℕ) (ended : Bool) (events : Lis
 -- the bytes up to the end; or more than the limit; or no more than the limit, and then no end
 abbrev pub WholeLog : Result (Vec ℕ Global) WholeFault → Place → ℕ → List Event → Type 0
 WholeLog (Ok whole) place limit events = Takes place whole.items true events × (length whole.items ≤ limit)
-WholeLog (Err fault.TooLong) place limit events = (bytes : List ℕ) × Takes place bytes false events × (limit < length bytes)
-WholeLog (Err fault.ReadFault) place limit events = (bytes : List ℕ) × Takes place bytes false events × (length bytes ≤ limit)
-WholeLog (Err fault.Memory) place limit events = (bytes : List ℕ) × Takes place bytes false events × (length bytes ≤ limit)
+WholeLog (Err fault.TooLong) place limit events =
+    (bytes : List ℕ) × Takes place bytes false events × (limit < length bytes)
+WholeLog (Err fault.ReadFault) place limit events =
+    (bytes : List ℕ) × Takes place bytes false events × (length bytes ≤ limit)
+WholeLog (Err fault.Memory) place limit events =
+    (bytes : List ℕ) × Takes place bytes false events × (length bytes ≤ limit)
 
 -- a read that failed raised the count of its place, and nothing else changes a count
 abbrev pub WholeCause : Result (Vec ℕ Global) WholeFault → (Place → ℕ) → (Place → ℕ) → Place → Type 0

@@ -27,7 +27,7 @@ pub enum Place {
 pub enum Attached {
     /// The place stands at the name.
     Ready,
-    /// It doesn't; the place's count of faults rose.
+    /// It doesn't; the place's count of faults rose by one.
     Failed,
 }
 
@@ -38,7 +38,7 @@ pub enum Got {
     Bytes(usize),
     /// Nothing is left.
     End,
-    /// The read failed; the place's count of faults rose.
+    /// The read failed; the place's count of faults rose by one.
     Failed,
 }
 
@@ -47,7 +47,7 @@ pub enum Got {
 pub enum Put {
     /// So many bytes from the front of the piece went out.
     Wrote(usize),
-    /// The write failed; the place's count of faults rose.
+    /// The write failed; the place's count of faults rose by one.
     Failed,
 }
 
@@ -55,7 +55,8 @@ pub enum Put {
 ///
 /// `faults` counts the failed calls of each place; a count never falls, and stays at 2^64 - 1 once it is there.
 /// `log`, where the host tells it, is the list of its events. `left`, where it is told, is what a place has still to
-/// be read. A call that fails raises the count of its place; every other call leaves all counts.
+/// be read. A call that fails raises the count of its place by one; every other call leaves all counts, and tells one
+/// event. So the calls of a place are the events and the faults that it has together.
 /// `Out` and `Err` stand at the standard streams until they are attached elsewhere.
 pub trait Host {
     ghost faults: { Self → Place → ℕ };

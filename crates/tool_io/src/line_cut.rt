@@ -7,7 +7,9 @@ ghost use Rattle.tool_io.specs.Host.{IsSource, ReadCause, LeftElsewhere};
 ghost use Rattle.tool_io.specs.Cutting.{HasNoNewline, EndsLine, IsRow, fresh, keeps, row_of, line_text, IsReady, CutsLine, LineCause};
 
 use crate::host::{Got, Host, Place};
+use fixed_list::Fixed;
 use memchr::memchr;
+use mltl_base::limits::MAX_LINE_BYTES;
 use std::alloc::{AllocError, Global};
 use std::marker::Model;
 
@@ -24,15 +26,12 @@ pub enum Line {
     ReadFault,
 }
 
-/// How many bytes a line has at most, its newline among them: the size of the buffer.
-const LONGEST: usize = 65_536;
-
 /// A stream of bytes that is cut at its newlines, by one buffer of 65,536 bytes.
 ///
 /// It takes memory where it is made and never again. It reads only where no whole line stands in the buffer.
 #[derive(Drop)]
 pub struct LineCut {
-    buffer: Vec<u8>,
+    buffer: Fixed<u8>,
     /// Where the line of the last Row begins.
     start: usize,
     /// Where the bytes after it begin, which aren't cut yet.
@@ -93,6 +92,7 @@ fn read_after<H: Host>(host: &mut H, place: Place, buffer: &mut [u8], len: usize
 }
 
 impl LineCut {
+    ghost use Rattle.mltl_base.specs.declared.limits.TheConstants.{MAX_LINE_BYTES};
     ghost use Rattle.tool_io.specs.Buffer.{CutsFront, FillsCut};
 
     /// A cut before the first byte, with room for the longest line.
@@ -100,7 +100,7 @@ impl LineCut {
         ensures { IfOk result (λ cut. cut ≡ fresh) }
     {
         Ok(LineCut {
-            buffer: vec![in alloc; 0; LONGEST]?,
+            buffer: Fixed::filled(alloc, 0, MAX_LINE_BYTES)?,
             start: 0,
             next: 0,
             end: 0,
@@ -135,7 +135,7 @@ impl LineCut {
         requires { IsSome self.now.row }
         ensures { result.now ≡ line_text (row_of self.now) }
     {
-        let raw = &self.buffer[self.start..self.next];
+        let raw = &self.buffer.as_slice()[self.start..self.next];
         match raw {
             [line @ .., b'\r', b'\n'] => line,
             [line @ .., b'\n'] => line,
@@ -162,7 +162,7 @@ impl LineCut {
     fn pending_len(&self) -> usize
         requires { self.now.kept ≡ false }
         ensures len { result ≡ length self.now.pending }
-        ensures within { result ≤ 65536 }
+        ensures within { result ≤ MAX_LINE_BYTES }
     {
         self.end - self.next
     }
@@ -176,7 +176,7 @@ impl LineCut {
             (len ≤ length self.now.pending) × EndsLine (take len self.now.pending)) }
         ensures not_found { IfNone result (HasNoNewline self.now.pending) }
     {
-        let at = first_newline(&self.buffer[self.next + seen..self.end])?;
+        let at = first_newline(&self.buffer.as_slice()[self.next + seen..self.end])?;
         Some(seen + at + 1)
     }
 
@@ -198,13 +198,13 @@ impl LineCut {
     fn fill<H: Host>(&mut self, host: &mut H, place: Place) -> Got
         requires source { IsSource place }
         requires no_row { self.old.row ≡ None }
-        requires room { length self.old.pending < 65536 }
+        requires room { length self.old.pending < MAX_LINE_BYTES }
         ensures bytes { FillsCut result self.old self.new (H.log host.old) (H.log host.new) place }
         ensures cause { ReadCause result (H.faults host.old) (H.faults host.new) place }
         ensures elsewhere { LeftElsewhere (H.left host.old) (H.left host.new) place }
     {
         let len = self.end - self.next;
-        let buffer: &mut [u8] = &mut self.buffer;
+        let buffer = self.buffer.as_mut_slice();
         move_to_front(buffer, self.next, self.end);
         let got = read_after(host, place, buffer, len);
         self.start = 0;
@@ -236,7 +236,7 @@ impl LineCut {
                 return Line::Row;
             }
             seen = self.pending_len();
-            if seen == LONGEST {
+            if seen == MAX_LINE_BYTES {
                 return Line::LongLine;
             }
             if self.ended {

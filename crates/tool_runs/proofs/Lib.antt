@@ -4,3 +4,4 @@ pub mod AttachLaws
 pub mod CauseLaws
 pub mod LineLaws
 pub mod MessageLaws
+pub mod UseLaws

@@ -13,7 +13,9 @@ is_attached p (event ∷ events) = is_attached p events
 
 -- each read is of a place that was attached before; `first` are the events before these
 abbrev pub ReadsAttached : List Event → List Event → Type 0
-ReadsAttached first events = (before after : List Event) (p : place.Place) (piece : List ℕ) → events ≡ before ++ Took p piece ∷ after → is_attached p (first ++ before) ≡ true
+ReadsAttached first events =
+    (before after : List Event) (p : place.Place) (piece : List ℕ) → events ≡ before ++ Took p piece ∷ after
+    → is_attached p (first ++ before) ≡ true
 
 -- a place that couldn't be opened wasn't attached, and one that couldn't be read was
 abbrev pub OpensAsTold : status.Status → List Event → Type 0

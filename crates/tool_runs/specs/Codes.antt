@@ -2,7 +2,9 @@
 
 use Rattle.std.specs.Prelude.{ℕ}
 use Rattle.tool_runs.specs.declared.status.Status.{Status}
-use Rattle.tool_runs.specs.declared.status.Status.TheVariants.{Done, Helped, Usage, Refused, BadProgram, BadHeader, BadTrace, TooLong, TextTooLong, OpenFault, ReadFault, WriteFault, Memory}
+use Rattle.tool_runs.specs.declared.status.Status.TheVariants.{Done, Helped, Usage, Refused, BadProgram, BadHeader}
+use Rattle.tool_runs.specs.declared.status.Status.TheVariants.{BadTrace, TooLong, TextTooLong, OpenFault, ReadFault}
+use Rattle.tool_runs.specs.declared.status.Status.TheVariants.{WriteFault, Memory}
 
 -- 0 for success, 1 for the words, 2 for a specification, 3 for a program file, 4 for a header or a trace, 5 for a text
 -- or a trace past its limit, 6 for opening and reading, 7 for writing, 8 for memory

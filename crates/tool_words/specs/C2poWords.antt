@@ -1,6 +1,7 @@
 -- What the words of `c2po` ask for.
 
-use Rattle.std.specs.Prelude.{Bool, true, false, ◌||◌, if◌then◌else◌, Option, Some, is_some, unwrap_or, option_map, List, [], ◌∷◌, codes}
+use Rattle.std.specs.Prelude.{Bool, true, false, ◌||◌, if◌then◌else◌, Option, Some, is_some, unwrap_or, option_map}
+use Rattle.std.specs.Prelude.{List, [], ◌∷◌, codes}
 use Rattle.std.specs.Option.{option_map_or}
 use Rattle.clap.specs.Words.{App, Row, Rule, Text, first_of}
 use Rattle.tool_words.specs.declared.c2po_words.C2poAsk as c2po_ask
@@ -12,10 +13,12 @@ use Rattle.tool_words.specs.Reading.{command_of, flag, option, positional, is_he
 abbrev pub output : Rule
 output = record (option (codes "output")) { short = Some 111 }
 
--- `c2po [--header FILE] [-o FILE] [--table] [--simplify] SPEC`, `c2po --upgrade [-o FILE] PROGRAM` or `c2po --show [-o FILE] PROGRAM`
+-- `c2po [--header FILE] [-o FILE] [--table] [--simplify] SPEC`, `c2po --upgrade [-o FILE] PROGRAM` or `c2po --show [-o
+-- FILE] PROGRAM`
 unfoldable pub command : App
 command = command_of (codes "c2po")
-    (option (codes "header") ∷ output ∷ flag (codes "table") ∷ flag (codes "simplify") ∷ flag (codes "upgrade") ∷ flag (codes "show")
+    (option (codes "header") ∷ output ∷ flag (codes "table") ∷ flag (codes "simplify") ∷ flag (codes "upgrade")
+    ∷ flag (codes "show")
     ∷ positional (codes "file") ∷ [])
 
 -- a compilation; without a file the table goes to the standard output
@@ -54,7 +57,8 @@ compile_in found spec = record {
 
 -- an option is given that serves compiling alone
 abbrev pub is_compiling : List Row → Bool
-is_compiling found = is_some (first_of (codes "header") found) || (is_set (codes "table") found || is_set (codes "simplify") found)
+is_compiling found =
+    is_some (first_of (codes "header") found) || (is_set (codes "table") found || is_set (codes "simplify") found)
 
 -- `--upgrade` and `--show`, in this order, exclude each other and what serves compiling alone
 abbrev pub asked_by : Bool → Bool → List Row → Text → Asked
@@ -65,9 +69,12 @@ asked_by true true found file = nothing
 
 -- what the arguments ask for that clap found; a file has to be there
 abbrev pub asked_in : List Row → Asked
-asked_in found = option_map_or (asked_by (is_set (codes "upgrade") found) (is_set (codes "show") found) found) (first_of (codes "file") found) nothing
+asked_in found =
+    option_map_or (asked_by (is_set (codes "upgrade") found) (is_set (codes "show") found) found)
+    (first_of (codes "file") found) nothing
 
--- Help where the words are `--help` or `-h` alone. Else what the command finds in them; nothing where it doesn't take them.
+-- Help where the words are `--help` or `-h` alone. Else what the command finds in them; nothing where it doesn't take
+-- them.
 abbrev pub ask_of_texts : List Text → Asked
 ask_of_texts words = if is_help words then help else option_map_or asked_in (found_in command words) nothing
 
@@ -77,7 +84,14 @@ ask words = if are_texts words then ask_of_texts words else nothing
 
 -- the compilation that an answer tells
 abbrev pub compile_of : told.Compile → CompileAsked
-compile_of c = record { header = option_map (λ name. name.now) c.header; out = option_map (λ name. name.now) c.out; table = c.table; simplify = c.simplify; spec = c.spec.now }
+compile_of c =
+    record {
+      header = option_map (λ name. name.now) c.header;
+      out = option_map (λ name. name.now) c.out;
+      table = c.table;
+      simplify = c.simplify;
+      spec = c.spec.now;
+    }
 
 -- what an answer tells
 abbrev pub asked_of : c2po_ask.C2poAsk → Asked

@@ -1,8 +1,10 @@
 -- What the words of `r2u2` ask for.
 
-use Rattle.std.specs.Prelude.{ℕ, ◌^◌, ◌≤◌, Bool, ◌&&◌, ◌==◌, not, if◌then◌else◌, Option, Some, is_some, unwrap_or, option_map, option_and_then, List, [], ◌∷◌, codes, ⊤}
+use Rattle.std.specs.Prelude.{ℕ, ◌^◌, ◌≤◌, Bool, ◌&&◌, ◌==◌, not, if◌then◌else◌, Option, Some, is_some, unwrap_or}
+use Rattle.std.specs.Prelude.{option_map, option_and_then, List, [], ◌∷◌, codes, ⊤}
 use Rattle.std.specs.List.{before_first, after_first}
 use Rattle.std.specs.Option.{option_map_or}
+use Rattle.mltl_base.specs.declared.limits.TheConstants.{MAX_MISSION, TIMED_MISSION}
 use Rattle.clap.specs.Words.{App, Row, Text, first_of}
 use Rattle.mltl_base.specs.declared.report.Style.{Style}
 use Rattle.mltl_base.specs.declared.report.Style.TheVariants.{Each, Runs}
@@ -16,7 +18,8 @@ use Rattle.tool_words.specs.Reading.{command_of, flag, option, positional, is_he
 -- `r2u2 [--source] [--runs] [--timed] [--mission-time N] FILE [TRACE]` or `r2u2 --demo SEED,ROWS`
 unfoldable pub command : App
 command = command_of (codes "r2u2")
-    (flag (codes "source") ∷ flag (codes "runs") ∷ flag (codes "timed") ∷ option (codes "mission-time") ∷ option (codes "demo")
+    (flag (codes "source") ∷ flag (codes "runs") ∷ flag (codes "timed") ∷ option (codes "mission-time")
+    ∷ option (codes "demo")
     ∷ positional (codes "file") ∷ positional (codes "trace") ∷ [])
 
 -- a run over a trace
@@ -46,7 +49,7 @@ style_in found = if is_set (codes "runs") found then Runs else Each
 -- the number of `--mission-time`, at most 2 ^ 40; without one that greatest, or 2 ^ 24 where `--timed` is given
 abbrev pub mission_in : List Row → Option ℕ
 mission_in found = option_map_or (number_in 13 1 1099511627776) (first_of (codes "mission-time") found)
-    (Some (if is_set (codes "timed") found then 16777216 else 1099511627776))
+    (Some (if is_set (codes "timed") found then TIMED_MISSION else MAX_MISSION))
 
 -- the run over a file, where an absent trace is `-`
 abbrev pub run_with : List Row → Text → ℕ → RunAsked
@@ -61,11 +64,13 @@ run_with found file mission = record {
 
 -- a run needs a file, and a mission time that can be read
 abbrev pub run_in : List Row → Option RunAsked
-run_in found = option_and_then (λ file. option_map (run_with found file) (mission_in found)) (first_of (codes "file") found)
+run_in found =
+    option_and_then (λ file. option_map (run_with found file) (mission_in found)) (first_of (codes "file") found)
 
 -- no file is given, so no trace either, and no option beside `--demo`
 abbrev pub is_demo_alone : List Row → Bool
-is_demo_alone found = not (is_set (codes "source") found) && (not (is_set (codes "runs") found) && (not (is_set (codes "timed") found)
+is_demo_alone found =
+    not (is_set (codes "source") found) && (not (is_set (codes "runs") found) && (not (is_set (codes "timed") found)
     && (not (is_some (first_of (codes "mission-time") found)) && not (is_some (first_of (codes "file") found)))))
 
 -- a demo, where both its seed and its number of rows could be read
@@ -75,14 +80,18 @@ demo_with seed rows = nothing
 
 -- SEED,ROWS: two numbers around the first comma
 abbrev pub demo_in : Text → Asked
-demo_in word = demo_with (number_in 10 0 4294967295 (before_first (λ b. b == 44) word)) (number_in 10 1 10000000 (after_first (λ b. b == 44) word))
+demo_in word =
+    demo_with (number_in 10 0 4294967295 (before_first (λ b. b == 44) word))
+    (number_in 10 1 10000000 (after_first (λ b. b == 44) word))
 
 -- what the arguments ask for that clap found
 abbrev pub asked_in : List Row → Asked
-asked_in found = option_map_or (λ word. if is_demo_alone found then demo_in word else nothing) (first_of (codes "demo") found)
+asked_in found =
+    option_map_or (λ word. if is_demo_alone found then demo_in word else nothing) (first_of (codes "demo") found)
     (option_map_or run (run_in found) nothing)
 
--- Help where the words are `--help` or `-h` alone. Else what the command finds in them; nothing where it doesn't take them.
+-- Help where the words are `--help` or `-h` alone. Else what the command finds in them; nothing where it doesn't take
+-- them.
 abbrev pub ask_of_texts : List Text → Asked
 ask_of_texts words = if is_help words then help else option_map_or asked_in (found_in command words) nothing
 
@@ -92,7 +101,15 @@ ask words = if are_texts words then ask_of_texts words else nothing
 
 -- the run that an answer tells
 abbrev pub run_of : told.Run → RunAsked
-run_of r = record { kind = r.kind; style = r.style; timed = r.timed; mission = r.mission; file = r.file.now; trace = r.trace.now }
+run_of r =
+    record {
+      kind = r.kind;
+      style = r.style;
+      timed = r.timed;
+      mission = r.mission;
+      file = r.file.now;
+      trace = r.trace.now;
+    }
 
 -- what an answer tells
 abbrev pub asked_of : r2u2_ask.R2u2Ask → Asked
@@ -103,6 +120,6 @@ asked_of r2u2_ask.TheVariants.Nothing = nothing
 
 -- a mission time is from 1 to 2 ^ 40, and a demo has from 1 to 10,000,000 rows
 abbrev pub IsInBounds : r2u2_ask.R2u2Ask → Type 0
-IsInBounds (r2u2_ask.TheVariants.Run r) = (1 ≤ r.mission) × (r.mission ≤ 2 ^ 40)
+IsInBounds (r2u2_ask.TheVariants.Run r) = (1 ≤ r.mission) × (r.mission ≤ MAX_MISSION)
 IsInBounds (r2u2_ask.TheVariants.Demo seed rows) = (1 ≤ rows) × (rows ≤ 10000000)
 IsInBounds other = ⊤

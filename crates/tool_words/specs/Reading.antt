@@ -1,6 +1,7 @@
 -- How the words of both command lines are read: help, the words that a command takes, flags and numbers.
 
-use Rattle.std.specs.Prelude.{ℕ, Bool, true, false, ◌&&◌, ◌||◌, if◌then◌else◌, nat_lt, nat_le, Option, Some, None, List, [], ◌∷◌, length, codes}
+use Rattle.std.specs.Prelude.{ℕ, Bool, true, false, ◌&&◌, ◌||◌, if◌then◌else◌, nat_lt, nat_le, Option, Some, None, List}
+use Rattle.std.specs.Prelude.{[], ◌∷◌, length, codes}
 use Rattle.std.specs.Option.{option_map_or}
 use Rattle.std.specs.Str.{bytes_eq, all_ascii_digits}
 use Rattle.std.specs.Str.Parse.{digits_value}
@@ -29,7 +30,11 @@ positional name = new_rule name
 
 -- A command with these arguments. It knows no `--help`, and the program's name isn't among its words.
 abbrev pub command_of : Text → List Rule → App
-command_of name rules = record { top = record (new_shape name) { rules = rules; no_binary_name = true; disable_help_flag = true }; subs = [] }
+command_of name rules =
+    record {
+      top = record (new_shape name) { rules = rules; no_binary_name = true; disable_help_flag = true };
+      subs = [];
+    }
 
 -- what clap finds in the words, where its parse has no fault
 abbrev pub found_in : App → List Text → Option (List Row)
@@ -50,4 +55,5 @@ is_number digits least greatest word = all_ascii_digits word && (nat_lt 0 (lengt
 
 -- the value of such a word
 abbrev pub number_in : ℕ → ℕ → ℕ → Text → Option ℕ
-number_in digits least greatest word = if is_number digits least greatest word then Some (digits_value 10 word) else None
+number_in digits least greatest word =
+    if is_number digits least greatest word then Some (digits_value 10 word) else None

@@ -1,6 +1,7 @@
 //! What the words of `r2u2` ask for.
 
 ghost use Rattle.std.specs.Prelude.{◌≡◌, ◌≤◌, ◌^◌, IfOk, IfSome, option_map};
+ghost use Rattle.mltl_base.specs.declared.limits.TheConstants.{MAX_MISSION};
 ghost use Rattle.clap.specs.Words.{app_of};
 ghost use Rattle.tool_words.specs.R2u2Words as r2u2;
 ghost use Rattle.tool_words.specs.Reading.{rows};
@@ -142,7 +143,7 @@ fn demo_in<'a>(word: &str) -> R2u2Ask<'a>
 /// The run over a file, or `None` where none is given or the mission time can't be read.
 fn run_in<'a>(matches: &ArgMatches<'a>) -> Option<Run<'a>>
     ensures asked { option_map r2u2.run_of result ≡ r2u2.run_in (rows matches.now) }
-    ensures bounds { IfSome result (λ run. (1 ≤ run.mission) × (run.mission ≤ 2 ^ 40)) }
+    ensures bounds { IfSome result (λ run. (1 ≤ run.mission) × (run.mission ≤ MAX_MISSION)) }
 {
     let file = value_of(matches, "file")?;
     let mission = mission_time(matches)?;
@@ -178,7 +179,7 @@ fn style(matches: &ArgMatches<'_>) -> Style
 
 fn mission_time(matches: &ArgMatches<'_>) -> Option<u64>
     ensures read { result ≡ r2u2.mission_in (rows matches.now) }
-    ensures bounds { IfSome result (λ n. (1 ≤ n) × (n ≤ 2 ^ 40)) }
+    ensures bounds { IfSome result (λ n. (1 ≤ n) × (n ≤ MAX_MISSION)) }
 {
     match value_of(matches, "mission-time") {
         Some(word) => MISSION_TIMES.read(word),

@@ -2,6 +2,7 @@
 
 use crate::{Words, c2po_ask, r2u2_ask};
 use std::alloc::{AllocError, Global};
+use std::env::{Env, FillError};
 use std::test::Fail;
 
 /// The words, which one blank parts; `~` stands for a word without letters.
@@ -66,6 +67,51 @@ fn words_ask(rt: HostRuntime) -> Result<(), Fail> {
         };
         let got = shown(rt.alloc(), text)?;
         assert_eq!(rt; got.as_str(), wanted, "at {text}");
+    }
+    Ok(())
+}
+
+/// Arguments that are known, the program's name among them.
+#[derive(Clone, Copy)]
+struct Known<'a> {
+    arguments: &'a [&'a [u8]],
+}
+
+impl Env for Known<'_> {
+    fn arg(&self, i: usize, buf: &mut [u8]) -> Result<usize, FillError> {
+        let Some(argument) = self.arguments.get(i) else {
+            return Err(FillError::NotPresent);
+        };
+        let Some(front) = buf.get_mut(..argument.len()) else {
+            return Err(FillError::TooLong);
+        };
+        front.copy_from_slice(argument);
+        Ok(argument.len())
+    }
+
+    fn var(&self, _name: &str, _buf: &mut [u8]) -> Result<usize, FillError> {
+        Err(FillError::NotPresent)
+    }
+
+    fn var_at(&self, _i: usize, _buf: &mut [u8]) -> Result<usize, FillError> {
+        Err(FillError::NotPresent)
+    }
+}
+
+#[test]
+fn words_are_the_arguments(rt: HostRuntime) -> Result<(), Fail> {
+    let long = [b'x'; 5000];
+    let arguments: [&[u8]; 7] = [b"r2u2", b"--source", b"", b"a b", &long, b"t", b"u"];
+    let known = Known {
+        arguments: &arguments,
+    };
+    let words = crate::words_of(rt.alloc(), &known)?;
+    assert_eq!(rt; words.len(), 6);
+    for i in 0..words.len() {
+        let Some(argument) = arguments.get(i + 1) else {
+            break;
+        };
+        assert_eq!(rt; words.get(i).as_bytes(), *argument, "at {i}");
     }
     Ok(())
 }

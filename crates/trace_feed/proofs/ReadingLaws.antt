@@ -1,6 +1,6 @@
 -- The readings of a program, as one list.
-use Rattle.std.proofs.Common.{◌≡◌, ◌++◌, ℕ, List, [], length, take, drop, get_or, replicate, arith, sym, ◌∙◌, ap}
-use Rattle.std.proofs.lemmas.List.{append-nil, drop_all, ext_get_or, get_or-replicate, length-replicate, take_all}
+use Rattle.std.proofs.Common.{◌≡◌, ℕ, List, [], length, get_or, replicate, arith, sym, ◌∙◌, ap}
+use Rattle.std.proofs.lemmas.List.{ext_get_or, get_or-replicate, length-replicate}
 use Rattle.std.proofs.lemmas.List.FromFn.{get_or-map-range_with_len, length-map-range_with_len}
 use Rattle.mltl_base.specs.declared.program.Program.{Program}
 use Rattle.trace_feed.specs.Readings.{AreReadings, readings_of}
@@ -20,13 +20,6 @@ pub readings_are : (program : Program) (readings : List Reading) → length read
 readings_are program readings many known =
     ext_get_or Unread readings (readings_of program) (many ∙ sym (length-readings_of program)) (λ k inside.
     known k Unread inside ∙ sym (are_readings_of program k Unread (omega (arith, inside, many, length-readings_of program))))
-
--- a slice that was written whole is what the list holds
-pub written_back : (old new : List Reading) (n : ℕ) → length new ≡ length old → n ≡ length old → take n (new ++ drop (length new) old) ≡ new
-written_back old new n same all =
-    ap (λ (rest : List Reading). take n (new ++ rest)) (drop_all (length new) old (omega arith))
-    ∙ ap (λ (items : List Reading). take n items) (append-nil new)
-    ∙ take_all n new (omega arith)
 
 -- where no instruction was noted, no column is read
 pub none_read : (readings : List Reading) (n : ℕ) → readings ≡ replicate n Unread → AreReadings (reading_of []) readings

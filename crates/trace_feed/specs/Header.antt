@@ -1,6 +1,7 @@
 -- What the header of a trace says: which columns there are, and where signals stand.
 
-use Rattle.std.specs.Prelude.{ℕ, ◌≢◌, ◌<◌, ◌==◌, Bool, if◌then◌else◌, Option, Some, None, List, [], ◌∷◌, length, drop, map, count_by, slice_index, slice_index_or, Result, Ok, Err}
+use Rattle.std.specs.Prelude.{ℕ, ◌≢◌, ◌<◌, ◌==◌, Bool, if◌then◌else◌, Option, Some, None, List, [], ◌∷◌, length, drop}
+use Rattle.std.specs.Prelude.{map, count_by, slice_index, slice_index_or, Result, Ok, Err}
 use Rattle.std.specs.List.{position_or_len, range_with_len}
 use Rattle.std.specs.Str.{bytes_eq}
 use Rattle.csv.specs.Machine.{Read, next_record}

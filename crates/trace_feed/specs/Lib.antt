@@ -3,3 +3,4 @@ pub mod Rows
 pub mod Readings
 pub mod Header
 pub mod Places
+pub mod HeaderTexts

@@ -12,4 +12,5 @@ place_of names name = if times names name == 0 then None else Some (first_place 
 -- the tables know of each name of 1 to 64 bytes where it stands first, and whether it stands again
 pub record ArePlaces (names : List (List ℕ)) (places : Places) : Type 0 where
   pub first : (name : List ℕ) → 1 ≤ length name → length name ≤ 64 → entry_of name places.first ≡ place_of names name
-  pub again : (name : List ℕ) → 1 ≤ length name → length name ≤ 64 → is_named name places.again ≡ nat_lt 1 (times names name)
+  pub again : (name : List ℕ) → 1 ≤ length name → length name ≤ 64
+      → is_named name places.again ≡ nat_lt 1 (times names name)

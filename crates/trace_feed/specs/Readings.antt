@@ -1,6 +1,7 @@
 -- How a program reads the columns of a row.
 
-use Rattle.std.specs.Prelude.{ℕ, ◌≡◌, ◌+◌, ◌-◌, ◌<◌, ◌≤◌, ◌++◌, ℤ, pos, List, length, map, slice_index, slice_index_or, drop, replicate, take, cond, ◌==◌, nat_lt, if◌then◌else◌, Result, Ok}
+use Rattle.std.specs.Prelude.{ℕ, ◌≡◌, ◌+◌, ◌-◌, ◌<◌, ◌≤◌, ◌++◌, ℤ, pos, List, length, map, slice_index, slice_index_or}
+use Rattle.std.specs.Prelude.{drop, replicate, take, cond, ◌==◌, nat_lt, if◌then◌else◌, Result, Ok}
 use Rattle.std.specs.List.{range_with_len}
 use Rattle.std.specs.Str.Parse.{starts_with_minus}
 use Rattle.mltl_base.specs.declared.program.Program.{Program}
@@ -9,7 +10,8 @@ use Rattle.trace_feed.specs.declared.fields.Reading.{Reading}
 use Rattle.trace_feed.specs.declared.fields.Reading.TheVariants.{Unread, Whole, Truth}
 use Rattle.mltl_base.specs.Atoms.{Row}
 use Rattle.trace_feed.specs.declared.passing.Spot.{Spot}
-use Rattle.trace_feed.specs.Rows.{LineMeaning, fields_from, has_32_bits, in_range, is_bit, reading_of, row_from, too_few}
+use Rattle.trace_feed.specs.Rows.{LineMeaning, fields_from, has_32_bits, in_range, is_bit, reading_of, row_from}
+use Rattle.trace_feed.specs.Rows.{too_few}
 
 -- how the program reads each of its columns
 abbrev pub readings_of : Program → List Reading

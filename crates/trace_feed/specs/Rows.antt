@@ -1,6 +1,7 @@
 -- What a line of a trace says to a program: a row, nothing, or its first fault.
 
-use Rattle.std.specs.Prelude.{◌≡◌, ℕ, suc, ◌==◌, ℤ, pos, neg_ℤ, int_le, Bool, false, ◌&&◌, ◌||◌, if◌then◌else◌, nat_lt, List, [], ◌∷◌, length, take, drop, Result, Ok, Err}
+use Rattle.std.specs.Prelude.{◌≡◌, ℕ, suc, ◌==◌, ℤ, pos, neg_ℤ, int_le, Bool, false, ◌&&◌, ◌||◌, if◌then◌else◌, nat_lt}
+use Rattle.std.specs.Prelude.{List, [], ◌∷◌, length, take, drop, Result, Ok, Err}
 use Rattle.std.specs.Char.{is_ascii_digit}
 use Rattle.std.specs.List.{list_all, list_any, slice_split}
 use Rattle.std.specs.Ordering.{int_eq}
@@ -30,7 +31,8 @@ fields_from line at = if nat_lt (length line) at then [] else fields_of (drop at
 
 -- a whole number is one or more decimal digits, which one sign may lead
 abbrev pub is_numeral : List ℕ → Bool
-is_numeral field = nat_lt 0 (length (without_leading_sign field)) && list_all is_ascii_digit (without_leading_sign field)
+is_numeral field =
+    nat_lt 0 (length (without_leading_sign field)) && list_all is_ascii_digit (without_leading_sign field)
 
 -- a whole number of 32 bits with its sign
 abbrev pub has_32_bits : ℤ → Bool

@@ -1,6 +1,7 @@
 //! The columns of signals.
 
 ghost use Rattle.std.specs.Prelude.{◌≡◌, ◌≢◌, ◌≤◌, ◌<◌, ◌^◌, [], ℕ, option_map, List as Items, true, false, All, length, map, IfOk, IfErr, Ok, Err};
+ghost use Rattle.mltl_base.specs.declared.limits.TheConstants.{MAX_LINE_BYTES};
 ghost use Rattle.csv.specs.Machine.{next_record};
 ghost use Rattle.csv.specs.Reading.{default_config, strip_bom};
 ghost use Rattle.csv.specs.Records.{fields_of};
@@ -43,7 +44,7 @@ fn first_record(alloc: Global, text: &[u8]) -> Result<Option<ByteRecord>, Header
 
 /// The first record of a text; one without fields where there is none.
 fn record_or_none(alloc: Global, text: &[u8]) -> Result<ByteRecord, HeaderFault>
-    requires { length text.now ≤ 65535 }
+    requires { length text.now < MAX_LINE_BYTES }
     ensures fields { IfOk result (λ r. fields_of r ≡ csv_record text.now) }
     ensures narrow { IfOk result (λ r. length (fields_of r) ≤ MAX_SIGNALS) }
     ensures memory { IfErr result (λ fault. fault ≡ HeaderFault.Memory) }
@@ -55,7 +56,7 @@ fn record_or_none(alloc: Global, text: &[u8]) -> Result<ByteRecord, HeaderFault>
 }
 
 fn read_header(alloc: Global, line: &[u8]) -> Result<NamedColumns, HeaderFault>
-    requires { length line.now ≤ 65535 }
+    requires { length line.now < MAX_LINE_BYTES }
     ensures begins { IfOk result (λ named. begins_header line.now ≡ true) }
     ensures width { IfOk result (λ named. named.width ≡ length (names_of line.now)) }
     ensures narrow { IfOk result (λ named. named.width ≤ MAX_SIGNALS) }
@@ -124,7 +125,7 @@ fn columns_of_stored(
 /// Errors: `NoHeader` where the line doesn't begin with `#`; of the first signal whose name doesn't stand exactly once
 /// `Missing` where it stands nowhere, `Twice` where it stands more than once; `Memory` when out of memory.
 pub fn header(alloc: Global, line: &[u8], signals: &List<Signal>) -> Result<Columns, HeaderFault>
-    requires { length line.now ≤ 65535 }
+    requires { length line.now < MAX_LINE_BYTES }
     ensures columns { IfOk result (λ columns.
         header_meaning (map (λ s. s.name) signals.now) line.now ≡ Ok columns) }
     ensures fault { IfErr result (λ fault. fault ≢ HeaderFault.Memory
@@ -143,7 +144,7 @@ pub fn header(alloc: Global, line: &[u8], signals: &List<Signal>) -> Result<Colu
 /// The same for the stored signals of a program, in their order.
 pub fn header_of(alloc: Global, line: &[u8], checked: &Checked) -> Result<Columns, HeaderFault>
     requires version { checked.now.version ≡ 2 }
-    requires short { length line.now ≤ 65535 }
+    requires short { length line.now < MAX_LINE_BYTES }
     ensures columns { IfOk result (λ columns.
         header_meaning (map (λ s. s.name) checked.now.signals) line.now ≡ Ok columns) }
     ensures fault { IfErr result (λ fault. fault ≢ HeaderFault.Memory

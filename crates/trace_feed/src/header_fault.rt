@@ -1,7 +1,11 @@
 //! Why a line gives the signals no columns.
 
+ghost use Rattle.std.specs.Prelude.{◌≡◌, IfOk};
+
 use mltl_base::Name;
 use std::alloc::{AllocError, AllocFailed};
+use std::error::Error;
+use std::{fmt, str};
 
 /// The first fault of a header.
 #[derive(Drop)]
@@ -16,8 +20,45 @@ pub enum HeaderFault {
     Memory,
 }
 
+/// A name that is no text isn't shown: that is an error.
+impl fmt::Display for HeaderFault {
+    ghost use Rattle.std.specs.Prelude.{Some};
+    ghost use Rattle.trace_feed.specs.HeaderTexts.{header_fault_text};
+
+    ghost output = { λ fault. Some (header_fault_text fault) };
+
+    fn fmt<W: fmt::Write>(&self, f: &mut fmt::Formatter<W>) -> fmt::Result {
+        match self {
+            HeaderFault::NoHeader => write!(f, "no header"),
+            HeaderFault::Missing(name) => {
+                let name = text_of(name)?;
+                write!(f, "name {name} missing")
+            }
+            HeaderFault::Twice(name) => {
+                let name = text_of(name)?;
+                write!(f, "name {name} twice")
+            }
+            HeaderFault::Memory => write!(f, "out of memory"),
+        }
+    }
+}
+
+/// A name as text, where its bytes are one. Those of signals are letters, digits and `_`.
+fn text_of(name: &Name) -> Result<&str, fmt::Error>
+    ensures { IfOk result (λ text. text.now ≡ name.now) }
+{
+    str::from_utf8(name.bytes()).map_err(|_| fmt::Error)
+}
+
+impl fmt::Debug for HeaderFault {
+    fn fmt<W: fmt::Write>(&self, f: &mut fmt::Formatter<W>) -> fmt::Result {
+        fmt::Display::fmt(self, f)
+    }
+}
+
+impl Error for HeaderFault {}
+
 impl From<AllocError> for HeaderFault {
-    ghost use Rattle.std.specs.Prelude.{◌≡◌};
     ghost use Rattle.trace_feed.specs.declared.header_fault.HeaderFault.TheVariants.{Memory};
 
     ghost from_gives = { λ _ fault. fault ≡ Memory };
@@ -28,7 +69,6 @@ impl From<AllocError> for HeaderFault {
 }
 
 impl<T: Drop> From<AllocFailed<T>> for HeaderFault {
-    ghost use Rattle.std.specs.Prelude.{◌≡◌};
     ghost use Rattle.trace_feed.specs.declared.header_fault.HeaderFault.TheVariants.{Memory};
 
     ghost from_gives = { λ _ fault. fault ≡ Memory };

@@ -8,6 +8,7 @@ ghost use Rattle.trace_feed.specs.Readings.{AreReadings, readings_of, stronger a
 ghost use Rattle.trace_feed.specs.Rows.{reading_of};
 
 use crate::fields::Reading;
+use fixed_list::Fixed;
 use mltl_base::BzOp;
 use obs_verify::Checked;
 use std::alloc::{AllocError, Global};
@@ -16,7 +17,7 @@ use std::marker::Model;
 /// How a program reads each of its columns, which contracts see as that list.
 #[derive(Drop)]
 pub struct Readings {
-    columns: Vec<Reading>,
+    columns: Fixed<Reading>,
 }
 
 impl Model for Readings {
@@ -25,7 +26,7 @@ impl Model for Readings {
 
     ghost Value = { List Way };
 
-    ghost view = { λ readings. readings.columns.items };
+    ghost view = { λ readings. readings.columns };
 }
 
 /// The stronger of two readings: a truth, then a whole number.
@@ -77,11 +78,12 @@ fn note_all(readings: &mut [Reading], ops: &[BzOp])
 impl Readings {
     /// The readings of a program. All memory is taken here.
     pub fn of(alloc: Global, checked: &Checked) -> Result<Readings, AllocError>
-        ensures { IfOk result (λ readings. readings ≡ readings_of checked.now) }
+        ensures readings { IfOk result (λ readings. readings ≡ readings_of checked.now) }
+        ensures wide { IfOk result (λ readings. length readings ≡ checked.now.width) }
     {
         let program = checked.program();
-        let mut columns = vec![in alloc; Reading::Unread; program.width as usize]?;
-        note_all(&mut columns, program.bz.as_slice());
+        let mut columns = Fixed::filled(alloc, Reading::Unread, program.width as usize)?;
+        note_all(columns.as_mut_slice(), program.bz.as_slice());
         Ok(Readings { columns })
     }
 

@@ -16,10 +16,12 @@ use Rattle.trace_feed.specs.Rows.{LineMeaning, line_meaning}
 use Rattle.trace_feed.specs.Rows as fields
 use Rattle.trace_watch.specs.declared.reader.Found as found
 use Rattle.trace_watch.specs.declared.reader.Reader as reader
+use Rattle.trace_watch.specs.declared.status.LineFault.{LineFault}
 use Rattle.trace_watch.specs.declared.status.TraceWhy.{TraceWhy}
 use Rattle.trace_watch.specs.declared.status.TraceWhy.TheVariants.{Width}
 use Rattle.trace_watch.specs.declared.status.Watched as watched
 use Rattle.trace_watch.specs.declared.trace_loop.Course.{Course}
+use Rattle.trace_watch.specs.Endings.{why_of}
 use Rattle.trace_watch.specs.Feed.{Feed, Plain, Stamped, Meaning, IsPast, IsFaulty, Brings, fields_mean, plain_row, stamped_line, stamped_row, text_meaning, time_of, held}
 use Rattle.trace_watch.specs.Telling.{TellsAll, TellsFront, WritesNone}
 use Rattle.trace_watch.specs.Turns.{FindsFields, FindsRow, Finds, IsCounted, IsLast, StandsAt, Takes, fault_of, rows_found, times_until}
@@ -52,19 +54,19 @@ IsLast-held (Some last) rows time values follows is =
     (rows ++ copies, sym (append_assoc rows copies (values ∷ [])), omega (arith, length-append rows (copies ++ values ∷ []), length-append copies (values ∷ []), length-replicate (times_between (Some last.0) time) last.1, is.2, after))
 
 -- faulty fields of a plain line, and of a stamped one
-fault_plain : (what : LineMeaning) (why : TraceWhy) → fault_of reader.TheVariants.Plain what ≡ Some why → fields_mean plain_row (Brings [] Plain) what ≡ IsFaulty why
-fault_plain (fields.row values) why is = cc
-fault_plain fields.blank why is = cc
-fault_plain fields.too_few why is = cc
-fault_plain (fields.not_whole column) why is = cc
-fault_plain (fields.out_of_range column) why is = cc
+fault_plain : (what : LineMeaning) (fault : LineFault) → fault_of reader.TheVariants.Plain what ≡ Some fault → fields_mean plain_row (Brings [] Plain) what ≡ IsFaulty (why_of fault)
+fault_plain (fields.row values) fault is = cc
+fault_plain fields.blank fault is = cc
+fault_plain fields.too_few fault is = cc
+fault_plain (fields.not_whole column) fault is = cc
+fault_plain (fields.out_of_range column) fault is = cc
 
-fault_stamped : (of_row : Row → Meaning) (time : Option ℕ) (what : LineMeaning) (why : TraceWhy) → fault_of (reader.TheVariants.Stamped time) what ≡ Some why → fields_mean of_row (IsFaulty Width) what ≡ IsFaulty why
-fault_stamped of_row time (fields.row values) why is = cc
-fault_stamped of_row time fields.blank why is = cc
-fault_stamped of_row time fields.too_few why is = cc
-fault_stamped of_row time (fields.not_whole column) why is = cc
-fault_stamped of_row time (fields.out_of_range column) why is = cc
+fault_stamped : (of_row : Row → Meaning) (time : Option ℕ) (what : LineMeaning) (fault : LineFault) → fault_of (reader.TheVariants.Stamped time) what ≡ Some fault → fields_mean of_row (IsFaulty Width) what ≡ IsFaulty (why_of fault)
+fault_stamped of_row time (fields.row values) fault is = cc
+fault_stamped of_row time fields.blank fault is = cc
+fault_stamped of_row time fields.too_few fault is = cc
+fault_stamped of_row time (fields.not_whole column) fault is = cc
+fault_stamped of_row time (fields.out_of_range column) fault is = cc
 
 -- what a plain line was found to be, and a stamped one
 pub plain_found : (result : found.Found) (what : LineMeaning) (lines : ℕ) (rows : List Row) (before after : State) → FindsFields result 0 reader.TheVariants.Plain what (read_of after) → length rows ≤ lines
@@ -77,7 +79,7 @@ plain_found (found.TheVariants.Row copies now) what lines rows before after is f
       (subst (λ n. length (rows ++ rows_found n before after) ≤ lines + 1) (sym is.0) (omega (arith, length-append rows (read_of after ∷ []), few)));
 }
 plain_found found.TheVariants.Blank what lines rows before after is few = ap (fields_mean plain_row (Brings [] Plain)) is.1
-plain_found (found.TheVariants.Bad why) what lines rows before after is few = fault_plain what why is
+plain_found (found.TheVariants.Bad fault) what lines rows before after is few = fault_plain what fault is
 plain_found found.TheVariants.Past what lines rows before after is few = absurd is
 
 no_plain : (time : Option ℕ) → reader.TheVariants.Stamped time ≡ reader.TheVariants.Plain → ⊥
@@ -96,7 +98,7 @@ stamped_found (found.TheVariants.Row times now) what lines rows last time copies
           (refl, subst (λ copies. IsLast (Some (time, read)) (rows ++ (copies ++ read ∷ []))) held_so (IsLast-held last rows time read follows is_last));
     }
 stamped_found found.TheVariants.Blank what lines rows last time copies before after is same follows is_last = absurd (no_plain (Some time) is.0)
-stamped_found (found.TheVariants.Bad why) what lines rows last time copies before after is same follows is_last = fault_stamped (stamped_row last time) (Some time) what why is
+stamped_found (found.TheVariants.Bad fault) what lines rows last time copies before after is same follows is_last = fault_stamped (stamped_row last time) (Some time) what fault is
 stamped_found found.TheVariants.Past what lines rows last time copies before after is same follows is_last = absurd is
 
 -- what a line was found to be, by how lines are read

@@ -18,8 +18,8 @@ use Rattle.tool_io.proofs.ListLaws.{some-append}
 use Rattle.tool_io.proofs.LogLaws.{Writes-none, Writes-then, WritesFront-then}
 use Rattle.mltl_monitor.specs.declared.state.State.{State}
 use Rattle.mltl_monitor.specs.Monitoring.{program_of, open_of, Stands, TakesRow}
-use Rattle.trace_watch.specs.Watch.{HasTold, HasFront}
-use Rattle.trace_watch.specs.Telling.{SendsText, IsDrainedIf, TellsAll, TellsFront, TellsRows}
+use Rattle.trace_watch.specs.Watch.{HasTold}
+use Rattle.trace_watch.specs.Telling.{SendsText, IsDrainedIf, text_after, TellsAll, TakesFront, TellsFront, TellsRows}
 
 -- of the lines that were due, these bytes went out and those are left
 pub record HasSent (due left : List ℕ) (events : List Event) : Type 0 where
@@ -76,10 +76,40 @@ told_after style names outs rows more further =
     ∙ ap concat (map-append (line names) (reports_after style outs rows more) (reports_after style outs (rows ++ more) further))
     ∙ concat-append (map (line names) (reports_after style outs rows more)) (map (line names) (reports_after style outs (rows ++ more) further))
 
+-- no rows have lines
+told_none : (program : Program) (style : Style) (rows : List Row) → text_after program style rows [] ≡ []
+unfolding reports_after
+told_none program style rows = refl
+
 -- no rows
 pub TellsAll-none : (program : Program) (style : Style) (rows : List Row) (monitor : State) → HasTold program monitor rows → TellsAll program style rows [] monitor []
 unfolding reports_after
 TellsAll-none program style rows monitor told = record { sends = Writes-none Out; told = subst (HasTold program monitor) (sym (append-nil rows)) told }
+
+-- a front of further rows, after rows that were told
+TakesFront-then : (program : Program) (style : Style) (rows more further : List Row) (monitor : State) (sent : List ℕ) → TakesFront program style (rows ++ more) further monitor sent → TakesFront program style rows (more ++ further) monitor (text_after program style rows more ++ sent)
+TakesFront-then program style rows more further monitor sent a =
+    let names = output_names program in
+    let outs = outputs program in
+    let told = text_after program style rows more in
+    let taken = a.before ++ a.last ∷ [] in
+    let grouped : more ++ taken ≡ (more ++ a.before) ++ a.last ∷ [] = sym (append_assoc more a.before (a.last ∷ [])) in
+    record {
+      program_kept = a.program_kept;
+      before = more ++ a.before;
+      last = a.last;
+      is_front = record { rest = a.is_front.rest; split = ap (λ all. more ++ all) a.is_front.split ∙ sym (append_assoc more taken a.is_front.rest) ∙ ap (λ all. all ++ a.is_front.rest) grouped };
+      stands = subst (Stands monitor) (append_assoc rows more taken ∙ ap (λ all. rows ++ all) grouped) a.stands;
+      told = record {
+        rest = a.told.rest;
+        split = ap (λ bytes. told ++ bytes) a.told.split ∙ sym (append_assoc told (text_after program style (rows ++ more) a.before) a.told.rest) ∙ ap (λ bytes. bytes ++ a.told.rest) (sym (told_after style names outs rows more a.before));
+      };
+      untold = record {
+        rest = a.untold.rest;
+        split = ap (λ all. text_after program style rows all) (sym grouped) ∙ told_after style names outs rows more taken ∙ ap (λ bytes. told ++ bytes) a.untold.split ∙ sym (append_assoc told sent a.untold.rest);
+        misses = a.untold.misses;
+      };
+    }
 
 -- further rows, of which all were told, or a front
 pub TellsRows-then : (whole : Bool) (program : Program) (style : Style) (rows more further : List Row) (between after : State) (first second : List Event) → TellsAll program style rows more between first → TellsRows whole program style (rows ++ more) further after second → TellsRows whole program style rows (more ++ further) after (first ++ second)
@@ -87,10 +117,21 @@ TellsRows-then true program style rows more further between after first second a
   sends = subst (λ bytes. Writes Out bytes (first ++ second)) (sym (told_after style (output_names program) (outputs program) rows more further)) (Writes-then Out _ _ first second a.sends b.sends);
   told = subst (HasTold program after) (append_assoc rows more further) b.told;
 }
-TellsRows-then false program style rows more further between after first second a b = record {
-  sends = subst (λ bytes. WritesFront Out bytes (first ++ second)) (sym (told_after style (output_names program) (outputs program) rows more further)) (WritesFront-then Out _ _ first second a.sends b.sends);
-  kept = subst (HasFront program after) (append_assoc rows more further) b.kept;
-}
+TellsRows-then false program style rows more further between after first second a b =
+    let names = output_names program in
+    let outs = outputs program in
+    let told = text_after program style rows more in
+    let all : text_after program style rows (more ++ further) ≡ told ++ text_after program style (rows ++ more) further = told_after style names outs rows more further in
+    record {
+      sends = record {
+        sent = told ++ b.sends.sent;
+        unsent = b.sends.unsent;
+        split = all ∙ ap (λ bytes. told ++ bytes) b.sends.split ∙ sym (append_assoc told b.sends.sent b.sends.unsent);
+        misses = b.sends.misses;
+        writes = Writes-then Out told b.sends.sent first second a.sends b.sends.writes;
+      };
+      kept = TakesFront-then program style rows more further after b.sends.sent b.kept;
+    }
 
 -- a front of rows is a front of them and of further ones
 pub TellsFront-more : (program : Program) (style : Style) (rows more further : List Row) (monitor : State) (events : List Event) → TellsFront program style rows more monitor events → TellsFront program style rows (more ++ further) monitor events
@@ -106,9 +147,12 @@ TellsFront-more program style rows more further monitor events a =
       };
       kept = record {
         program_kept = a.kept.program_kept;
-        front = a.kept.front;
-        is_front = record { rest = a.kept.is_front.rest ++ further; split = sym (append_assoc rows more further) ∙ ap (λ all. all ++ further) a.kept.is_front.split ∙ append_assoc a.kept.front a.kept.is_front.rest further };
+        before = a.kept.before;
+        last = a.kept.last;
+        is_front = record { rest = a.kept.is_front.rest ++ further; split = ap (λ all. all ++ further) a.kept.is_front.split ∙ append_assoc (a.kept.before ++ a.kept.last ∷ []) a.kept.is_front.rest further };
         stands = a.kept.stands;
+        told = a.kept.told;
+        untold = a.kept.untold;
       };
     }
 
@@ -119,10 +163,21 @@ TellsRows-tell true style rows row before between after events took stands sends
   sends = subst (λ bytes. Writes Out bytes events) (due_row style rows row before between took stands) sends;
   told = record { program_kept = kept ∙ took.program; stands = told (took.stands rows stands); drained = drained };
 }
-TellsRows-tell false style rows row before between after events took stands sends kept told drained = record {
-  sends = subst (λ bytes. WritesFront Out bytes events) (due_row style rows row before between took stands) sends;
-  kept = record { program_kept = kept ∙ took.program; front = rows ++ row ∷ []; is_front = record { rest = []; split = sym (append-nil (rows ++ row ∷ [])) }; stands = told (took.stands rows stands) };
-}
+TellsRows-tell false style rows row before between after events took stands sends kept told drained =
+    let program = program_of before in
+    let text : text_after program style rows (row ∷ []) ≡ sends.sent ++ sends.unsent = sym (due_row style rows row before between took stands) ∙ sends.split in
+    record {
+      sends = record { sent = sends.sent; unsent = sends.unsent; split = text; misses = sends.misses; writes = sends.writes };
+      kept = record {
+        program_kept = kept ∙ took.program;
+        before = [];
+        last = row;
+        is_front = record { rest = []; split = refl };
+        stands = told (took.stands rows stands);
+        told = record { rest = sends.sent; split = ap (λ bytes. bytes ++ sends.sent) (sym (told_none program style rows)) };
+        untold = record { rest = sends.unsent; split = text; misses = sends.misses };
+      };
+    }
 
 -- one more row was taken, and then told
 pub TellsRows-one : (whole : Bool) (program : Program) (style : Style) (rows more : List Row) (row : Row) (before between after : State) (first second : List Event) → TellsAll program style rows more before first → TakesRow row before between

@@ -11,24 +11,50 @@ use Rattle.mltl_base.specs.Reports.{reports_after}
 use Rattle.mltl_base.specs.Lines.{lines_of_reports, lines}
 use Rattle.tool_io.specs.declared.host.Place.TheVariants.{Trace, Out}
 use Rattle.tool_io.specs.declared.line_cut.Line as line_answer
-use Rattle.tool_io.specs.Log.{Event, IsFront, taken, given, ended_from}
+use Rattle.tool_io.specs.Log.{Event, taken, given, ended_from}
 use Rattle.tool_io.specs.Cutting.{Cutting, lines_of, next_number, CutsLine}
 use Rattle.tool_io.proofs.ListLaws.{some-append}
 use Rattle.tool_io.proofs.LogLaws.{taken-append, given-append, ended_from-append, Writes-given, Writes-taken, Writes-ended}
 use Rattle.tool_io.proofs.CutLaws.{StartsLong, lines_of-none, lines_of-long}
 use Rattle.tool_io.proofs.Prompting.{PromptBy-append, Prompt-from_by, Writes-prompt}
 use Rattle.mltl_monitor.specs.declared.state.State.{State}
+use Rattle.mltl_monitor.specs.Monitoring.{Stands}
 use Rattle.trace_watch.specs.declared.status.Watched as watched
 use Rattle.trace_watch.specs.Trace.{TraceRows, Stop, Clean, ends_by, after_header, due}
-use Rattle.trace_watch.specs.Telling.{TellsFront}
+use Rattle.trace_watch.specs.Telling.{text_after, TakesFront, TellsFront}
 use Rattle.trace_watch.specs.Turns.{CutsNone}
-use Rattle.trace_watch.specs.Watch.{OnlyRun, HasTold, IsTold, Outcome, IsWatch}
+use Rattle.trace_watch.specs.Watch.{OnlyRun, HasTold, HasFront, lines_by, IsTold, Outcome, IsWatch}
 use Rattle.trace_watch.proofs.LineLaws.{row_line, OnlyRun-append, OnlyRun-writes}
 use Rattle.trace_watch.proofs.WatchLaws.{HasWatched, IsLedBy, IsLedBy-same, IsLedBy-then, line_bytes, line_ended, line_no_more, prompt_then, line_follows, line_given, line_only, lines_append}
 
--- a front of a front, and one of more
-IsFront-more : {X : Type 0} (front whole all rest : List X) → IsFront front whole → all ≡ whole ++ rest → IsFront front all
-IsFront-more front whole all rest is split = record { rest = is.rest ++ rest; split = split ∙ ap (λ xs. xs ++ rest) is.split ∙ append_assoc front is.rest rest }
+-- the rows that a monitor has after a write that failed, where these were told before
+has_front : (program : Program) (style : Style) (rows more tail all : List Row) (monitor : State) (sent out : List ℕ) → all ≡ (rows ++ more) ++ tail → out ≡ lines_by program style rows ++ sent → TakesFront program style rows more monitor sent → HasFront program style monitor all out
+has_front program style rows more tail all monitor sent out split is a =
+    let names = output_names program in
+    let outs = outputs program in
+    let told = lines_by program style rows in
+    let taken = a.before ++ a.last ∷ [] in
+    let grouped : rows ++ taken ≡ (rows ++ a.before) ++ a.last ∷ [] = sym (append_assoc rows a.before (a.last ∷ [])) in
+    record {
+      program_kept = a.program_kept;
+      before = rows ++ a.before;
+      last = a.last;
+      is_front = record {
+        rest = a.is_front.rest ++ tail;
+        split = split ∙ ap (λ xs. (rows ++ xs) ++ tail) a.is_front.split ∙ append_assoc rows (taken ++ a.is_front.rest) tail ∙ ap (λ xs. rows ++ xs) (append_assoc taken a.is_front.rest tail)
+            ∙ sym (append_assoc rows taken (a.is_front.rest ++ tail)) ∙ ap (λ xs. xs ++ (a.is_front.rest ++ tail)) grouped;
+      };
+      stands = subst (Stands monitor) grouped a.stands;
+      told = record {
+        rest = a.told.rest;
+        split = is ∙ ap (λ bytes. told ++ bytes) a.told.split ∙ sym (append_assoc told (text_after program style rows a.before) a.told.rest) ∙ ap (λ bytes. bytes ++ a.told.rest) (sym (lines_append style names outs rows a.before));
+      };
+      untold = record {
+        rest = a.untold.rest;
+        split = ap (lines_by program style) (sym grouped) ∙ lines_append style names outs rows taken ∙ ap (λ bytes. told ++ bytes) a.untold.split ∙ sym (append_assoc told sent a.untold.rest) ∙ ap (λ bytes. bytes ++ a.untold.rest) (sym is);
+        misses = a.untold.misses;
+      };
+    }
 
 module _ (program : Program) (style : Style) (rows_in : List (List ℕ) → TraceRows) (start cut new : Cutting) (monitor after : State) (rest : List (ℕ × List ℕ) → TraceRows) (before : ℕ) (Keeps : List Row → Type 0) (events reads : List Event) (has : HasWatched program style rows_in start cut monitor rest before Keeps events) where
   -- the bytes of a run that reads these, and their rows
@@ -133,7 +159,7 @@ module _ (program : Program) (style : Style) (rows_in : List (List ℕ) → Trac
       ap told_of rows ∙ lines_append style names outs front tail ∙ ap (λ b. b ++ behind) (lines_append style names outs has.rows more ∙ ap (λ b. told_of has.rows ++ b) sends.split ∙ sym (append_assoc (told_of has.rows) sends.sent sends.unsent) ∙ ap (λ b. b ++ sends.unsent) (sym out)) ∙ append_assoc (given Out ((events ++ reads) ++ wrote)) sends.unsent behind in
       record {
         prompt = Prompt-from_by (due program style rows_in false) start.pending ((events ++ reads) ++ wrote) (PromptBy-append (due program style rows_in false) start.pending [] (events ++ reads) wrote (prompt_then program style rows_in start cut new monitor rest before Keeps events reads has line_answer.TheVariants.Row cuts) (Writes-prompt (due program style rows_in false) (start.pending ++ taken Trace (events ++ reads)) (given Out (events ++ reads)) Out sends.sent wrote sends.writes));
-        outcome = (record { rest = sends.unsent ++ behind; split = whole; misses = some-append sends.unsent behind sends.misses }, record { program_kept = tells.kept.program_kept; front = tells.kept.front; is_front = IsFront-more tells.kept.front front _ tail tells.kept.is_front rows; stands = tells.kept.stands });
+        outcome = (record { rest = sends.unsent ++ behind; split = whole; misses = some-append sends.unsent behind sends.misses }, has_front program style has.rows more tail _ after sends.sent _ rows out tells.kept);
         ended = line_ended program style rows_in start cut new monitor rest before Keeps events reads has line_answer.TheVariants.Row cuts ∙ sym (ended_from-append start.ended Trace (events ++ reads) wrote ∙ Writes-ended (ended_from start.ended Trace (events ++ reads)) Out Trace sends.sent wrote sends.writes);
         no_more = λ met.
             let was = line_no_more program style rows_in start cut new monitor rest before Keeps events reads has line_answer.TheVariants.Row cuts met in

@@ -1,3 +1,4 @@
+pub mod Endings
 pub mod Feed
 pub mod Trace
 pub mod Watch

@@ -4,6 +4,7 @@ use Rattle.std.specs.Prelude.{◌≡◌, ℕ, ◌+◌, ◌<◌, ◌≤◌, ◌^�
 use Rattle.std.specs.Prelude.{List, [], ◌∷◌, ◌++◌, length, replicate}
 use Rattle.std.specs.declared.ops.ControlFlow.{ControlFlow}
 use Rattle.std.specs.declared.ops.ControlFlow.TheVariants.{Continue, Break}
+use Rattle.mltl_base.specs.declared.limits.TheConstants.{MAX_MISSION}
 use Rattle.mltl_base.specs.declared.program.Program.{Program}
 use Rattle.mltl_base.specs.Atoms.{Row}
 use Rattle.mltl_base.specs.Programs.{IsFit}
@@ -15,12 +16,14 @@ use Rattle.tool_io.specs.Cutting as cutting
 use Rattle.mltl_monitor.specs.declared.state.State.{State}
 use Rattle.mltl_monitor.specs.Monitoring.{program_of, taken_by, last_of, read_of}
 use Rattle.trace_feed.specs.Rows.{LineMeaning, row, blank, too_few, not_whole, out_of_range}
-use Rattle.trace_watch.specs.declared.status.TraceWhy.{TraceWhy}
-use Rattle.trace_watch.specs.declared.status.TraceWhy.TheVariants.{Width, NotWhole, OutOfRange, LongLine}
+use Rattle.trace_watch.specs.declared.status.LineFault.{LineFault}
+use Rattle.trace_watch.specs.declared.status.LineFault.TheVariants.{Width, NotWhole, OutOfRange}
+use Rattle.trace_watch.specs.declared.status.TraceWhy.TheVariants.{LongLine}
 use Rattle.trace_watch.specs.declared.status.Watched as watched
 use Rattle.trace_watch.specs.declared.reader.Reader as reader
 use Rattle.trace_watch.specs.declared.reader.Found as found
 use Rattle.trace_watch.specs.declared.trace_loop.Course.{Course}
+use Rattle.trace_watch.specs.Endings.{why_of}
 use Rattle.trace_watch.specs.Feed.{Feed, Plain, Stamped, Meaning, IsPast, IsFaulty, Brings, time_of, text_meaning}
 use Rattle.trace_watch.specs.Trace.{is_marked}
 use Rattle.trace_watch.specs.Watch.{HasTold}
@@ -66,10 +69,10 @@ IfRow result P = ⊤
 pub record CanTake (copies : ℕ) (monitor : State) : Type 0 where
   pub fit : IsFit (program_of monitor) (read_of monitor)
   pub begun : 0 < copies → 0 < taken_by monitor
-  pub early : taken_by monitor + copies < 2 ^ 40
+  pub early : taken_by monitor + copies < MAX_MISSION
 
 -- the fault of fields, if they have one; blanks are none in a plain line
-abbrev pub fault_of : reader.Reader → LineMeaning → Option TraceWhy
+abbrev pub fault_of : reader.Reader → LineMeaning → Option LineFault
 fault_of now (row values) = None
 fault_of reader.TheVariants.Plain blank = None
 fault_of (reader.TheVariants.Stamped last) blank = Some Width
@@ -82,7 +85,7 @@ abbrev pub FindsFields : found.Found → ℕ → reader.Reader → LineMeaning �
 FindsFields (found.TheVariants.Row times next) copies now what values =
     (times ≡ copies) × (next ≡ now) × (what ≡ row values)
 FindsFields found.TheVariants.Blank copies now what values = (now ≡ reader.TheVariants.Plain) × (what ≡ blank)
-FindsFields (found.TheVariants.Bad why) copies now what values = fault_of now what ≡ Some why
+FindsFields (found.TheVariants.Bad fault) copies now what values = fault_of now what ≡ Some fault
 FindsFields found.TheVariants.Past copies now what values = ⊥
 
 -- so many copies of the last row, and then the row that was read
@@ -101,7 +104,7 @@ abbrev pub Finds : found.Found → Feed → Meaning → ℕ → List Row → Sta
 Finds (found.TheVariants.Row copies now) feed what lines rows before after =
     FindsRow copies now what lines rows before after
 Finds found.TheVariants.Blank feed what lines rows before after = what ≡ Brings [] feed
-Finds (found.TheVariants.Bad why) feed what lines rows before after = what ≡ IsFaulty why
+Finds (found.TheVariants.Bad fault) feed what lines rows before after = what ≡ IsFaulty (why_of fault)
 Finds found.TheVariants.Past feed what lines rows before after = what ≡ IsPast
 
 -- the text of the line that a cut gave

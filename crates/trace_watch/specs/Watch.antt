@@ -1,9 +1,12 @@
 -- What the loop over a trace tells in its log, and how it leaves the monitor.
 
 use Rattle.std.specs.Prelude.{◌≡◌, ◌≤◌, ◌^◌, ℕ, Bool, true, false, List, [], ◌∷◌, ◌++◌, ⊤}
+use Rattle.mltl_base.specs.declared.limits.TheConstants.{MAX_MISSION}
 use Rattle.mltl_base.specs.declared.report.Style.{Style}
 use Rattle.mltl_base.specs.declared.program.Program.{Program}
 use Rattle.mltl_base.specs.Atoms.{Row}
+use Rattle.mltl_base.specs.Programs.{outputs, output_names}
+use Rattle.mltl_base.specs.Lines.{lines}
 use Rattle.tool_io.specs.declared.host.Place.{Place}
 use Rattle.tool_io.specs.declared.host.Place.TheVariants.{Trace, Out}
 use Rattle.tool_io.specs.Log.{Event, Took, Gave, taken, given, ended_from, IsFront, IsProperFront, Prompt}
@@ -27,12 +30,20 @@ pub record HasTold (program : Program) (monitor : State) (rows : List Row) : Typ
   pub stands : Stands monitor rows
   pub drained : IsDrained monitor
 
--- it has a front of the rows
-pub record HasFront (program : Program) (monitor : State) (rows : List Row) : Type 0 where
+-- the lines of rows
+abbrev pub lines_by : Program → Style → List Row → List ℕ
+lines_by program style rows = lines style (output_names program) (outputs program) rows
+
+-- it has the rows up to the one whose lines aren't all out: those of the rows before are, and a front of its own
+pub record HasFront (program : Program) (style : Style) (monitor : State) (rows : List Row)
+    (out : List ℕ) : Type 0 where
   pub program_kept : program_of monitor ≡ program
-  pub front : List Row
-  pub is_front : IsFront front rows
-  pub stands : Stands monitor front
+  pub before : List Row
+  pub last : Row
+  pub is_front : IsFront (before ++ last ∷ []) rows
+  pub stands : Stands monitor (before ++ last ∷ [])
+  pub told : IsFront (lines_by program style before) out
+  pub untold : IsProperFront out (lines_by program style (before ++ last ∷ []))
 
 -- all lines that are due are out, and the monitor has the rows
 pub record IsTold (program : Program) (style : Style) (rows_in : List (List ℕ) → TraceRows) (ended : Bool)
@@ -56,14 +67,14 @@ Outcome watched.TheVariants.ReadFault program style rows_in ended bytes out moni
     × IsTold program style rows_in false bytes out monitor
 Outcome watched.TheVariants.WriteFault program style rows_in ended bytes out monitor =
     IsProperFront out (due program style rows_in ended bytes)
-    × HasFront program monitor (rows_in (lines_of ended bytes)).rows
+    × HasFront program style monitor (rows_in (lines_of ended bytes)).rows out
 
 -- a trace can be watched: the monitor has taken no rows and has nothing to tell, no more than one line was cut, and the
 -- mission time is within its limit
 pub record CanWatch (monitor : State) (cut : Cutting) (mission : ℕ) : Type 0 where
   pub no_rows : Stands monitor []
   pub drained : IsDrained monitor
-  pub within : mission ≤ 2 ^ 40
+  pub within : mission ≤ MAX_MISSION
   pub numbered : cut.number ≤ 1
 
 -- the number of the first line that a cut gives next
@@ -84,7 +95,7 @@ pub record IsWatch (program : Program) (style : Style) (rows_in : List (List ℕ
   pub no_more : ReadsNoMore start cut events
   pub only : OnlyRun events
 
--- a read or a write that failed raised the count of its place, and nothing else changes a count
+-- a read or a write that failed raised the count of its place by one, and nothing else changes a count
 abbrev pub WatchCause : watched.Watched → (Place → ℕ) → (Place → ℕ) → Type 0
 WatchCause watched.TheVariants.Done before now = NoFault before now
 WatchCause watched.TheVariants.TooLong before now = NoFault before now
@@ -94,4 +105,4 @@ WatchCause watched.TheVariants.WriteFault before now = RoseAt before now Out
 
 -- no count of a fault rose
 abbrev pub NoneRose : (Place → ℕ) → (Place → ℕ) → Type 0
-NoneRose before now = (place : Place) → Rose (before place) (now place) → ⊥
+NoneRose before now = (place : Place) → ¬ Rose (before place) (now place)

@@ -2,6 +2,7 @@
 //! in registers: through memory it costs a plain row a twentieth of its instructions.
 
 ghost use Rattle.std.specs.Prelude.{◌≡◌, ◌+◌, ◌<◌, ◌≤◌, ◌^◌, ℕ, List, Option};
+ghost use Rattle.mltl_base.specs.declared.limits.TheConstants.{MAX_MISSION};
 ghost use Rattle.mltl_base.specs.Atoms.{Row as Values};
 ghost use Rattle.mltl_monitor.specs.Monitoring.{program_of, taken_by, read_of, IsSame, Stands};
 ghost use Rattle.sparse_feed.specs.Stamps.{stamp_meaning};
@@ -9,7 +10,7 @@ ghost use Rattle.trace_feed.specs.Rows.{line_meaning};
 ghost use Rattle.trace_watch.specs.Feed.{Stamped as StampedRows, stamped_line, time_of};
 ghost use Rattle.trace_watch.specs.Turns.{CanTake, Finds, FindsFields, IfRow, IsLast, times_until};
 
-use crate::TraceWhy;
+use crate::status::LineFault;
 use mltl_monitor::Monitor;
 use sparse_feed::{Stamp, gap, stamp_of};
 use trace_feed::RowAnswer;
@@ -24,14 +25,14 @@ pub(crate) enum Reader {
 }
 
 /// What a line is.
-#[derive(Drop)]
+#[derive(Clone, Copy)]
 pub(crate) enum Found {
     /// A row, which the monitor has read. So many copies of the last one come before it, and the next line is read so.
     Row(u64, Reader),
     /// No row.
     Blank,
     /// No row, for this fault.
-    Bad(TraceWhy),
+    Bad(LineFault),
     /// A row past the mission time.
     Past,
 }
@@ -46,7 +47,7 @@ pub(crate) fn read_fields(
     reader: Reader,
 ) -> Found
     requires begun { 0 < copies → 0 < taken_by monitor.old }
-    requires early { taken_by monitor.old + copies < 2 ^ 40 }
+    requires early { taken_by monitor.old + copies < MAX_MISSION }
     ensures told { FindsFields result copies reader
         (line_meaning (program_of monitor.old) fields.now) (read_of monitor.new) }
     ensures ready { IfRow result (λ times. CanTake times monitor.new) }
@@ -56,11 +57,11 @@ pub(crate) fn read_fields(
         RowAnswer::Good => Found::Row(copies, reader),
         RowAnswer::Blank => match reader {
             Reader::Plain => Found::Blank,
-            Reader::Stamped(_) => Found::Bad(TraceWhy::Width),
+            Reader::Stamped(_) => Found::Bad(LineFault::Width),
         },
-        RowAnswer::Width => Found::Bad(TraceWhy::Width),
-        RowAnswer::NotWhole(column) => Found::Bad(TraceWhy::NotWhole(column)),
-        RowAnswer::OutOfRange(column) => Found::Bad(TraceWhy::OutOfRange(column)),
+        RowAnswer::Width => Found::Bad(LineFault::Width),
+        RowAnswer::NotWhole(column) => Found::Bad(LineFault::NotWhole(column)),
+        RowAnswer::OutOfRange(column) => Found::Bad(LineFault::OutOfRange(column)),
     }
 }
 
@@ -73,7 +74,7 @@ pub(crate) fn read_stamped(
     mission: u64,
 ) -> Found
     requires counted { taken_by monitor.old ≡ times_until last }
-    requires mission { mission ≤ 2 ^ 40 }
+    requires mission { mission ≤ MAX_MISSION }
     ensures told { (lines : ℕ) (rows : List Values) (before : Option (ℕ × Values)) →
         Stands monitor.old rows → IsLast before rows → time_of before ≡ last
         → Finds result (StampedRows before)
@@ -84,8 +85,8 @@ pub(crate) fn read_stamped(
 {
     match stamp_of(line, last, mission) {
         Stamp::Blank => Found::Blank,
-        Stamp::Bad => Found::Bad(TraceWhy::Stamp),
-        Stamp::Order => Found::Bad(TraceWhy::Order),
+        Stamp::Bad => Found::Bad(LineFault::Stamp),
+        Stamp::Order => Found::Bad(LineFault::Order),
         Stamp::Late => Found::Past,
         Stamp::At(time, place) => {
             let copies = gap(last, time);

@@ -1,6 +1,7 @@
 //! Rows that are taken, and the lines that they bring.
 
 ghost use Rattle.std.specs.Prelude.{◌≡◌, ◌+◌, ◌<◌, ◌≤◌, ◌^◌, List, replicate};
+ghost use Rattle.mltl_base.specs.declared.limits.TheConstants.{MAX_MISSION};
 ghost use Rattle.mltl_base.specs.Atoms.{Row};
 ghost use Rattle.mltl_base.specs.Lines.{lines_of_reports};
 ghost use Rattle.mltl_base.specs.Programs.{output_names};
@@ -51,7 +52,7 @@ fn hold<H: Host, L: Ledger>(
 ) -> bool
     requires drained { IsDrained monitor.old }
     requires begun { 0 < times → 0 < taken_by monitor.old }
-    requires early { taken_by monitor.old + times ≤ 2 ^ 40 }
+    requires early { taken_by monitor.old + times ≤ MAX_MISSION }
     ensures cause { TellCause result (H.faults host.old) (H.faults host.new) }
     ensures log { (rows : List Row) → Stands monitor.old rows
         → OnLog (H.log host.old) (H.log host.new)

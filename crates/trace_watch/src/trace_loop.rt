@@ -1,18 +1,21 @@
 //! The loop over a trace.
 
 ghost use Rattle.std.specs.Prelude.{◌≡◌, ◌≤◌, ◌<◌, ◌^◌, IsSome, List};
+ghost use Rattle.mltl_base.specs.declared.limits.TheConstants.{MAX_MISSION};
 ghost use Rattle.mltl_base.specs.Atoms.{Row};
 ghost use Rattle.tool_io.specs.Log.{OnLog};
 ghost use Rattle.mltl_monitor.specs.Monitoring.{program_of, taken_by, IsDrained, IsSame, Stands};
 ghost use Rattle.trace_watch.specs.Feed.{Feed, text_meaning};
 ghost use Rattle.trace_watch.specs.Trace.{is_marked, fed_rows, trace_rows, stamped_rows};
 ghost use Rattle.trace_watch.specs.Watch.{CanWatch, IsWatch, WatchCause, first_of};
+ghost use Rattle.trace_watch.specs.Endings.{told_as};
 ghost use Rattle.trace_watch.specs.Telling.{StepCause};
 ghost use Rattle.trace_watch.specs.Turns.{CanTake, Finds, IfRow, IsAtStart, IsCounted, LineSteps, MovesReader, StandsAt, TakesLine, Turns, begins_at, text_of};
 
+use crate::Watched;
 use crate::reader::{Found, Reader, read_fields, read_stamped};
+use crate::status::{Ending, LineFault};
 use crate::telling::take_after;
-use crate::{TraceWhy, Watched};
 use mltl_base::Style;
 use mltl_monitor::Monitor;
 use scq_ring::steps::Steps;
@@ -63,7 +66,7 @@ impl Course {
         requires drained { IsDrained monitor.old }
         requires counted { IsCounted self.now.reader self.now.lines (taken_by monitor.old) }
         requires within { self.now.lines < self.now.mission }
-        requires mission { self.now.mission ≤ 2 ^ 40 }
+        requires mission { self.now.mission ≤ MAX_MISSION }
         ensures told { (rows : List Row) (feed : Feed) → Stands monitor.old rows
             → StandsAt feed self.now.reader self.now.lines rows
             → Finds result feed
@@ -87,17 +90,17 @@ impl Course {
         cut: &LineCut,
         host: &mut H,
         steps: &mut Steps<L>,
-    ) -> ControlFlow<Watched, ()>
+    ) -> ControlFlow<Ending, ()>
         requires row { IsSome cut.now.row }
         requires drained { IsDrained monitor.old }
         requires counted { IsCounted self.old.reader self.old.lines (taken_by monitor.old) }
         requires within { self.old.lines < self.old.mission }
-        requires mission { self.old.mission ≤ 2 ^ 40 }
-        ensures cause { StepCause result (H.faults host.old) (H.faults host.new) }
+        requires mission { self.old.mission ≤ MAX_MISSION }
+        ensures cause { StepCause (told_as result) (H.faults host.old) (H.faults host.new) }
         ensures log { (rows : List Row) (feed : Feed) → Stands monitor.old rows
             → StandsAt feed self.old.reader self.old.lines rows
             → OnLog (H.log host.old) (H.log host.new)
-            (TakesLine result (program_of monitor.old) self.old self.new feed rows
+            (TakesLine (told_as result) (program_of monitor.old) self.old self.new feed rows
             cut.now monitor.new) }
         ensures program { program_of monitor.new ≡ program_of monitor.old }
         ensures moves { MovesReader self.old self.new }
@@ -108,12 +111,12 @@ impl Course {
                 if take_after(monitor, host, copies, self.style, steps) {
                     Continue(())
                 } else {
-                    Break(Watched::WriteFault)
+                    Break(Ending::WriteFault)
                 }
             }
             Found::Blank => Continue(()),
-            Found::Bad(why) => Break(Watched::BadTrace(cut.number(), why)),
-            Found::Past => Break(Watched::TooLong),
+            Found::Bad(fault) => Break(Ending::BadLine(cut.number(), fault)),
+            Found::Past => Break(Ending::TooLong),
         }
     }
 
@@ -125,17 +128,17 @@ impl Course {
         cut: &LineCut,
         host: &mut H,
         steps: &mut Steps<L>,
-    ) -> ControlFlow<Watched, ()>
+    ) -> ControlFlow<Ending, ()>
         requires row { IsSome cut.now.row }
         requires drained { IsDrained monitor.old }
         requires counted { IsCounted self.old.reader self.old.lines (taken_by monitor.old) }
         requires within { self.old.lines ≤ self.old.mission }
-        requires mission { self.old.mission ≤ 2 ^ 40 }
-        ensures cause { StepCause result (H.faults host.old) (H.faults host.new) }
+        requires mission { self.old.mission ≤ MAX_MISSION }
+        ensures cause { StepCause (told_as result) (H.faults host.old) (H.faults host.new) }
         ensures log { (rows : List Row) (feed : Feed) → Stands monitor.old rows
             → StandsAt feed self.old.reader self.old.lines rows
             → OnLog (H.log host.old) (H.log host.new)
-            (LineSteps result (program_of monitor.old) self.old self.new feed rows
+            (LineSteps (told_as result) (program_of monitor.old) self.old self.new feed rows
             cut.now monitor.new) }
         ensures program { program_of monitor.new ≡ program_of monitor.old }
     {
@@ -143,7 +146,7 @@ impl Course {
             return Continue(());
         }
         if self.lines == self.mission {
-            return Break(Watched::TooLong);
+            return Break(Ending::TooLong);
         }
         self.take(monitor, cut, host, steps)?;
         self.lines += 1;
@@ -158,27 +161,27 @@ impl Course {
         cut: &mut LineCut,
         host: &mut H,
         steps: &mut Steps<L>,
-    ) -> ControlFlow<Watched, ()>
+    ) -> ControlFlow<Ending, ()>
         requires drained { IsDrained monitor.old }
         requires counted { IsCounted self.old.reader self.old.lines (taken_by monitor.old) }
         requires within { self.old.lines ≤ self.old.mission }
-        requires mission { self.old.mission ≤ 2 ^ 40 }
-        ensures cause { StepCause result (H.faults host.old) (H.faults host.new) }
+        requires mission { self.old.mission ≤ MAX_MISSION }
+        ensures cause { StepCause (told_as result) (H.faults host.old) (H.faults host.new) }
         ensures log { (rows : List Row) (feed : Feed) → Stands monitor.old rows
             → StandsAt feed self.old.reader self.old.lines rows
             → OnLog (H.log host.old) (H.log host.new)
-            (Turns result (program_of monitor.old) self.old self.new feed rows
+            (Turns (told_as result) (program_of monitor.old) self.old self.new feed rows
             cut.old cut.new monitor.new) }
         ensures program { program_of monitor.new ≡ program_of monitor.old }
     {
         match cut.next_line(host, Place::Trace) {
             Line::Row => self.step(monitor, cut, host, steps),
-            Line::End => Break(Watched::Done),
-            Line::ReadFault => Break(Watched::ReadFault),
-            Line::LongLine if self.lines == self.mission => Break(Watched::TooLong),
+            Line::End => Break(Ending::Done),
+            Line::ReadFault => Break(Ending::ReadFault),
+            Line::LongLine if self.lines == self.mission => Break(Ending::TooLong),
             Line::LongLine => {
                 let number = cut.number().saturating_add(1);
-                Break(Watched::BadTrace(number, TraceWhy::LongLine))
+                Break(Ending::BadLine(number, LineFault::LongLine))
             }
         }
     }
@@ -206,8 +209,8 @@ fn turns<H: Host, L: Ledger>(
 {
     let mut steps = Steps::<L>::start(blank);
     loop {
-        if let Break(watched) = course.turn(monitor, cut, host, &mut steps) {
-            return watched;
+        if let Break(ending) = course.turn(monitor, cut, host, &mut steps) {
+            return ending.watched();
         }
     }
 }

@@ -8,7 +8,9 @@ use Rattle.mltl_base.specs.Formula.{atom}
 use Rattle.plain_nodes.specs.Nodes.{number, formula}
 use Rattle.c2po_tree.specs.Shape as tree
 use Rattle.c2po_tree.specs.Shape.{Shape, Shapes}
-use Rattle.unfold.specs.Values.{Value, Values, leaf, none, more, number_value, truth_value, built, grouped, opposite, inverted, computed, compared, connected_value, windowed_value, ranged_value, members, picked, connected_all, counted}
+use Rattle.unfold.specs.Values.{Value, Values, leaf, none, more, number_value, truth_value, built, grouped, opposite}
+use Rattle.unfold.specs.Values.{inverted, computed, compared, connected_value, windowed_value, ranged_value, members}
+use Rattle.unfold.specs.Values.{picked, connected_all, counted}
 
 -- what a name stands for: a struct with these fields, or a value
 pub data Known : Type 0 where
@@ -55,7 +57,8 @@ fields_in (fields xs) = xs
 fields_in (value v) = []
 fields_in nothing = []
 
--- the value of an expression: a name stands for its value, a quantifier joins its bodies, one for each member of its set
+-- the value of an expression: a name stands for its value, a quantifier joins its bodies, one for each member of its
+-- set
 abbrev mutual
   pub value_of : Shape → Env → Value
   value_of (tree.number line n) env = number_value n
@@ -71,8 +74,10 @@ abbrev mutual
   value_of (tree.logic line op e f) env = connected_value op (value_of e env) (value_of f env)
   value_of (tree.window line op a b e) env = windowed_value op a b (value_of e env)
   value_of (tree.between line op a b e f) env = ranged_value op a b (value_of e env) (value_of f env)
-  value_of (tree.each line x s e) env = connected_all And (map (λ v. value_of e (bind x v env)) (members (value_of s env)))
-  value_of (tree.exists line x s e) env = connected_all Or (map (λ v. value_of e (bind x v env)) (members (value_of s env)))
+  value_of (tree.each line x s e) env = connected_all And
+      (map (λ v. value_of e (bind x v env)) (members (value_of s env)))
+  value_of (tree.exists line x s e) env = connected_all Or
+      (map (λ v. value_of e (bind x v env)) (members (value_of s env)))
   value_of (tree.count line op x s m e) env =
       counted op m (map (λ v. value_of e (bind x v env)) (members (value_of s env)))
 

@@ -28,7 +28,8 @@ nodes_of u = u.nodes
 -- a stored value, over nodes and parts, stands for a value
 abbrev mutual
   pub Stores : List Plain → List Parts → Stored → Value → Type 0
-  Stores nodes parts s (leaf t w) = (s.weight ≡ w) × ((n : ℕ) × (s.place ≡ Node n) × Has nodes n t × (told_fault s.fault ≡ tree_fault t))
+  Stores nodes parts s (leaf t w) = (s.weight ≡ w)
+      × ((n : ℕ) × (s.place ≡ Node n) × Has nodes n t × (told_fault s.fault ≡ tree_fault t))
   Stores nodes parts s (structure x vs w) =
       (s.weight ≡ w) × ((i : ℕ) × (ss : List Stored) × (s.place ≡ PartsAt i)
       × (slice_get parts i ≡ Some (record { whole = whole.Struct x; members = ss })) × StoreAll nodes parts ss vs

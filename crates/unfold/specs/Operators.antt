@@ -7,7 +7,8 @@ use Rattle.unfold.specs.declared.operators.UnaryOp.TheVariants as unary
 use Rattle.unfold.specs.declared.operators.BinaryOp.{BinaryOp}
 use Rattle.unfold.specs.declared.operators.BinaryOp.TheVariants as binary
 use Rattle.unfold.specs.declared.scope.Quantifier.{Quantifier}
-use Rattle.unfold.specs.Values.{Value, opposite, inverted, windowed_value, computed, compared, connected_value, ranged_value, members}
+use Rattle.unfold.specs.Values.{Value, opposite, inverted, windowed_value, computed, compared, connected_value}
+use Rattle.unfold.specs.Values.{ranged_value, members}
 use Rattle.unfold.specs.Environment.{Env, bind, value_of}
 
 -- the value of an operator over the value of its operand

@@ -1,6 +1,7 @@
 -- The values that expressions unfold to, each with its weight.
 
-use Rattle.std.specs.Prelude.{ℕ, ◌+◌, ◌*◌, ℤ, min, Bool, Option, Some, None, List, [], ◌∷◌, map, fold, length, slice_index_or, sum_by, position}
+use Rattle.std.specs.Prelude.{ℕ, ◌+◌, ◌*◌, ℤ, min, Bool, Option, Some, None, List, [], ◌∷◌, map, fold, length}
+use Rattle.std.specs.Prelude.{slice_index_or, sum_by, position}
 use Rattle.std.specs.Str.{bytes_eq}
 use Rattle.mltl_base.specs.declared.limits.TheConstants.{MAX_BOUND}
 use Rattle.mltl_base.specs.declared.interval.Interval.{Interval}
@@ -13,7 +14,8 @@ use Rattle.mltl_base.specs.declared.operators.CountOp.{CountOp}
 use Rattle.mltl_base.specs.Atoms.{Term, constant, negative}
 use Rattle.mltl_base.specs.Formula.{Formula, atom, negation, conjunction, disjunction, falsity}
 use Rattle.count_sets.specs.Counting as counting
-use Rattle.plain_nodes.specs.Nodes.{Tree, number, formula, term_in, formula_in, constant_formula, arithmetic, comparison, connected, windowed, ranged}
+use Rattle.plain_nodes.specs.Nodes.{Tree, number, formula, term_in, formula_in, constant_formula, arithmetic}
+use Rattle.plain_nodes.specs.Nodes.{comparison, connected, windowed, ranged}
 
 -- a value: a whole number or a formula, the value of a struct with the struct's name, or a set, each with its weight
 mutual
@@ -97,7 +99,8 @@ windowed_value op a b v = leaf (formula (windowed op (interval a b) (formula_of 
 
 -- a temporal operator over two formulas, from a to b: its weight is one more than that of its operands
 abbrev pub ranged_value : BetweenOp → ℕ → ℕ → Value → Value → Value
-ranged_value op a b v w = leaf (formula (ranged op (interval a b) (formula_of v) (formula_of w))) (1 + weight v + weight w)
+ranged_value op a b v w =
+    leaf (formula (ranged op (interval a b) (formula_of v) (formula_of w))) (1 + weight v + weight w)
 
 -- the members of a set; nothing else has any
 abbrev pub members : Value → List Value

@@ -1,6 +1,6 @@
 //! The proved monitor of Mission-time LTL: a safe wrapper of its C library, without dependencies.
 //!
-//! A [`Monitor`] is closed when it is dropped. It is neither `Send` nor `Sync`: it stays with the thread that opened it.
+//! A [`Monitor`] is closed when it is dropped. It is `Send`: one thread may open it and another take rows.
 
 use std::ffi::c_void;
 use std::fmt;
@@ -45,6 +45,12 @@ extern "C" {
     ) -> u32;
     fn r2u2_width(it: *mut Struct) -> u32;
     fn r2u2_outputs(it: *mut Struct) -> u32;
+    fn r2u2_rows(it: *mut Struct) -> u64;
+    fn r2u2_delay(it: *mut Struct, k: u32) -> u32;
+    fn r2u2_steps(it: *mut Struct) -> u64;
+    fn r2u2_signals(it: *mut Struct) -> u32;
+    fn r2u2_signal(it: *mut Struct, k: u32, column: *mut u32, kind: *mut u32, name: *mut u8, count: usize) -> u32;
+    fn r2u2_version() -> u32;
     fn r2u2_name(it: *mut Struct, k: u32, buffer: *mut u8, count: usize) -> u32;
     fn r2u2_row(it: *mut Struct, numbers: *const i64, count: usize, fault: *mut RawRowFault) -> u32;
     fn r2u2_next(it: *mut Struct, style: u32, report: *mut RawReport) -> u32;
@@ -117,6 +123,20 @@ pub enum Style {
     Runs = 1,
 }
 
+/// A signal that a program stores: its name, its column, counted from 0, and whether it is a truth.
+#[derive(Clone, Debug, PartialEq, Eq)]
+pub struct Signal {
+    pub name: String,
+    pub column: u32,
+    pub truth: bool,
+}
+
+/// The version of the library: 10,000, 100 and 1 times its three numbers.
+pub fn version() -> u32 {
+    // SAFETY: it takes nothing.
+    unsafe { r2u2_version() }
+}
+
 /// A monitor that is open.
 pub struct Monitor {
     it: Struct,
@@ -163,6 +183,34 @@ impl Monitor {
         unsafe { r2u2_outputs(&mut self.it) }
     }
 
+    /// How many rows were taken.
+    pub fn rows(&mut self) -> u64 {
+        unsafe { r2u2_rows(&mut self.it) }
+    }
+
+    /// The worst-case delay of an output in rows; 0 where there is none.
+    pub fn delay(&mut self, output: u32) -> u32 {
+        unsafe { r2u2_delay(&mut self.it, output) }
+    }
+
+    /// The most steps of one row.
+    pub fn steps(&mut self) -> u64 {
+        unsafe { r2u2_steps(&mut self.it) }
+    }
+
+    /// The signals that the program stores, in order of declaration.
+    pub fn signals(&mut self) -> Vec<Signal> {
+        let count = unsafe { r2u2_signals(&mut self.it) };
+        (0..count).map(|k| self.signal(k)).collect()
+    }
+
+    fn signal(&mut self, k: u32) -> Signal {
+        let (mut column, mut kind, mut buffer) = (0, 0, [0; 64]);
+        let length =
+            unsafe { r2u2_signal(&mut self.it, k, &mut column, &mut kind, buffer.as_mut_ptr(), buffer.len()) };
+        Signal { name: text_of(&buffer[..length as usize]), column, truth: kind == 1 }
+    }
+
     /// The name of an output, if there is one of this number.
     pub fn name(&mut self, output: u32) -> Option<String> {
         let mut buffer = [0; 64];
@@ -188,6 +236,9 @@ impl Monitor {
         Reports { monitor: self, style }
     }
 }
+
+// SAFETY: the library proves `Send` of its struct, and each call takes the monitor by `&mut`.
+unsafe impl Send for Monitor {}
 
 impl Drop for Monitor {
     fn drop(&mut self) {

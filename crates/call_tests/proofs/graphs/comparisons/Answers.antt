@@ -1,3 +1,8 @@
+use Rattle.std.proofs.Common.{All, map, subst, sym}
+use Rattle.std.proofs.lemmas.List.Elements.{All-map}
+use Rattle.mltl_base.specs.Subformulas.{IsTensed}
+use Rattle.plain_nodes.specs.Nodes.{trees}
+use Rattle.plain_nodes.specs.Outputs.{asked_by}
 use Rattle.call_tests.proofs.Comparing.{comparing-signal, comparing-next}
 use Rattle.call_tests.proofs.graphs.comparisons.Goals as goal
 
@@ -7,3 +12,8 @@ loop-n-init c = comparing-signal _ _ _ _ c.new-nodes.ensures c.new-outs.ensures 
 pub loop-n-preserved : goal.loop-n-preserved
 loop-n-preserved c = comparing-next _ _ _ _ _ _ _ _ _ _ _ _ c.loop-n.invariant
     c.in_ok-equal.ensures.pushed c.in_ok-equal.ensures.place c.in_ok-push.ensures.pushed c.in_ok-other.ensures.pushed c.in_ok-other.ensures.place
+
+pub returns-clause-tensed : goal.returns-clause-tensed
+returns-clause-tensed c =
+    subst (λ nodes. All IsTensed (map (asked_by (trees nodes)) c.loop-n.outs)) (sym c.into_list.ensures.nodes)
+    (All-map IsTensed (asked_by (trees c.loop-n.nodes)) c.loop-n.outs c.loop-n.invariant.tensed)

@@ -1,6 +1,7 @@
-use Rattle.std.proofs.Common.{◌+◌, refl, arith}
+use Rattle.std.proofs.Common.{◌≡◌, ◌+◌, ◌<◌, Some, refl, arith, subst, sym}
 use Rattle.std.proofs.lemmas.Option.{slice_get_within}
-use Rattle.contract_status.proofs.Moving.{cursor_after, fewer_left, gives_none, known_before, open_here, tells}
+use Rattle.contract_status.specs.declared.engines.Stretch.{Stretch}
+use Rattle.contract_status.proofs.Moving.{cursor_after, fewer_left, gives_none, known_before, open_here, same_stretch, tells}
 use Rattle.contract_status.proofs.Placing.{readable}
 use Rattle.contract_status.proofs.telling.tell_first.Goals as goal
 
@@ -121,3 +122,13 @@ returns-clause-cursor c =
     λ rows taken known.
     let before = known_before program rows next_times k c.last_covered-time.result told.inside told.upward known in
     cursor_after program rows next_times k c.last_covered-time.result c.in_ok-k.stretch c.move_after.new.self told.inside told.upward (finds rows taken before) (rw taken.count c.move_after.ensures.next_time) c.move_after.ensures.kept
+
+pub returns-clause-moves : goal.returns-clause-moves
+returns-clause-moves c = record {
+  here = c.move_after.ensures.here;
+  next = c.move_after.ensures.next;
+  keeps = λ stretch kept later more.
+      let same : c.in_ok-k.stretch ≡ stretch = same_stretch c.in_ok-k.k c.args.cursor.now.out c.in_ok-k.stretch stretch (c.in_ok-k.ensures.goes_on stretch kept) in
+      let stays = c.move_after.ensures.keeps more (subst (λ (s : Stretch). c.last_covered-time.result < s.last) (sym same) later) in
+      subst (λ (s : Stretch). c.move_after.new.self.stretch ≡ Some s) same stays;
+}

@@ -1,5 +1,6 @@
 use Rattle.std.proofs.Common.{◌≡◌, ℕ, Bool, true, false, not, [], ◌∷◌, ◌++◌, ap, ◌∙◌, sym}
 use Rattle.obs_verify.specs.Kinds.{has_name}
+use Rattle.obs_verify.proofs.NameSets.{found_by_order}
 use Rattle.obs_show.specs.Naming.{is_signal_name, numbered_name}
 use Rattle.obs_show.proofs.NameLaws.{filter_kept, filter_left}
 use Rattle.obs_show.proofs.names.free_numbers.Goals.{then-not-contains+in_ok-push, else-not-contains}
@@ -12,7 +13,7 @@ loop-n-preserved c =
     let test : ℕ → Bool = λ k. not (is_signal_name signals (numbered_name k)) in
     let name : c.add_name.new.text.items ≡ numbered_name n = c.in_ok-add_name.ensures ∙ ap (λ xs. xs ++ numbered_name n) c.clear.ensures.items in
     let held : c.contains.result ≡ is_signal_name signals (numbered_name n) =
-    c.contains.ensures ∙ ap (has_name c.in_ok-names.names) name ∙ c.in_ok-names.ensures (numbered_name n) in
+    c.contains.ensures ∙ found_by_order c.add_name.new.text.items c.in_ok-names.names.keys ∙ ap (has_name c.in_ok-names.names) name ∙ c.in_ok-names.ensures (numbered_name n) in
     let free : not c.contains.result ≡ test n = ap not held in
     elim c.if-not-contains.branch [
       | then-not-contains+in_ok-push w ↦

@@ -1,4 +1,4 @@
-use Rattle.spec_compile.proofs.SimpleTelling.{moved_told, simple_named, simple_told}
+use Rattle.spec_compile.proofs.SimpleTelling.{moved_simple_called, moved_told, simple_named, simple_told}
 use Rattle.spec_compile.proofs.laws.simple_programs_tell_plain_outputs.Goals as goal
 
 pub returns-clause-told : goal.returns-clause-told
@@ -9,3 +9,6 @@ returns-clause-moved c = moved_told
 
 pub returns-clause-names : goal.returns-clause-names
 returns-clause-names c = simple_named
+
+pub returns-clause-moved_names : goal.returns-clause-moved_names
+returns-clause-moved_names c = moved_simple_called

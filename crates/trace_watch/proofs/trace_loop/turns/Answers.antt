@@ -1,9 +1,10 @@
-use Rattle.std.proofs.Common.{◌++◌, ◌∙◌, subst, refl, arith}
+use Rattle.std.proofs.Common.{◌++◌, ◌∙◌, subst, sym, refl, arith}
 use Rattle.std.specs.declared.ops.ControlFlow.TheVariants.{Continue, Break}
 use Rattle.tool_io.proofs.HostLaws.{NoFault-then}
 use Rattle.tool_io.proofs.LogLaws.{OnLog-none, Appends-then}
 use Rattle.mltl_base.specs.declared.report.Style.{Style}
 use Rattle.mltl_monitor.specs.Monitoring.{program_of}
+use Rattle.trace_watch.specs.Endings.{watched_of}
 use Rattle.trace_watch.specs.Trace.{fed_rows}
 use Rattle.trace_watch.specs.Turns.{IsCounted, Turns, begins_at}
 use Rattle.trace_watch.specs.Watch.{IsWatch, first_of}
@@ -11,8 +12,8 @@ use Rattle.trace_watch.proofs.FoundLaws.{is_counted}
 use Rattle.trace_watch.proofs.LineTurns.{HasLines-none, turn_goes, turn_ends}
 use Rattle.trace_watch.proofs.trace_loop.turns.Goals as goal
 
-pub loop-watched-init : goal.loop-watched-init
-loop-watched-init g c = record {
+pub loop-ending-init : goal.loop-ending-init
+loop-ending-init g c = record {
   mission = refl;
   style = refl;
   within = omega (arith, c.requires.start.no_lines);
@@ -25,22 +26,22 @@ loop-watched-init g c = record {
 
 pub turn-requires-clause-counted : goal.turn-requires-clause-counted
 turn-requires-clause-counted g c =
-    let was = c.loop-watched.invariant in
+    let was = c.loop-ending.invariant in
     let has = was.log.holds in
-    let course = c.loop-watched.course in
+    let course = c.loop-ending.course in
     subst (IsCounted course.reader course.lines) has.kept.stands.taken.stand.count (is_counted was.feed course.reader course.lines has.rows has.keeps)
 
 pub turn-requires-clause-mission : goal.turn-requires-clause-mission
-turn-requires-clause-mission g c = omega (arith, c.loop-watched.invariant.mission, c.requires.ready.within)
+turn-requires-clause-mission g c = omega (arith, c.loop-ending.invariant.mission, c.requires.ready.within)
 
-pub loop-watched-preserved : goal.loop-watched-preserved
-loop-watched-preserved g c =
-    let was = c.loop-watched.invariant in
+pub loop-ending-preserved : goal.loop-ending-preserved
+loop-ending-preserved g c =
+    let was = c.loop-ending.invariant in
     let has = was.log.holds in
-    let course = c.loop-watched.course in
+    let course = c.loop-ending.course in
     let turn = c.in_default.ensures.log has.rows was.feed has.kept.stands has.keeps in
     let goes = turn_goes _ _ _ _ _ _ _ course was.feed was.log.events has tt c.turn.new.self turn.events was.within (omega (arith, was.mission, c.requires.ready.within))
-    (subst (λ program. Turns (Continue tt) program course c.turn.new.self was.feed has.rows c.loop-watched.cut c.turn.new.cut c.turn.new.monitor turn.events) has.kept.program_kept turn.holds) in
+    (subst (λ program. Turns (Continue tt) program course c.turn.new.self was.feed has.rows c.loop-ending.cut c.turn.new.cut c.turn.new.monitor turn.events) has.kept.program_kept turn.holds) in
     record {
       mission = goes.same_mission ∙ was.mission;
       style = goes.same_style ∙ was.style;
@@ -55,26 +56,30 @@ loop-watched-preserved g c =
       };
     }
 
-pub loop-watched-smaller : goal.loop-watched-smaller
-loop-watched-smaller g c =
-    let was = c.loop-watched.invariant in
+pub loop-ending-smaller : goal.loop-ending-smaller
+loop-ending-smaller g c =
+    let was = c.loop-ending.invariant in
     let has = was.log.holds in
-    let course = c.loop-watched.course in
+    let course = c.loop-ending.course in
     let turn = c.in_default.ensures.log has.rows was.feed has.kept.stands has.keeps in
     (turn_goes _ _ _ _ _ _ _ course was.feed was.log.events has tt c.turn.new.self turn.events was.within (omega (arith, was.mission, c.requires.ready.within))
-    (subst (λ program. Turns (Continue tt) program course c.turn.new.self was.feed has.rows c.loop-watched.cut c.turn.new.cut c.turn.new.monitor turn.events) has.kept.program_kept turn.holds)).fewer
+    (subst (λ program. Turns (Continue tt) program course c.turn.new.self was.feed has.rows c.loop-ending.cut c.turn.new.cut c.turn.new.monitor turn.events) has.kept.program_kept turn.holds)).fewer
 
 pub returns-in-Break-clause-log : goal.returns-in-Break-clause-log
 returns-in-Break-clause-log g c =
-    let was = c.loop-watched.invariant in
+    let ended = watched_of c.in-Break.ending in
+    let was = c.loop-ending.invariant in
     let has = was.log.holds in
-    let course = c.loop-watched.course in
+    let course = c.loop-ending.course in
     let program = program_of c.args.monitor.now in
     let turn = c.in-Break.ensures.log has.rows was.feed has.kept.stands has.keeps in
+    let events = was.log.events ++ turn.events in
+    let rows_in = fed_rows (begins_at c.args.course.reader) program c.args.course.mission (first_of c.args.cut.now) in
     record {
-      events = was.log.events ++ turn.events;
+      events = events;
       appended = Appends-then _ _ _ was.log.events turn.events was.log.appended turn.appended;
-      holds = subst (λ (style : Style). IsWatch program style (fed_rows (begins_at c.args.course.reader) program c.args.course.mission (first_of c.args.cut.now)) c.args.cut.now c.turn.new.cut c.turn.new.monitor c.in-Break.watched (was.log.events ++ turn.events)) was.style
-          (turn_ends _ _ _ _ _ _ _ course was.feed was.log.events has c.in-Break.watched c.turn.new.self turn.events
-          (subst (λ p. Turns (Break c.in-Break.watched) p course c.turn.new.self was.feed has.rows c.loop-watched.cut c.turn.new.cut c.turn.new.monitor turn.events) has.kept.program_kept turn.holds));
+      holds = subst (λ answer. IsWatch program c.args.course.style rows_in c.args.cut.now c.turn.new.cut c.turn.new.monitor answer events) (sym c.watched.ensures)
+          (subst (λ (style : Style). IsWatch program style rows_in c.args.cut.now c.turn.new.cut c.turn.new.monitor ended events) was.style
+          (turn_ends _ _ _ _ _ _ _ course was.feed was.log.events has ended c.turn.new.self turn.events
+          (subst (λ p. Turns (Break ended) p course c.turn.new.self was.feed has.rows c.loop-ending.cut c.turn.new.cut c.turn.new.monitor turn.events) has.kept.program_kept turn.holds)));
     }

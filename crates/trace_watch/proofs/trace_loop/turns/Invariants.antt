@@ -10,8 +10,8 @@ use Rattle.trace_watch.specs.Watch.{first_of}
 use Rattle.trace_watch.proofs.LineTurns.{HasLines}
 use Rattle.trace_watch.proofs.trace_loop.turns.Given as goal
 
-abbrev pub invariant-loop-watched : goal.invariant-loop-watched
-invariant-loop-watched g l = record {
+abbrev pub invariant-loop-ending : goal.invariant-loop-ending
+invariant-loop-ending g l = record {
   mission : l.course.mission ≡ l.initial.course.mission;
   style : l.course.style ≡ l.initial.course.style;
   within : l.course.lines ≤ l.course.mission;
@@ -25,5 +25,5 @@ invariant-loop-watched g l = record {
 }
 
 -- the lines that are left, one of which may be the header
-abbrev pub decreases-loop-watched : goal.decreases-loop-watched
-decreases-loop-watched g l = (l.course.mission - l.course.lines) + (2 - next_number l.cut)
+abbrev pub decreases-loop-ending : goal.decreases-loop-ending
+decreases-loop-ending g l = (l.course.mission - l.course.lines) + (2 - next_number l.cut)

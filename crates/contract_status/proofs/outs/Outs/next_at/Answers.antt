@@ -1,5 +1,6 @@
-use Rattle.std.proofs.Common.{◌≡◌, ◌++◌, ℕ, List, length, take, drop, ap, ◌∙◌, arith}
-use Rattle.std.proofs.Math.Seq.{take-append_seam}
+use Rattle.std.proofs.Common.{◌≡◌, ℕ, List, length, ap, ◌∙◌}
+use Rattle.fixed_list.specs.Lending.{with_members}
+use Rattle.fixed_list.proofs.Members.{with_members_is}
 use Rattle.contract_status.specs.declared.engines.Engines.{Engines}
 use Rattle.contract_status.proofs.Moving.{taken_by}
 use Rattle.contract_status.proofs.outs.Outs.next_at.Goals as goal
@@ -9,9 +10,8 @@ returns-clause-gives c =
     let engines : Engines = record { ft = c.args.ft; pt = c.args.pt; rows = c.args.n } in
     let times = c.self.inside.times in
     let new : List ℕ = c.tell_first.new.next_times in
-    let next_times : c.deref_mut.result.now ≡ c.args.self.now = c.deref_mut.ensures.value ∙ c.self.view_is in
-    let whole : times.len ≡ length new = omega (arith, c.tell_first.auto.next_times, ap length c.deref_mut.ensures.value, times.ok.0) in
-    let written : take times.len (new ++ drop (length new) times.items) ≡ new = ap (λ n. take n (new ++ drop (length new) times.items)) whole ∙ take-append_seam new (drop (length new) times.items) in
+    let next_times : c.as_mut_slice.result.now ≡ c.args.self.now = c.as_mut_slice.ensures.value ∙ c.self.view_is in
+    let written : with_members times new ≡ new = with_members_is times new (c.tell_first.auto.next_times ∙ ap length c.as_mut_slice.ensures.value) in
     let first = rw next_times at c.tell_first.ensures.first in
     let placed = rw next_times at c.tell_first.ensures.placed in
     let given = rw next_times at c.tell_first.ensures.given in
@@ -26,6 +26,5 @@ pub returns-clause-cursor : goal.returns-clause-cursor
 returns-clause-cursor c = λ rows future past count.
     let times = c.self.inside.times in
     let new : List ℕ = c.tell_first.new.next_times in
-    let whole : times.len ≡ length new = omega (arith, c.tell_first.auto.next_times, ap length c.deref_mut.ensures.value, times.ok.0) in
-    let written : take times.len (new ++ drop (length new) times.items) ≡ new = ap (λ n. take n (new ++ drop (length new) times.items)) whole ∙ take-append_seam new (drop (length new) times.items) in
+    let written : with_members times new ≡ new = with_members_is times new (c.tell_first.auto.next_times ∙ ap length c.as_mut_slice.ensures.value) in
     rw written (c.tell_first.ensures.cursor rows (record { future = future; past = past; count = count }))

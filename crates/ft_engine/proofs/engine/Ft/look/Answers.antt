@@ -11,36 +11,36 @@ use Rattle.ft_engine.proofs.engine.Ft.look.Goals as goal
 
 pub operand-queue-requires-clause-exists : goal.operand-queue-requires-clause-exists
 unfolding instruction_count
-operand-queue-requires-clause-exists g c = omega (arith, ap (λ (qs : List Queue). length qs) c.deref.ensures.value)
+operand-queue-requires-clause-exists g c = omega (arith, ap (λ (qs : List Queue). length qs) c.as_slice.ensures)
 
 pub operand-queue-requires-clause-within : goal.operand-queue-requires-clause-within
 unfolding instruction_count
 operand-queue-requires-clause-within g c =
     let P : List Queue → List Slot → Type 0 = λ qs xs. (queue_at qs c.args.i).seat.start + (queue_at qs c.args.i).seat.size ≤ length xs in
-    subst (λ (qs : List Queue). P qs c.deref-2.result.now) (sym c.deref.ensures.value) (subst (λ (xs : List Slot). P c.args.self.now.queues.items xs) (sym c.deref-2.ensures.value) (c.args.self.now.sound.within c.args.i c.requires.exists))
+    subst (λ (qs : List Queue). P qs c.as_slice-2.result.now) (sym c.as_slice.ensures) (subst (λ (xs : List Slot). P c.args.self.now.queues xs) (sym c.as_slice-2.ensures) (c.args.self.now.sound.within c.args.i c.requires.exists))
 
 pub read-requires-clause-belongs : goal.read-requires-clause-belongs
 unfolding instruction_count
 read-requires-clause-belongs g c =
-    let own : Queue = queue_at c.args.self.now.queues.items c.args.i in
-    let ring : c.operand-queue.result.ring.now ≡ own.ring = c.operand-queue.ensures.ring ∙ ap (λ (qs : List Queue). (queue_at qs c.args.i).ring) c.deref.ensures.value in
-    let slots : c.operand-queue.result.slots.now ≡ part c.args.self.now.slab.items own.seat =
-    c.operand-queue.ensures.slots ∙ ap (λ (qs : List Queue). part c.deref-2.result.now (queue_at qs c.args.i).seat) c.deref.ensures.value ∙ ap (λ (xs : List Slot). part xs own.seat) c.deref-2.ensures.value in
+    let own : Queue = queue_at c.args.self.now.queues c.args.i in
+    let ring : c.operand-queue.result.ring.now ≡ own.ring = c.operand-queue.ensures.ring ∙ ap (λ (qs : List Queue). (queue_at qs c.args.i).ring) c.as_slice.ensures in
+    let slots : c.operand-queue.result.slots.now ≡ part c.args.self.now.slab own.seat =
+    c.operand-queue.ensures.slots ∙ ap (λ (qs : List Queue). part c.as_slice-2.result.now (queue_at qs c.args.i).seat) c.as_slice.ensures ∙ ap (λ (xs : List Slot). part xs own.seat) c.as_slice-2.ensures in
     subst (λ (r : Ring). Belongs r c.operand-queue.result.slots.now) (sym ring) (subst (λ (xs : List Slot). Belongs own.ring xs) (sym slots) (c.args.self.now.sound.belongs c.args.i c.requires.exists))
 
 pub read-requires-clause-kept : goal.read-requires-clause-kept
 unfolding lowest_at
 read-requires-clause-kept g c =
-    let ring : c.operand-queue.result.ring.now ≡ (queue_at c.args.self.now.queues.items c.args.i).ring = c.operand-queue.ensures.ring ∙ ap (λ (qs : List Queue). (queue_at qs c.args.i).ring) c.deref.ensures.value in
+    let ring : c.operand-queue.result.ring.now ≡ (queue_at c.args.self.now.queues c.args.i).ring = c.operand-queue.ensures.ring ∙ ap (λ (qs : List Queue). (queue_at qs c.args.i).ring) c.as_slice.ensures in
     subst (λ (r : Ring). low_of r ≤ c.args.from) (sym ring) c.requires.kept
 
 pub returns : goal.returns
 returns g c =
-    let own : Queue = queue_at c.args.self.now.queues.items c.args.i in
-    let ring : c.operand-queue.result.ring.now ≡ own.ring = c.operand-queue.ensures.ring ∙ ap (λ (qs : List Queue). (queue_at qs c.args.i).ring) c.deref.ensures.value in
-    let slots : c.operand-queue.result.slots.now ≡ part c.args.self.now.slab.items own.seat =
-    c.operand-queue.ensures.slots ∙ ap (λ (qs : List Queue). part c.deref-2.result.now (queue_at qs c.args.i).seat) c.deref.ensures.value ∙ ap (λ (xs : List Slot). part xs own.seat) c.deref-2.ensures.value in
+    let own : Queue = queue_at c.args.self.now.queues c.args.i in
+    let ring : c.operand-queue.result.ring.now ≡ own.ring = c.operand-queue.ensures.ring ∙ ap (λ (qs : List Queue). (queue_at qs c.args.i).ring) c.as_slice.ensures in
+    let slots : c.operand-queue.result.slots.now ≡ part c.args.self.now.slab own.seat =
+    c.operand-queue.ensures.slots ∙ ap (λ (qs : List Queue). part c.as_slice-2.result.now (queue_at qs c.args.i).seat) c.as_slice.ensures ∙ ap (λ (xs : List Slot). part xs own.seat) c.as_slice-2.ensures in
     record {
       shows = shows_from c.args.self.now c.args.i c.args.from c.read.result
-          (subst (λ (r : Ring). Shows r (part c.args.self.now.slab.items own.seat) c.args.from c.read.result) ring (subst (λ (xs : List Slot). Shows c.operand-queue.result.ring.now xs c.args.from c.read.result) slots c.read.ensures.seen));
+          (subst (λ (r : Ring). Shows r (part c.args.self.now.slab own.seat) c.args.from c.read.result) ring (subst (λ (xs : List Slot). Shows c.operand-queue.result.ring.now xs c.args.from c.read.result) slots c.read.ensures.seen));
     }

@@ -1,7 +1,8 @@
 use Rattle.std.proofs.Common.{◌≡◌, ℕ, ◌+◌, ◌≤◌, ℤ, List, length, slice_index, arith, ap, subst, sym, ◌∙◌}
 use Rattle.std.specs.List.{slice_get}
-use Rattle.std.specs.Vec.{with_items}
-use Rattle.std.proofs.lemmas.List.{length-map, with_items_is}
+use Rattle.std.proofs.lemmas.List.{length-map}
+use Rattle.fixed_list.specs.Lending.{with_members}
+use Rattle.fixed_list.proofs.Members.{with_members_is}
 use Rattle.mltl_base.specs.declared.operators.FtOp.{FtOp}
 use Rattle.mltl_base.specs.declared.program.Program.{Program}
 use Rattle.mltl_base.specs.Atoms.{Row}
@@ -35,7 +36,7 @@ row_of-requires-clause-ready g c =
       plan_of program.ft program.outs,
       length c.requires.stands.0,
       c.requires.stands.2,
-      paced_as _ _ _ _ _ _ _ _ ops c.deref_mut.ensures.value c.deref_mut-2.ensures.value c.requires.stands.1.paced,
+      paced_as _ _ _ _ _ _ _ _ ops c.as_mut_slice.ensures.value c.as_mut_slice-2.ensures.value c.requires.stands.1.paced,
     )
 
 pub invariant_of-self : goal.invariant_of-self
@@ -45,10 +46,10 @@ invariant_of-self g c =
     let old = c.args.self.now in
     let n : ℕ = length c.requires.stands.0 in
     let ops : c.as_slice.result.now ≡ program.ft = c.as_slice.ensures ∙ ap (λ (p : Program). p.ft) c.program_of-program.ensures.program in
-    let queues : (with_items old.queues c.row_of.new.queues).items ≡ c.row_of.new.queues = with_items_is old.queues c.row_of.new.queues (c.row_of.auto.queues ∙ c.deref_mut.ensures.len) in
-    let slab : (with_items old.slab c.row_of.new.slab).items ≡ c.row_of.new.slab = with_items_is old.slab c.row_of.new.slab (c.row_of.auto.slab ∙ c.deref_mut-2.ensures.len) in
+    let queues : with_members old.queues c.row_of.new.queues ≡ c.row_of.new.queues = with_members_is old.queues c.row_of.new.queues (c.row_of.auto.queues ∙ ap length c.as_mut_slice.ensures.value) in
+    let slab : with_members old.slab c.row_of.new.slab ≡ c.row_of.new.slab = with_members_is old.slab c.row_of.new.slab (c.row_of.auto.slab ∙ ap length c.as_mut_slice-2.ensures.value) in
     let took =
-    took_as plan _ _ c.args.bz.now n _ _ _ _ _ _ _ _ (sym ops) (sym c.deref_mut.ensures.value) (sym c.deref_mut-2.ensures.value) queues slab
+    took_as plan _ _ c.args.bz.now n _ _ _ _ _ _ _ _ (sym ops) (sym c.as_mut_slice.ensures.value) (sym c.as_mut_slice-2.ensures.value) queues slab
     (record { paced = c.row_of.ensures.paced plan n c.requires.stands.2; verdicts = λ truth before after. c.row_of.ensures.verdicts plan truth n before after }) in
     record { sound = paced_sound plan program.ft _ _ (n + 1) (took.paced c.requires.stands.1.paced) }
 
@@ -58,22 +59,22 @@ returns-clause-stands g c = λ rows row few given stands.
     let plan = plan_of program.ft program.outs in
     let old = c.args.self.now in
     let ops : c.as_slice.result.now ≡ program.ft = c.as_slice.ensures ∙ ap (λ (p : Program). p.ft) c.program_of-program.ensures.program in
-    let queues : (with_items old.queues c.row_of.new.queues).items ≡ c.row_of.new.queues = with_items_is old.queues c.row_of.new.queues (c.row_of.auto.queues ∙ c.deref_mut.ensures.len) in
-    let slab : (with_items old.slab c.row_of.new.slab).items ≡ c.row_of.new.slab = with_items_is old.slab c.row_of.new.slab (c.row_of.auto.slab ∙ c.deref_mut-2.ensures.len) in
+    let queues : with_members old.queues c.row_of.new.queues ≡ c.row_of.new.queues = with_members_is old.queues c.row_of.new.queues (c.row_of.auto.queues ∙ ap length c.as_mut_slice.ensures.value) in
+    let slab : with_members old.slab c.row_of.new.slab ≡ c.row_of.new.slab = with_members_is old.slab c.row_of.new.slab (c.row_of.auto.slab ∙ ap length c.as_mut_slice-2.ensures.value) in
     row_stands program rows row old _ c.args.bz.now c.program_of-program.ensures.runs few given
-    (took_as plan _ _ c.args.bz.now _ _ _ _ _ _ _ _ _ (sym ops) (sym c.deref_mut.ensures.value) (sym c.deref_mut-2.ensures.value) queues slab
+    (took_as plan _ _ c.args.bz.now _ _ _ _ _ _ _ _ _ (sym ops) (sym c.as_mut_slice.ensures.value) (sym c.as_mut_slice-2.ensures.value) queues slab
     (record { paced = c.row_of.ensures.paced plan (length rows) few; verdicts = λ truth before after. c.row_of.ensures.verdicts plan truth (length rows) before after }))
-    (ap (λ (xs : List Slot). length xs) slab ∙ c.row_of.auto.slab ∙ ap (λ (xs : List Slot). length xs) c.deref_mut-2.ensures.value)
+    (ap (λ (xs : List Slot). length xs) slab ∙ c.row_of.auto.slab ∙ ap (λ (xs : List Slot). length xs) c.as_mut_slice-2.ensures.value)
     stands
 
 pub returns-clause-counted : goal.returns-clause-counted
 unfolding slots_at
 returns-clause-counted g c =
     let program : Program = c.args.checked.now in
-    let queues : List Queue = c.args.self.now.queues.items in
+    let queues : List Queue = c.args.self.now.queues in
     let ops : c.as_slice.result.now ≡ program.ft = c.as_slice.ensures ∙ ap (λ (p : Program). p.ft) c.program_of-program.ensures.program in
     let same : work_before program.ft (size_in queues) (length program.ft) ≡ row_work program =
     work_by_sizes program.ft (size_in queues) (λ i. slice_index program.sizes.ft i) (length program.ft) c.program_of-program.ensures.runs.order (omega arith) c.requires.stands.1.sizes in
     let P : List FtOp → List Queue → Type 0 = λ xs qs. c.row_of.new.steps ≤ c.args.steps.now + work_before xs (size_in qs) (length xs) in
-    let counted : P program.ft queues = subst (λ (xs : List FtOp). P xs queues) ops (subst (λ (qs : List Queue). P c.as_slice.result.now qs) c.deref_mut.ensures.value c.row_of.ensures.counted) in
+    let counted : P program.ft queues = subst (λ (xs : List FtOp). P xs queues) ops (subst (λ (qs : List Queue). P c.as_slice.result.now qs) c.as_mut_slice.ensures.value c.row_of.ensures.counted) in
     omega (arith, same, counted)

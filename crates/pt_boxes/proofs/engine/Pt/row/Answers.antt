@@ -1,7 +1,8 @@
 use Rattle.std.proofs.Common.{◌≡◌, ℕ, ◌+◌, ◌<◌, ◌≤◌, ◌^◌, ℤ, List, length, sum_by, arith, ap, sym, subst, ◌∙◌}
 use Rattle.std.specs.List.{slice_get}
-use Rattle.std.specs.Vec.{with_items}
-use Rattle.std.proofs.lemmas.List.{length-map, with_items_is}
+use Rattle.std.proofs.lemmas.List.{length-map}
+use Rattle.fixed_list.specs.Lending.{with_members}
+use Rattle.fixed_list.proofs.Members.{with_members_is}
 use Rattle.mltl_base.specs.declared.operators.PtOp.{PtOp}
 use Rattle.mltl_base.specs.declared.program.Program.{Program}
 use Rattle.mltl_base.specs.Atoms.{Row}
@@ -34,7 +35,7 @@ row_of-requires-clause-early g c =
 pub row_of-requires-clause-kept : goal.row_of-requires-clause-kept
 row_of-requires-clause-kept g c =
     let ops = c.as_slice.ensures ∙ ap (λ (p : Program). p.pt) c.program_of-program.ensures.program in
-    kept_as _ _ _ _ _ _ _ _ ops (rows_of c.args.checked.now c.requires.stands.0 c.args.self.now c.requires.stands.1) c.deref_mut.ensures.value c.deref_mut-2.ensures.value c.requires.stands.1.seated
+    kept_as _ _ _ _ _ _ _ _ ops (rows_of c.args.checked.now c.requires.stands.0 c.args.self.now c.requires.stands.1) c.as_mut_slice.ensures.value c.as_mut_slice-2.ensures.value c.requires.stands.1.seated
 
 pub overflow_add-self : goal.overflow_add-self
 overflow_add-self g c =
@@ -47,12 +48,12 @@ returns-clause-stands g c = λ rows row few given stands.
     let old = c.args.self.now in
     let ops : c.as_slice.result.now ≡ program.pt = c.as_slice.ensures ∙ ap (λ (p : Program). p.pt) c.program_of-program.ensures.program in
     let taken : old.rows ≡ length rows = rows_of program rows old stands in
-    let nodes : (with_items old.nodes c.row_of.new.nodes).items ≡ c.row_of.new.nodes = with_items_is old.nodes c.row_of.new.nodes (c.row_of.auto.nodes ∙ c.deref_mut.ensures.len) in
-    let slab : (with_items old.slab c.row_of.new.slab).items ≡ c.row_of.new.slab = with_items_is old.slab c.row_of.new.slab (c.row_of.auto.slab ∙ c.deref_mut-2.ensures.len) in
+    let nodes : with_members old.nodes c.row_of.new.nodes ≡ c.row_of.new.nodes = with_members_is old.nodes c.row_of.new.nodes (c.row_of.auto.nodes ∙ ap length c.as_mut_slice.ensures.value) in
+    let slab : with_members old.slab c.row_of.new.slab ≡ c.row_of.new.slab = with_members_is old.slab c.row_of.new.slab (c.row_of.auto.slab ∙ ap length c.as_mut_slice-2.ensures.value) in
     row_stands program rows row old _ c.args.bz.now c.program_of-program.ensures.runs given (ap (λ (k : ℕ). k + 1) taken)
-    (takes_as _ _ c.args.bz.now _ _ _ _ _ _ _ _ _ _ (sym ops) (sym taken) (sym c.deref_mut.ensures.value) (sym c.deref_mut-2.ensures.value) nodes slab
+    (takes_as _ _ c.args.bz.now _ _ _ _ _ _ _ _ _ _ (sym ops) (sym taken) (sym c.as_mut_slice.ensures.value) (sym c.as_mut_slice-2.ensures.value) nodes slab
     (record { kept = c.row_of.ensures.kept; table = c.row_of.ensures.table }))
-    (ap (λ (xs : List Span). length xs) slab ∙ c.row_of.auto.slab ∙ ap (λ (xs : List Span). length xs) c.deref_mut-2.ensures.value)
+    (ap (λ (xs : List Span). length xs) slab ∙ c.row_of.auto.slab ∙ ap (λ (xs : List Span). length xs) c.as_mut_slice-2.ensures.value)
     stands
 
 pub returns-clause-counted : goal.returns-clause-counted

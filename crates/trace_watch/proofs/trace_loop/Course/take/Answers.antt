@@ -2,6 +2,7 @@ use Rattle.std.proofs.Common.{◌∙◌, ap, subst, sym}
 use Rattle.tool_io.proofs.LogLaws.{OnLog-none, OnLog-map}
 use Rattle.mltl_monitor.specs.Monitoring.{program_of}
 use Rattle.mltl_monitor.proofs.Keeping.{same_stands}
+use Rattle.trace_watch.specs.Endings.{why_of}
 use Rattle.trace_watch.specs.Feed.{text_meaning}
 use Rattle.trace_watch.specs.Turns.{FindsRow, line_of}
 use Rattle.trace_watch.proofs.FoundLaws.{takes_row, takes_front, takes_blank, takes_bad, takes_past, writes_none}
@@ -41,7 +42,7 @@ returns-in-Bad-clause-log g c rows feed stands at =
     let course = c.args.self.now in
     let before = c.args.monitor.now in
     let program = program_of before in
-    OnLog-none _ _ (takes_bad (line_of program course feed c.args.cut.now) c.args.cut.now.number c.number.result c.in-Bad.why program course course rows c.read.new.monitor
+    OnLog-none _ _ (takes_bad (line_of program course feed c.args.cut.now) c.args.cut.now.number c.number.result (why_of c.in-Bad.fault) program course course rows c.read.new.monitor
     (ap (text_meaning program course.mission feed) (sym c.line.ensures) ∙ c.in-Bad.ensures.told rows feed stands at) c.number.ensures
     (writes_none rows before c.read.new.monitor c.read.ensures.same stands c.requires.drained))
 

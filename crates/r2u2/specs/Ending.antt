@@ -1,0 +1,21 @@
+-- How the program ends.
+
+use Rattle.std.specs.Prelude.{◌≡◌, ◌≢◌, ℕ, Option, List}
+use Rattle.tool_io.specs.declared.host.Place.{Place}
+use Rattle.tool_io.specs.declared.host.Place.TheVariants.{Err}
+use Rattle.tool_io.specs.Log.{Event, OnLog}
+use Rattle.tool_words.specs.R2u2Words.{ask}
+use Rattle.mltl_monitor.specs.declared.state.State.{State}
+use Rattle.tool_runs.specs.declared.status.Status.{Status}
+use Rattle.tool_runs.specs.Causes.{CauseAt}
+use Rattle.tool_runs.specs.Codes.{code_of}
+use Rattle.r2u2_runs.specs.Run.{IsRun}
+
+-- It ends with the code of the status of a run over these words, which the log tells, where the host has one.
+pub record EndsByRun (words : List (List ℕ)) (code : ℕ) (faults now : Place → ℕ) (before after : Option (List Event))
+    : Type 0 where
+  pub status : Status
+  pub kept : Option State
+  pub code_is : code ≡ code_of status
+  pub cause : (p : Place) → p ≢ Err → CauseAt status p (faults p) (now p)
+  pub run : OnLog before after (IsRun (ask words) status kept faults now)

@@ -1,0 +1,60 @@
+-- What C may ask, over what it keeps: the state of a monitor, if one is open.
+
+use Rattle.std.specs.Prelude.{ℕ, ◌≡◌, Bool, true, false, Option, Some, None, List, [], ◌∷◌, ◌++◌, drop, length, map}
+use Rattle.mltl_base.specs.declared.program.StoredSignal.{StoredSignal}
+use Rattle.mltl_base.specs.Programs.{output_names, outputs}
+use Rattle.mltl_base.specs.Reports.{delay}
+use Rattle.mltl_monitor.specs.declared.state.State.{State}
+use Rattle.mltl_monitor.specs.Monitoring.{program_of, taken_by}
+use Rattle.mltl_monitor.specs.Running.{row_work}
+
+-- the number of columns of a row
+abbrev pub width_of : Option State → ℕ
+width_of (Some monitor) = (program_of monitor).width
+width_of None = 0
+
+-- the number of rows that were taken
+abbrev pub rows_of : Option State → ℕ
+rows_of (Some monitor) = taken_by monitor
+rows_of None = 0
+
+-- the most steps of one row
+abbrev pub steps_of : Option State → ℕ
+steps_of (Some monitor) = row_work (program_of monitor)
+steps_of None = 0
+
+-- the names of the outputs
+abbrev pub names_of : Option State → List (List ℕ)
+names_of (Some monitor) = output_names (program_of monitor)
+names_of None = []
+
+-- the worst-case delays of the outputs
+abbrev pub delays_of : Option State → List ℕ
+delays_of (Some monitor) = map delay (outputs (program_of monitor))
+delays_of None = []
+
+-- the signals that the program stores
+abbrev pub signals_of : Option State → List StoredSignal
+signals_of (Some monitor) = (program_of monitor).signals
+signals_of None = []
+
+-- each kind of signal has a number of its own
+abbrev pub kind_number : Bool → ℕ
+kind_number false = 0
+kind_number true = 1
+
+-- a signal's column and kind were told
+pub record TellsSignal (signal : StoredSignal) (column kind : ℕ) : Type 0 where
+  pub stands_in : column ≡ signal.column
+  pub is_kind : kind ≡ kind_number signal.truth
+
+-- the first byte, if there is one, is zero now
+abbrev pub ended : List ℕ → List ℕ
+ended [] = []
+ended (byte ∷ more) = 0 ∷ more
+
+-- the answer is the name's length, and the name stands at the front of the buffer, before a zero byte where there is
+-- room for one; what follows stays
+pub record WritesName (name : List ℕ) (answer : ℕ) (before after : List ℕ) : Type 0 where
+  pub long : answer ≡ length name
+  pub written : after ≡ name ++ ended (drop (length name) before)

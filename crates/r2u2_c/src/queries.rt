@@ -1,0 +1,229 @@
+//! What C may ask of a monitor. None of these calls changes it.
+
+ghost use Rattle.std.specs.Prelude.{◌≡◌, ◌<◌, ◌≤◌, IsSomeAnd, Some, length, slice_get, slice_index};
+ghost use Rattle.r2u2_c.specs.Queries.{TellsSignal, WritesName, delays_of, names_of, rows_of, signals_of, steps_of, width_of};
+
+use crate::handle::R2u2;
+use crate::names::write_name;
+use crate::version::VERSION;
+use mltl_base::StoredSignal;
+use mltl_monitor::{Monitor, delay_of, row_steps};
+use std::alloc::Global;
+
+/// The version of the library.
+#[unsafe(no_mangle)]
+pub extern "C" fn r2u2_version() -> u32
+    ensures { result ≡ VERSION }
+{
+    VERSION
+}
+
+/// The number of columns of a row; 0 where none is open.
+#[unsafe(no_mangle)]
+pub extern "C" fn r2u2_width(it: &mut R2u2, alloc: Global) -> u32
+    ensures width { result ≡ width_of it.old.value }
+    ensures kept { it.new.value ≡ it.old.value }
+{
+    match it.take(alloc) {
+        None => 0,
+        Some(monitor) => {
+            let width = monitor.checked().program().width;
+            it.put(monitor);
+            width
+        }
+    }
+}
+
+/// The number of outputs; 0 where none is open.
+#[unsafe(no_mangle)]
+pub extern "C" fn r2u2_outputs(it: &mut R2u2, alloc: Global) -> u32
+    ensures outputs { result ≡ length (names_of it.old.value) }
+    ensures kept { it.new.value ≡ it.old.value }
+{
+    match it.take(alloc) {
+        None => 0,
+        Some(monitor) => {
+            let count = count_of(&monitor);
+            it.put(monitor);
+            count
+        }
+    }
+}
+
+/// Writes the name of output `k`, counted from 0, to the front of a buffer, and answers its length.
+#[unsafe(no_mangle)]
+pub extern "C" fn r2u2_name(it: &mut R2u2, alloc: Global, k: u32, buffer: &mut [u8]) -> u32
+    ensures named { 0 < result → IsSomeAnd (slice_get (names_of it.old.value) k)
+        (λ name. WritesName name result buffer.old buffer.new) }
+    ensures untold { result ≡ 0 → buffer.new ≡ buffer.old }
+    ensures enough { k < length (names_of it.old.value) → 64 ≤ length buffer.old
+        → 0 < result }
+    ensures kept { it.new.value ≡ it.old.value }
+{
+    match it.take(alloc) {
+        None => 0,
+        Some(monitor) => {
+            let length = name_in(&monitor, k, buffer);
+            it.put(monitor);
+            length
+        }
+    }
+}
+
+/// The number of rows that were taken; 0 where none is open.
+#[unsafe(no_mangle)]
+pub extern "C" fn r2u2_rows(it: &mut R2u2, alloc: Global) -> u64
+    ensures rows { result ≡ rows_of it.old.value }
+    ensures kept { it.new.value ≡ it.old.value }
+{
+    match it.take(alloc) {
+        None => 0,
+        Some(monitor) => {
+            let rows = monitor.rows_taken();
+            it.put(monitor);
+            rows
+        }
+    }
+}
+
+/// The worst-case delay of output `k`, in rows; 0 where none is open or there is no such output.
+#[unsafe(no_mangle)]
+pub extern "C" fn r2u2_delay(it: &mut R2u2, alloc: Global, k: u32) -> u32
+    ensures delay { result ≡ slice_index (delays_of it.old.value) k }
+    ensures kept { it.new.value ≡ it.old.value }
+{
+    match it.take(alloc) {
+        None => 0,
+        Some(monitor) => {
+            let delay = delay_of(monitor.checked(), k).unwrap_or(0);
+            it.put(monitor);
+            delay
+        }
+    }
+}
+
+/// The most steps of one row, which are reads and writes of queues and boxes; 0 where none is open.
+#[unsafe(no_mangle)]
+pub extern "C" fn r2u2_steps(it: &mut R2u2, alloc: Global) -> u64
+    ensures steps { result ≡ steps_of it.old.value }
+    ensures kept { it.new.value ≡ it.old.value }
+{
+    match it.take(alloc) {
+        None => 0,
+        Some(monitor) => {
+            let steps = row_steps(monitor.checked());
+            it.put(monitor);
+            steps
+        }
+    }
+}
+
+/// The number of signals that the program stores; 0 where none is open.
+#[unsafe(no_mangle)]
+pub extern "C" fn r2u2_signals(it: &mut R2u2, alloc: Global) -> u32
+    ensures signals { result ≡ length (signals_of it.old.value) }
+    ensures kept { it.new.value ≡ it.old.value }
+{
+    match it.take(alloc) {
+        None => 0,
+        Some(monitor) => {
+            let count = signal_count_of(&monitor);
+            it.put(monitor);
+            count
+        }
+    }
+}
+
+/// Tells the column and the kind of signal `k`, counted from 0, writes its name to the front of a buffer, and answers the
+/// name's length.
+#[unsafe(no_mangle)]
+pub extern "C" fn r2u2_signal(
+    it: &mut R2u2,
+    alloc: Global,
+    k: u32,
+    column: &mut u32,
+    kind: &mut u32,
+    buffer: &mut [u8],
+) -> u32
+    ensures tells { 0 < result → IsSomeAnd (slice_get (signals_of it.old.value) k)
+        (λ signal. TellsSignal signal column.new kind.new) }
+    ensures named { 0 < result → IsSomeAnd (slice_get (signals_of it.old.value) k)
+        (λ signal. WritesName signal.name result buffer.old buffer.new) }
+    ensures untold { result ≡ 0 → (column.new ≡ column.old)
+        × (kind.new ≡ kind.old) × (buffer.new ≡ buffer.old) }
+    ensures enough { k < length (signals_of it.old.value) → 64 ≤ length buffer.old
+        → 0 < result }
+    ensures kept { it.new.value ≡ it.old.value }
+{
+    match it.take(alloc) {
+        None => 0,
+        Some(monitor) => {
+            let length = signal_in(&monitor, k, column, kind, buffer);
+            it.put(monitor);
+            length
+        }
+    }
+}
+
+fn count_of(monitor: &Monitor) -> u32
+    ensures { result ≡ length (names_of (Some monitor.now)) }
+{
+    monitor.checked().program().outs.len() as u32
+}
+
+/// Writes the name of an output to the front of a buffer that has room for it, and answers its length.
+fn name_in(monitor: &Monitor, k: u32, buffer: &mut [u8]) -> u32
+    ensures named { 0 < result → IsSomeAnd (slice_get (names_of (Some monitor.now)) k)
+        (λ name. WritesName name result buffer.old buffer.new) }
+    ensures untold { result ≡ 0 → buffer.new ≡ buffer.old }
+    ensures enough { k < length (names_of (Some monitor.now)) → 64 ≤ length buffer.old
+        → 0 < result }
+{
+    match monitor.checked().program().outs.as_slice().get(k as usize) {
+        None => 0,
+        Some(out) => write_name(out.name(), buffer),
+    }
+}
+
+fn signal_count_of(monitor: &Monitor) -> u32
+    ensures { result ≡ length (signals_of (Some monitor.now)) }
+{
+    monitor.checked().program().signals.len() as u32
+}
+
+fn signal_in(monitor: &Monitor, k: u32, column: &mut u32, kind: &mut u32, buffer: &mut [u8]) -> u32
+    ensures tells { 0 < result → IsSomeAnd (slice_get (signals_of (Some monitor.now)) k)
+        (λ signal. TellsSignal signal column.new kind.new) }
+    ensures named { 0 < result → IsSomeAnd (slice_get (signals_of (Some monitor.now)) k)
+        (λ signal. WritesName signal.name result buffer.old buffer.new) }
+    ensures untold { result ≡ 0 → (column.new ≡ column.old)
+        × (kind.new ≡ kind.old) × (buffer.new ≡ buffer.old) }
+    ensures enough { k < length (signals_of (Some monitor.now)) → 64 ≤ length buffer.old
+        → 0 < result }
+{
+    match monitor
+        .checked()
+        .program()
+        .signals
+        .as_slice()
+        .get(k as usize)
+    {
+        None => 0,
+        Some(signal) => tell_signal(signal, column, kind, buffer),
+    }
+}
+
+fn tell_signal(signal: &StoredSignal, column: &mut u32, kind: &mut u32, buffer: &mut [u8]) -> u32
+    ensures tells { 0 < result → TellsSignal signal.now column.new kind.new }
+    ensures named { 0 < result → WritesName signal.now.name result buffer.old buffer.new }
+    ensures untold { result ≡ 0 → (column.new ≡ column.old)
+        × (kind.new ≡ kind.old) × (buffer.new ≡ buffer.old) }
+    ensures enough { 64 ≤ length buffer.old → 0 < result }
+{
+    let length = write_name(&signal.name, buffer);
+    if length > 0 {
+        *column = signal.column;
+        *kind = u32::from(signal.truth);
+    }
+    length
+}
