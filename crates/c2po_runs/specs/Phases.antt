@@ -1,9 +1,11 @@
 -- What each phase of a run tells.
 
-use Rattle.std.specs.Prelude.{◌≡◌, ℕ, ◌⊎◌, Bool, true, false, Option, Some, None, is_some, Result, Ok, Err, IfOk, List, [], ◌∷◌, Vec, ⊤}
+use Rattle.std.specs.Prelude.{◌≡◌, ℕ, ◌⊎◌, Bool, true, false, Option, Some, None, is_some, Result, Ok, Err, IfOk, List}
+use Rattle.std.specs.Prelude.{[], ◌∷◌, Vec, ⊤}
 use Rattle.std.specs.declared.alloc.Global.{Global}
 use Rattle.tool_io.specs.declared.host.Place as place
-use Rattle.tool_io.specs.Log.{Event, Attached, Missed, Took, Gave, given, names_of, IsFront, IsProperFront, Writes, WritesFront}
+use Rattle.tool_io.specs.Log.{Event, Attached, Missed, Took, Gave, given, names_of, IsFront, IsProperFront, Writes}
+use Rattle.tool_io.specs.Log.{WritesFront}
 use Rattle.tool_io.specs.Host.{IsSource}
 use Rattle.tool_io.specs.Whole.{Takes}
 use Rattle.tool_io.specs.Cutting.{lines_of}
@@ -35,7 +37,8 @@ RefusesAlone (status.TheVariants.BadHeader why) = ⊥
 RefusesAlone answer = Refuses answer
 
 -- reads of an attached header file gave its first line, or met its end before one, or there is no end of that line
-pub record ReadsLine (form : Form) (text : List ℕ) (found : Result (List ℕ) status.Status) (log : List Event) : Type 0 where
+pub record ReadsLine (form : Form) (text : List ℕ) (found : Result (List ℕ) status.Status)
+    (log : List Event) : Type 0 where
   pub bytes : List ℕ
   pub ended : Bool
   pub takes : Takes place.TheVariants.Header bytes ended log
@@ -79,7 +82,8 @@ MadeLog result found events = RefusedLog result found events
 -- after a specification without a fault
 abbrev pub SpecLog : Result (Vec ℕ Global) status.Status → Form → Option (List ℕ) → List ℕ → List Event → Type 0
 SpecLog result form None text events =
-    MadeLog result (made_of_text form None text []) events × IfOk result (λ bytes. WritesImage form text None bytes.items)
+    MadeLog result (made_of_text form None text []) events
+    × IfOk result (λ bytes. WritesImage form text None bytes.items)
 SpecLog result form (Some name) text events = HeaderLog result form name text events
 
 -- after the text of a specification: it is refused, or it has no fault
@@ -131,7 +135,8 @@ GatherLog (Err answer) asked events = NotGathered asked answer events
 -- the bytes went out, or a front of them
 abbrev pub GivenLog : status.Status → List ℕ → List Event → Type 0
 GivenLog status.TheVariants.Done bytes events = Writes place.TheVariants.Out bytes events
-GivenLog (status.TheVariants.WriteFault place.TheVariants.Out) bytes events = WritesFront place.TheVariants.Out bytes events
+GivenLog (status.TheVariants.WriteFault place.TheVariants.Out) bytes events =
+    WritesFront place.TheVariants.Out bytes events
 GivenLog answer bytes events = ⊥
 
 -- the events are calls at Out
@@ -145,8 +150,10 @@ OnlyOut (event ∷ events) = ⊥
 -- how bytes are written, into a file where one is named
 abbrev pub PutOutcome : status.Status → Option (List ℕ) → List ℕ → List ℕ → Bool → Type 0
 PutOutcome status.TheVariants.Done out bytes sent attached = (sent ≡ bytes) × (attached ≡ is_some out)
-PutOutcome (status.TheVariants.WriteFault place.TheVariants.Out) out bytes sent attached = IsProperFront sent bytes × (attached ≡ is_some out)
-PutOutcome (status.TheVariants.OpenFault place.TheVariants.Out) out bytes sent attached = (is_some out ≡ true) × (sent ≡ []) × (attached ≡ false)
+PutOutcome (status.TheVariants.WriteFault place.TheVariants.Out) out bytes sent attached =
+    IsProperFront sent bytes × (attached ≡ is_some out)
+PutOutcome (status.TheVariants.OpenFault place.TheVariants.Out) out bytes sent attached =
+    (is_some out ≡ true) × (sent ≡ []) × (attached ≡ false)
 PutOutcome answer out bytes sent attached = ⊥
 
 -- the log of writing bytes, into a file where one is named
@@ -154,4 +161,5 @@ pub record PutLog (answer : status.Status) (out : Option (List ℕ)) (bytes : Li
   pub names : IsFront (names_of events) (place_named place.TheVariants.Out out)
   pub only : OnlyOut events
   pub writes : WritesAttached (is_some out) events
-  pub outcome : PutOutcome answer out bytes (given place.TheVariants.Out events) (is_attached place.TheVariants.Out events)
+  pub outcome : PutOutcome answer out bytes (given place.TheVariants.Out events)
+      (is_attached place.TheVariants.Out events)

@@ -1,6 +1,7 @@
 -- What a whole run of c2po tells: from its words to its message.
 
-use Rattle.std.specs.Prelude.{◌≡◌, ℕ, ◌<◌, ◌≤◌, ◌⊎◌, Bool, true, false, None, is_some, Result, Ok, Err, IfOk, List, [], ◌∷◌, ◌++◌, length, ⊤}
+use Rattle.std.specs.Prelude.{◌≡◌, ℕ, ◌<◌, ◌≤◌, ◌⊎◌, Bool, true, false, None, is_some, Result, Ok, Err, IfOk, List, []}
+use Rattle.std.specs.Prelude.{◌∷◌, ◌++◌, length, ⊤}
 use Rattle.std.specs.List.{list_any}
 use Rattle.tool_io.specs.declared.host.Place as place
 use Rattle.tool_io.specs.Log.{Event, Gave, same_place, taken, given, ended_from, names_of, IsFront, IsProperFront}
@@ -129,8 +130,10 @@ MakeOutcome (status.TheVariants.WriteFault place.TheVariants.Out) asked run = Is
 MakeOutcome (status.TheVariants.OpenFault place.TheVariants.Out) asked run = IsUnwritten asked run
 MakeOutcome (status.TheVariants.OpenFault place.TheVariants.Header) asked run = IsUnheaded asked run
 MakeOutcome (status.TheVariants.ReadFault place.TheVariants.Header) asked run = IsUnheaded asked run
-MakeOutcome (status.TheVariants.TextTooLong place.TheVariants.Header) asked run = IsRefused (status.TheVariants.TextTooLong place.TheVariants.Header) asked run
-MakeOutcome (status.TheVariants.TextTooLong place.TheVariants.Out) asked run = IsRefused (status.TheVariants.TextTooLong place.TheVariants.Out) asked run
+MakeOutcome (status.TheVariants.TextTooLong place.TheVariants.Header) asked run =
+    IsRefused (status.TheVariants.TextTooLong place.TheVariants.Header) asked run
+MakeOutcome (status.TheVariants.TextTooLong place.TheVariants.Out) asked run =
+    IsRefused (status.TheVariants.TextTooLong place.TheVariants.Out) asked run
 MakeOutcome (status.TheVariants.OpenFault p) asked run = (p ≡ place_of asked) × (run.file ≡ []) × (run.out ≡ [])
 MakeOutcome (status.TheVariants.ReadFault p) asked run =
     (p ≡ place_of asked) × (length run.file ≤ file_limit (file_kind asked.product)) × (run.out ≡ [])
@@ -183,7 +186,8 @@ names_out other = false
 -- each write of an output that is to be attached comes after its attach
 abbrev pub WritesAttached : Bool → List Event → Type 0
 WritesAttached named events =
-    named ≡ true → (before after : List Event) (piece : List ℕ) → events ≡ before ++ Gave place.TheVariants.Out piece ∷ after
+    named ≡ true → (before after : List Event) (piece : List ℕ)
+    → events ≡ before ++ Gave place.TheVariants.Out piece ∷ after
     → is_attached place.TheVariants.Out before ≡ true
 
 -- the log of a run before its message
@@ -200,14 +204,16 @@ pub record Ran (asked : Ask) (answer : status.Status) (events : List Event) : Ty
 -- and help is given where it is asked for.
 abbrev pub CompletesBy : Ask → status.Status → List Event → Type 0
 CompletesBy (make asked) answer events =
-    (bytes : List ℕ) → length (file_in asked events) ≤ file_limit (file_kind asked.product) → made_in asked events ≡ Ok bytes
+    (bytes : List ℕ) → length (file_in asked events) ≤ file_limit (file_kind asked.product)
+    → made_in asked events ≡ Ok bytes
     → (answer ≡ status.TheVariants.Done) ⊎ (answer ≡ status.TheVariants.Memory)
 CompletesBy help answer events = (answer ≡ status.TheVariants.Helped) ⊎ (answer ≡ status.TheVariants.Memory)
 CompletesBy nothing answer events = ⊤
 
 -- The log of a whole run: the message is out, or a front of it, and the run completes where no call failed but those at
 -- Err.
-pub record IsMade (asked : Ask) (answer : status.Status) (before now : place.Place → ℕ) (events : List Event) : Type 0 where
+pub record IsMade (asked : Ask) (answer : status.Status) (before now : place.Place → ℕ)
+    (events : List Event) : Type 0 where
   pub names : IsFront (names_of events) (asked_names asked)
   pub tries : TriesOf asked answer events
   pub reads : ReadsAttached [] events

@@ -62,7 +62,8 @@ pub record HasWatched (words : List (List ℕ)) (asked : RunAsked) (bytes : List
 
 -- What is out tells the formulas of a text over columns of its signals, after these rows. It is the lines of reports,
 -- under the names of the text's outputs and of no others. Of each output they tell each time once and in order, with a
--- word that is the meaning of its time whatever rows follow; and no time comes later than the output's worst-case delay.
+-- word that is the meaning of its time whatever rows follow; and no time comes later than the output's worst-case
+-- delay.
 pub record TellsFormulas (text : List ℕ) (columns : Columns) (rows : List Row) (out : List ℕ) : Type 0 where
   pub told_so : List Report
   pub lines_are : out ≡ lines_of_reports (map (λ o. o.name) (outputs_in text)) told_so
@@ -71,8 +72,8 @@ pub record TellsFormulas (text : List ℕ) (columns : Columns) (rows : List Row)
       → TellWords told_so k o rows
 
 -- A run over a program file tells a text: its rows are clean, its lines tell the text's formulas over all rows, and
--- before each read of the trace they told them over the rows of what was read. The signals stand in the columns that the
--- trace's header names; without one in those of the compilation: of its header, or of the order of declaration.
+-- before each read of the trace they told them over the rows of what was read. The signals stand in the columns that
+-- the trace's header names; without one in those of the compilation: of its header, or of the order of declaration.
 pub record TellsText (text : List ℕ) (header : Option (List ℕ)) (asked : RunAsked) (bytes : List ℕ)
     (events : List Event) : Type 0 where
   pub program : Program
