@@ -1,4 +1,4 @@
-use Rattle.std.proofs.Common.{◌+◌, arith, [], length, ap, sym, ◌∙◌}
+use Rattle.std.proofs.Common.{arith, [], length, ap, sym, ◌∙◌}
 use Rattle.mltl_base.specs.declared.program.Program.{Program}
 use Rattle.trace_feed.specs.Readings.{readings_of}
 use Rattle.mltl_monitor.proofs.LastRows.{none_before}
