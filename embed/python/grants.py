@@ -25,6 +25,9 @@ def main():
         assert monitor.signals == [Signal("request", 0, True), Signal("grant", 1, True)]
         assert monitor.rows == 0 and monitor.delays[0] > 0 and monitor.steps > 0 and version() > 0
         assert refused(lambda: monitor.row([0, 2]), NOT_A_ROW).column == 1
+        monitor.row(ROWS[1])
+        monitor.reset()
+        assert monitor.rows == 0 and not list(monitor.reports())
         for report in monitor.watch(ROWS):
             print(report)
     with Monitor(program) as monitor:
