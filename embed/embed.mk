@@ -29,7 +29,7 @@ RUN = qemu-$(TARGET)
 endif
 
 .PHONY: embed check-embed python install-embed uninstall-embed deb
-.PHONY: $(addprefix check-,installed misuse arena flight grants stack cpp rust python)
+.PHONY: $(addprefix check-,installed misuse arena bytes flight grants stack cpp rust python)
 
 embed:
 	@mkdir -p $(EMBED)
@@ -52,7 +52,7 @@ endif
 $(EMBED)/libr2u2.a:
 	$(MAKE) embed
 
-TRIED = check-misuse check-arena check-flight check-stack check-grants
+TRIED = check-misuse check-arena check-bytes check-flight check-stack check-grants
 
 ifeq ($(TARGET),x86_64)
 check-embed: embed $(TRIED) check-cpp check-rust check-python check-installed
@@ -74,6 +74,11 @@ check-misuse: | $(TRIES)
 check-arena: | $(TRIES)
 	$(TARGET_CC) $(WARNED) -O1 $(STRICT) -o $(TRIES)/arena embed/arena_test.c embed/arena.c $(EMBED)/libr2u2.a
 	$(RUN) $(TRIES)/arena $(GRANT)
+
+check-bytes: | $(TRIES)
+	$(TARGET_CC) $(WARNED) -O1 -o $(TRIES)/bytes embed/bytes.c $(EMBED)/libr2u2.a
+	$(RUN) $(TRIES)/bytes $(GRANT)
+	@if command -v python3 > /dev/null; then programs=$$(embed/programs $(TRIES)/programs) && $(RUN) $(TRIES)/bytes $$programs; fi
 
 # The part that flies, linked as one object with all that it needs, asks for these names and no others; and the map of the
 # whole program has no malloc.

@@ -2,6 +2,7 @@
  * compiler's sanitizers; the last line says how many checks held. Not every code: 2^40 rows take too long. */
 #include <pthread.h>
 #include <stdatomic.h>
+#include <stddef.h>
 #include <stdio.h>
 #include <stdlib.h>
 
@@ -14,7 +15,13 @@ struct found {
     void *at;
 };
 
-static atomic_long asked, held, refused = -1;
+static atomic_long asked, held, held_bytes, refused = -1;
+
+/* What stands before each block. */
+union size {
+    size_t bytes;
+    max_align_t aligned;
+};
 
 struct found rattle_alloc(size_t size, size_t align);
 struct found rattle_realloc(void *old, size_t kept, size_t size, size_t align);
@@ -25,22 +32,37 @@ static struct found found(void *at) {
     return at ? (struct found){true, at} : (struct found){false, &nothing};
 }
 
+/* Counts a block of so many bytes, if there is one. */
+static struct found counted(union size *block, size_t size) {
+    if (!block) return found(NULL);
+    block->bytes = size;
+    held_bytes += (long)size;
+    return found(block + 1);
+}
+
 struct found rattle_alloc(size_t size, size_t align) {
+    (void)align;
     if (asked++ == refused) return found(NULL);
-    void *at = malloc(size ? size : align);
-    if (at) held++;
-    return found(at);
+    union size *block = malloc(sizeof *block + size);
+    if (block) held++;
+    return counted(block, size);
 }
 
 struct found rattle_realloc(void *old, size_t kept, size_t size, size_t align) {
-    (void)kept;
+    (void)kept, (void)align;
+    union size *block = (union size *)old - 1;
+    long before = (long)block->bytes;
     if (asked++ == refused) return found(NULL);
-    return found(realloc(old, size ? size : align));
+    block = realloc(block, sizeof *block + size);
+    if (block) held_bytes -= before;
+    return counted(block, size);
 }
 
 void rattle_dealloc(void *old) {
+    union size *block = (union size *)old - 1;
     held--;
-    free(old);
+    held_bytes -= (long)block->bytes;
+    free(block);
 }
 
 static atomic_int checks, failed;
@@ -309,6 +331,26 @@ static void two_threads(void) {
     CHECK(held == 0);
 }
 
+/* An open monitor holds the bytes that were told, in at most so many blocks, from its opening on. */
+static void bytes_that_are_told(void) {
+    struct r2u2 it = {0};
+    struct r2u2_fault fault = {0};
+    uint64_t bytes = 7;
+    CHECK(r2u2_bytes(grant.bytes, grant.count - 1, &bytes, &fault) == R2U2_REFUSED);
+    CHECK(bytes == 7 && fault.kind == R2U2_FAULT_SHORT && held == 0);
+    CHECK(r2u2_bytes(grant.bytes, grant.count, &bytes, &fault) == R2U2_DONE && held == 0 && held_bytes == 0);
+    CHECK(open_grant(&it) == R2U2_DONE && held_bytes == (long)bytes && held <= R2U2_BLOCKS);
+    watch_six(&it);
+    CHECK(held_bytes == (long)bytes);
+    r2u2_close(&it);
+    CHECK(held == 0 && held_bytes == 0);
+    CHECK(r2u2_open_under(&it, grant.bytes, grant.count, "#grant,other,request", 20, &fault) == R2U2_DONE);
+    CHECK(held_bytes == (long)bytes + 17);
+    r2u2_close(&it);
+    CHECK(r2u2_checked_bytes(grant.bytes, grant.count, NULL, NULL) == R2U2_BAD_ARGUMENT);
+    CHECK(r2u2_checked_bytes(NULL, 0, &bytes, NULL) == R2U2_REFUSED && held == 0);
+}
+
 static void *run_and_close(void *it) {
     watch_six(it);
     r2u2_close(it);
@@ -383,6 +425,7 @@ int main(int count, char **words) {
     moved();
     two_threads();
     handed_over();
+    bytes_that_are_told();
     wrappers();
     printf("%d checks, %d failed\n", (int)checks, (int)failed);
     return failed != 0;

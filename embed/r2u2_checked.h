@@ -60,6 +60,18 @@ static inline uint32_t r2u2_checked_open_under(struct r2u2 *it, const uint8_t *p
     return code;
 }
 
+static inline uint32_t r2u2_checked_bytes(const uint8_t *program, size_t count, uint64_t *bytes, struct r2u2_fault *fault) {
+    static const uint8_t none[1] = {0};
+    struct r2u2_fault told = {0, 0, 0, {0}};
+    uint64_t found = 0;
+    if (bytes == NULL || !r2u2_is_there(bytes, 1, sizeof *bytes) || !r2u2_is_there(program, count, 1)) return R2U2_BAD_ARGUMENT;
+    if (r2u2_overlap(bytes, sizeof *bytes, program, count)) return R2U2_BAD_ARGUMENT;
+    uint32_t code = r2u2_bytes(count ? program : none, count, &found, &told);
+    if (code == R2U2_DONE) *bytes = found;
+    if (fault != NULL && code == R2U2_REFUSED) memcpy(fault, &told, sizeof told);
+    return code;
+}
+
 static inline uint32_t r2u2_checked_width(struct r2u2 *it) { return r2u2_is_struct(it) ? r2u2_width(it) : 0; }
 
 static inline uint32_t r2u2_checked_outputs(struct r2u2 *it) { return r2u2_is_struct(it) ? r2u2_outputs(it) : 0; }

@@ -24,7 +24,10 @@ static size_t header_count;
 static int64_t numbers[MOST_COLUMNS];
 static uint32_t width, code, column, kind;
 
+static uint64_t bytes;
+
 static void nothing(void) {}
+static void tell_bytes(void) { code = r2u2_bytes(program, count, &bytes, &fault); }
 static void open_it(void) { code = r2u2_open(&it, program, count, &fault); }
 static void open_under(void) { code = r2u2_open_under(&it, program, count, header, header_count, &fault); }
 static void widths(void) { width = r2u2_width(&it); }
@@ -58,10 +61,10 @@ static size_t stack_of(void (*call)(void)) {
     return STACK - free_bytes;
 }
 
-enum { OPEN, OPEN_UNDER, WIDTH, OUTPUTS, ROWS, NAME, DELAY, STEPS, SIGNALS, SIGNAL, ROW, NEXT, RESET, CLOSE, CALLS };
-static const char *const NAMES[CALLS] = {"r2u2_open",  "r2u2_open_under", "r2u2_width",   "r2u2_outputs", "r2u2_rows",
-                                         "r2u2_name",  "r2u2_delay",      "r2u2_steps",   "r2u2_signals", "r2u2_signal",
-                                         "r2u2_row",   "r2u2_next",       "r2u2_reset",   "r2u2_close"};
+enum { OPEN, OPEN_UNDER, BYTES, WIDTH, OUTPUTS, ROWS, NAME, DELAY, STEPS, SIGNALS, SIGNAL, ROW, NEXT, RESET, CLOSE, CALLS };
+static const char *const NAMES[CALLS] = {"r2u2_open",    "r2u2_open_under", "r2u2_bytes",  "r2u2_width", "r2u2_outputs",
+                                         "r2u2_rows",    "r2u2_name",       "r2u2_delay",  "r2u2_steps", "r2u2_signals",
+                                         "r2u2_signal",  "r2u2_row",        "r2u2_next",   "r2u2_reset", "r2u2_close"};
 static size_t most[CALLS], base;
 
 static void measure(int which, void (*call)(void)) {
@@ -118,6 +121,7 @@ int main(int words, char **paths) {
     base = stack_of(nothing);
     for (int i = 1; i < words; i++) {
         if (read_program(paths[i])) return fprintf(stderr, "stack: cannot read %s\n", paths[i]), 6;
+        measure(BYTES, tell_bytes);
         measure(OPEN, open_it);
         if (code) return fprintf(stderr, "stack: %s: code %u %s\n", paths[i], code, fault.text), (int)code;
         watch();

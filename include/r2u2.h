@@ -21,7 +21,8 @@
  * that goes away while it is open leaks its monitor. The calls keep no pointer that they are given: program, header, rows
  * and buffers stay the caller's.
  *
- * MEMORY. r2u2_open and r2u2_open_under take all of it. No other call takes any, and so none can run out of it.
+ * MEMORY. r2u2_open and r2u2_open_under take all of it, and r2u2_bytes takes some and frees it again. No other call takes
+ * any, and so none can run out of it.
  *
  * ANSWERS. A call that answers a code was done where it answers R2U2_DONE, 0. At every other code the monitor is as it
  * was before the call, and nothing was written but the fault that tells why.
@@ -131,6 +132,17 @@ uint32_t r2u2_open(struct r2u2 *it, const uint8_t *program, size_t count, struct
  * header. R2U2_REFUSED also where the header doesn't name each signal exactly once. */
 uint32_t r2u2_open_under(struct r2u2 *it, const uint8_t *program, size_t count, const char *header, size_t header_count,
                          struct r2u2_fault *fault);
+
+/* The most blocks that an open monitor holds. */
+#define R2U2_BLOCKS 20u
+
+/* Tells how many bytes a monitor of this program holds from its opening on, in all its blocks together: the sum of the
+ * sizes that it asked for. An allocator's own bytes come on top, for each of at most R2U2_BLOCKS blocks; arena.c adds 16 to
+ * a block, and what makes its size a multiple of 8. Opening holds other blocks for a while, and so does this call; arena.h
+ * tells how many bytes were enough. Each column that a header has beyond those of the program takes 17 bytes more.
+ *
+ * R2U2_DONE: `bytes` has it. R2U2_REFUSED: `fault` tells the first fault of the program. R2U2_NO_MEMORY. */
+uint32_t r2u2_bytes(const uint8_t *program, size_t count, uint64_t *bytes, struct r2u2_fault *fault);
 
 /* What may be asked of a monitor that is open. These calls change nothing, but they write to the struct while they run: it
  * isn't const, and no other call uses it meanwhile. Where none is open each answers 0. */

@@ -21,6 +21,7 @@ complete -c r2u2-budget -l json -d 'Print JSON'
 complete -c r2u2-budget -l max-slots -x -d 'The most slots and boxes'
 complete -c r2u2-budget -l max-steps -x -d 'The most steps of a row'
 complete -c r2u2-budget -l max-delay -x -d 'The most rows of delay'
+complete -c r2u2-budget -l max-bytes -x -d 'The most bytes of memory'
 complete -c r2u2-budget -l help -d 'Help'
 
 complete -c r2u2-timeline -l html -d 'Make a page'

@@ -51,6 +51,14 @@ public:
         opened(r2u2_checked_open_under(&it, program.data(), program.size(), header.data(), header.size(), &fault), fault);
     }
 
+    // How many bytes a monitor of this program holds while it is open.
+    static std::uint64_t bytes(const std::vector<std::uint8_t> &program) {
+        r2u2_fault fault{};
+        std::uint64_t found = 0;
+        opened(r2u2_checked_bytes(program.data(), program.size(), &found, &fault), fault);
+        return found;
+    }
+
     Monitor(Monitor &&other) noexcept : it(std::exchange(other.it, r2u2{})) {}
 
     Monitor &operator=(Monitor &&other) noexcept {

@@ -2,7 +2,7 @@
 
 import sys
 
-from r2u2 import Error, Monitor, NOT_A_ROW, REFUSED, Signal, version
+from r2u2 import Error, Monitor, NOT_A_ROW, REFUSED, Signal, bytes_of, version
 
 ROWS = [[1, 0], [0, 1], [1, 0], [0, 0], [0, 0], [0, 0]]
 
@@ -24,6 +24,7 @@ def main():
         assert (monitor.width, monitor.names) == (2, ["granted"])
         assert monitor.signals == [Signal("request", 0, True), Signal("grant", 1, True)]
         assert monitor.rows == 0 and monitor.delays[0] > 0 and monitor.steps > 0 and version() > 0
+        assert bytes_of(program) > 0
         assert refused(lambda: monitor.row([0, 2]), NOT_A_ROW).column == 1
         monitor.row(ROWS[1])
         monitor.reset()

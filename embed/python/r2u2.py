@@ -65,6 +65,20 @@ class Signal(NamedTuple):
     is_truth: bool
 
 
+def _unless_done(code, fault):
+    if code:
+        text = fault.text.decode()
+        told = Fault(fault.kind, fault.part, fault.place, text) if code == REFUSED else None
+        raise Error(code, text, fault=told)
+
+
+def bytes_of(program):
+    """How many bytes a monitor of this program holds while it is open."""
+    found, fault, program = ctypes.c_uint64(), _Fault(), bytes(program)
+    _unless_done(_library().r2u2_bytes(program, len(program), found, fault), fault)
+    return found.value
+
+
 def version():
     """The version of the library: 10,000, 100 and 1 times its three numbers."""
     return _library().r2u2_version()
@@ -77,6 +91,7 @@ def _library():
     calls = {
         "open": (number, [it, chars, size, fault]),
         "open_under": (number, [it, chars, size, chars, size, fault]),
+        "bytes": (number, [chars, size, ctypes.POINTER(ctypes.c_uint64), fault]),
         "width": (number, [it]),
         "outputs": (number, [it]),
         "rows": (ctypes.c_uint64, [it]),
@@ -111,10 +126,7 @@ class Monitor:
         else:
             header = header.encode()
             code = self._call.r2u2_open_under(self._it, program, len(program), header, len(header), fault)
-        if code:
-            text = fault.text.decode()
-            told = Fault(fault.kind, fault.part, fault.place, text) if code == REFUSED else None
-            raise Error(code, text, fault=told)
+        _unless_done(code, fault)
         self.width = self._call.r2u2_width(self._it)
         outputs = range(self._call.r2u2_outputs(self._it))
         self.names = [self._name(k) for k in outputs]

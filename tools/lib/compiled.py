@@ -24,6 +24,10 @@ class Compiled:
     given: object
     old: bool = False
 
+    def flown(self):
+        """The bytes of the program that is run: of the one that was given, or of what was compiled."""
+        return self.given.raw or self.path.read_bytes()
+
     def columns(self):
         """The names of the columns of a row, with others where no signal stands."""
         by_column = {signal.column: signal.name for signal in read_spec(self.path).signals}

@@ -1,10 +1,13 @@
 """tools/budget: its figures are those of the table of c2po, of the whole and of each output, and its limits end a build."""
 
 import csv
+import ctypes
 import io
 import json
+import os
 import random
 import subprocess
+import unittest
 
 import random_specs
 from support import ROOT, Case, program, tool
@@ -21,6 +24,8 @@ a       6   8   0     33      0  5 rows, 0.5 s    296
 b       7   6   0     21      0  5 rows, 0.5 s    160
 d       5   0   3      0      2    0 rows, 0 s      8
 
+bytes are left out: no nowhere.so: `make python` builds it, and R2U2_LIBRARY may name another
+
 costliest             slots  boxes  steps    in
 late: F[0,5] near         6            56  a, b
 near -> late              6            56     a
@@ -31,6 +36,16 @@ shared, and there once
   x - y < 3  by a, b, d
   late: F[0,5] near  by a, b
 """
+
+NO_LIBRARY = {"R2U2_LIBRARY": "nowhere.so"}
+
+
+def library():
+    """The path of the library; a test that asks for one that isn't there is skipped."""
+    path = os.environ.get("R2U2_LIBRARY") or str(ROOT / "build" / "libr2u2.so")
+    if not os.path.isfile(path):
+        raise unittest.SkipTest(f"no {path}: make python builds it, and R2U2_LIBRARY may name another")
+    return os.path.abspath(path)
 
 
 def table(spec):
@@ -82,7 +97,7 @@ class Figures(Case):
     def test_text_with_names_and_shared_parts(self):
         program("c2po")
         spec = self.file("spec.c2po", SHARED)
-        self.assertEqual(tool("budget", "--rate", 10, spec), (0, TEXT, ""))
+        self.assertEqual(tool("budget", "--rate", 10, spec, env=NO_LIBRARY), (0, TEXT, ""))
 
     def test_a_program_has_the_figures_of_its_specification(self):
         program("c2po")
@@ -99,8 +114,9 @@ class Figures(Case):
         names = b"requestgrant"
         end = len(raw) - len(names) - 2 * 8 - len(b"granted")
         old = raw[:4] + b"\1" + raw[5:32] + raw[40:end] + b"granted"
-        self.assertEqual(self.told(spec)["whole"], self.told(self.file("old.obs", old))["whole"])
-
+        whole, less = self.told(spec)["whole"], self.told(self.file("old.obs", old))["whole"]
+        self.assertLessEqual(less.pop("bytes", 0), whole.pop("bytes", 0))
+        self.assertEqual(whole, less)
 
     def test_a_specification_without_outputs(self):
         program("c2po")
@@ -138,3 +154,45 @@ class Limits(Case):
             self.assertEqual((status, out), (2, ""), name)
             self.one_line(errors)
         self.one_line(tool("budget", self.folder / "nowhere")[2])
+
+
+class Bytes(Case):
+    """What the library answers, by the example of its check; where it isn't there, bytes are left out."""
+
+    def setUp(self):
+        super().setUp()
+        program("c2po")
+        self.spec = ROOT / "examples" / "grant.c2po"
+
+    def asked(self):
+        """The number that the library answers for the program of the first example."""
+        raw = (ROOT / "examples" / "embed" / "grant.bin").read_bytes()
+        number, fault = ctypes.c_uint64(), ctypes.create_string_buffer(112)
+        self.assertEqual(ctypes.CDLL(library()).r2u2_bytes(raw, ctypes.c_size_t(len(raw)), ctypes.byref(number), fault), 0)
+        return number.value
+
+    def test_what_the_library_answers(self):
+        found = self.asked()
+        self.assertEqual(json.loads(tool("budget", "--json", self.spec)[1])["whole"]["bytes"], found)
+        self.assertIn(f"\n{found} bytes\n", tool("budget", self.spec)[1])
+
+    def test_a_limit(self):
+        found = self.asked()
+        self.assertEqual(tool("budget", "--max-bytes", found, self.spec)[::2], (0, ""))
+        told = (1, f"budget: {found} bytes, above {found - 1}\n")
+        self.assertEqual(tool("budget", "--max-bytes", found - 1, self.spec)[::2], told)
+
+    def test_no_library(self):
+        status, out, errors = tool("budget", "--json", self.spec, env=NO_LIBRARY)
+        self.assertEqual((status, errors), (0, ""))
+        self.assertNotIn("bytes", json.loads(out)["whole"])
+        status, out, errors = tool("budget", "--max-bytes", 9999, self.spec, env=NO_LIBRARY)
+        self.assertEqual((status, out), (2, ""))
+        self.one_line(errors)
+        self.assertIn("make python", errors)
+
+    def test_a_file_that_is_no_library(self):
+        broken = {"R2U2_LIBRARY": str(self.file("broken.so", "no object"))}
+        status, out, errors = tool("budget", self.spec, env=broken)
+        self.assertEqual((status, out), (2, ""))
+        self.one_line(errors)

@@ -12,6 +12,7 @@ use Rattle.trace_feed.specs.declared.header_fault.HeaderFault.{HeaderFault}
 use Rattle.trace_feed.specs.declared.header_fault.HeaderFault.TheVariants as header
 use Rattle.trace_feed.specs.Header.{header_meaning}
 use Rattle.mltl_monitor.specs.declared.state.State.{State}
+use Rattle.mltl_monitor.specs.Bytes.{bytes_of, monitor_bytes}
 use Rattle.mltl_monitor.specs.Monitoring.{IsDrained, Stands, program_of}
 use Rattle.r2u2_c.specs.declared.opening.Refusal.{Refusal}
 use Rattle.r2u2_c.specs.declared.opening.Refusal.TheVariants as refusal
@@ -65,7 +66,7 @@ pub record IsFresh (found : Program) (monitor : State) : Type 0 where
   pub stands : Stands monitor []
   pub drained : IsDrained monitor
 
--- it is a fresh monitor of the program that was found
+-- it is a fresh monitor of the program that was found, whose lists hold as many bytes as the program says
 abbrev pub Starts : Result Program Refusal → State → Type 0
-Starts (Ok program) monitor = IsFresh program monitor
+Starts (Ok program) monitor = IsFresh program monitor × (bytes_of monitor ≡ monitor_bytes program)
 Starts (Err why) monitor = ⊥

@@ -1,12 +1,17 @@
 -- What C may ask, over what it keeps: the state of a monitor, if one is open.
 
-use Rattle.std.specs.Prelude.{ℕ, ◌≡◌, Bool, true, false, Option, Some, None, List, [], ◌∷◌, ◌++◌, drop, length, map}
+use Rattle.std.specs.Prelude.{ℕ, ◌≡◌, ◌+◌, Result, Ok, Err, Bool, true, false, Option, Some, None, List, [], ◌∷◌, ◌++◌}
+use Rattle.std.specs.Prelude.{drop, length, map}
+use Rattle.mltl_base.specs.declared.program.Program.{Program}
 use Rattle.mltl_base.specs.declared.program.StoredSignal.{StoredSignal}
 use Rattle.mltl_base.specs.Programs.{output_names, outputs}
 use Rattle.mltl_base.specs.Reports.{delay}
 use Rattle.mltl_monitor.specs.declared.state.State.{State}
 use Rattle.mltl_monitor.specs.Monitoring.{program_of, taken_by}
 use Rattle.mltl_monitor.specs.Running.{row_work}
+use Rattle.mltl_monitor.specs.Bytes.{monitor_bytes}
+use Rattle.r2u2_c.specs.declared.bytes.TheConstants.{MONITOR_BYTES}
+use Rattle.r2u2_c.specs.declared.opening.Refusal.{Refusal}
 
 -- the number of columns of a row
 abbrev pub width_of : Option State → ℕ
@@ -58,3 +63,8 @@ ended (byte ∷ more) = 0 ∷ more
 pub record WritesName (name : List ℕ) (answer : ℕ) (before after : List ℕ) : Type 0 where
   pub long : answer ≡ length name
   pub written : after ≡ name ++ ended (drop (length name) before)
+
+-- the bytes of a monitor of the program that was found: of its own block, and of its lists
+abbrev pub TellsBytes : Result Program Refusal → ℕ → Type 0
+TellsBytes (Ok program) told = told ≡ MONITOR_BYTES + monitor_bytes program
+TellsBytes (Err why) told = ⊥

@@ -73,7 +73,7 @@ pub extern "C" fn r2u2_open_under(
 }
 
 /// Tells why no monitor was opened.
-fn refuse(why: Refusal, fault: &mut Fault) -> u32
+pub(crate) fn refuse(why: Refusal, fault: &mut Fault) -> u32
     ensures memory { why ≡ Memory → (result ≡ NO_MEMORY) × (fault.new ≡ fault.old) }
     ensures refused { why ≢ Memory → (result ≡ REFUSED) × (fault.new ≡ fault_of why) }
 {

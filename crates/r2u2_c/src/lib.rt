@@ -6,6 +6,7 @@
 #![tactic(auto)]
 
 mod boxes;
+pub mod bytes;
 pub mod codes;
 mod exports;
 mod fault;
@@ -18,6 +19,7 @@ mod report;
 mod row_why;
 pub mod version;
 
+pub use bytes::r2u2_bytes;
 pub use exports::{r2u2_close, r2u2_next, r2u2_open, r2u2_open_under, r2u2_reset, r2u2_row};
 pub use fault::Fault;
 pub use handle::R2u2;

@@ -18,6 +18,26 @@ struct RawFault {
     text: [u8; 96],
 }
 
+impl RawFault {
+    fn none() -> RawFault {
+        RawFault { kind: 0, part: 0, place: 0, text: [0; 96] }
+    }
+
+    /// What a call that answers this code did.
+    fn unless_done(&self, code: u32) -> Result<(), Error> {
+        match code {
+            0 => Ok(()),
+            3 => Err(Error::Refused {
+                kind: self.kind,
+                part: self.part,
+                place: self.place,
+                text: text_of(&self.text),
+            }),
+            _ => Err(Error::NoMemory),
+        }
+    }
+}
+
 #[repr(C)]
 #[derive(Default)]
 struct RawRowFault {
@@ -43,6 +63,7 @@ extern "C" {
         header_count: usize,
         fault: *mut RawFault,
     ) -> u32;
+    fn r2u2_bytes(program: *const u8, count: usize, bytes: *mut u64, fault: *mut RawFault) -> u32;
     fn r2u2_width(it: *mut Struct) -> u32;
     fn r2u2_outputs(it: *mut Struct) -> u32;
     fn r2u2_rows(it: *mut Struct) -> u64;
@@ -160,17 +181,17 @@ impl Monitor {
 
     fn by(call: impl FnOnce(*mut Struct, *mut RawFault) -> u32) -> Result<Monitor, Error> {
         let mut monitor = Monitor { it: Struct { at: std::ptr::null_mut() } };
-        let mut fault = RawFault { kind: 0, part: 0, place: 0, text: [0; 96] };
-        match call(&mut monitor.it, &mut fault) {
-            0 => Ok(monitor),
-            3 => Err(Error::Refused {
-                kind: fault.kind,
-                part: fault.part,
-                place: fault.place,
-                text: text_of(&fault.text),
-            }),
-            _ => Err(Error::NoMemory),
-        }
+        let mut fault = RawFault::none();
+        let code = call(&mut monitor.it, &mut fault);
+        fault.unless_done(code).map(|()| monitor)
+    }
+
+    /// How many bytes a monitor of this program holds while it is open.
+    pub fn bytes(program: &[u8]) -> Result<u64, Error> {
+        let (mut bytes, mut fault) = (0, RawFault::none());
+        // SAFETY: both results were written, and the pointer has its true count.
+        let code = unsafe { r2u2_bytes(program.as_ptr(), program.len(), &mut bytes, &mut fault) };
+        fault.unless_done(code).map(|()| bytes)
     }
 
     /// How many numbers a row has.

@@ -11,6 +11,7 @@ fn main() -> Result<(), Box<dyn std::error::Error>> {
     let name = monitor.name(0).ok_or("no output")?;
     assert_eq!((monitor.width(), monitor.outputs()), (2, 1));
     assert_eq!(monitor.signals()[1], Signal { name: "grant".to_string(), column: 1, truth: true });
+    assert!(Monitor::bytes(&program)? > 0);
     assert!(monitor.rows() == 0 && monitor.delay(0) > 0 && monitor.steps() > 0 && r2u2::version() > 0);
     assert_eq!(monitor.row(&[0, 2]).err(), Some(Error::NotARow { column: 1 }));
     monitor.row(&ROWS[1])?;

@@ -1,0 +1,48 @@
+//! How many bytes a monitor takes.
+
+ghost use Rattle.std.specs.Prelude.{◌≡◌, ◌≢◌, ◌∷◌, [], Contains, IfErr, IfOk, Err};
+ghost use Rattle.r2u2_c.specs.Exports.{Refuses};
+ghost use Rattle.r2u2_c.specs.Opening.{program_by};
+ghost use Rattle.r2u2_c.specs.Queries.{TellsBytes};
+
+use crate::codes::{DONE, NO_MEMORY, REFUSED};
+use crate::exports::refuse;
+use crate::fault::Fault;
+use crate::opening::Refusal;
+use mltl_monitor::{Monitor, monitor_bytes};
+use obs_files::open;
+use std::alloc::Global;
+use std::mem::size_of;
+
+/// The bytes of the block of a monitor, beside those of its lists.
+pub const MONITOR_BYTES: usize = 512;
+
+const _: () = prove!(size_of::<Monitor>() == MONITOR_BYTES);
+
+/// Tells how many bytes a monitor of the program that these bytes spell holds while it is open, in all its blocks
+/// together.
+#[unsafe(no_mangle)]
+pub extern "C" fn r2u2_bytes(alloc: Global, bytes: &[u8], told: &mut u64, fault: &mut Fault) -> u32
+    ensures tells { result ≡ DONE → TellsBytes (program_by bytes.now) told.new }
+    ensures refused { result ≡ REFUSED → Refuses (program_by bytes.now) fault.new }
+    ensures kept { result ≢ DONE → told.new ≡ told.old }
+    ensures untold { result ≢ REFUSED → fault.new ≡ fault.old }
+    ensures codes { Contains (DONE ∷ REFUSED ∷ NO_MEMORY ∷ []) result }
+{
+    match bytes_of(alloc, bytes) {
+        Ok(count) => {
+            *told = count;
+            DONE
+        }
+        Err(why) => refuse(why, fault),
+    }
+}
+
+/// How many bytes a monitor of the program that these bytes spell holds.
+fn bytes_of(alloc: Global, bytes: &[u8]) -> Result<u64, Refusal>
+    ensures told { IfOk result (λ count. TellsBytes (program_by bytes.now) count) }
+    ensures refused { IfErr result (λ why. why ≢ Refusal.Memory → program_by bytes.now ≡ Err why) }
+{
+    let checked = open(alloc, bytes)?;
+    Ok(MONITOR_BYTES as u64 + monitor_bytes(&checked))
+}
