@@ -114,6 +114,7 @@ static void closed_ones_answer(struct r2u2 *it) {
     char name[64] = "x";
     CHECK(r2u2_row(it, ROWS[0], 2, &fault) == R2U2_NOT_OPEN && fault.why == 5 && fault.column == 6);
     CHECK(r2u2_next(it, R2U2_EACH, &report) == R2U2_NOT_OPEN);
+    CHECK(r2u2_reset(it) == R2U2_NOT_OPEN && it->at == NULL);
     CHECK(report.time == 7 && report.output == 8 && report.word == 9);
     uint32_t column = 3, kind = 4;
     CHECK(r2u2_width(it) == 0 && r2u2_outputs(it) == 0 && r2u2_rows(it) == 0);
@@ -178,6 +179,28 @@ static void reports_left(void) {
     CHECK(r2u2_next(&it, R2U2_RUNS, &report) == R2U2_DONE && report.time == 1);
     CHECK(r2u2_next(&it, R2U2_RUNS, &report) == R2U2_NO_REPORT);
     CHECK(take(&it, ROWS[2], 2) == R2U2_DONE);
+    r2u2_close(&it);
+    CHECK(held == 0);
+}
+
+/* A monitor begins again at any time, also with reports left, and asks for no memory; then it is as if just opened. */
+static void begun_again(void) {
+    struct r2u2 it = {0};
+    struct r2u2_report report = {0};
+    CHECK(open_grant(&it) == R2U2_DONE);
+    long before = asked, blocks = held;
+    CHECK(r2u2_reset(&it) == R2U2_DONE && it.at != NULL);
+    for (size_t i = 0; i <= 6; i++) {
+        for (size_t k = 0; k < i; k++) {
+            CHECK(take(&it, ROWS[k], 2) == R2U2_DONE);
+            while (k + 1 < i && r2u2_next(&it, R2U2_RUNS, &report) == R2U2_DONE) {}
+        }
+        CHECK(r2u2_rows(&it) == i && r2u2_reset(&it) == R2U2_DONE && r2u2_rows(&it) == 0);
+        CHECK(r2u2_next(&it, R2U2_EACH, &report) == R2U2_NO_REPORT);
+        watch_six(&it);
+        CHECK(r2u2_reset(&it) == R2U2_DONE);
+    }
+    CHECK(asked == before && held == blocks);
     r2u2_close(&it);
     CHECK(held == 0);
 }
@@ -377,6 +400,8 @@ static void wrappers(void) {
     CHECK(r2u2_checked_signal(&it, 0, &column, &kind, NULL, 8) == 0 && r2u2_checked_signal(NULL, 0, &column, &kind, name, 8) == 0);
     CHECK(r2u2_checked_signal(&it, 0, &column, &kind, name, 8) == 7 && memcmp(name, "request", 8) == 0);
     CHECK(column == 0 && kind == R2U2_TRUTH);
+    CHECK(r2u2_checked_reset(NULL) == R2U2_BAD_ARGUMENT && r2u2_checked_rows(&it) == 1);
+    CHECK(r2u2_checked_reset(&it) == R2U2_DONE && r2u2_checked_rows(&it) == 0);
     r2u2_checked_close(&it);
     r2u2_checked_close(NULL);
     CHECK(held == 0);
@@ -390,6 +415,7 @@ int main(int count, char **words) {
     opened_twice();
     rows_that_dont_fit();
     reports_left();
+    begun_again();
     names();
     queries();
     each_kind_of_fault();

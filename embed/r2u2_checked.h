@@ -136,6 +136,10 @@ static inline uint32_t r2u2_checked_next(struct r2u2 *it, uint32_t style, struct
     return code;
 }
 
+static inline uint32_t r2u2_checked_reset(struct r2u2 *it) {
+    return r2u2_is_struct(it) ? r2u2_reset(it) : R2U2_BAD_ARGUMENT;
+}
+
 static inline void r2u2_checked_close(struct r2u2 *it) {
     if (r2u2_is_struct(it)) r2u2_close(it);
 }

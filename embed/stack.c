@@ -41,6 +41,7 @@ static void one_signal(void) { code = r2u2_signal(&it, 0, &column, &kind, name, 
 static void row(void) { code = r2u2_row(&it, numbers, width, &row_fault); }
 static void next(void) { code = r2u2_next(&it, R2U2_EACH, &report); }
 static void next_run(void) { code = r2u2_next(&it, R2U2_RUNS, &report); }
+static void reset(void) { code = r2u2_reset(&it); }
 static void close_it(void) { r2u2_close(&it); }
 
 static void run(void) { running(); }
@@ -60,10 +61,10 @@ static size_t stack_of(void (*call)(void)) {
     return STACK - free_bytes;
 }
 
-enum { OPEN, OPEN_UNDER, BYTES, WIDTH, OUTPUTS, ROWS, NAME, DELAY, STEPS, SIGNALS, SIGNAL, ROW, NEXT, CLOSE, CALLS };
+enum { OPEN, OPEN_UNDER, BYTES, WIDTH, OUTPUTS, ROWS, NAME, DELAY, STEPS, SIGNALS, SIGNAL, ROW, NEXT, RESET, CLOSE, CALLS };
 static const char *const NAMES[CALLS] = {"r2u2_open",    "r2u2_open_under", "r2u2_bytes",  "r2u2_width", "r2u2_outputs",
                                          "r2u2_rows",    "r2u2_name",       "r2u2_delay",  "r2u2_steps", "r2u2_signals",
-                                         "r2u2_signal",  "r2u2_row",        "r2u2_next",   "r2u2_close"};
+                                         "r2u2_signal",  "r2u2_row",        "r2u2_next",   "r2u2_reset", "r2u2_close"};
 static size_t most[CALLS], base;
 
 static void measure(int which, void (*call)(void)) {
@@ -104,6 +105,7 @@ static void watch(void) {
         do measure(NEXT, i % 2 ? next : next_run);
         while (code == R2U2_DONE);
     }
+    measure(RESET, reset);
     measure(CLOSE, close_it);
 }
 

@@ -192,6 +192,12 @@ uint32_t r2u2_row(struct r2u2 *it, const int64_t *numbers, size_t count, struct 
  * R2U2_DONE: `report` has it. R2U2_NOT_OPEN. R2U2_NO_REPORT: none is left. */
 uint32_t r2u2_next(struct r2u2 *it, uint32_t style, struct r2u2_report *report);
 
+/* Begins again: the monitor has taken no rows, and has no report to give, as after it was opened. It keeps its program and
+ * its memory; reports that were left are let go.
+ *
+ * R2U2_DONE. R2U2_NOT_OPEN. */
+uint32_t r2u2_reset(struct r2u2 *it);
+
 /* Frees the monitor, if one is open. The struct is all zero again. */
 void r2u2_close(struct r2u2 *it);
 

@@ -21,6 +21,9 @@ int main(int count, char **words) try {
     if (r2u2_version() != R2U2_VERSION || signals.size() != 2 || signals[1].name != "grant") return 1;
     if (signals[1].column != 1 || signals[1].kind != R2U2_TRUTH || monitor.rows() != 0) return 1;
     if (monitor.delay(0) == 0 || monitor.steps() == 0 || mltl::Monitor::bytes(program) == 0) return 1;
+    monitor.row(rows[1]);
+    monitor.reset();
+    if (monitor.rows() != 0 || monitor.next()) return 1;
     for (const auto &row : rows) {
         monitor.row(row);
         while (auto report = monitor.next())

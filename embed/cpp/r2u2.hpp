@@ -112,6 +112,12 @@ public:
         return Report{report.output, report.time, static_cast<r2u2_word>(report.word)};
     }
 
+    // Begins again: it has taken no rows, and has no report to give. It keeps its program and its memory.
+    void reset() {
+        std::uint32_t code = r2u2_checked_reset(&it);
+        if (code != R2U2_DONE) throw Error(code, "r2u2_reset: code " + std::to_string(code));
+    }
+
 private:
     static void opened(std::uint32_t code, const r2u2_fault &fault) {
         if (code == R2U2_DONE) return;

@@ -26,6 +26,9 @@ def main():
         assert monitor.rows == 0 and monitor.delays[0] > 0 and monitor.steps > 0 and version() > 0
         assert bytes_of(program) > 0
         assert refused(lambda: monitor.row([0, 2]), NOT_A_ROW).column == 1
+        monitor.row(ROWS[1])
+        monitor.reset()
+        assert monitor.rows == 0 and not list(monitor.reports())
         for report in monitor.watch(ROWS):
             print(report)
     with Monitor(program) as monitor:

@@ -103,6 +103,7 @@ def _library():
         "name": (number, [it, number, chars, size]),
         "row": (number, [it, ctypes.POINTER(ctypes.c_int64), size, ctypes.POINTER(_RowFault)]),
         "next": (number, [it, number, ctypes.POINTER(_Report)]),
+        "reset": (number, [it]),
         "close": (None, [it]),
     }
     for name, (answer, words) in calls.items():
@@ -181,6 +182,12 @@ class Monitor:
         for report in self.watch(rows):
             words[report.name].append(report.word)
         return words
+
+    def reset(self):
+        """Begins again: it has taken no rows, and has no report to give. It keeps its program and its memory."""
+        code = self._call.r2u2_reset(self._it)
+        if code:
+            raise Error(code)
 
     def close(self):
         self._call.r2u2_close(self._it)

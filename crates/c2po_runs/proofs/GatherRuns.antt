@@ -1,8 +1,10 @@
 -- What was read gives the bytes that are written, or a refusal.
 
-use Rattle.std.proofs.Common.{◌≡◌, ℕ, ◌≤◌, ◌<◌, ◌⊎◌, Bool, true, false, ◌||◌, Option, Some, None, is_some, Result, Ok, Err, List, [], ◌∷◌, ◌++◌, length, Vec, refl, sym, ◌∙◌, ap, subst, inl, inr}
+use Rattle.std.proofs.Common.{◌≡◌, ℕ, ◌≤◌, ◌<◌, ◌⊎◌, Bool, true, false, ◌||◌, Option, Some, None, is_some, Result, Ok, Err, IfOk, List, [], ◌∷◌, ◌++◌, length, Vec, refl, sym, ◌∙◌, ap, subst, inl, inr}
 use Rattle.std.specs.declared.alloc.Global.{Global}
+use Rattle.std.specs.Prelude.{⊤}
 use Rattle.std.proofs.lemmas.List.{append-nil}
+use Rattle.std.proofs.lemmas.Result.{IfOk-weaker}
 use Rattle.tool_io.specs.declared.host.Place as place
 use Rattle.tool_io.specs.declared.host.Place.TheVariants as at
 use Rattle.tool_io.specs.Log.{Event, Attached, Missed, same_place, taken, ended_from, names_of, IsFront}
@@ -23,7 +25,8 @@ use Rattle.c2po_runs.specs.declared.make.Form.{Form}
 use Rattle.c2po_runs.specs.declared.make.Product.{Product}
 use Rattle.c2po_runs.specs.declared.make.Product.TheVariants.{Compiled, Upgrade, Show}
 use Rattle.c2po_runs.specs.Asking.{MakeAsked, file_kind, place_named, read_names}
-use Rattle.c2po_runs.specs.Made.{made, made_of_text}
+use Rattle.c2po_runs.specs.Images.{WritesImage, GivesImage, header_of}
+use Rattle.c2po_runs.specs.Made.{first_line, made, made_of_text}
 use Rattle.c2po_runs.specs.Run.{Seen, seen, place_of, is_tried, IsFaultless, IsHeaded, Makes, MakeOutcome}
 use Rattle.c2po_runs.specs.Phases.{Refuses, RefusesAlone, HeaderLog, RefusedLog, MadeLog, SpecLog, TextLog, FileMadeLog, AfterLog, OnlySources, Gathered, NotGathered, GatherLog}
 use Rattle.c2po_runs.proofs.LogLaws.{HasRead, has_read, sources-append, sources_given, sources_unattached}
@@ -210,18 +213,20 @@ module _ (asked : MakeAsked) (bytes : List ℕ) (first second : List Event) (rea
       (refl, out_untried (file_kind asked.product) asked.file) (λ tried. absurd (cc)) tt
   refused_alone answer is =
       gather_not asked bytes true first second [] [] false read (after_none asked second is.0) answer no_front
-      (refusal_outcome answer asked alone is.1 refl (out_untried (file_kind asked.product) asked.file) (record { whole = record { ended = refl; within = within }; is = is.2 }))
+      (refusal_outcome answer asked alone is.1 refl (out_untried (file_kind asked.product) asked.file) (record { whole = record { ended = refl; within = within }; is = is.2; image = tt }))
       (λ tried. absurd (cc)) (alone_opened answer (first ++ second) is.1)
 
   -- or its bytes are made of it
-  made_alone : (result : Result (Vec ℕ Global) status.Status) → place_named at.Header asked.header ≡ [] → MadeLog result (made asked bytes []) second → GatherLog result asked (first ++ second)
-  made_alone (Ok bytes_made) none is =
+  made_alone : (result : Result (Vec ℕ Global) status.Status) → place_named at.Header asked.header ≡ [] → MadeLog result (made asked bytes []) second → IfOk result (λ made_bytes. GivesImage asked.product asked.header bytes [] made_bytes.items)
+      → GatherLog result asked (first ++ second)
+  made_alone (Ok bytes_made) none is image =
       gather_ok asked bytes true first second [] [] false read (after_none asked second is.0) bytes_made.items (sym none)
-      (record { whole = record { ended = refl; within = within }; is = is.1 }) (λ tried. absurd (cc))
-  made_alone (Err answer) none is = refused_alone answer is
+      (record { whole = record { ended = refl; within = within }; is = is.1; image = image }) (λ tried. absurd (cc))
+  made_alone (Err answer) none is image = refused_alone answer is
 
   -- a header file comes after it, which a specification without a fault names
-  module _ (form : Form) (name : List ℕ) (named : asked.header ≡ Some name) (is_made : (lines : List (List ℕ)) → made asked bytes lines ≡ made_of_text form (Some name) bytes lines) (none : first_refusal bytes ≡ None) where
+  module _ (form : Form) (name : List ℕ) (named : asked.header ≡ Some name) (is_made : (lines : List (List ℕ)) → made asked bytes lines ≡ made_of_text form (Some name) bytes lines) (none : first_refusal bytes ≡ None)
+      (images : (lines : List (List ℕ)) (made_bytes : List ℕ) → WritesImage form bytes (Some (first_line lines)) made_bytes → GivesImage asked.product asked.header bytes lines made_bytes) where
     faultless : (lines : List (List ℕ)) (over : Bool) → IsFaultless asked (headed name lines over)
     faultless lines over = record { whole = record { ended = refl; within = within }; faultless = none }
 
@@ -260,7 +265,7 @@ module _ (asked : MakeAsked) (bytes : List ℕ) (first second : List Event) (rea
         let line = is.2 in
         let lines = lines_of line.ended line.bytes in
         gather_ok asked bytes true first second ((at.Header, name) ∷ []) lines line.ended read (after_header asked name line.bytes line.ended is.0 second is.1 line.takes) made_bytes.items all_named
-        (record { whole = record { ended = refl; within = within }; is = is_made lines ∙ line.makes name }) (λ tried. faultless lines line.ended)
+        (record { whole = record { ended = refl; within = within }; is = is_made lines ∙ line.makes name; image = images lines made_bytes.items line.image }) (λ tried. faultless lines line.ended)
     header_made (Err (answers.OpenFault at.Header)) (inl is) = header_missed is
     header_made (Err (answers.OpenFault at.Header)) (inr is) = header_untold is
     header_made (Err (answers.ReadFault at.Header)) is =
@@ -277,23 +282,32 @@ module _ (asked : MakeAsked) (bytes : List ℕ) (first second : List Event) (rea
         let line = is.2 in
         let lines = lines_of line.ended line.bytes in
         gather_not asked bytes true first second ((at.Header, name) ∷ []) lines line.ended read (after_header asked name line.bytes line.ended is.0 second is.1 line.takes) (answers.TextTooLong at.Header) whole_front
-        (record { refused = record { whole = record { ended = refl; within = within }; is = is_made lines ∙ line.makes name }; none_out = refl }) (λ tried. faultless lines line.ended) tt
+        (record { refused = record { whole = record { ended = refl; within = within }; is = is_made lines ∙ line.makes name; image = tt }; none_out = refl }) (λ tried. faultless lines line.ended) tt
     header_made (Err answer) is =
         let speaks = is.2.0 in
         let line = is.2.1 in
         let lines = lines_of line.ended line.bytes in
         gather_not asked bytes true first second ((at.Header, name) ∷ []) lines line.ended read (after_header asked name line.bytes line.ended is.0 second is.1 line.takes) answer whole_front
-        (headed_outcome answer asked (headed name lines line.ended) speaks (record { tried = header_tried; begun = line.begun }) refl (out_untried_header (file_kind asked.product) asked.file name) (record { whole = record { ended = refl; within = within }; is = is_made lines ∙ line.makes name }))
+        (headed_outcome answer asked (headed name lines line.ended) speaks (record { tried = header_tried; begun = line.begun }) refl (out_untried_header (file_kind asked.product) asked.file name) (record { whole = record { ended = refl; within = within }; is = is_made lines ∙ line.makes name; image = tt }))
         (λ tried. faultless lines line.ended) (refuses_opened answer (first ++ second) speaks)
 
-  spec_made : (header : Option (List ℕ)) (form : Form) (result : Result (Vec ℕ Global) status.Status) → asked.header ≡ header → ((lines : List (List ℕ)) → made asked bytes lines ≡ made_of_text form header bytes lines) → first_refusal bytes ≡ None → SpecLog result form header bytes second → GatherLog result asked (first ++ second)
-  spec_made None form result named is_made none is = made_alone result (ap (place_named at.Header) named) (subst (λ found. MadeLog result found second) (sym (is_made [])) is)
-  spec_made (Some name) form result named is_made none is = header_made form name named is_made none result is
+  spec_made : (header : Option (List ℕ)) (form : Form) (result : Result (Vec ℕ Global) status.Status) → asked.header ≡ header → ((lines : List (List ℕ)) → made asked bytes lines ≡ made_of_text form header bytes lines) → first_refusal bytes ≡ None
+      → ((lines : List (List ℕ)) (made_bytes : List ℕ) → WritesImage form bytes (header_of header lines) made_bytes → GivesImage asked.product asked.header bytes lines made_bytes) → SpecLog result form header bytes second → GatherLog result asked (first ++ second)
+  spec_made None form result named is_made none images is =
+      made_alone result (ap (place_named at.Header) named) (subst (λ found. MadeLog result found second) (sym (is_made [])) is.0)
+      (IfOk-weaker result _ _ (λ made_bytes image. images [] made_bytes.items image) is.1)
+  spec_made (Some name) form result named is_made none images is = header_made form name named is_made none images result is
 
-  text_made : (form : Form) (result : Result (Vec ℕ Global) status.Status) → ((lines : List (List ℕ)) → made asked bytes lines ≡ made_of_text form asked.header bytes lines) → TextLog result form asked.header bytes second → GatherLog result asked (first ++ second)
-  text_made form (Ok made_bytes) is_made (inl is) = absurd is
-  text_made form (Err answer) is_made (inl is) = refused_alone answer (subst (λ found. RefusedLog (Err answer) found second) (sym (is_made [])) is)
-  text_made form result is_made (inr is) = spec_made asked.header form result refl is_made is.0 is.1
+  text_made : (form : Form) (result : Result (Vec ℕ Global) status.Status) → ((lines : List (List ℕ)) → made asked bytes lines ≡ made_of_text form asked.header bytes lines)
+      → ((lines : List (List ℕ)) (made_bytes : List ℕ) → WritesImage form bytes (header_of asked.header lines) made_bytes → GivesImage asked.product asked.header bytes lines made_bytes) → TextLog result form asked.header bytes second → GatherLog result asked (first ++ second)
+  text_made form (Ok made_bytes) is_made images (inl is) = absurd is
+  text_made form (Err answer) is_made images (inl is) = refused_alone answer (subst (λ found. RefusedLog (Err answer) found second) (sym (is_made [])) is)
+  text_made form result is_made images (inr is) = spec_made asked.header form result refl is_made is.0 images is.1
+
+-- of what isn't compiled nothing is said
+nothing_said : (result : Result (Vec ℕ Global) status.Status) → IfOk result (λ made_bytes. ⊤)
+nothing_said (Ok made_bytes) = tt
+nothing_said (Err answer) = tt
 
 -- by what is made
 file_made : (product : Product) (name : List ℕ) (header out : Option (List ℕ)) (bytes : List ℕ) (result : Result (Vec ℕ Global) status.Status) (first second : List Event) → (file_kind product ≡ Program → header ≡ None)
@@ -301,11 +315,11 @@ file_made : (product : Product) (name : List ℕ) (header out : Option (List ℕ
     → GatherLog result (record { product = product; file = name; header = header; out = out }) (first ++ second)
 unfolding made
 file_made (Compiled form) name header out bytes result first second no_header read within is =
-    text_made (record { product = Compiled form; file = name; header = header; out = out }) bytes first second read within form result (λ lines. refl) is
+    text_made (record { product = Compiled form; file = name; header = header; out = out }) bytes first second read within form result (λ lines. refl) (λ lines made_bytes image. image) is
 file_made Upgrade name header out bytes result first second no_header read within is =
-    made_alone (record { product = Upgrade; file = name; header = header; out = out }) bytes first second read within result (ap (place_named at.Header) (no_header refl)) is
+    made_alone (record { product = Upgrade; file = name; header = header; out = out }) bytes first second read within result (ap (place_named at.Header) (no_header refl)) is (nothing_said result)
 file_made Show name header out bytes result first second no_header read within is =
-    made_alone (record { product = Show; file = name; header = header; out = out }) bytes first second read within result (ap (place_named at.Header) (no_header refl)) is
+    made_alone (record { product = Show; file = name; header = header; out = out }) bytes first second read within result (ap (place_named at.Header) (no_header refl)) is (nothing_said result)
 
 pub gather_after : (asked : MakeAsked) (bytes : Vec ℕ Global) (result : Result (Vec ℕ Global) status.Status) (first second : List Event) → (file_kind asked.product ≡ Program → asked.header ≡ None)
     → FileLog (Ok bytes) (place_of asked) (file_limit (file_kind asked.product)) asked.file first → AfterLog result asked bytes.items second → GatherLog result asked (first ++ second)

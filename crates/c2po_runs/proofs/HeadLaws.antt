@@ -22,6 +22,7 @@ use Rattle.tool_runs.specs.declared.status.Status.TheVariants as answers
 use Rattle.tool_runs.proofs.LineLaws.{text_short}
 use Rattle.c2po_runs.specs.declared.make.Form.{Form}
 use Rattle.tool_runs.specs.FirstLine.{begins_long}
+use Rattle.c2po_runs.specs.Images.{WritesImage}
 use Rattle.c2po_runs.specs.Made.{compile_status, compiled_bytes, text_bytes, unless_long, first_line, made_of_text}
 use Rattle.c2po_runs.specs.Phases.{Refuses, RefusesAlone, ReadsLine, LineLog, HeaderLog, RefusedLog, MadeLog}
 use Rattle.c2po_runs.proofs.MakingLaws.{headed, refused_by, refused_so}
@@ -54,8 +55,9 @@ module _ (cut : Cutting) (events : List Event) where
 
   module _ (form : Form) (text : List ℕ) (none : first_refusal text ≡ None) where
     -- the first line gives what the header's columns give
-    line_makes : (found : Result (List ℕ) status.Status) (cuts : CutsLine Header fresh cut line.TheVariants.Row events) → text_bytes form text (Some (line_text (row_of cut))) ≡ found → ReadsLine form text found events
-    line_makes found cuts is =
+    line_makes : (found : Result (List ℕ) status.Status) (cuts : CutsLine Header fresh cut line.TheVariants.Row events) → text_bytes form text (Some (line_text (row_of cut))) ≡ found
+        → IfOk found (WritesImage form text (Some (line_text (row_of cut)))) → ReadsLine form text found events
+    line_makes found cuts is image =
         let raw = cuts.answer.0 in
         let gives = cuts.answer.1 in
         let lines = row_lines raw cut.pending cut.ended gives.line in
@@ -70,16 +72,18 @@ module _ (cut : Cutting) (events : List Event) where
           makes = λ name. headed form name text (lines_of cut.ended (concat cuts.pieces)) none
               ∙ ap (λ b. unless_long b (text_bytes form text (Some (first_line (lines_of cut.ended (concat cuts.pieces)))))) short
               ∙ ap (λ l. text_bytes form text (Some l)) first ∙ is;
+          image = subst (λ l. IfOk found (WritesImage form text (Some l))) (sym first) image;
         }
 
-    pub row_made : (result : Result (Vec ℕ Global) status.Status) (cuts : CutsLine Header fresh cut line.TheVariants.Row events) → Made result (text_bytes form text (Some (line_text (row_of cut)))) → LineLog result form text events
-    row_made (Ok bytes) cuts made = line_makes (Ok bytes.items) cuts made
-    row_made (Err answers.Memory) cuts made = record { bytes = concat cuts.pieces; ended = cut.ended; takes = cut_takes line.TheVariants.Row cuts }
-    row_made (Err (answers.Refused line why)) cuts made = (tt, line_makes (Err (answers.Refused line why)) cuts (made.1 (λ e. cc)))
-    row_made (Err (answers.BadProgram fault)) cuts made = (tt, line_makes (Err (answers.BadProgram fault)) cuts (made.1 (λ e. cc)))
-    row_made (Err (answers.BadHeader why)) cuts made = (tt, line_makes (Err (answers.BadHeader why)) cuts (made.1 (λ e. cc)))
-    row_made (Err (answers.TextTooLong Out)) cuts made = (tt, line_makes (Err (answers.TextTooLong Out)) cuts (made.1 (λ e. cc)))
-    row_made (Err answer) cuts made = absurd made.0
+    pub row_made : (result : Result (Vec ℕ Global) status.Status) (cuts : CutsLine Header fresh cut line.TheVariants.Row events) → Made result (text_bytes form text (Some (line_text (row_of cut))))
+        → IfOk result (λ bytes. WritesImage form text (Some (line_text (row_of cut))) bytes.items) → LineLog result form text events
+    row_made (Ok bytes) cuts made image = line_makes (Ok bytes.items) cuts made image
+    row_made (Err answers.Memory) cuts made image = record { bytes = concat cuts.pieces; ended = cut.ended; takes = cut_takes line.TheVariants.Row cuts }
+    row_made (Err (answers.Refused line why)) cuts made image = (tt, line_makes (Err (answers.Refused line why)) cuts (made.1 (λ e. cc)) tt)
+    row_made (Err (answers.BadProgram fault)) cuts made image = (tt, line_makes (Err (answers.BadProgram fault)) cuts (made.1 (λ e. cc)) tt)
+    row_made (Err (answers.BadHeader why)) cuts made image = (tt, line_makes (Err (answers.BadHeader why)) cuts (made.1 (λ e. cc)) tt)
+    row_made (Err (answers.TextTooLong Out)) cuts made image = (tt, line_makes (Err (answers.TextTooLong Out)) cuts (made.1 (λ e. cc)) tt)
+    row_made (Err answer) cuts made image = absurd made.0
 
     -- there is no line
     pub end_made : CutsLine Header fresh cut line.TheVariants.End events → LineLog (Err (answers.BadHeader NoHeader)) form text events
@@ -95,6 +99,7 @@ module _ (cut : Cutting) (events : List Event) where
             makes = λ name. headed form name text (lines_of cut.ended (concat cuts.pieces)) none
                 ∙ ap (λ lines. unless_long (begins_long lines) (text_bytes form text (Some (first_line lines)))) are
                 ∙ ap (compiled_bytes form.table) (refused_by form.simplify text (Some []) (compile.BadHeader NoHeader) (header_refused text (Some []) (compile.BadHeader NoHeader) none refl));
+            image = tt;
           },
         )
       where
@@ -115,6 +120,7 @@ module _ (cut : Cutting) (events : List Event) where
           begun = inr (λ none. let no : long.raw ∷ long.others ≡ [] = sym long.split ∙ ap (lines_of cut.ended) (append-nil (concat cuts.pieces)) ∙ none in cc);
           makes = λ name. headed form name text (lines_of cut.ended (concat cuts.pieces)) none
               ∙ ap (λ b. unless_long b (text_bytes form text (Some (first_line (lines_of cut.ended (concat cuts.pieces)))))) begins;
+          image = tt;
         }
 
   pub fault_made : (form : Form) (text : List ℕ) → CutsLine Header fresh cut line.TheVariants.ReadFault events → LineLog (Err (answers.ReadFault Header)) form text events

@@ -5,4 +5,5 @@ pub mod AskedRuns
 pub mod MainLaws
 pub mod MakingLaws
 pub mod HeadLaws
+pub mod WrittenImages
 pub mod ShownRuns

@@ -26,6 +26,7 @@ use Rattle.c2po_runs.specs.Run.{Seen, seen, place_of, TriesOf, TriesInTurn, Writ
 use Rattle.c2po_runs.specs.Made.{made}
 use Rattle.c2po_runs.proofs.LogLaws.{writes-append}
 use Rattle.c2po_runs.proofs.GatherRuns.{same_seen}
+use Rattle.c2po_runs.proofs.WrittenImages.{compiles_image}
 
 -- bytes that are made aren't refused
 not_refused : (answer : status.Status) (bytes : List ℕ) (found : Result (List ℕ) status.Status) → found ≡ Ok bytes → found ≡ Err answer → ⊥
@@ -100,6 +101,7 @@ run_told asked answer before between now first second sent unsent ran cause same
       reads = ReadsAttached-append first second ran.reads (λ start after p piece is. absurd (writes_unread at.Err writes.pieces start after p piece (sym writes.are ∙ is)));
       writes = writes_still first second sent (names_out asked) writes ran.writes;
       outcome = outcome;
+      image = compiles_image asked answer all outcome;
       opened = opened_still answer first second (unattached first second sent writes) ran.opened;
       told_user = record { rest = unsent; split = split ∙ ap (λ b. b ++ unsent) (sym (given-append at.Err first second ∙ ap (λ b. b ++ given at.Err second) (unused-given at.Err first ran.quiet) ∙ Writes-given at.Err sent second writes)) };
       told_whole = whole;

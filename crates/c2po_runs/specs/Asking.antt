@@ -78,4 +78,10 @@ asked_names nothing = []
 
 -- what the code holds of it
 abbrev pub make_of : told.Make → MakeAsked
-make_of m = record { product = m.product; file = m.file.now; header = option_map (λ name. name.now) m.header; out = option_map (λ name. name.now) m.out }
+make_of m =
+    record {
+      product = m.product;
+      file = m.file.now;
+      header = option_map (λ name. name.now) m.header;
+      out = option_map (λ name. name.now) m.out;
+    }

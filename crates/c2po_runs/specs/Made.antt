@@ -117,7 +117,8 @@ unless_refused (Some fault) made = Err (compile_status fault)
 abbrev pub made_of_text : Form → Option (List ℕ) → List ℕ → List (List ℕ) → Result (List ℕ) Status
 made_of_text form None text lines = text_bytes form text None
 made_of_text form (Some name) text lines =
-    unless_refused (first_refusal text) (unless_long (begins_long lines) (text_bytes form text (Some (first_line lines))))
+    unless_refused (first_refusal text)
+    (unless_long (begins_long lines) (text_bytes form text (Some (first_line lines))))
 
 -- what a file gives, with the lines of the header file that were read
 abbrev pub made_as : Product → Option (List ℕ) → List ℕ → List (List ℕ) → Result (List ℕ) Status

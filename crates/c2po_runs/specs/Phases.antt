@@ -1,9 +1,11 @@
 -- What each phase of a run tells.
 
-use Rattle.std.specs.Prelude.{◌≡◌, ℕ, ◌⊎◌, Bool, true, false, Option, Some, None, is_some, Result, Ok, Err, List, [], ◌∷◌, Vec, ⊤}
+use Rattle.std.specs.Prelude.{◌≡◌, ℕ, ◌⊎◌, Bool, true, false, Option, Some, None, is_some, Result, Ok, Err, IfOk, List}
+use Rattle.std.specs.Prelude.{[], ◌∷◌, Vec, ⊤}
 use Rattle.std.specs.declared.alloc.Global.{Global}
 use Rattle.tool_io.specs.declared.host.Place as place
-use Rattle.tool_io.specs.Log.{Event, Attached, Missed, Took, Gave, given, names_of, IsFront, IsProperFront, Writes, WritesFront}
+use Rattle.tool_io.specs.Log.{Event, Attached, Missed, Took, Gave, given, names_of, IsFront, IsProperFront, Writes}
+use Rattle.tool_io.specs.Log.{WritesFront}
 use Rattle.tool_io.specs.Host.{IsSource}
 use Rattle.tool_io.specs.Whole.{Takes}
 use Rattle.tool_io.specs.Cutting.{lines_of}
@@ -15,7 +17,8 @@ use Rattle.c2po_runs.specs.declared.make.Form.{Form}
 use Rattle.c2po_runs.specs.declared.make.Product.{Product}
 use Rattle.c2po_runs.specs.declared.make.Product.TheVariants.{Compiled, Upgrade, Show}
 use Rattle.c2po_runs.specs.Asking.{MakeAsked, read_names, place_named}
-use Rattle.c2po_runs.specs.Made.{bytes_of, made_of_text, opened_as, text_within}
+use Rattle.c2po_runs.specs.Images.{WritesImage}
+use Rattle.c2po_runs.specs.Made.{bytes_of, first_line, made_of_text, opened_as, text_within}
 use Rattle.obs_files.specs.Faults.{opened}
 use Rattle.c2po_runs.specs.Run.{seen, is_tried, IsFaultless, Makes, MakeOutcome, WritesAttached}
 
@@ -34,12 +37,14 @@ RefusesAlone (status.TheVariants.BadHeader why) = ⊥
 RefusesAlone answer = Refuses answer
 
 -- reads of an attached header file gave its first line, or met its end before one, or there is no end of that line
-pub record ReadsLine (form : Form) (text : List ℕ) (found : Result (List ℕ) status.Status) (log : List Event) : Type 0 where
+pub record ReadsLine (form : Form) (text : List ℕ) (found : Result (List ℕ) status.Status)
+    (log : List Event) : Type 0 where
   pub bytes : List ℕ
   pub ended : Bool
   pub takes : Takes place.TheVariants.Header bytes ended log
   pub begun : HasBegun ended (lines_of ended bytes)
   pub makes : (name : List ℕ) → made_of_text form (Some name) text (lines_of ended bytes) ≡ found
+  pub image : IfOk found (WritesImage form text (Some (first_line (lines_of ended bytes))))
 
 -- reads that gave nothing
 pub record ReadsNone (log : List Event) : Type 0 where
@@ -76,7 +81,9 @@ MadeLog result found events = RefusedLog result found events
 
 -- after a specification without a fault
 abbrev pub SpecLog : Result (Vec ℕ Global) status.Status → Form → Option (List ℕ) → List ℕ → List Event → Type 0
-SpecLog result form None text events = MadeLog result (made_of_text form None text []) events
+SpecLog result form None text events =
+    MadeLog result (made_of_text form None text []) events
+    × IfOk result (λ bytes. WritesImage form text None bytes.items)
 SpecLog result form (Some name) text events = HeaderLog result form name text events
 
 -- after the text of a specification: it is refused, or it has no fault
@@ -128,7 +135,8 @@ GatherLog (Err answer) asked events = NotGathered asked answer events
 -- the bytes went out, or a front of them
 abbrev pub GivenLog : status.Status → List ℕ → List Event → Type 0
 GivenLog status.TheVariants.Done bytes events = Writes place.TheVariants.Out bytes events
-GivenLog (status.TheVariants.WriteFault place.TheVariants.Out) bytes events = WritesFront place.TheVariants.Out bytes events
+GivenLog (status.TheVariants.WriteFault place.TheVariants.Out) bytes events =
+    WritesFront place.TheVariants.Out bytes events
 GivenLog answer bytes events = ⊥
 
 -- the events are calls at Out
@@ -142,8 +150,10 @@ OnlyOut (event ∷ events) = ⊥
 -- how bytes are written, into a file where one is named
 abbrev pub PutOutcome : status.Status → Option (List ℕ) → List ℕ → List ℕ → Bool → Type 0
 PutOutcome status.TheVariants.Done out bytes sent attached = (sent ≡ bytes) × (attached ≡ is_some out)
-PutOutcome (status.TheVariants.WriteFault place.TheVariants.Out) out bytes sent attached = IsProperFront sent bytes × (attached ≡ is_some out)
-PutOutcome (status.TheVariants.OpenFault place.TheVariants.Out) out bytes sent attached = (is_some out ≡ true) × (sent ≡ []) × (attached ≡ false)
+PutOutcome (status.TheVariants.WriteFault place.TheVariants.Out) out bytes sent attached =
+    IsProperFront sent bytes × (attached ≡ is_some out)
+PutOutcome (status.TheVariants.OpenFault place.TheVariants.Out) out bytes sent attached =
+    (is_some out ≡ true) × (sent ≡ []) × (attached ≡ false)
 PutOutcome answer out bytes sent attached = ⊥
 
 -- the log of writing bytes, into a file where one is named
@@ -151,4 +161,5 @@ pub record PutLog (answer : status.Status) (out : Option (List ℕ)) (bytes : Li
   pub names : IsFront (names_of events) (place_named place.TheVariants.Out out)
   pub only : OnlyOut events
   pub writes : WritesAttached (is_some out) events
-  pub outcome : PutOutcome answer out bytes (given place.TheVariants.Out events) (is_attached place.TheVariants.Out events)
+  pub outcome : PutOutcome answer out bytes (given place.TheVariants.Out events)
+      (is_attached place.TheVariants.Out events)

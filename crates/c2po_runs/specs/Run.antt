@@ -1,6 +1,7 @@
 -- What a whole run of c2po tells: from its words to its message.
 
-use Rattle.std.specs.Prelude.{◌≡◌, ℕ, ◌<◌, ◌≤◌, ◌⊎◌, Bool, true, false, None, is_some, Result, Ok, Err, List, [], ◌∷◌, ◌++◌, length, ⊤}
+use Rattle.std.specs.Prelude.{◌≡◌, ℕ, ◌<◌, ◌≤◌, ◌⊎◌, Bool, true, false, None, is_some, Result, Ok, Err, IfOk, List, []}
+use Rattle.std.specs.Prelude.{◌∷◌, ◌++◌, length, ⊤}
 use Rattle.std.specs.List.{list_any}
 use Rattle.tool_io.specs.declared.host.Place as place
 use Rattle.tool_io.specs.Log.{Event, Gave, same_place, taken, given, ended_from, names_of, IsFront, IsProperFront}
@@ -16,6 +17,7 @@ use Rattle.tool_runs.specs.FirstLine.{HasBegun}
 use Rattle.tool_runs.specs.Telling.{is_used, ToldWhole, MessageLast}
 use Rattle.c2po_runs.specs.Asking.{Ask, help, make, nothing, MakeAsked, file_kind, asked_names}
 use Rattle.c2po_runs.specs.Made.{made}
+use Rattle.c2po_runs.specs.Images.{GivesImage}
 
 -- What a log says of a run that makes something: the places that were tried with their names, the bytes of the file and
 -- whether its end was met, the lines of the header file that were read and whether its end was met, what is out, and
@@ -67,10 +69,11 @@ pub record IsFaultless (asked : MakeAsked) (run : Seen) : Type 0 where
   pub whole : IsWhole asked run
   pub faultless : first_refusal run.file ≡ None
 
--- what was read gives these bytes, or this refusal
+-- what was read gives these bytes, or this refusal; the bytes of a compilation are those of an image
 pub record Makes (asked : MakeAsked) (run : Seen) (found : Result (List ℕ) status.Status) : Type 0 where
   pub whole : IsWhole asked run
   pub is : made asked run.file run.header ≡ found
+  pub image : IfOk found (GivesImage asked.product asked.header run.file run.header)
 
 -- an answer of a run that has tried Out: all was written, or its open or a write failed
 abbrev pub IsOfOut : status.Status → Type 0
@@ -127,8 +130,10 @@ MakeOutcome (status.TheVariants.WriteFault place.TheVariants.Out) asked run = Is
 MakeOutcome (status.TheVariants.OpenFault place.TheVariants.Out) asked run = IsUnwritten asked run
 MakeOutcome (status.TheVariants.OpenFault place.TheVariants.Header) asked run = IsUnheaded asked run
 MakeOutcome (status.TheVariants.ReadFault place.TheVariants.Header) asked run = IsUnheaded asked run
-MakeOutcome (status.TheVariants.TextTooLong place.TheVariants.Header) asked run = IsRefused (status.TheVariants.TextTooLong place.TheVariants.Header) asked run
-MakeOutcome (status.TheVariants.TextTooLong place.TheVariants.Out) asked run = IsRefused (status.TheVariants.TextTooLong place.TheVariants.Out) asked run
+MakeOutcome (status.TheVariants.TextTooLong place.TheVariants.Header) asked run =
+    IsRefused (status.TheVariants.TextTooLong place.TheVariants.Header) asked run
+MakeOutcome (status.TheVariants.TextTooLong place.TheVariants.Out) asked run =
+    IsRefused (status.TheVariants.TextTooLong place.TheVariants.Out) asked run
 MakeOutcome (status.TheVariants.OpenFault p) asked run = (p ≡ place_of asked) × (run.file ≡ []) × (run.out ≡ [])
 MakeOutcome (status.TheVariants.ReadFault p) asked run =
     (p ≡ place_of asked) × (length run.file ≤ file_limit (file_kind asked.product)) × (run.out ≡ [])
@@ -160,6 +165,14 @@ OutcomeOf answer help events = HelpOutcome answer (given place.TheVariants.Out e
 OutcomeOf answer (make asked) events = MakeOutcome answer asked (seen asked events)
 OutcomeOf answer nothing events = NothingOutcome answer (given place.TheVariants.Out events)
 
+-- what is written of a specification without `--table` is its image, in simplified form where the words ask for that
+abbrev pub CompilesImage : Ask → status.Status → List Event → Type 0
+CompilesImage (make asked) answer events =
+    answer ≡ status.TheVariants.Done
+    → GivesImage asked.product asked.header (file_in asked events) (seen asked events).header
+    (given place.TheVariants.Out events)
+CompilesImage other answer events = ⊤
+
 -- the places of what is made are tried in turn
 abbrev pub TriesOf : Ask → status.Status → List Event → Type 0
 TriesOf (make asked) answer events = TriesInTurn asked answer (seen asked events)
@@ -173,7 +186,8 @@ names_out other = false
 -- each write of an output that is to be attached comes after its attach
 abbrev pub WritesAttached : Bool → List Event → Type 0
 WritesAttached named events =
-    named ≡ true → (before after : List Event) (piece : List ℕ) → events ≡ before ++ Gave place.TheVariants.Out piece ∷ after
+    named ≡ true → (before after : List Event) (piece : List ℕ)
+    → events ≡ before ++ Gave place.TheVariants.Out piece ∷ after
     → is_attached place.TheVariants.Out before ≡ true
 
 -- the log of a run before its message
@@ -190,19 +204,22 @@ pub record Ran (asked : Ask) (answer : status.Status) (events : List Event) : Ty
 -- and help is given where it is asked for.
 abbrev pub CompletesBy : Ask → status.Status → List Event → Type 0
 CompletesBy (make asked) answer events =
-    (bytes : List ℕ) → length (file_in asked events) ≤ file_limit (file_kind asked.product) → made_in asked events ≡ Ok bytes
+    (bytes : List ℕ) → length (file_in asked events) ≤ file_limit (file_kind asked.product)
+    → made_in asked events ≡ Ok bytes
     → (answer ≡ status.TheVariants.Done) ⊎ (answer ≡ status.TheVariants.Memory)
 CompletesBy help answer events = (answer ≡ status.TheVariants.Helped) ⊎ (answer ≡ status.TheVariants.Memory)
 CompletesBy nothing answer events = ⊤
 
 -- The log of a whole run: the message is out, or a front of it, and the run completes where no call failed but those at
 -- Err.
-pub record IsMade (asked : Ask) (answer : status.Status) (before now : place.Place → ℕ) (events : List Event) : Type 0 where
+pub record IsMade (asked : Ask) (answer : status.Status) (before now : place.Place → ℕ)
+    (events : List Event) : Type 0 where
   pub names : IsFront (names_of events) (asked_names asked)
   pub tries : TriesOf asked answer events
   pub reads : ReadsAttached [] events
   pub writes : WritesAttached (names_out asked) events
   pub outcome : OutcomeOf answer asked events
+  pub image : CompilesImage asked answer events
   pub opened : OpensAsTold answer events
   pub told_user : IsFront (given place.TheVariants.Err events) (told_to_user C2po answer)
   pub told_whole : ToldWhole C2po answer (before place.TheVariants.Err) (now place.TheVariants.Err) events

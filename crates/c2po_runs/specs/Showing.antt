@@ -10,8 +10,8 @@ use Rattle.obs_files.specs.Faults.{opened}
 use Rattle.obs_show.specs.Text.{text as text_of}
 use Rattle.obs_verify.specs.Upgrade.{up}
 use Rattle.spec_compile.specs.Front.{first_refusal}
-use Rattle.spec_compile.specs.ImageFiles.{IsFileOf, IsImageFile, image_in, stored_columns}
-use Rattle.spec_compile.specs.Simplified.{simple_image_in}
+use Rattle.spec_compile.specs.ImageFiles.{IsImageFile, image_in, stored_columns}
+use Rattle.spec_compile.specs.Simplified.{IsSimpleImageFile}
 use Rattle.tool_runs.specs.declared.status.Status.{Status}
 use Rattle.tool_runs.specs.declared.status.Status.TheVariants.{Done}
 use Rattle.c2po_runs.specs.declared.make.Product.{Product}
@@ -19,24 +19,21 @@ use Rattle.c2po_runs.specs.declared.make.Product.TheVariants.{Show}
 use Rattle.c2po_runs.specs.Asking.{Ask, make}
 use Rattle.c2po_runs.specs.Run.{file_in}
 
--- a file has the bytes of the image of a text in simplified form
-abbrev pub IsSimpleImageFile : List ℕ → Columns → List ℕ → Type 0
-IsSimpleImageFile text columns file = IsFileOf text columns (simple_image_in text columns) file
-
--- what is written is a specification without a fault, and its image over the columns that a program stores has the bytes
--- of the program's file
+-- what is written is a specification without a fault, and its image over the columns that a program stores has the
+-- bytes of the program's file
 pub record Returns (program : Program) (file written : List ℕ) : Type 0 where
   pub faultless : first_refusal written ≡ None
   pub image : spelling (image_in written (stored_columns program)) ≡ file
 
--- What is written of a file is the text of its program in version 2. Where the file is the image of a specification, as it
--- stands or in simplified form, the image returns.
+-- What is written of a file is the text of its program in version 2. Where the file is the image of a specification, as
+-- it stands or in simplified form, the image returns.
 pub record IsShown (file written : List ℕ) : Type 0 where
   pub program : Program
   pub opens : opened file ≡ Ok program
   pub text : written ≡ text_of (up program)
   pub image : (source : List ℕ) (columns : Columns) → IsImageFile source columns file → Returns program file written
-  pub simple_image : (source : List ℕ) (columns : Columns) → IsSimpleImageFile source columns file → Returns program file written
+  pub simple_image : (source : List ℕ) (columns : Columns) → IsSimpleImageFile source columns file
+      → Returns program file written
 
 -- what is written of a file that is shown; of others nothing is said here
 abbrev pub ShowsFile : Product → List ℕ → List ℕ → Type 0
@@ -45,5 +42,6 @@ ShowsFile product file written = ⊤
 
 -- what a run shows of its file, where it is done
 abbrev pub ShowsProgram : Ask → Status → List Event → Type 0
-ShowsProgram (make asked) answer events = answer ≡ Done → ShowsFile asked.product (file_in asked events) (given Out events)
+ShowsProgram (make asked) answer events =
+    answer ≡ Done → ShowsFile asked.product (file_in asked events) (given Out events)
 ShowsProgram asked answer events = ⊤

@@ -1,9 +1,10 @@
 //! From a specification to the bytes that are written.
 
-ghost use Rattle.std.specs.Prelude.{◌≡◌, ◌≢◌, ◌≤◌, Err, IfErr, IfOk, List as Seq, None, Ok, OnOk, ℕ, length};
+ghost use Rattle.std.specs.Prelude.{◌≡◌, ◌≢◌, ◌≤◌, Err, IfErr, IfOk, List as Seq, None, Ok, OnOk, false, ℕ, length};
 ghost use Rattle.std.specs.Option.{ForSome, option_copied};
 ghost use Rattle.mltl_base.specs.declared.limits.TheConstants.{MAX_LINE_BYTES};
 ghost use Rattle.c2po_tree.specs.ItemShape.{spec_shape};
+ghost use Rattle.obs_binary.specs.Layout.{Fits};
 ghost use Rattle.obs_files.specs.Names.{NamesFit};
 ghost use Rattle.c2po_types.specs.Signals.{signals_of};
 ghost use Rattle.set_expand.specs.Outputs.{outputs_of};
@@ -12,6 +13,7 @@ ghost use Rattle.spec_compile.specs.Image.{AreColumnsFor, over_columns};
 ghost use Rattle.spec_compile.specs.Limits.{limit_refusal};
 ghost use Rattle.spec_compile.specs.Refusals.{IsFirstRefusal};
 ghost use Rattle.c2po_runs.specs.Phases.{Refuses, RefusesAlone};
+ghost use Rattle.c2po_runs.specs.Images.{WritesImage};
 ghost use Rattle.c2po_runs.specs.Made.{compile_status, image_by, text_bytes, written_as};
 
 use crate::make::Form;
@@ -28,6 +30,7 @@ use tool_runs::Status;
 pub(crate) fn written(alloc: Global, table: bool, checked: &Checked) -> Result<Vec<u8>, Status>
     requires names { NamesFit checked.now }
     ensures bytes { IfOk result (λ bytes. bytes.items ≡ written_as table checked.now) }
+    ensures fits { OnOk result (table ≡ false → Fits checked.now) }
     ensures memory { IfErr result (λ status. status ≡ Status.Memory) }
 {
     let made = if table {
@@ -74,6 +77,9 @@ pub(crate) fn compiled_bytes(
     ensures made { IfOk result (λ bytes.
         (text : Seq ℕ) → first_refusal text ≡ None → spec_shape spec.now ≡ items_in text →
         text_bytes form text (option_copied header.entry) ≡ Ok bytes.items) }
+    ensures image { IfOk result (λ bytes.
+        (text : Seq ℕ) → first_refusal text ≡ None → spec_shape spec.now ≡ items_in text →
+        WritesImage form text (option_copied header.entry) bytes.items) }
     ensures refused { IfErr result (λ status. status ≢ Status.Memory →
         (text : Seq ℕ) → first_refusal text ≡ None → spec_shape spec.now ≡ items_in text →
         text_bytes form text (option_copied header.entry) ≡ Err status) }

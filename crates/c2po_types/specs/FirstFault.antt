@@ -1,20 +1,23 @@
 -- The first fault of a specification: items in the order of the text, within an item names and kinds first, then the
 -- weight of what it unfolds to, divisors and ranges, and tenses.
 
-use Rattle.std.specs.Prelude.{ℕ, suc, ◌+◌, nat_le, Bool, ◌||◌, List, [], ◌∷◌, map, length, drop, Option, Some, None, Ok, Err, if◌then◌else◌}
+use Rattle.std.specs.Prelude.{ℕ, suc, ◌+◌, nat_le, Bool, ◌||◌, List, [], ◌∷◌, map, length, drop, Option, Some, None, Ok}
+use Rattle.std.specs.Prelude.{Err, if◌then◌else◌}
 use Rattle.mltl_base.specs.declared.limits.TheConstants.{MAX_WEIGHT}
 use Rattle.mltl_base.specs.declared.interval.Engine.{Engine}
 use Rattle.mltl_base.specs.declared.interval.Engine.TheVariants.{Ft, Pt}
 use Rattle.mltl_base.specs.Formula.{Formula}
 use Rattle.mltl_base.specs.Ranges.{NoRange, divisor, wide}
 use Rattle.c2po_tree.specs.Shape.{Shape}
-use Rattle.c2po_tree.specs.ItemShape.{TypeShape, FieldShape, BodyShape, ItemShape, structure, input, define, formula, contract}
+use Rattle.c2po_tree.specs.ItemShape.{TypeShape, FieldShape, BodyShape, ItemShape, structure, input, define, formula}
+use Rattle.c2po_tree.specs.ItemShape.{contract}
 use Rattle.mltl_base.specs.declared.signal.Signal.{Signal}
 use Rattle.c2po_kinds.specs.declared.declarations.Declarations.{Declarations}
 use Rattle.c2po_kinds.specs.declared.fault.TypeFault.{TypeFault}
 use Rattle.c2po_kinds.specs.declared.fault.TypeFault.TheVariants as fault
 use Rattle.c2po_kinds.specs.Checking.{Checked, ◌>>=◌, in_turn}
-use Rattle.c2po_kinds.specs.Items.{Labels, nothing, with_struct, with_input, define_kind, with_value, with_label, formula_kind, contract_kind}
+use Rattle.c2po_kinds.specs.Items.{Labels, nothing, with_struct, with_input, define_kind, with_value, with_label}
+use Rattle.c2po_kinds.specs.Items.{formula_kind, contract_kind}
 use Rattle.plain_nodes.specs.Faults.{formula_fault, or_later}
 use Rattle.plain_nodes.specs.Tenses.{has_past, has_future}
 use Rattle.unfold.specs.Environment.{Env, no_names, declare, fields, value, signal_value, value_of}
@@ -77,35 +80,50 @@ with_out line labels w why mixed s = not_wide line (s.total + w) (when_ranged li
 
 -- an output with a formula
 abbrev pub one_out : ℕ → Engine → Labels → Value → State → Checked State
-one_out line engine labels v s = with_out line labels (weight v) (formula_fault (formula_of v)) (is_mixed engine (formula_of v)) s
+one_out line engine labels v s =
+    with_out line labels (weight v) (formula_fault (formula_of v)) (is_mixed engine (formula_of v)) s
 
 -- an output with a contract
 abbrev pub two_out : ℕ → Engine → Labels → Value → Value → State → Checked State
-two_out line engine labels v w s = with_out line labels (weight v + weight w) (or_later (formula_fault (formula_of v)) (formula_fault (formula_of w)))
+two_out line engine labels v w s =
+    with_out line labels (weight v + weight w) (or_later (formula_fault (formula_of v)) (formula_fault (formula_of w)))
     (is_mixed engine (formula_of v) || is_mixed engine (formula_of w)) s
 
 -- what is known after one more struct, or its first fault
 abbrev pub struct_step : ℕ → List ℕ → List FieldShape → State → Checked State
 struct_step line x fs s = with_struct line x fs s.declared >>= λ d.
-    Ok (record { declared = d; labels = s.labels; values = declare x (fields (map (λ f. f.name) fs)) s.values; total = s.total })
+    Ok (record {
+      declared = d;
+      labels = s.labels;
+      values = declare x (fields (map (λ f. f.name) fs)) s.values;
+      total = s.total;
+    })
 
 -- what is known after one more declaration of signals, or its first fault
 abbrev pub input_step : ℕ → List (List ℕ) → TypeShape → State → Checked State
 input_step line xs t s = with_input line xs t s.declared >>= λ d. let n = length s.declared.signals in
-    Ok (record { declared = d; labels = s.labels; values = with_signals n (drop n d.signals) s.values; total = s.total })
+    Ok (record {
+      declared = d;
+      labels = s.labels;
+      values = with_signals n (drop n d.signals) s.values;
+      total = s.total;
+    })
 
 -- what is known after one more definition, or its first fault
 abbrev pub define_step : ℕ → List ℕ → Shape → State → Checked State
-define_step line x e s = define_kind line x e s.declared >>= λ k. defined line x (with_value x k s.declared) (value_of e s.values) s
+define_step line x e s =
+    define_kind line x e s.declared >>= λ k. defined line x (with_value x k s.declared) (value_of e s.values) s
 
 -- what is known after one more output with a formula, or its first fault
 abbrev pub formula_step : ℕ → Engine → Option (List ℕ) → Shape → State → Checked State
-formula_step line engine label e s = with_label line label s.labels >>= λ labels. formula_kind line e s.declared >>= λ _.
+formula_step line engine label e s =
+    with_label line label s.labels >>= λ labels. formula_kind line e s.declared >>= λ _.
     one_out line engine labels (value_of e s.values) s
 
 -- what is known after one more output with a contract, or its first fault
 abbrev pub contract_step : ℕ → Engine → Option (List ℕ) → Shape → Shape → State → Checked State
-contract_step line engine label e f s = with_label line label s.labels >>= λ labels. contract_kind line e f s.declared >>= λ _.
+contract_step line engine label e f s =
+    with_label line label s.labels >>= λ labels. contract_kind line e f s.declared >>= λ _.
     two_out line engine labels (value_of e s.values) (value_of f s.values) s
 
 -- what is known after one more item of any sort on a line, or its first fault

@@ -19,7 +19,8 @@ pub record AskFor (nodes : List Plain) (outs : List PlainOut) (told : List Asked
   pub asked : map (asked_by (trees nodes)) outs ≡ told
 
 -- what is unfolded over so many signals stands for a place, and its outputs ask for these
-pub record StandsAt (u : Unfolding) (signals : ℕ) (outs : List PlainOut) (place : Place) (told : List Asked) : Type 0 where
+pub record StandsAt (u : Unfolding) (signals : ℕ) (outs : List PlainOut) (place : Place)
+    (told : List Asked) : Type 0 where
   pub values : StandsFor u place.values
   pub numbered : signals ≡ place.signals
   pub counted : length outs ≡ place.outputs

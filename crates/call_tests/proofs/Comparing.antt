@@ -98,7 +98,7 @@ comparing-next signal other equal next n engine name nodes one two outs more h e
     let named : All (NamesFormulas (trees one)) more = rw o (All-push (NamesFormulas (trees one)) outs (Formula engine equal name) first.named (is_formula one equal _ there)) in
     let is : formula_at (trees one) equal ≡ atom (comparison Eq (term_at (trees nodes) signal) (term_at (trees nodes) other)) = ap formula_in there.found in
     let last : IsTensed (asked_by (trees one) (Formula engine equal name)) =
-    rw is (All-push (IsOfTense engine) [] (atom (comparison Eq (term_at (trees nodes) signal) (term_at (trees nodes) other))) (All-nil (IsOfTense engine)) (atom-tensed engine _)) in
+    subst (λ p. All (IsOfTense engine) (p ∷ [])) (sym is) (All-push (IsOfTense engine) [] (atom (comparison Eq (term_at (trees nodes) signal) (term_at (trees nodes) other))) (All-nil (IsOfTense engine)) (atom-tensed engine _)) in
     let tensed : All (λ out. IsTensed (asked_by (trees one) out)) more =
     rw o (All-push (λ out. IsTensed (asked_by (trees one) out)) outs (Formula engine equal name) first.tensed last) in
     let whole : AreComparing signal other one more = record { left = first.left; right = first.right; has_left = first.has_left; has_right = first.has_right; sound = first.sound; named = named; tensed = tensed } in

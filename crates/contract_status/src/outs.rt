@@ -45,6 +45,13 @@ impl Outs {
         Ok(Outs { times })
     }
 
+    /// Stands for no rows again, with 0 for each next time, in the memory that it has.
+    pub fn reset(&mut self)
+        ensures start { self.new ≡ replicate (length self.old) 0 }
+    {
+        self.times.as_mut_slice().fill(0);
+    }
+
     /// The first report that is open after `n` rows, one for each time. `None` exactly where none is open.
     pub fn next(&mut self, checked: &Checked, ft: &Ft, pt: &Pt, n: u64) -> Option<Report>
         requires early { n ≤ MAX_MISSION }

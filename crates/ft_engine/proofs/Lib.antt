@@ -1,6 +1,7 @@
 pub mod Going
 pub mod KleeneLaws
 pub mod Making
+pub mod Restarting
 pub mod Planning
 pub mod Rules
 pub mod Standings

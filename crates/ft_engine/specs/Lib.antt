@@ -1,6 +1,7 @@
 pub mod Decisions
 pub mod Plans
 pub mod Queues
+pub mod Restarts
 pub mod Running
 pub mod Scans
 pub mod Sound

@@ -6,6 +6,7 @@ ghost use Rattle.ft_engine.specs.Queues.{AreSound};
 ghost use Rattle.ft_engine.specs.Sound.{AreSound-prop};
 
 use crate::queue::{Queue, first_read, operand};
+use crate::restart::restart;
 use crate::rows::row_of;
 use booleanizer::Bz;
 use fixed_list::Fixed;
@@ -54,6 +55,15 @@ impl Ft {
         let slab = Fixed::filled(alloc, Slot::clear(), start)?;
         let queues = Fixed::of(queues);
         Ok(Ft { queues, slab })
+    }
+
+    /// Stands for no rows again, in the memory that it has.
+    pub fn reset(&mut self, checked: &Checked)
+        requires stands { (rows : List Row) × Stands checked.now rows self.old }
+        ensures stands { Stands checked.now [] self.new }
+    {
+        let program = program_of(checked);
+        restart(program.ft.as_slice(), self.queues.as_mut_slice());
     }
 
     /// Takes the row that the Booleanizer took last. It takes no memory.

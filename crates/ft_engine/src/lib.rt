@@ -11,6 +11,7 @@ pub mod laws;
 mod negation;
 mod operand;
 mod queue;
+mod restart;
 mod rows;
 mod until;
 

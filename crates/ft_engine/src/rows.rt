@@ -72,7 +72,8 @@ pub fn row_of<L: Ledger>(
     requires ready { (plan : Plan) × (n : ℕ) × (n < MAX_MISSION)
         × IsPaced plan ops.now queues.old slab.old n }
     ensures seats { KeepsSeats queues.old queues.new }
-    ensures paced { (plan : Plan) (n : ℕ) → n < MAX_MISSION → IsPaced plan ops.now queues.old slab.old n
+    ensures paced { (plan : Plan) (n : ℕ) → n < MAX_MISSION
+        → IsPaced plan ops.now queues.old slab.old n
         → IsPaced plan ops.now queues.new slab.new (n + 1) }
     ensures counted { steps.new
         ≤ steps.old + work_before ops.now (size_in queues.old) (length ops.now) }

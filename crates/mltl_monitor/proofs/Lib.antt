@@ -2,6 +2,7 @@ pub mod LastRows
 pub mod Taking
 pub mod Telling
 pub mod Keeping
+pub mod Resetting
 pub mod Holding
 pub mod Settled
 pub mod Alike

@@ -87,6 +87,17 @@ impl Monitor {
         })
     }
 
+    /// The monitor stands for no rows again, and can take up to 2 ^ 40 more. No memory is asked for or given back.
+    pub fn reset(&mut self)
+        ensures program { program_of self.new ≡ program_of self.old }
+        ensures taken { taken_by self.new ≡ 0 }
+        ensures stands { Stands self.new [] }
+        ensures drained { IsDrained self.new }
+    {
+        self.state.running.reset();
+        self.cursor = Cursor::start();
+    }
+
     /// The program.
     pub fn checked(&self) -> &Checked
         ensures program { result.now ≡ program_of self.now }

@@ -51,6 +51,21 @@ impl Running {
         })
     }
 
+    /// Stands for no rows again, in the memory that it has.
+    pub fn reset(&mut self)
+        requires some { (rows : List Row) × HasTaken self.old rows }
+        ensures program { self.new.checked ≡ self.old.checked }
+        ensures taken { self.new.taken ≡ 0 }
+        ensures numbers { length self.new.bz ≡ length self.old.bz }
+        ensures stands { HasTaken self.new [] }
+        ensures drained { IsDrained self.new }
+    {
+        self.ft.reset(&self.checked);
+        self.pt.reset(&self.checked);
+        self.outs.reset();
+        self.taken = 0;
+    }
+
     /// Takes a row. Its steps are the reads and writes of queues and boxes. It takes no memory.
     pub fn take<L: Ledger>(&mut self, fields: &[i64], steps: &mut Steps<L>)
         requires some { (rows : List Row) × HasTaken self.old rows }

@@ -15,7 +15,9 @@ use Rattle.plain_nodes.specs.Faults.{formula_fault, term_fault}
 use Rattle.plain_nodes.specs.Nodes.{Tree, number, formula, Has, Grows, AreSound}
 use Rattle.mltl_simplify.specs.declared.parts.Part.{Part}
 use Rattle.mltl_simplify.specs.Numbers.{number_of}
-use Rattle.mltl_simplify.specs.Simplify.{simp, simple_and, simple_or, simple_implies, simple_equals, simple_finally, simple_globally, simple_once, simple_historically, as_truth, unless_truth, unless_false}
+use Rattle.mltl_simplify.specs.Simplify.{simp, simple_and, simple_or, simple_implies, simple_equals, simple_finally}
+use Rattle.mltl_simplify.specs.Simplify.{simple_globally, simple_once, simple_historically, as_truth, unless_truth}
+use Rattle.mltl_simplify.specs.Simplify.{unless_false}
 
 -- operators over simplified operands, each by its rule
 abbrev pub simple_logic : logic.LogicOp → plain.Formula → plain.Formula → plain.Formula
@@ -96,12 +98,14 @@ IsNumbered known (formula p) = ⊤
 
 -- the parts of the first nodes have the numbers of these
 pub record AreNumbered (nodes : List Plain) (parts : List Part) : Type 0 where
-  pub known : (n : ℕ) (part : Part) (tree : Tree) → slice_get parts n ≡ Some part → Has nodes n tree → IsNumbered part.number tree
+  pub known : (n : ℕ) (part : Part) (tree : Tree) → slice_get parts n ≡ Some part → Has nodes n tree
+      → IsNumbered part.number tree
 
 -- there is a part for each of so many first nodes, which stands for what the node unfolds to
 pub record AreSimplified (nodes : List Plain) (count : ℕ) (simple : List Plain) (parts : List Part) : Type 0 where
   pub each : length parts ≡ count
-  pub placed : (n : ℕ) (part : Part) (tree : Tree) → slice_get parts n ≡ Some part → Has nodes n tree → IsPlaced simple part.place tree
+  pub placed : (n : ℕ) (part : Part) (tree : Tree) → slice_get parts n ≡ Some part → Has nodes n tree
+      → IsPlaced simple part.place tree
   pub numbered : AreNumbered nodes parts
   pub sound : (signals : ℕ) → AreSound signals nodes → AreSound signals simple
 

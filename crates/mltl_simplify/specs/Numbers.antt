@@ -1,7 +1,8 @@
 -- Numbers that whole-number expressions without signals are.
 -- A reader of the contracts needs this file.
 
-use Rattle.std.specs.Prelude.{◌≡◌, ◌≢◌, ℤ, pos, neg_ℤ, ◌+ℤ◌, ◌-ℤ◌, ◌*ℤ◌, int_div, int_rem, int_lt, int_le, Bool, not, FitsSigned, if◌then◌else◌, Option, Some, None, [], ⊤}
+use Rattle.std.specs.Prelude.{◌≡◌, ◌≢◌, ℤ, pos, neg_ℤ, ◌+ℤ◌, ◌-ℤ◌, ◌*ℤ◌, int_div, int_rem, int_lt, int_le, Bool, not}
+use Rattle.std.specs.Prelude.{FitsSigned, if◌then◌else◌, Option, Some, None, [], ⊤}
 use Rattle.std.specs.Int.{w64}
 use Rattle.std.specs.Ordering.{int_eq}
 use Rattle.mltl_base.specs.declared.operators.ArithOp as arith

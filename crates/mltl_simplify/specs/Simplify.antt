@@ -4,8 +4,10 @@
 use Rattle.std.specs.Prelude.{◌+◌, nat_le, Bool, true, false, ◌||◌, if◌then◌else◌, Option, Some, None, []}
 use Rattle.mltl_base.specs.declared.interval.Interval.{Interval}
 use Rattle.mltl_base.specs.declared.limits.TheConstants.{MAX_BOUND}
-use Rattle.mltl_base.specs.Atoms.{Term, column, constant, negative, plus, minus, times, quotient, remainder, Atom, is_true, equal, less, at_most, different, greater, at_least, holds}
-use Rattle.mltl_base.specs.Formula.{Formula, truth, falsity, atom, negation, conjunction, disjunction, implication, equivalence, finally, globally, until, release, once, historically, since}
+use Rattle.mltl_base.specs.Atoms.{Term, column, constant, negative, plus, minus, times, quotient, remainder, Atom}
+use Rattle.mltl_base.specs.Atoms.{is_true, equal, less, at_most, different, greater, at_least, holds}
+use Rattle.mltl_base.specs.Formula.{Formula, truth, falsity, atom, negation, conjunction, disjunction, implication}
+use Rattle.mltl_base.specs.Formula.{equivalence, finally, globally, until, release, once, historically, since}
 
 -- a truth as a formula
 abbrev pub of_truth : Bool → Formula
@@ -130,7 +132,8 @@ simple_once i x = once i x
 -- historically of true is true; two of them in a row are one. Historically of false isn't false at the first times
 unfoldable pub simple_historically : Interval → Formula → Formula
 simple_historically i truth = truth
-simple_historically i (historically j z) = if_joined i j (historically (joined i j) z) (historically i (historically j z))
+simple_historically i (historically j z) =
+    if_joined i j (historically (joined i j) z) (historically i (historically j z))
 simple_historically i x = historically i x
 
 -- until and release with a truth on the right are that truth

@@ -1,7 +1,6 @@
 //! Simplified formulas: the rules, what they keep, and the simplified form of a specification that is unfolded.
 //!
-//! `simp` in `specs/Simplify.antt` is the simplified formula. [`simplify`] makes nodes that unfold to it, one for each
-//! node at most, so that what is shared is simplified once.
+//! `simp` in `specs/Simplify.antt` is the simplified formula. [`simplify`] makes nodes that unfold to it.
 #![tactic(auto)]
 
 mod laws;

@@ -47,8 +47,8 @@ fn outs_of(alloc: Global, parts: &[Part], outs: &[PlainOut]) -> Result<List<Plai
     Ok(list)
 }
 
-/// The outputs of a specification over the simplified forms of their formulas, under the same names and numbers. Each
-/// node is simplified once, so that the time is linear in the nodes, the shared ones among them.
+/// The outputs of a specification over the simplified forms of their formulas, under the same names and numbers. The code
+/// goes over each node once, shared ones too; no clause bounds the nodes that it makes.
 ///
 /// Errors: out of memory.
 pub fn simplify(alloc: Global, spec: &Expanded) -> Result<Expanded, AllocError>

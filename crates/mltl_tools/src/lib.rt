@@ -1,10 +1,14 @@
 //! The public calls of the product under one name.
 //!
-//! [`c2po_main`] is the top call of the compiler, and [`r2u2_main`] that of the monitor.
+//! [`c2po_main`] is the top call of the compiler, and [`r2u2_main`] that of the monitor. What the one writes and the other
+//! runs is joined by the law [`compiled_and_watched`].
 #![tactic(auto)]
+
+mod laws;
 
 pub use c2po_runs::c2po_main;
 pub use demo_runs::demo_row;
+pub use laws::compiled_and_watched;
 pub use mltl_monitor::Monitor;
 pub use obs_files::{ProgramFault, image};
 pub use obs_table::instruction_table;

@@ -4,7 +4,7 @@
 //! A program that watches its own signals does the same: it needs no trace, and no words of a command.
 #![tactic(auto)]
 
-use anyhow::{Result, bail};
+use anyhow::Result;
 use mltl_monitor::Monitor;
 use spec_compile::compile;
 use std::str;
@@ -16,9 +16,7 @@ const REQUIREMENT: &[u8] = b"INPUT request, grant: bool; FTSPEC granted: request
 const ROWS: [[i64; 2]; 6] = [[1, 0], [0, 1], [1, 0], [0, 0], [0, 0], [0, 0]];
 
 fn main(rt: HostRuntime) -> Result<()> {
-    let Ok(checked) = compile(rt.alloc(), REQUIREMENT, None) else {
-        bail!("the requirement isn't one");
-    };
+    let checked = compile(rt.alloc(), REQUIREMENT, None)?;
     let mut monitor = Monitor::load(rt.alloc(), checked)?;
     for row in &ROWS {
         monitor.take(row)?;

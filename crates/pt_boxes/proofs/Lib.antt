@@ -1,6 +1,7 @@
 pub mod Apart
 pub mod Covering
 pub mod Making
+pub mod Restarting
 pub mod Meanings
 pub mod Rings
 pub mod Sinces

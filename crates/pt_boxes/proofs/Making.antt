@@ -45,14 +45,14 @@ started_more sizes nodes start i new count s fresh begins = record {
 }
 
 -- no boxes are apart, belong to any spans, and tell what no rows tell
-first_apart : (op : PtOp) (boxes : List Span) → boxes ≡ [] → HasBoxes op 0 boxes
+pub first_apart : (op : PtOp) (boxes : List Span) → boxes ≡ [] → HasBoxes op 0 boxes
 first_apart True boxes e = tt
 first_apart (Load k) boxes e = tt
 first_apart (Not g) boxes e = tt
 first_apart (And l r) boxes e = tt
 first_apart (Since l r window) boxes e = subst (λ (xs : List Span). AreApart window 0 0 xs) (sym e) (none_apart window 0)
 
-first_told : (op : PtOp) (table : Table) (boxes : List Span) → boxes ≡ [] → IsTold op table 0 boxes
+pub first_told : (op : PtOp) (table : Table) (boxes : List Span) → boxes ≡ [] → IsTold op table 0 boxes
 unfolding some_below
 first_told True table boxes e = tt
 first_told (Load k) table boxes e = tt
@@ -60,7 +60,7 @@ first_told (Not g) table boxes e = tt
 first_told (And l r) table boxes e = tt
 first_told (Since l r window) table boxes e = subst (λ (xs : List Span). IsTold (Since l r window) table 0 xs) (sym e) (record { each = λ u h. refl })
 
-first_belongs : (boxes : Boxes) (spans : List Span) → boxes ≡ no_boxes → Belongs boxes spans
+pub first_belongs : (boxes : Boxes) (spans : List Span) → boxes ≡ no_boxes → Belongs boxes spans
 first_belongs boxes spans e = subst (λ (b : Boxes). Belongs b spans) (sym e) (record { oldest_in = λ h. h; used_in = omega arith })
 
 -- new nodes stand for no rows

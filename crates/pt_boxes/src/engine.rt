@@ -4,6 +4,7 @@ ghost use Rattle.std.specs.Prelude.{◌≡◌};
 ghost use Rattle.obs_verify.specs.Running.{RunsPast};
 
 use crate::boxes::{Boxes, Span};
+use crate::restart::restart;
 use crate::rows::{Node, row_of};
 use booleanizer::Bz;
 use fixed_list::Fixed;
@@ -53,6 +54,15 @@ impl Pt {
             slab,
             rows: 0,
         })
+    }
+
+    /// Stands for no rows again, in the memory that it has.
+    pub fn reset(&mut self, checked: &Checked)
+        requires stands { (rows : List Row) × Stands checked.now rows self.old }
+        ensures stands { Stands checked.now [] self.new }
+    {
+        restart(self.nodes.as_mut_slice());
+        self.rows = 0;
     }
 
     /// Takes the row that the Booleanizer took last. It takes no memory.

@@ -6,6 +6,7 @@
 mod boxes;
 pub mod bytes;
 mod engine;
+mod restart;
 mod rows;
 mod since;
 

@@ -6,7 +6,7 @@ use Rattle.mltl_base.specs.declared.report.Report.{Report}
 use Rattle.mltl_base.specs.declared.report.Style.{Style}
 use Rattle.mltl_base.specs.Atoms.{Row}
 use Rattle.mltl_monitor.specs.declared.state.State.{State}
-use Rattle.mltl_monitor.specs.Monitoring.{HasGiven, Stands, TakesRow, open_of}
+use Rattle.mltl_monitor.specs.Monitoring.{HasGiven, Stands, TakesRow, open_of, program_of}
 use Rattle.mltl_monitor.specs.declared.row_fault.RowFault.{RowFault}
 use Rattle.mltl_monitor.specs.declared.row_fault.RowFault.TheVariants.{ReportsLeft, NotARow, TooManyRows}
 use Rattle.mltl_monitor.specs.RowFaults.{IsRowCause}
@@ -16,7 +16,7 @@ use Rattle.r2u2_c.specs.declared.opening.Refusal.{Refusal}
 use Rattle.r2u2_c.specs.declared.report.Told.{Told}
 use Rattle.r2u2_c.specs.declared.row_why.RowWhy.{RowWhy}
 use Rattle.r2u2_c.specs.Faults.{fault_of}
-use Rattle.r2u2_c.specs.Opening.{Starts}
+use Rattle.r2u2_c.specs.Opening.{IsFresh, Starts}
 use Rattle.r2u2_c.specs.Reports.{shown}
 
 -- none was open, and now a fresh monitor of the program that was found is
@@ -29,6 +29,12 @@ Opens found (Some before) after = ⊥
 abbrev pub Refuses : Result Program Refusal → Fault → Type 0
 Refuses (Err why) fault = fault ≡ fault_of why
 Refuses (Ok program) fault = ⊥
+
+-- the monitor that is open is one of the same program that has taken no rows, and has no report to give
+abbrev pub BeginsAgain : Option State → Option State → Type 0
+BeginsAgain (Some before) (Some after) = IsFresh (program_of before) after
+BeginsAgain (Some before) None = ⊥
+BeginsAgain None after = ⊥
 
 -- the monitor that is open has taken the row
 abbrev pub Takes : Row → Option State → Option State → Type 0

@@ -4,6 +4,8 @@ use Rattle.std.specs.Prelude.{ℕ, List, ◌++◌, codes, drop, length, replicat
 use Rattle.mltl_base.specs.declared.interval.Part as part
 use Rattle.obs_files.specs.declared.fault.ProgramFault as fault
 use Rattle.obs_files.specs.Texts.{fault_text}
+use Rattle.trace_feed.specs.declared.header_fault.HeaderFault.TheVariants as header
+use Rattle.trace_feed.specs.HeaderTexts.{header_fault_text}
 use Rattle.r2u2_c.specs.declared.fault.Fault.{Fault}
 use Rattle.r2u2_c.specs.declared.opening.Refusal.{Refusal}
 use Rattle.r2u2_c.specs.declared.opening.Refusal.TheVariants.{Program, NoSignals, LongHeader, NoHeader, Missing, Twice}
@@ -14,10 +16,10 @@ abbrev pub text_of : Refusal → List ℕ
 text_of (Program f) = fault_text f
 text_of NoSignals = codes "no signals"
 text_of LongHeader = codes "line too long"
-text_of NoHeader = codes "no header"
-text_of (Missing name) = codes "name " ++ name ++ codes " missing"
-text_of (Twice name) = codes "name " ++ name ++ codes " twice"
-text_of Memory = codes "out of memory"
+text_of NoHeader = header_fault_text header.NoHeader
+text_of (Missing name) = header_fault_text (header.Missing name)
+text_of (Twice name) = header_fault_text (header.Twice name)
+text_of Memory = header_fault_text header.Memory
 
 -- each kind of fault of a program has a number of its own
 abbrev pub fault_kind : fault.ProgramFault → ℕ

@@ -4,7 +4,7 @@ ghost use Rattle.std.specs.Prelude.{◌≡◌, ◌≢◌, ◌↔◌, ◌<◌, []
 ghost use Rattle.mltl_monitor.specs.Monitoring.{IsDrained};
 ghost use Rattle.r2u2_c.specs.declared.opening.Refusal.TheVariants.{Memory};
 ghost use Rattle.mltl_monitor.specs.declared.row_fault.RowFault.TheVariants.{NotARow, ReportsLeft, TooManyRows};
-ghost use Rattle.r2u2_c.specs.Exports.{HoldsBack, Opens, Refuses, Takes, Tells, TellsWhy, why_of};
+ghost use Rattle.r2u2_c.specs.Exports.{BeginsAgain, HoldsBack, Opens, Refuses, Takes, Tells, TellsWhy, why_of};
 ghost use Rattle.r2u2_c.specs.Faults.{fault_of};
 ghost use Rattle.r2u2_c.specs.Opening.{program_by, program_under};
 ghost use Rattle.r2u2_c.specs.Reports.{style_of};
@@ -146,6 +146,24 @@ pub extern "C" fn r2u2_next(it: &mut R2u2, alloc: Global, runs: u32, report: &mu
                     DONE
                 }
             }
+        }
+    }
+}
+
+/// Lets the monitor that is open stand for no rows again, in the memory that it has.
+#[unsafe(no_mangle)]
+pub extern "C" fn r2u2_reset(it: &mut R2u2, alloc: Global) -> u32
+    ensures begins { result ≡ DONE → BeginsAgain it.old.value it.new.value }
+    ensures not_open { (result ≡ NOT_OPEN) ↔ (it.old.value ≡ None) }
+    ensures kept { 0 < result → it.new.value ≡ it.old.value }
+    ensures codes { Contains (DONE ∷ NOT_OPEN ∷ []) result }
+{
+    match it.take(alloc) {
+        None => NOT_OPEN,
+        Some(mut monitor) => {
+            monitor.reset();
+            it.put(monitor);
+            DONE
         }
     }
 }

@@ -20,7 +20,7 @@ mod row_why;
 pub mod version;
 
 pub use bytes::r2u2_bytes;
-pub use exports::{r2u2_close, r2u2_next, r2u2_open, r2u2_open_under, r2u2_row};
+pub use exports::{r2u2_close, r2u2_next, r2u2_open, r2u2_open_under, r2u2_reset, r2u2_row};
 pub use fault::Fault;
 pub use handle::R2u2;
 pub use opening::Refusal;

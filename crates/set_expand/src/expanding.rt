@@ -62,9 +62,9 @@ fn copy_expanded(alloc: Global, expanded: &Expanded) -> Result<Expanded, AllocEr
     Ok(Expanded { nodes, outs })
 }
 
-/// The outputs of a specification as nodes, operands before the nodes that use them. The value of a name is unfolded
-/// once, however often the name is used. Signals are numbered in the order of declaration, and an output without a
-/// label has the decimal text of its number as its name, counted from 0.
+/// The outputs of a specification as nodes, operands before the nodes that use them: a copy of what its check has
+/// unfolded. Signals are numbered in the order of declaration, and an output without a label has the decimal text of its
+/// number as its name, counted from 0.
 ///
 /// Errors: out of memory.
 pub fn expand(alloc: Global, spec: &TypedSpec) -> Result<Expanded, AllocError>

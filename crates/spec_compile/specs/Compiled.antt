@@ -35,7 +35,8 @@ unless_refused (Some refusal) found = Err refusal
 
 -- the image over columns, unless a limit is exceeded
 abbrev pub image_within : List Signal → List Asked → Columns → Result Program CompileFault
-image_within signals outs columns = unless_refused (limit_refusal (over_columns columns outs)) (Ok (image columns signals outs))
+image_within signals outs columns =
+    unless_refused (limit_refusal (over_columns columns outs)) (Ok (image columns signals outs))
 
 -- the same over the columns of a header, where it has no fault
 abbrev pub image_under : List Signal → List Asked → Result Columns HeaderFault → Result Program CompileFault
@@ -46,7 +47,8 @@ image_under signals outs (Err fault) = Err (header_refusal fault)
 -- first refusal: the text's, then the header's, then that of a limit
 unfoldable pub image_of_text : List ℕ → Option (List ℕ) → Result Program CompileFault
 image_of_text text header =
-    unless_refused (first_refusal text) (image_under (signals_in text) (outputs_in text) (columns_by (signals_in text) header))
+    unless_refused (first_refusal text) (image_under (signals_in text) (outputs_in text)
+    (columns_by (signals_in text) header))
 
 -- a program is the image of a text over the columns that a header line, or the order of declaration, gives its signals
 pub record IsImageUnder (text : List ℕ) (header : Option (List ℕ)) (program : Program) : Type 0 where

@@ -27,8 +27,8 @@ stored_columns program = record { width = program.width; of_signal = map (λ sig
 abbrev pub moved_image : List ℕ → Columns → Columns → Program
 moved_image text old new = bound (image_in text old) new.width new.of_signal
 
--- a text without a fault, with columns over which the verifier finds no fault in its image, and with further columns, one
--- for each signal
+-- a text without a fault, with columns over which the verifier finds no fault in its image, and with further columns,
+-- one for each signal
 pub record CanMove (text : List ℕ) (old new : Columns) : Type 0 where
   pub faultless : first_refusal text ≡ None
   pub serve : AreColumnsFor (length (signals_in text)) old

@@ -6,3 +6,4 @@ pub mod Compiled
 pub mod ImageFiles
 pub mod Simplified
 pub mod Unfolded
+pub mod FaultTexts

@@ -13,7 +13,8 @@ use Rattle.spec_compile.specs.declared.fault.CompileFault.TheVariants.{Refused}
 -- whether one of the three lists of instructions is longer than the limit
 abbrev pub has_many_nodes : List Asked → Bool
 has_many_nodes outs = nat_lt MAX_INSTRUCTIONS (length (bz_expressions outs))
-    || (nat_lt MAX_INSTRUCTIONS (length (subformulas Ft outs)) || nat_lt MAX_INSTRUCTIONS (length (subformulas Pt outs)))
+    || (nat_lt MAX_INSTRUCTIONS (length (subformulas Ft outs))
+    || nat_lt MAX_INSTRUCTIONS (length (subformulas Pt outs)))
 
 -- whether the worst-case delay of some future-time instruction is above the limit
 abbrev pub is_late : List Asked → Bool

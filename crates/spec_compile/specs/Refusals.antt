@@ -12,7 +12,10 @@ use Rattle.obs_build.specs.declared.fault.BuildFault.TheVariants as built
 use Rattle.trace_feed.specs.declared.header_fault.HeaderFault.{HeaderFault}
 use Rattle.trace_feed.specs.declared.header_fault.HeaderFault.TheVariants as header
 use Rattle.spec_compile.specs.declared.fault.HeaderWhy.TheVariants as why
-use Rattle.spec_compile.specs.declared.fault.Refusal.TheVariants.{Letter, LongWord, Number, TooManyTokens, Grammar, Unknown, Twice, Kind, Count, Field, Bounds, Signals, Wide, Divisor, Range, Tense, TooManyNodes, TooLate, TooManySlots}
+use Rattle.spec_compile.specs.declared.fault.Refusal.TheVariants.{Letter, LongWord, Number, TooManyTokens, Grammar}
+use Rattle.spec_compile.specs.declared.fault.Refusal.TheVariants.{Unknown, Twice, Kind, Count, Field, Bounds, Signals}
+use Rattle.spec_compile.specs.declared.fault.Refusal.TheVariants.{Wide, Divisor, Range, Tense, TooManyNodes, TooLate}
+use Rattle.spec_compile.specs.declared.fault.Refusal.TheVariants.{TooManySlots}
 use Rattle.spec_compile.specs.declared.fault.CompileFault.{CompileFault}
 use Rattle.spec_compile.specs.declared.fault.CompileFault.TheVariants.{Refused, BadHeader, Memory}
 

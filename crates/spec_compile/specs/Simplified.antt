@@ -1,6 +1,7 @@
 -- The program that is compiled where simplified forms are asked for.
 
-use Rattle.std.specs.Prelude.{◌≡◌, ◌+◌, ◌<◌, ℕ, nat_le, Bool, true, false, ◌&&◌, if◌then◌else◌, is_none, List, length, slice_get, Option, Some, None, Result, Ok, sum}
+use Rattle.std.specs.Prelude.{◌≡◌, ◌+◌, ◌<◌, ℕ, nat_le, Bool, true, false, ◌&&◌, if◌then◌else◌, is_none, List, length}
+use Rattle.std.specs.Prelude.{slice_get, Option, Some, None, Result, Ok, sum}
 use Rattle.mltl_base.specs.declared.program.Columns.{Columns}
 use Rattle.mltl_base.specs.declared.program.Program.{Program}
 use Rattle.mltl_base.specs.declared.report.Report.{Report}
@@ -44,14 +45,16 @@ are_smaller simple plain = is_none (limit_refusal simple) && nat_le (slots_of si
 -- the outputs in their simplified forms where these are smaller, else as they are
 unfoldable pub smaller_outputs : Columns → List Asked → List Asked
 smaller_outputs columns outs =
-    if are_smaller (over_columns columns (simple_outputs outs)) (over_columns columns outs) then simple_outputs outs else outs
+    if are_smaller (over_columns columns (simple_outputs outs)) (over_columns columns outs) then simple_outputs outs
+    else outs
 
 -- the image of these
 abbrev pub simple_image : Columns → List Signal → List Asked → Program
 simple_image columns signals outs = image columns signals (smaller_outputs columns outs)
 
 -- that image, where there is an image over columns; else what refuses it
-abbrev pub simplified : List Signal → List Asked → Result Columns HeaderFault → Result Program CompileFault → Result Program CompileFault
+abbrev pub simplified : List Signal → List Asked → Result Columns HeaderFault → Result Program CompileFault
+    → Result Program CompileFault
 simplified signals outs (Ok columns) (Ok plain) = Ok (simple_image columns signals outs)
 simplified signals outs columns found = found
 
@@ -68,8 +71,8 @@ simple_image_in text columns = simple_image columns (signals_in text) (outputs_i
 abbrev pub moved_simple_image : List ℕ → Columns → Columns → Program
 moved_simple_image text old new = bound (simple_image_in text old) new.width new.of_signal
 
--- a text without a fault, with columns over which the verifier finds no fault in that image, and with further columns, one
--- for each signal
+-- a text without a fault, with columns over which the verifier finds no fault in that image, and with further columns,
+-- one for each signal
 pub record CanMoveSimple (text : List ℕ) (old new : Columns) : Type 0 where
   pub faultless : first_refusal text ≡ None
   pub serve : AreColumnsFor (length (signals_in text)) old

@@ -1,6 +1,7 @@
 //! Why a specification isn't compiled.
 
-ghost use Rattle.std.specs.Prelude.{◌≡◌};
+ghost use Rattle.std.specs.Prelude.{◌≡◌, ◌≤◌, length};
+ghost use Rattle.spec_compile.specs.FaultTexts.{header_fault_of, refusal_text};
 ghost use Rattle.spec_compile.specs.Refusals.{build_refusal, check_refusal, header_refusal, token_refusal, tree_refusal};
 
 use c2po_lexer::LexFault;
@@ -9,6 +10,8 @@ use c2po_types::TypeFault;
 use mltl_base::Name;
 use obs_build::BuildFault;
 use std::alloc::AllocError;
+use std::error::Error;
+use std::fmt;
 use trace_feed::HeaderFault;
 
 /// Why a specification is refused.
@@ -54,6 +57,36 @@ pub enum Refusal {
     TooManySlots,
 }
 
+impl Refusal {
+    /// What is wrong, in words.
+    pub fn text(self) -> &'static str
+        ensures text { result.now ≡ refusal_text self }
+        ensures short { length result.now ≤ 25 }
+    {
+        match self {
+            Refusal::Letter => "bad character",
+            Refusal::LongWord => "word too long",
+            Refusal::Number => "number too large",
+            Refusal::TooManyTokens => "item too long",
+            Refusal::Grammar => "syntax",
+            Refusal::Unknown => "unknown name",
+            Refusal::Twice => "name declared twice",
+            Refusal::Kind => "wrong kind",
+            Refusal::Count => "wrong number of arguments",
+            Refusal::Field => "unknown field",
+            Refusal::Bounds => "bad interval",
+            Refusal::Signals => "too many signals",
+            Refusal::Wide => "expansion too large",
+            Refusal::Divisor => "bad divisor",
+            Refusal::Range => "number range",
+            Refusal::Tense => "mixed tense",
+            Refusal::TooManyNodes => "too many nodes",
+            Refusal::TooLate => "delay too large",
+            Refusal::TooManySlots => "too many slots",
+        }
+    }
+}
+
 /// What is wrong with a header line.
 #[derive(Drop)]
 pub enum HeaderWhy {
@@ -63,6 +96,19 @@ pub enum HeaderWhy {
     Missing(Name),
     /// More than one column has the name of this signal.
     Twice(Name),
+}
+
+impl HeaderWhy {
+    /// The fault of the header, as the reader of headers has it.
+    fn fault(&self) -> HeaderFault
+        ensures { result ≡ header_fault_of self.now }
+    {
+        match self {
+            HeaderWhy::NoHeader => HeaderFault::NoHeader,
+            HeaderWhy::Missing(name) => HeaderFault::Missing(name.copy()),
+            HeaderWhy::Twice(name) => HeaderFault::Twice(name.copy()),
+        }
+    }
 }
 
 /// Why a specification isn't compiled.
@@ -75,6 +121,39 @@ pub enum CompileFault {
     /// Out of memory.
     Memory,
 }
+
+impl fmt::Display for CompileFault {
+    ghost use Rattle.std.specs.Prelude.{Some};
+    ghost use Rattle.spec_compile.specs.FaultTexts.{compile_fault_text};
+
+    ghost output = { λ fault. Some (compile_fault_text fault) };
+
+    fn fmt<W: fmt::Write>(&self, f: &mut fmt::Formatter<W>) -> fmt::Result {
+        match self {
+            CompileFault::Refused(0, why) => {
+                let why = why.text();
+                write!(f, "{why}")
+            }
+            CompileFault::Refused(line, why) => {
+                let why = why.text();
+                write!(f, "line {line}: {why}")
+            }
+            CompileFault::BadHeader(why) => {
+                let fault = why.fault();
+                write!(f, "header: {fault}")
+            }
+            CompileFault::Memory => write!(f, "out of memory"),
+        }
+    }
+}
+
+impl fmt::Debug for CompileFault {
+    fn fmt<W: fmt::Write>(&self, f: &mut fmt::Formatter<W>) -> fmt::Result {
+        fmt::Display::fmt(self, f)
+    }
+}
+
+impl Error for CompileFault {}
 
 impl From<LexFault> for CompileFault {
     ghost from_gives = { λ fault e. e ≡ token_refusal fault };

@@ -1,12 +1,14 @@
 -- The messages of both programs, in bytes.
 
-use Rattle.std.specs.Prelude.{ℕ, ◌+◌, ◌==◌, if◌then◌else◌, List, [], ◌++◌, codes, decimal}
+use Rattle.std.specs.Prelude.{ℕ, ◌+◌, List, [], ◌++◌, codes, decimal}
 use Rattle.tool_io.specs.declared.host.Place as place
 use Rattle.tool_runs.specs.declared.message.Tool as tool
 use Rattle.tool_runs.specs.declared.status.Status as status
-use Rattle.spec_compile.specs.declared.fault.Refusal as refusal
-use Rattle.obs_files.specs.Texts.{fault_text}
-use Rattle.spec_compile.specs.declared.fault.HeaderWhy as header
+use Rattle.obs_files.specs.declared.fault.FileFault.TheVariants.{Program}
+use Rattle.obs_files.specs.Texts.{file_fault_text}
+use Rattle.spec_compile.specs.declared.fault.CompileFault as compile
+use Rattle.spec_compile.specs.FaultTexts.{compile_fault_text}
+use Rattle.trace_feed.specs.HeaderTexts.{missing_text, twice_text}
 use Rattle.trace_watch.specs.declared.status.TraceWhy as trace
 
 -- the name of a program
@@ -19,42 +21,6 @@ abbrev pub usage : tool.Tool → List ℕ
 usage tool.TheVariants.C2po = codes "usage: c2po [--header FILE] [-o FILE] [--table] [--simplify] SPEC | c2po --upgrade [-o FILE] PROGRAM | c2po --show [-o FILE] PROGRAM\n"
 usage tool.TheVariants.R2u2 =
     codes "usage: r2u2 [--source] [--runs] [--timed] [--mission-time N] FILE [TRACE] | r2u2 --demo SEED,ROWS\n"
-
--- why a specification is refused
-abbrev pub refusal_text : refusal.Refusal → List ℕ
-refusal_text refusal.TheVariants.Letter = codes "bad character"
-refusal_text refusal.TheVariants.LongWord = codes "word too long"
-refusal_text refusal.TheVariants.Number = codes "number too large"
-refusal_text refusal.TheVariants.TooManyTokens = codes "item too long"
-refusal_text refusal.TheVariants.Grammar = codes "syntax"
-refusal_text refusal.TheVariants.Unknown = codes "unknown name"
-refusal_text refusal.TheVariants.Twice = codes "name declared twice"
-refusal_text refusal.TheVariants.Kind = codes "wrong kind"
-refusal_text refusal.TheVariants.Count = codes "wrong number of arguments"
-refusal_text refusal.TheVariants.Field = codes "unknown field"
-refusal_text refusal.TheVariants.Bounds = codes "bad interval"
-refusal_text refusal.TheVariants.Signals = codes "too many signals"
-refusal_text refusal.TheVariants.Wide = codes "expansion too large"
-refusal_text refusal.TheVariants.Divisor = codes "bad divisor"
-refusal_text refusal.TheVariants.Range = codes "number range"
-refusal_text refusal.TheVariants.Tense = codes "mixed tense"
-refusal_text refusal.TheVariants.TooManyNodes = codes "too many nodes"
-refusal_text refusal.TheVariants.TooLate = codes "delay too large"
-refusal_text refusal.TheVariants.TooManySlots = codes "too many slots"
-
--- a name that no column has
-abbrev pub missing_text : List ℕ → List ℕ
-missing_text name = codes "name " ++ name ++ codes " missing"
-
--- a name that more than one column has
-abbrev pub twice_text : List ℕ → List ℕ
-twice_text name = codes "name " ++ name ++ codes " twice"
-
--- what is wrong with a header
-abbrev pub header_text : header.HeaderWhy → List ℕ
-header_text header.TheVariants.NoHeader = codes "no header"
-header_text (header.TheVariants.Missing name) = missing_text name
-header_text (header.TheVariants.Twice name) = twice_text name
 
 -- what is wrong with a line of a trace; a column counts from 1 here
 abbrev pub trace_text : trace.TraceWhy → List ℕ
@@ -76,25 +42,21 @@ place_name place.TheVariants.Trace = codes "trace"
 place_name place.TheVariants.Out = codes "output"
 place_name place.TheVariants.Err = codes "error output"
 
--- the line of a specification, where there is one
-abbrev pub line_text : ℕ → List ℕ
-line_text n = if n == 0 then [] else codes "line " ++ decimal n ++ codes ": "
-
 -- what a status says after the program's name
 abbrev pub status_text : status.Status → List ℕ
 status_text status.TheVariants.Done = []
 status_text status.TheVariants.Helped = []
 status_text status.TheVariants.Usage = []
-status_text (status.TheVariants.Refused n why) = line_text n ++ refusal_text why
-status_text (status.TheVariants.BadProgram fault) = codes "program: " ++ fault_text fault
-status_text (status.TheVariants.BadHeader why) = codes "header: " ++ header_text why
+status_text (status.TheVariants.Refused n why) = compile_fault_text (compile.TheVariants.Refused n why)
+status_text (status.TheVariants.BadProgram fault) = file_fault_text (Program fault)
+status_text (status.TheVariants.BadHeader why) = compile_fault_text (compile.TheVariants.BadHeader why)
 status_text (status.TheVariants.BadTrace n why) = codes "trace line " ++ decimal n ++ codes ": " ++ trace_text why
 status_text status.TheVariants.TooLong = codes "trace longer than the mission time"
 status_text (status.TheVariants.TextTooLong p) = place_name p ++ codes " too long"
 status_text (status.TheVariants.OpenFault p) = codes "cannot open " ++ place_name p
 status_text (status.TheVariants.ReadFault p) = codes "cannot read " ++ place_name p
 status_text (status.TheVariants.WriteFault p) = codes "cannot write " ++ place_name p
-status_text status.TheVariants.Memory = codes "out of memory"
+status_text status.TheVariants.Memory = compile_fault_text compile.TheVariants.Memory
 
 -- the line with the program's name
 abbrev pub told_by : tool.Tool → status.Status → List ℕ

@@ -2,7 +2,9 @@
 
 ghost use Rattle.std.specs.Prelude.{◌≡◌, ◌+◌, ◌≤◌, ◌++◌, length, decimal};
 ghost use Rattle.arrayvec.specs.ArrayVec.{array_vec_len};
-ghost use Rattle.tool_runs.specs.Messages.{message, usage, tool_name, refusal_text, missing_text, twice_text, header_text, trace_text, place_name, line_text, status_text};
+ghost use Rattle.spec_compile.specs.FaultTexts.{header_fault_of, line_text, refusal_text};
+ghost use Rattle.trace_feed.specs.HeaderTexts.{header_fault_text, missing_text, twice_text};
+ghost use Rattle.tool_runs.specs.Messages.{message, usage, tool_name, trace_text, place_name, status_text};
 
 use crate::Status;
 use crate::text::add;
@@ -138,7 +140,7 @@ fn add_refusal(text: &mut Text, line: u32, why: Refusal)
     ensures len { array_vec_len text.new ≤ 191 }
 {
     add_line(text, line);
-    add(text, words_of(why).as_bytes());
+    add(text, why.text().as_bytes());
 }
 
 fn add_line(text: &mut Text, line: u32)
@@ -154,36 +156,9 @@ fn add_line(text: &mut Text, line: u32)
     add(text, b": ");
 }
 
-fn words_of(why: Refusal) -> &'static str
-    ensures text { result.now ≡ refusal_text why }
-    ensures short { length result.now ≤ 25 }
-{
-    match why {
-        Refusal::Letter => "bad character",
-        Refusal::LongWord => "word too long",
-        Refusal::Number => "number too large",
-        Refusal::TooManyTokens => "item too long",
-        Refusal::Grammar => "syntax",
-        Refusal::Unknown => "unknown name",
-        Refusal::Twice => "name declared twice",
-        Refusal::Kind => "wrong kind",
-        Refusal::Count => "wrong number of arguments",
-        Refusal::Field => "unknown field",
-        Refusal::Bounds => "bad interval",
-        Refusal::Signals => "too many signals",
-        Refusal::Wide => "expansion too large",
-        Refusal::Divisor => "bad divisor",
-        Refusal::Range => "number range",
-        Refusal::Tense => "mixed tense",
-        Refusal::TooManyNodes => "too many nodes",
-        Refusal::TooLate => "delay too large",
-        Refusal::TooManySlots => "too many slots",
-    }
-}
-
 fn add_header(text: &mut Text, why: &HeaderWhy)
     requires { array_vec_len text.old ≤ 100 }
-    ensures items { text.new.items ≡ text.old.items ++ header_text why.now }
+    ensures items { text.new.items ≡ text.old.items ++ header_fault_text (header_fault_of why.now) }
     ensures len { array_vec_len text.new ≤ 191 }
 {
     match why {

@@ -75,6 +75,7 @@ extern "C" {
     fn r2u2_name(it: *mut Struct, k: u32, buffer: *mut u8, count: usize) -> u32;
     fn r2u2_row(it: *mut Struct, numbers: *const i64, count: usize, fault: *mut RawRowFault) -> u32;
     fn r2u2_next(it: *mut Struct, style: u32, report: *mut RawReport) -> u32;
+    fn r2u2_reset(it: *mut Struct) -> u32;
     fn r2u2_close(it: *mut Struct);
 }
 
@@ -250,6 +251,12 @@ impl Monitor {
             6 => Err(Error::NotARow { column: fault.column }),
             _ => Err(Error::TooManyRows),
         }
+    }
+
+    /// Begins again: it has taken no rows, and has no report to give. It keeps its program and its memory.
+    pub fn reset(&mut self) {
+        // It is open, so there is no other answer than done.
+        unsafe { r2u2_reset(&mut self.it) };
     }
 
     /// The reports that are left.

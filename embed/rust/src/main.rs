@@ -1,6 +1,6 @@
 //! Watches the rows of the first example: `r2u2 PROGRAM` prints the lines of the monitor.
 
-use r2u2::{Error, Monitor, Signal};
+use r2u2::{Error, Monitor, Signal, Style};
 
 const ROWS: [[i64; 2]; 6] = [[1, 0], [0, 1], [1, 0], [0, 0], [0, 0], [0, 0]];
 
@@ -14,6 +14,9 @@ fn main() -> Result<(), Box<dyn std::error::Error>> {
     assert!(Monitor::bytes(&program)? > 0);
     assert!(monitor.rows() == 0 && monitor.delay(0) > 0 && monitor.steps() > 0 && r2u2::version() > 0);
     assert_eq!(monitor.row(&[0, 2]).err(), Some(Error::NotARow { column: 1 }));
+    monitor.row(&ROWS[1])?;
+    monitor.reset();
+    assert!(monitor.rows() == 0 && monitor.reports(Style::Each).next().is_none());
     for row in ROWS {
         for report in monitor.row(&row)? {
             println!("{name}:{},{}", report.time, report.word);

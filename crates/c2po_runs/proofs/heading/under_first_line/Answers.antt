@@ -1,10 +1,11 @@
-use Rattle.std.proofs.Common.{◌≡◌, ◌≤◌, Some, length, subst, sym}
-use Rattle.std.proofs.lemmas.Result.{err_from_is_err_and}
+use Rattle.std.proofs.Common.{◌≡◌, ◌≤◌, IfOk, Some, length, subst, sym}
+use Rattle.std.proofs.lemmas.Result.{IfOk-weaker, err_from_is_err_and}
 use Rattle.c2po_tree.specs.ItemShape.{spec_shape}
 use Rattle.tool_io.specs.declared.host.Place.TheVariants.{Header}
 use Rattle.tool_io.specs.declared.line_cut.Line as line
 use Rattle.tool_io.specs.Cutting.{CutsLine}
 use Rattle.tool_io.proofs.LogLaws.{OnLog-none, OnLog-map}
+use Rattle.c2po_runs.specs.Images.{WritesImage}
 use Rattle.c2po_runs.specs.Made.{text_bytes}
 use Rattle.c2po_runs.proofs.HeadLaws.{Made, end_made, fault_made, line_short, long_made, made_so, none_made, row_made}
 use Rattle.c2po_runs.proofs.heading.under_first_line.Goals as goal
@@ -31,7 +32,9 @@ returns-in-Row-clause-log g c text none same =
     OnLog-map _ _ _ c.in-Row.ensures.log
     (λ events cuts. row_made cut events c.args.form text none c.compiled_bytes.result (subst (λ start. CutsLine Header start cut line.TheVariants.Row events) c.in_ok-cut.ensures cuts)
     (subst (λ l. Made c.compiled_bytes.result (text_bytes c.args.form text (Some l))) c.line.ensures
-    (made_so c.args.form (Some c.line.result.now) (spec_shape c.args.spec.now) text c.compiled_bytes.result made.made made.refused made.refuses none same)))
+    (made_so c.args.form (Some c.line.result.now) (spec_shape c.args.spec.now) text c.compiled_bytes.result made.made made.refused made.refuses none same))
+    (subst (λ l. IfOk c.compiled_bytes.result (λ bytes. WritesImage c.args.form text (Some l) bytes.items)) c.line.ensures
+    (IfOk-weaker c.compiled_bytes.result _ _ (λ bytes image. image text none same) made.image)))
 
 pub returns-in-End-clause-log : goal.returns-in-End-clause-log
 returns-in-End-clause-log g c text none same =

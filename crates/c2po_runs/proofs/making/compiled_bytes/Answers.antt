@@ -5,6 +5,7 @@ use Rattle.c2po_tree.specs.ItemShape.{spec_shape}
 use Rattle.c2po_types.specs.Signals.{signals_of}
 use Rattle.tool_runs.proofs.StatusLaws.{told_fault, told_value}
 use Rattle.c2po_runs.specs.Made.{compile_status}
+use Rattle.c2po_runs.proofs.WrittenImages.{image_written}
 use Rattle.c2po_runs.proofs.MakingLaws.{alone_columns, alone_limit, header_refuses, limit_refuses, text_written}
 use Rattle.c2po_runs.proofs.making.compiled_bytes.Goals as goal
 
@@ -41,3 +42,10 @@ returns-in_err-checked-clause-alone c =
     let p = err_from_is_err_and c.from_residual-in_err-checked.result c.from_residual-in_err-checked.ensures.1 in
     let why = told_fault compile_status c.program_of.result c.in_err-checked.field-0.0 _ (search rules) c.program_of.ensures.refused in
     rw (p.1, p.2, why.2) (λ none. alone_limit _ why.0 why.1)
+
+pub returns-clause-image : goal.returns-clause-image
+returns-clause-image c =
+    let named = told_value c.columns_of.result c.map_err.result _ c.in_ok-columns.columns _ c.map_err.ensures.cases c.in_ok-columns.was c.columns_of.ensures.columns in
+    let serve = told_value c.columns_of.result c.map_err.result _ c.in_ok-columns.columns _ c.map_err.ensures.cases c.in_ok-columns.was c.columns_of.ensures.serve in
+    let made = told_value c.program_of.result c.map_err-2.result _ c.in_ok-checked.checked _ c.map_err-2.ensures.cases c.in_ok-checked.was c.program_of.ensures.image in
+    image_written c.args.form (option_copied c.args.header) (spec_shape c.args.spec.now) c.in_ok-columns.columns c.in_ok-checked.checked c.written.result named serve made c.written.ensures.bytes c.written.ensures.fits

@@ -1,3 +1,4 @@
+use Rattle.std.proofs.Common.{All, map, subst, sym}
 use Rattle.std.proofs.lemmas.List.Elements.{All-map}
 use Rattle.mltl_base.specs.Subformulas.{IsTensed}
 use Rattle.plain_nodes.specs.Nodes.{trees}
@@ -13,4 +14,6 @@ loop-n-preserved c = comparing-next _ _ _ _ _ _ _ _ _ _ _ _ c.loop-n.invariant
     c.in_ok-equal.ensures.pushed c.in_ok-equal.ensures.place c.in_ok-push.ensures.pushed c.in_ok-other.ensures.pushed c.in_ok-other.ensures.place
 
 pub returns-clause-tensed : goal.returns-clause-tensed
-returns-clause-tensed c = All-map IsTensed (asked_by (trees _)) _ c.loop-n.invariant.tensed
+returns-clause-tensed c =
+    subst (λ nodes. All IsTensed (map (asked_by (trees nodes)) c.loop-n.outs)) (sym c.into_list.ensures.nodes)
+    (All-map IsTensed (asked_by (trees c.loop-n.nodes)) c.loop-n.outs c.loop-n.invariant.tensed)
