@@ -1,6 +1,6 @@
 //! From the bytes of a file to the program that runs over a trace.
 
-ghost use Rattle.std.specs.Prelude.{◌≡◌, ◌≢◌, ◌≤◌, Err, List as Seq, ℕ, None, Ok, OnOk, Option as Maybe, Some, IfErr, IfOk, length};
+ghost use Rattle.std.specs.Prelude.{◌≡◌, ◌≢◌, ◌<◌, ◌≤◌, Err, List as Seq, ℕ, None, Ok, OnOk, Option as Maybe, Some, IfErr, IfOk, length};
 ghost use Rattle.std.specs.Option.{ForSome, option_copied};
 ghost use Rattle.mltl_base.specs.declared.limits.TheConstants.{MAX_LINE_BYTES, MAX_SPEC_BYTES};
 ghost use Rattle.obs_files.specs.Faults.{opened as opened_by};

@@ -1,6 +1,6 @@
 //! What a run reads before its rows: the first line of the trace.
 
-ghost use Rattle.std.specs.Prelude.{◌≡◌, ◌≤◌, IfOk, is_some, length};
+ghost use Rattle.std.specs.Prelude.{◌≡◌, ◌<◌, IfOk, is_some, length};
 ghost use Rattle.std.specs.Option.{ForSome, option_copied};
 ghost use Rattle.mltl_base.specs.declared.limits.TheConstants.{MAX_LINE_BYTES};
 ghost use Rattle.tool_io.specs.Log.{OnLog};
