@@ -1,6 +1,6 @@
 -- The first line of a header file, and what is made under it.
 
-use Rattle.std.proofs.Common.{◌≡◌, ◌≢◌, ℕ, ◌≤◌, Bool, true, false, Option, Some, None, unwrap_or, Result, Ok, Err, IfOk, IfErr, List, [], ◌∷◌, ◌++◌, length, Vec, refl, sym, ◌∙◌, ap, subst, inl, inr}
+use Rattle.std.proofs.Common.{◌≡◌, ◌≢◌, ℕ, ◌<◌, Bool, true, false, Option, Some, None, unwrap_or, Result, Ok, Err, IfOk, IfErr, List, [], ◌∷◌, ◌++◌, length, Vec, refl, sym, ◌∙◌, ap, subst, inl, inr}
 use Rattle.std.specs.declared.alloc.Global.{Global}
 use Rattle.std.specs.List.{concat}
 use Rattle.std.proofs.lemmas.List.{append-nil}
@@ -37,11 +37,11 @@ abbrev pub MadeAlone : Result (Vec ℕ Global) status.Status → Result (List �
 MadeAlone (Ok bytes) found = found ≡ Ok bytes.items
 MadeAlone (Err answer) found = RefusesAlone answer × (answer ≢ answers.Memory → found ≡ Err answer)
 
-pub line_short : (cut : Cutting) (events : List Event) → CutsLine Header fresh cut line.TheVariants.Row events → length (line_text (row_of cut)) ≤ 65535
+pub line_short : (cut : Cutting) (events : List Event) → CutsLine Header fresh cut line.TheVariants.Row events → length (line_text (row_of cut)) < 65536
 line_short cut events cuts =
     let raw = cuts.answer.0 in
     let gives = cuts.answer.1 in
-    subst (λ row. length (line_text (unwrap_or row [])) ≤ 65535) (sym gives.row) (text_short raw cut.pending cut.ended gives.fits gives.line)
+    subst (λ row. length (line_text (unwrap_or row [])) < 65536) (sym gives.row) (text_short raw cut.pending cut.ended gives.fits gives.line)
 
 -- the lines of what was read begin with the row
 row_lines : (raw rest : List ℕ) (ended : Bool) → IsRow raw rest ended → (others : List (List ℕ)) × (lines_of ended (raw ++ rest) ≡ raw ∷ others)

@@ -1,6 +1,6 @@
 -- The first line of a trace, which is read and given once more.
 
-use Rattle.std.proofs.Common.{◌≡◌, ℕ, ◌+◌, ◌-◌, ◌≤◌, ◌<◌, ◌^◌, min, Bool, true, false, if◌then◌else◌, Option, Some, None, is_some, unwrap_or, Err, List, [], ◌++◌, length, refl, sym, ◌∙◌, ap, subst, arith}
+use Rattle.std.proofs.Common.{◌≡◌, ℕ, ◌+◌, ◌-◌, ◌<◌, ◌^◌, min, Bool, true, false, if◌then◌else◌, Option, Some, None, is_some, unwrap_or, Err, List, [], ◌++◌, length, refl, sym, ◌∙◌, ap, subst, arith}
 use Rattle.tool_io.specs.declared.host.Place.TheVariants.{Trace}
 use Rattle.tool_io.specs.declared.line_cut.Line as line
 use Rattle.tool_io.specs.Log.{Event}
@@ -11,15 +11,15 @@ use Rattle.tool_runs.specs.declared.status.Status as status
 use Rattle.tool_runs.proofs.LineLaws.{text_short}
 use Rattle.r2u2_runs.specs.Phases.{FirstRead, StandsFirst, IsFirst, header_of_row, FirstLog}
 
-header_short : (row : Option (List ℕ)) (pending : List ℕ) (ended : Bool) → StandsFirst row pending ended → (header : List ℕ) → header_of_row row ≡ Some header → length header ≤ 65535
+header_short : (row : Option (List ℕ)) (pending : List ℕ) (ended : Bool) → StandsFirst row pending ended → (header : List ℕ) → header_of_row row ≡ Some header → length header < 65536
 header_short None pending ended stands header is = absurd (cc)
 header_short (Some raw) pending ended stands header is =
-    elim (begins_header (line_text raw)) as (λ b. (if b then Some (line_text raw) else None) ≡ Some header → length header ≤ 65535) [
-      | true ↦ λ some. (let same : line_text raw ≡ header = cc in subst (λ t. length t ≤ 65535) same (text_short raw stands.0 ended stands.2 stands.3))
+    elim (begins_header (line_text raw)) as (λ b. (if b then Some (line_text raw) else None) ≡ Some header → length header < 65536) [
+      | true ↦ λ some. (let same : line_text raw ≡ header = cc in subst (λ t. length t < 65536) same (text_short raw stands.0 ended stands.2 stands.3))
       | false ↦ λ none. absurd (cc)
     ] is
 
-pub first_short : (cut : Cutting) → IsFirst cut → (header : List ℕ) → header_of_row cut.row ≡ Some header → length header ≤ 65535
+pub first_short : (cut : Cutting) → IsFirst cut → (header : List ℕ) → header_of_row cut.row ≡ Some header → length header < 65536
 first_short cut first header is = header_short cut.row cut.pending cut.ended first.stands header is
 
 -- the header of a row

@@ -1,6 +1,6 @@
 -- The text of a line is shorter than the longest line.
 
-use Rattle.std.proofs.Common.{◌≡◌, ℕ, ◌-◌, ◌≤◌, ◌==◌, ◌&&◌, nat_lt, Bool, true, false, if◌then◌else◌, List, [], ◌∷◌, ◌++◌, length, take, slice_index, refl, sym, ◌∙◌, ap, subst, arith, inl, inr}
+use Rattle.std.proofs.Common.{◌≡◌, ℕ, ◌-◌, ◌<◌, ◌≤◌, ◌==◌, ◌&&◌, nat_lt, Bool, true, false, if◌then◌else◌, List, [], ◌∷◌, ◌++◌, length, take, slice_index, refl, sym, ◌∙◌, ap, subst, arith, inl, inr}
 use Rattle.std.proofs.lemmas.List.{length-append, length-take}
 use Rattle.std.proofs.lemmas.Bool.Decides.{nat_tests}
 use Rattle.tool_io.specs.Cutting.{IsRow, ends_in, without_end, line_text}
@@ -26,14 +26,14 @@ without_shorter byte bytes =
     ]
 
 -- the text of a line is shorter than the longest line
-pub text_short : (raw rest : List ℕ) (ended : Bool) → length raw ≤ 65536 → IsRow raw rest ended → length (line_text raw) ≤ 65535
+pub text_short : (raw rest : List ℕ) (ended : Bool) → length raw ≤ 65536 → IsRow raw rest ended → length (line_text raw) < 65536
 text_short raw rest ended fits (inl whole) =
     let ends : ends_in 10 raw ≡ true = ap (ends_in 10) whole.is ∙ ends_line whole.body in
     let text : line_text raw ≡ without_end 13 (take (length raw - 1) raw) = ap (λ (b : Bool). if b then without_end 13 (take (length raw - 1) raw) else raw) ends in
-    let short : length (without_end 13 (take (length raw - 1) raw)) ≤ 65535 = omega (arith, fits, without_shorter 13 (take (length raw - 1) raw), length-take (length raw - 1) raw) in
-    subst (λ t. length t ≤ 65535) (sym text) short
+    let short : length (without_end 13 (take (length raw - 1) raw)) < 65536 = omega (arith, fits, without_shorter 13 (take (length raw - 1) raw), length-take (length raw - 1) raw) in
+    subst (λ t. length t < 65536) (sym text) short
 text_short raw rest ended fits (inr last) =
-    elim (ends_in 10 raw) as (λ b. length (if b then without_end 13 (take (length raw - 1) raw) else raw) ≤ 65535) [
+    elim (ends_in 10 raw) as (λ b. length (if b then without_end 13 (take (length raw - 1) raw) else raw) < 65536) [
       | true ↦ omega (arith, fits, without_shorter 13 (take (length raw - 1) raw), length-take (length raw - 1) raw)
       | false ↦ omega (arith, last.short)
     ]

@@ -1,4 +1,4 @@
-use Rattle.std.proofs.Common.{◌≡◌, ◌≤◌, IfOk, Some, length, subst, sym}
+use Rattle.std.proofs.Common.{◌≡◌, ◌<◌, IfOk, Some, length, subst, sym}
 use Rattle.std.proofs.lemmas.Result.{IfOk-weaker, err_from_is_err_and}
 use Rattle.c2po_tree.specs.ItemShape.{spec_shape}
 use Rattle.tool_io.specs.declared.host.Place.TheVariants.{Header}
@@ -22,7 +22,7 @@ compiled_bytes-requires g c = record {
       let told = c.in-Row.ensures.log in
       let short = line_short cut told.events (subst (λ start. CutsLine Header start cut line.TheVariants.Row told.events) c.in_ok-cut.ensures told.holds) in
       let same : c.line.result ≡ x = cc in
-      subst (λ l. length l.now ≤ 65535) same (subst (λ text. length text ≤ 65535) (sym c.line.ensures) short);
+      subst (λ l. length l.now < 65536) same (subst (λ text. length text < 65536) (sym c.line.ensures) short);
 }
 
 pub returns-in-Row-clause-log : goal.returns-in-Row-clause-log
