@@ -33,7 +33,10 @@ line_of (count line op x s n e) = line
 
 -- two kinds, the left one first
 abbrev pub two : Checked Kind → Checked Kind → Checked (Kind × Kind)
-two left right = left >>= λ j. right >>= λ k. Ok (j, k)
+two left right = do
+  j ← left
+  k ← right
+  Ok (j, k)
 
 -- a kind that is as wanted gives a kind
 abbrev pub of_one : ℕ → Kind → Kind → Kind → Checked Kind
@@ -68,20 +71,28 @@ abbrev mutual
   kind_of (arith line op e f) seen = two (kind_of e seen) (kind_of f seen) >>= of_two line whole whole
   kind_of (compare line op e f) seen = two (kind_of e seen) (kind_of f seen) >>= of_two line whole kinds.truth
   kind_of (logic line op e f) seen = two (kind_of e seen) (kind_of f seen) >>= of_two line kinds.truth kinds.truth
-  kind_of (window line op a b e) seen = kind_of e seen >>= λ k.
-      within_bounds line a b (of_one line kinds.truth kinds.truth k)
-  kind_of (between line op a b e f) seen = two (kind_of e seen) (kind_of f seen) >>= λ ks.
-      within_bounds line a b (of_two line kinds.truth kinds.truth ks)
-  kind_of (each line x s e) seen = kind_of s seen >>= member_kind line >>= λ k.
-      fresh line (meaning_of x seen) (kind_of e (inside x k seen) >>= of_one line kinds.truth kinds.truth)
-  kind_of (exists line x s e) seen = kind_of s seen >>= member_kind line >>= λ k.
-      fresh line (meaning_of x seen) (kind_of e (inside x k seen) >>= of_one line kinds.truth kinds.truth)
-  kind_of (count line op x s n e) seen = kind_of s seen >>= member_kind line >>= λ k.
-      fresh line (meaning_of x seen) (few line n (kind_of e (inside x k seen) >>= of_one line kinds.truth kinds.truth))
+  kind_of (window line op a b e) seen = do
+    k ← kind_of e seen
+    within_bounds line a b (of_one line kinds.truth kinds.truth k)
+  kind_of (between line op a b e f) seen = do
+    ks ← two (kind_of e seen) (kind_of f seen)
+    within_bounds line a b (of_two line kinds.truth kinds.truth ks)
+  kind_of (each line x s e) seen = do
+    k ← kind_of s seen >>= member_kind line
+    fresh line (meaning_of x seen) (kind_of e (inside x k seen) >>= of_one line kinds.truth kinds.truth)
+  kind_of (exists line x s e) seen = do
+    k ← kind_of s seen >>= member_kind line
+    fresh line (meaning_of x seen) (kind_of e (inside x k seen) >>= of_one line kinds.truth kinds.truth)
+  kind_of (count line op x s n e) seen = do
+    k ← kind_of s seen >>= member_kind line
+    fresh line (meaning_of x seen) (few line n (kind_of e (inside x k seen) >>= of_one line kinds.truth kinds.truth))
 
   pub kinds_of : Shapes → Visible → Checked (List Placed)
   kinds_of none seen = Ok []
-  kinds_of (more e es) seen = kind_of e seen >>= λ k. kinds_of es seen >>= λ ps. Ok ((line_of e, k) ∷ ps)
+  kinds_of (more e es) seen = do
+    k ← kind_of e seen
+    ps ← kinds_of es seen
+    Ok ((line_of e, k) ∷ ps)
 
 -- an operator that wants operands of one kind and gives another, from the kind of its left operand and its right one
 abbrev pub infix_kind : ℕ → Kind → Kind → Kind → Shape → Visible → Checked Kind
@@ -89,10 +100,12 @@ infix_kind line wanted given left e seen = two (Ok left) (kind_of e seen) >>= of
 
 -- a temporal operator over an interval, from its one operand
 abbrev pub window_kind : ℕ → ℕ → ℕ → Shape → Visible → Checked Kind
-window_kind line a b e seen = kind_of e seen >>= λ k.
-    within_bounds line a b (of_one line kinds.truth kinds.truth k)
+window_kind line a b e seen = do
+  k ← kind_of e seen
+  within_bounds line a b (of_one line kinds.truth kinds.truth k)
 
 -- a quantifier over a set of a kind
 abbrev pub quantifier_kind : ℕ → List ℕ → Kind → ℕ → Shape → Visible → Checked Kind
-quantifier_kind line x s n e seen = member_kind line s >>= λ k.
-    fresh line (meaning_of x seen) (few line n (kind_of e (inside x k seen) >>= of_one line kinds.truth kinds.truth))
+quantifier_kind line x s n e seen = do
+  k ← member_kind line s
+  fresh line (meaning_of x seen) (few line n (kind_of e (inside x k seen) >>= of_one line kinds.truth kinds.truth))

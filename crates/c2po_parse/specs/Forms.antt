@@ -25,8 +25,11 @@ abbrev pub type_in : TypeReads → What → List Token → Option (TypeShape × 
 type_in read (what.Word x) ts = Some (type_named x, ts)
 type_in read (what.Reserved keyword.Bool) ts = Some (type_named (codes "bool"), ts)
 type_in read (what.Reserved keyword.Int) ts = Some (type_named (codes "int"), ts)
-type_in read (what.Reserved keyword.Set) ts = past sign.Less ts >>= λ us. read us >>= λ k.
-    past sign.Greater k.1 >>= λ vs. Some (set_of k.0, vs)
+type_in read (what.Reserved keyword.Set) ts = do
+  us ← past sign.Less ts
+  k ← read us
+  vs ← past sign.Greater k.1
+  Some (set_of k.0, vs)
 type_in read _ ts = None
 
 -- the type at the front, told how a type inside it is read
@@ -67,7 +70,11 @@ names_at ts = names_within (length ts) ts
 
 -- names and their type
 abbrev pub typed_at : List Token → Option (List (List ℕ) × TypeShape × List Token)
-typed_at ts = names_at ts >>= λ xs. past sign.Colon xs.1 >>= λ us. type_at us >>= λ k. Some (xs.0, k.0, k.1)
+typed_at ts = do
+  xs ← names_at ts
+  us ← past sign.Colon xs.1
+  k ← type_at us
+  Some (xs.0, k.0, k.1)
 
 -- a field for each name
 abbrev pub fields_of : List (List ℕ) → TypeShape → List FieldShape
@@ -86,8 +93,10 @@ fields_or read fs ts None = read ts >>= λ gs. Some (fs ++ gs.0, gs.1)
 -- the fields at the front, in so many lists at most, their `}`, and what follows it
 unfoldable pub fields_within : ℕ → FieldsRead
 fields_within zero ts = None
-fields_within (suc n) ts = typed_at ts >>= λ d. past sign.Semicolon d.2 >>= λ us.
-    fields_or (fields_within n) (fields_of d.0 d.1) us (past sign.RightCurly us)
+fields_within (suc n) ts = do
+  d ← typed_at ts
+  us ← past sign.Semicolon d.2
+  fields_or (fields_within n) (fields_of d.0 d.1) us (past sign.RightCurly us)
 
 -- fields after others
 abbrev pub fields_behind : List FieldShape → Option (List FieldShape × List Token)
@@ -100,8 +109,12 @@ fields_at ts = fields_within (length ts) ts
 
 -- name `:` `{` fields `}`
 unfoldable pub struct_of : List Token → Option BodyShape
-struct_of ts = name_at ts >>= λ x. past sign.Colon x.1 >>= λ us. past sign.LeftCurly us >>= λ vs. fields_at vs >>= λ fs.
-    at_end (structure x.0 fs.0) fs.1
+struct_of ts = do
+  x ← name_at ts
+  us ← past sign.Colon x.1
+  vs ← past sign.LeftCurly us
+  fs ← fields_at vs
+  at_end (structure x.0 fs.0) fs.1
 
 -- names `:` type
 unfoldable pub input_of : List Token → Option BodyShape
@@ -109,7 +122,11 @@ input_of ts = typed_at ts >>= λ d. at_end (input d.0 d.1) d.2
 
 -- name `:=` expression
 unfoldable pub define_of : List Token → Option BodyShape
-define_of ts = name_at ts >>= λ x. past sign.Becomes x.1 >>= λ us. tree_of us >>= λ e. Some (define x.0 e)
+define_of ts = do
+  x ← name_at ts
+  us ← past sign.Becomes x.1
+  e ← tree_of us
+  Some (define x.0 e)
 
 -- a name and `:` at the front are a label
 abbrev pub labelled : List Token → Option (List ℕ × List Token) → Option (List ℕ) × List Token

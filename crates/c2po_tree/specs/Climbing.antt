@@ -33,12 +33,18 @@ Climbs = Goal → List Token → Option (Shape × List Token)
 
 -- an expression and `)`
 abbrev pub closed : Climbs → List Token → Option (Shape × List Token)
-closed read ts = read (Whole 1) ts >>= λ x. past sign.RightRound x.1 >>= λ rest. Some (x.0, rest)
+closed read ts = do
+  x ← read (Whole 1) ts
+  rest ← past sign.RightRound x.1
+  Some (x.0, rest)
 
 -- a quantifier after its variable
 abbrev pub bound : Climbs → ℕ → Quantifier → List ℕ → List Token → Option (Shape × List Token)
-bound read line q x ts = read (Whole 1) ts >>= λ s. middle_at q s.1 >>= λ m.
-    closed read m.1 >>= λ e. Some (quantified line q x s.0 m.0 e.0, e.1)
+bound read line q x ts = do
+  s ← read (Whole 1) ts
+  m ← middle_at q s.1
+  e ← closed read m.1
+  Some (quantified line q x s.0 m.0 e.0, e.1)
 
 -- an operand after a prefix, which no operator of a tighter level takes
 abbrev pub before : Climbs → ℕ → Prefix → List Token → Option (Shape × List Token)
@@ -56,8 +62,9 @@ operand read level (Bind line q x, rest) = bound read line q x rest
 
 -- an operator after an operand
 abbrev pub joins : Climbs → ℕ → Shape → Operator × List Token → Option (Shape × List Token)
-joins read level left (Binary line op, rest) =
-    read (Whole (right_level (level_of (Binary line op)))) rest >>= λ x. read (Rest level (joined line op left x.0)) x.1
+joins read level left (Binary line op, rest) = do
+  x ← read (Whole (right_level (level_of (Binary line op)))) rest
+  read (Rest level (joined line op left x.0)) x.1
 joins read level left (Field line x, rest) = read (Rest level (pick line left x)) rest
 
 -- an operand, joined by the operators of this level and above that follow it
@@ -75,8 +82,9 @@ abbrev pub climb_step : Climbs → Climbs
 climb_step read (Whole level) ts = read (Operand level) ts >>= λ x. read (Rest level x.0) x.1
 climb_step read (Operand level) ts = start_at ts >>= λ s. operand read level s
 climb_step read (Rest level left) ts = rest_of read level left ts (operator_at ts)
-climb_step read (Elements b es) ts = read (Whole 1) ts >>= λ x.
-    elements_of read b (es ++ x.0 ∷ []) x.1 (past sign.Comma x.1)
+climb_step read (Elements b es) ts = do
+  x ← read (Whole 1) ts
+  elements_of read b (es ++ x.0 ∷ []) x.1 (past sign.Comma x.1)
 
 -- the reading with so many nested steps at most
 unfoldable pub climb : ℕ → Climbs

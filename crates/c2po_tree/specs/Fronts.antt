@@ -71,8 +71,11 @@ natural_at (t ∷ ts) = natural_in t.what >>= λ n. Some (n, ts)
 -- the end of an interval after its first number: that number alone is the upper bound
 abbrev pub bounds_or : ℕ × List Token → Option (List Token) → Option (ℕ × ℕ × List Token)
 bounds_or first (Some rest) = Some (0, first.0, rest)
-bounds_or first None = past sign.Comma first.1 >>= λ ts. natural_at ts >>= λ second.
-    past sign.RightSquare second.1 >>= λ rest. Some (first.0, second.0, rest)
+bounds_or first None = do
+  ts ← past sign.Comma first.1
+  second ← natural_at ts
+  rest ← past sign.RightSquare second.1
+  Some (first.0, second.0, rest)
 
 -- the bounds of an interval whose first number was read, and what follows it
 abbrev pub bounds_at : ℕ × List Token → Option (ℕ × ℕ × List Token)
@@ -80,7 +83,10 @@ bounds_at first = bounds_or first (past sign.RightSquare first.1)
 
 -- the interval at the front, `[n]` or `[m,n]`, and what follows it
 unfoldable pub interval_at : List Token → Option (ℕ × ℕ × List Token)
-interval_at ts = past sign.LeftSquare ts >>= λ us. natural_at us >>= λ first. bounds_at first
+interval_at ts = do
+  us ← past sign.LeftSquare ts
+  first ← natural_at us
+  bounds_at first
 
 -- the operator that a sign is between operands
 abbrev pub sign_infix : Sign → Option Infix
@@ -139,8 +145,10 @@ sign_operator line s ts = sign_infix s >>= λ op. Some (Binary line op, ts)
 -- the name of a field, whose line counts.
 abbrev pub operator_in : ℕ → What → List Token → Option (Operator × List Token)
 operator_in line (what.Sign s) ts = sign_operator line s ts
-operator_in line (what.Reserved k) ts = word_between k >>= λ op. interval_at ts >>= λ i.
-    Some (Binary line (Between op i.0 i.1), i.2)
+operator_in line (what.Reserved k) ts = do
+  op ← word_between k
+  i ← interval_at ts
+  Some (Binary line (Between op i.0 i.1), i.2)
 operator_in line _ ts = None
 
 -- the operator at the front, and what follows it
@@ -215,12 +223,18 @@ named_or_called line x ts (Some us) = (Open (Call line x), us)
 
 -- a quantifier and its variable, told what follows the quantifier's word
 abbrev pub bound_start : ℕ → Quantifier → List Token → Option (Start × List Token)
-bound_start line q ts = past sign.LeftRound ts >>= λ us. name_at us >>= λ x.
-    past sign.Colon x.1 >>= λ vs. Some (Bind line q x.0, vs)
+bound_start line q ts = do
+  us ← past sign.LeftRound ts
+  x ← name_at us
+  vs ← past sign.Colon x.1
+  Some (Bind line q x.0, vs)
 
 -- a temporal prefix and its interval, told what follows the prefix's word
 abbrev pub window_start : ℕ → Keyword → List Token → Option (Start × List Token)
-window_start line k ts = word_window k >>= λ op. interval_at ts >>= λ i. Some (Before (Window line op i.0 i.1), i.2)
+window_start line k ts = do
+  op ← word_window k
+  i ← interval_at ts
+  Some (Before (Window line op i.0 i.1), i.2)
 
 -- the start of an operand that a word makes, told what follows the word
 abbrev pub word_start : ℕ → Keyword → List Token → Option Quantifier → Option (Start × List Token)
@@ -257,5 +271,8 @@ number_at (Count op) ts = past sign.Comma ts >>= λ us. natural_at us
 
 -- what stands between a quantifier's set and its body: the number where it counts, `)` and `(`
 unfoldable pub middle_at : Quantifier → List Token → Option (ℕ × List Token)
-middle_at q ts = number_at q ts >>= λ n. past sign.RightRound n.1 >>= λ us.
-    past sign.LeftRound us >>= λ vs. Some (n.0, vs)
+middle_at q ts = do
+  n ← number_at q ts
+  us ← past sign.RightRound n.1
+  vs ← past sign.LeftRound us
+  Some (n.0, vs)

@@ -81,8 +81,10 @@ at_end a (t ∷ ts) = None
 
 -- the two sides of an operator, or the operand before a picked field
 abbrev pub sides : Reads → ℕ → List Token → Operator × List Token → Option Shape
-sides read level left (Binary line op, right) =
-    read (left_level level) left >>= λ e. read (right_level level) right >>= λ f. Some (joined line op e f)
+sides read level left (Binary line op, right) = do
+  e ← read (left_level level) left
+  f ← read (right_level level) right
+  Some (joined line op e f)
 sides read level left (Field line x, right) = read (left_level level) left >>= λ e. at_end (pick line e x) right
 
 -- an expression at a level of operators, split at one of them or read at the next level
@@ -98,7 +100,11 @@ at_prefixes read level ts _ = read (suc level) ts
 
 -- an expression, `)` and nothing else
 abbrev pub block : Reads → List Token → Option Shape
-block read ts = cut_inside ts >>= λ c. past sign.RightRound c.1 >>= λ rest. read 1 c.0 >>= λ e. at_end e rest
+block read ts = do
+  c ← cut_inside ts
+  rest ← past sign.RightRound c.1
+  e ← read 1 c.0
+  at_end e rest
 
 -- what stands at the tightest level, level 12
 abbrev pub primary : Reads → ReadsAll → Start × List Token → Option Shape
@@ -106,8 +112,12 @@ primary read read_all (Leaf line a, rest) = at_end (leaf line a) rest
 primary read read_all (Before p, rest) = None
 primary read read_all (Round, rest) = block read rest
 primary read read_all (Open b, rest) = read_all (closing b) rest >>= λ es. Some (enclosed b es)
-primary read read_all (Bind line q x, rest) = cut_inside rest >>= λ c. middle_at q c.1 >>= λ m.
-    read 1 c.0 >>= λ s. block read m.1 >>= λ e. Some (quantified line q x s m.0 e)
+primary read read_all (Bind line q x, rest) = do
+  c ← cut_inside rest
+  m ← middle_at q c.1
+  s ← read 1 c.0
+  e ← block read m.1
+  Some (quantified line q x s m.0 e)
 
 -- one step of the reading at a level
 abbrev pub split_step : Reads → ReadsAll → Reads
@@ -123,8 +133,10 @@ more_or_end read_all s e ts None = past s ts >>= λ rest. at_end (e ∷ []) rest
 
 -- one step of the reading of elements with commas between them
 abbrev pub elements_step : Reads → ReadsAll → ReadsAll
-elements_step read read_all s ts = cut_inside ts >>= λ c. read 1 c.0 >>= λ e.
-    more_or_end read_all s e c.1 (past sign.Comma c.1)
+elements_step read read_all s ts = do
+  c ← cut_inside ts
+  e ← read 1 c.0
+  more_or_end read_all s e c.1 (past sign.Comma c.1)
 
 -- with so many steps at most
 unfoldable mutual

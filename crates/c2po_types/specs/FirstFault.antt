@@ -111,20 +111,23 @@ input_step line xs t s = with_input line xs t s.declared >>= λ d. let n = lengt
 
 -- what is known after one more definition, or its first fault
 abbrev pub define_step : ℕ → List ℕ → Shape → State → Checked State
-define_step line x e s =
-    define_kind line x e s.declared >>= λ k. defined line x (with_value x k s.declared) (value_of e s.values) s
+define_step line x e s = do
+  k ← define_kind line x e s.declared
+  defined line x (with_value x k s.declared) (value_of e s.values) s
 
 -- what is known after one more output with a formula, or its first fault
 abbrev pub formula_step : ℕ → Engine → Option (List ℕ) → Shape → State → Checked State
-formula_step line engine label e s =
-    with_label line label s.labels >>= λ labels. formula_kind line e s.declared >>= λ _.
-    one_out line engine labels (value_of e s.values) s
+formula_step line engine label e s = do
+  labels ← with_label line label s.labels
+  _ ← formula_kind line e s.declared
+  one_out line engine labels (value_of e s.values) s
 
 -- what is known after one more output with a contract, or its first fault
 abbrev pub contract_step : ℕ → Engine → Option (List ℕ) → Shape → Shape → State → Checked State
-contract_step line engine label e f s =
-    with_label line label s.labels >>= λ labels. contract_kind line e f s.declared >>= λ _.
-    two_out line engine labels (value_of e s.values) (value_of f s.values) s
+contract_step line engine label e f s = do
+  labels ← with_label line label s.labels
+  _ ← contract_kind line e f s.declared
+  two_out line engine labels (value_of e s.values) (value_of f s.values) s
 
 -- what is known after one more item of any sort on a line, or its first fault
 abbrev pub body_step : ℕ → BodyShape → State → Checked State
