@@ -1,5 +1,5 @@
 //! Tests of calls that no program makes: on hosts, of a cut into lines after a fault, on a queue, of a compilation,
-//! and of a core graph at its limit.
+//! of a core graph at its limit, and of what the words of a command line ask for.
 //!
 //! They stand apart from the crates that they test, since a crate with tests is proved twice.
 #![tactic(auto)]
@@ -14,3 +14,5 @@ mod hosts;
 mod lines;
 #[cfg(test)]
 mod rings;
+#[cfg(test)]
+mod words;

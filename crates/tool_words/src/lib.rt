@@ -17,6 +17,3 @@ pub use file_kind::FileKind;
 pub use given::words_of;
 pub use r2u2_words::{R2u2Ask, Run, r2u2_ask};
 pub use words::Words;
-
-#[cfg(test)]
-mod tests;

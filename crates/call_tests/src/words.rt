@@ -1,12 +1,12 @@
 //! One table of command lines, and what each program makes of them.
 
-use crate::{Words, c2po_ask, r2u2_ask};
 use std::alloc::{AllocError, Global};
 use std::env::{Env, FillError};
 use std::test::Fail;
+use tool_words::{Words, c2po_ask, r2u2_ask};
 
 /// The words, which one blank parts; `~` stands for a word without letters.
-fn words_of(alloc: Global, text: &str) -> Result<Words, AllocError> {
+fn parted(alloc: Global, text: &str) -> Result<Words, AllocError> {
     let mut words = Words::new(alloc);
     for word in text.split(' ') {
         words.push(if word == "~" { "" } else { word })?;
@@ -16,7 +16,7 @@ fn words_of(alloc: Global, text: &str) -> Result<Words, AllocError> {
 
 /// What both programs make of the words.
 fn shown(alloc: Global, text: &str) -> Result<String, Fail> {
-    let words = words_of(alloc, text)?;
+    let words = parted(alloc, text)?;
     let r2u2 = r2u2_ask(alloc, &words)?;
     let c2po = c2po_ask(alloc, &words)?;
     Ok(format!(in alloc; "{r2u2:?} # {c2po:?}")?)
@@ -105,7 +105,7 @@ fn words_are_the_arguments(rt: HostRuntime) -> Result<(), Fail> {
     let known = Known {
         arguments: &arguments,
     };
-    let words = crate::words_of(rt.alloc(), &known)?;
+    let words = tool_words::words_of(rt.alloc(), &known)?;
     assert_eq!(rt; words.len(), 6);
     for i in 0..words.len() {
         let Some(argument) = arguments.get(i + 1) else {
