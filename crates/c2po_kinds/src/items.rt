@@ -123,9 +123,7 @@ impl Declarations {
             return Err(TypeFault::Twice(line));
         }
         let table = fields_of(alloc, self, line, fields.as_slice())?;
-        let Ok(number) = u32::try_from(self.structs.len()) else {
-            return Err(TypeFault::Memory);
-        };
+        let number = u32::try_from(self.structs.len()).map_err(|_| TypeFault::Memory)?;
         self.names.add(alloc, name, Meaning::Struct(number))?;
         self.structs.push(table)?;
         Ok(())

@@ -48,26 +48,22 @@ pub fn expect(line: u32, holds: bool, given: Kind) -> Result<Kind, TypeFault>
 pub fn set_of(kind: Kind) -> Result<Kind, TypeFault>
     ensures { Gives (λ k. k) result (Ok (set_kind kind)) }
 {
-    match kind.sets.checked_add(1) {
-        Some(sets) => Ok(Kind {
-            sets,
-            base: kind.base,
-        }),
-        None => Err(TypeFault::Memory),
-    }
+    let sets = kind.sets.checked_add(1).ok_or(TypeFault::Memory)?;
+    Ok(Kind {
+        sets,
+        base: kind.base,
+    })
 }
 
 /// The kind of the members of a set.
 pub fn member_of(line: u32, kind: Kind) -> Result<Kind, TypeFault>
     ensures { Gives (λ k. k) result (member_kind line kind) }
 {
-    match kind.sets.checked_sub(1) {
-        Some(sets) => Ok(Kind {
-            sets,
-            base: kind.base,
-        }),
-        None => Err(TypeFault::Kind(line)),
-    }
+    let sets = kind.sets.checked_sub(1).ok_or(TypeFault::Kind(line))?;
+    Ok(Kind {
+        sets,
+        base: kind.base,
+    })
 }
 
 /// The kind of a name that stands for a value.
@@ -106,9 +102,8 @@ fn build_struct(
     ensures { Gives (λ k. k) result
         (built_from line number operands.now (slice_get declared.now.structs number)) }
 {
-    let Some(fields) = declared.structs.as_slice().get(number as usize) else {
-        return Err(TypeFault::Count(line));
-    };
+    let structs = declared.structs.as_slice();
+    let fields = structs.get(number as usize).ok_or(TypeFault::Count(line))?;
     if operands.len() != fields.len() {
         return Err(TypeFault::Count(line));
     }
@@ -176,11 +171,8 @@ fn struct_number(kind: Kind) -> Option<u32>
 pub fn pick(line: u32, declared: &Declarations, field: &Name, kind: Kind) -> Result<Kind, TypeFault>
     ensures { Gives (λ k. k) result (picked line field.now declared.now kind) }
 {
-    let Some(number) = struct_number(kind) else {
-        return Err(TypeFault::Kind(line));
-    };
-    let Some(fields) = declared.structs.as_slice().get(number as usize) else {
-        return Err(TypeFault::Field(line));
-    };
+    let number = struct_number(kind).ok_or(TypeFault::Kind(line))?;
+    let structs = declared.structs.as_slice();
+    let fields = structs.get(number as usize).ok_or(TypeFault::Field(line))?;
     fields.find(field).ok_or(TypeFault::Field(line))
 }

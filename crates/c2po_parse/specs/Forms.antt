@@ -61,8 +61,8 @@ names_within zero ts = None
 names_within (suc n) ts = name_at ts >>= λ x. names_or (names_within n) x.0 x.1 (past sign.Comma x.1)
 
 -- names after others
-abbrev pub names_behind : List (List ℕ) → Option (List (List ℕ) × List Token) → Option (List (List ℕ) × List Token)
-names_behind so_far o = option_map (λ xs. (so_far ++ xs.0, xs.1)) o
+abbrev pub names_after : List (List ℕ) → Option (List (List ℕ) × List Token) → Option (List (List ℕ) × List Token)
+names_after so_far o = option_map (λ xs. (so_far ++ xs.0, xs.1)) o
 
 -- the names at the front, one or more, and what follows them
 abbrev pub names_at : List Token → Option (List (List ℕ) × List Token)
@@ -99,9 +99,9 @@ fields_within (suc n) ts = do
   fields_or (fields_within n) (fields_of d.0 d.1) us (past sign.RightCurly us)
 
 -- fields after others
-abbrev pub fields_behind : List FieldShape → Option (List FieldShape × List Token)
+abbrev pub fields_after : List FieldShape → Option (List FieldShape × List Token)
     → Option (List FieldShape × List Token)
-fields_behind so_far o = option_map (λ fs. (so_far ++ fs.0, fs.1)) o
+fields_after so_far o = option_map (λ fs. (so_far ++ fs.0, fs.1)) o
 
 -- the fields at the front, one list or more, their `}`, and what follows it
 abbrev pub fields_at : List Token → Option (List FieldShape × List Token)

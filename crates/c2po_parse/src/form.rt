@@ -5,12 +5,12 @@ ghost use Rattle.c2po_tree.specs.declared.fault.TreeFault.TheVariants.{NoTree};
 ghost use Rattle.c2po_tree.specs.Gives.{Gives};
 ghost use Rattle.c2po_tree.specs.ItemShape.{type_shape, field_shape, body_shape};
 ghost use Rattle.c2po_tree.specs.Splitting.{at_end};
-ghost use Rattle.c2po_parse.specs.Forms.{type_within, names_within, names_behind, typed_at, fields_of, fields_within, fields_behind, struct_of, input_of, define_of, label_at, contract_of, output_of, body_of};
+ghost use Rattle.c2po_parse.specs.Forms.{type_within, names_within, names_after, typed_at, fields_of, fields_within, fields_after, struct_of, input_of, define_of, label_at, contract_of, output_of, body_of};
 
 use crate::section::{Section, promise_place};
 use c2po_lexer::{Keyword, Sign, Token, What};
 use c2po_tree::front::{take_name, take_sign};
-use c2po_tree::{Body, FieldDecl, TreeFault, TypeTree, read_expression};
+use c2po_tree::{Body, FieldDecl, TreeFault, TypeTree, copy_type, read_expression};
 use mltl_base::limits::MAX_ITEM_TOKENS;
 use mltl_base::{Engine, List, Name};
 use std::alloc::Global;
@@ -19,30 +19,21 @@ use std::alloc::Global;
 fn deeper(room: usize) -> Result<usize, TreeFault>
     ensures { MatchResult result (λ left. room ≡ suc left) (λ e. (room ≡ 0) × (e ≡ NoTree)) }
 {
-    match room.checked_sub(1) {
-        Some(left) => Ok(left),
-        None => Err(TreeFault::NoTree),
-    }
+    room.checked_sub(1).ok_or(TreeFault::NoTree)
 }
 
 /// The name of the type of truths.
 fn bool_name() -> Name
     ensures { result ≡ codes "bool" }
 {
-    match Name::of(b"bool") {
-        Some(name) => name,
-        None => unreachable!(),
-    }
+    Name::of(b"bool").unwrap()
 }
 
 /// The name of the type of whole numbers.
 fn int_name() -> Name
     ensures { result ≡ codes "int" }
 {
-    match Name::of(b"int") {
-        Some(name) => name,
-        None => unreachable!(),
-    }
+    Name::of(b"int").unwrap()
 }
 
 /// A type, and what follows it.
@@ -63,46 +54,31 @@ fn take_type(
         What::Reserved(Keyword::Bool) => Ok((TypeTree::Named(bool_name()), rest)),
         What::Reserved(Keyword::Int) => Ok((TypeTree::Named(int_name()), rest)),
         What::Reserved(Keyword::Set) => {
-            let Some(rest) = take_sign(Sign::Less, rest) else {
-                return Err(TreeFault::NoTree);
-            };
+            let rest = take_sign(Sign::Less, rest).ok_or(TreeFault::NoTree)?;
             let (inner, rest) = take_type(alloc, room, rest)?;
-            let Some(rest) = take_sign(Sign::Greater, rest) else {
-                return Err(TreeFault::NoTree);
-            };
+            let rest = take_sign(Sign::Greater, rest).ok_or(TreeFault::NoTree)?;
             Ok((TypeTree::Set(Box::new(alloc, inner)?), rest))
         }
         _ => Err(TreeFault::NoTree),
     }
 }
 
-/// Names with one more after them.
-fn with_name(names: List<Name>, name: Name) -> Result<List<Name>, TreeFault>
-    ensures { Gives (λ xs. xs) result (Some (names ++ name ∷ [])) }
-{
-    let mut names = names;
-    names.push(name)?;
-    Ok(names)
-}
-
-/// Names with commas between them, after those that were read, and what follows them.
+/// Puts names with commas between them after those that were read, and gives what follows them.
 #[tactic(auto, unfolding(crate::specs::Forms::names_within))]
-fn take_names(
+fn take_names<'a>(
     room: usize,
-    so_far: List<Name>,
-    tokens: &[Token],
-) -> Result<(List<Name>, &[Token]), TreeFault>
-    ensures { Gives (λ x. (x.0, x.1.now)) result
-        (names_behind so_far (names_within room tokens.now)) }
+    names: &mut List<Name>,
+    tokens: &'a [Token],
+) -> Result<&'a [Token], TreeFault>
+    ensures { Gives (λ rest. (names.new, rest.now)) result
+        (names_after names.old (names_within room tokens.now)) }
 {
     let room = deeper(room)?;
-    let Some((name, rest)) = take_name(tokens) else {
-        return Err(TreeFault::NoTree);
-    };
-    let names = with_name(so_far, name)?;
+    let (name, rest) = take_name(tokens).ok_or(TreeFault::NoTree)?;
+    names.push(name)?;
     match take_sign(Sign::Comma, rest) {
         Some(more) => take_names(room, names, more),
-        None => Ok((names, rest)),
+        None => Ok(rest),
     }
 }
 
@@ -113,83 +89,50 @@ fn take_typed(
 ) -> Result<(List<Name>, TypeTree, &[Token]), TreeFault>
     ensures { Gives (λ x. (x.0, type_shape x.1, x.2.now)) result (typed_at tokens.now) }
 {
-    let (names, rest) = take_names(tokens.len(), List::new(alloc), tokens)?;
-    let Some(rest) = take_sign(Sign::Colon, rest) else {
-        return Err(TreeFault::NoTree);
-    };
+    let mut names = List::new(alloc);
+    let rest = take_names(tokens.len(), &mut names, tokens)?;
+    let rest = take_sign(Sign::Colon, rest).ok_or(TreeFault::NoTree)?;
     let (kind, rest) = take_type(alloc, rest.len(), rest)?;
     Ok((names, kind, rest))
 }
 
-/// A second tree of the same type.
-fn copy_type(alloc: Global, kind: &TypeTree) -> Result<TypeTree, TreeFault>
-    ensures { Gives type_shape result (Some (type_shape kind.now)) }
-{
-    match kind {
-        TypeTree::Named(name) => Ok(TypeTree::Named(name.copy())),
-        TypeTree::Set(inner) => {
-            let inner = copy_type(alloc, inner)?;
-            Ok(TypeTree::Set(Box::new(alloc, inner)?))
-        }
-    }
-}
-
-/// Fields with one more after them.
-fn with_field(
+/// Puts one more field for each name after those before.
+fn add_fields(
     alloc: Global,
-    fields: List<FieldDecl>,
-    name: &Name,
-    kind: &TypeTree,
-) -> Result<List<FieldDecl>, TreeFault>
-    ensures { Gives (λ fs. map field_shape fs) result
-        (Some (map field_shape fields
-        ++ record { name = name.now; kind = type_shape kind.now } ∷ [])) }
-{
-    let kind = copy_type(alloc, kind)?;
-    let name = name.copy();
-    let mut fields = fields;
-    fields.push(FieldDecl { name, kind })?;
-    Ok(fields)
-}
-
-/// Fields with one more for each name after them.
-fn with_fields(
-    alloc: Global,
-    fields: List<FieldDecl>,
+    fields: &mut List<FieldDecl>,
     names: &[Name],
     kind: &TypeTree,
-) -> Result<List<FieldDecl>, TreeFault>
-    ensures { Gives (λ fs. map field_shape fs) result
-        (Some (map field_shape fields ++ fields_of names.now (type_shape kind.now))) }
+) -> Result<(), TreeFault>
+    ensures { Gives (λ _. map field_shape fields.new) result
+        (Some (map field_shape fields.old ++ fields_of names.now (type_shape kind.now))) }
 {
-    match names {
-        [] => Ok(fields),
-        [name, others @ ..] => {
-            let fields = with_field(alloc, fields, name, kind)?;
-            with_fields(alloc, fields, others, kind)
-        }
+    for name in names {
+        let field = FieldDecl {
+            name: name.copy(),
+            kind: copy_type(alloc, kind)?,
+        };
+        fields.push(field)?;
     }
+    Ok(())
 }
 
-/// Fields after those that were read, up to the brace that closes them, and what follows it.
+/// Puts fields after those that were read, up to the brace that closes them, and gives what follows it.
 #[tactic(auto, unfolding(crate::specs::Forms::fields_within))]
-fn take_fields(
+fn take_fields<'a>(
     alloc: Global,
     room: usize,
-    so_far: List<FieldDecl>,
-    tokens: &[Token],
-) -> Result<(List<FieldDecl>, &[Token]), TreeFault>
-    ensures { Gives (λ x. (map field_shape x.0, x.1.now)) result
-        (fields_behind (map field_shape so_far) (fields_within room tokens.now)) }
+    fields: &mut List<FieldDecl>,
+    tokens: &'a [Token],
+) -> Result<&'a [Token], TreeFault>
+    ensures { Gives (λ rest. (map field_shape fields.new, rest.now)) result
+        (fields_after (map field_shape fields.old) (fields_within room tokens.now)) }
 {
     let room = deeper(room)?;
     let (names, kind, rest) = take_typed(alloc, tokens)?;
-    let Some(rest) = take_sign(Sign::Semicolon, rest) else {
-        return Err(TreeFault::NoTree);
-    };
-    let fields = with_fields(alloc, so_far, names.as_slice(), &kind)?;
+    let rest = take_sign(Sign::Semicolon, rest).ok_or(TreeFault::NoTree)?;
+    add_fields(alloc, fields, names.as_slice(), &kind)?;
     match take_sign(Sign::RightCurly, rest) {
-        Some(rest) => Ok((fields, rest)),
+        Some(rest) => Ok(rest),
         None => take_fields(alloc, room, fields, rest),
     }
 }
@@ -209,16 +152,11 @@ fn whole_body(body: Body, rest: &[Token]) -> Result<Body, TreeFault>
 fn struct_body(alloc: Global, tokens: &[Token]) -> Result<Body, TreeFault>
     ensures { Gives body_shape result (struct_of tokens.now) }
 {
-    let Some((name, rest)) = take_name(tokens) else {
-        return Err(TreeFault::NoTree);
-    };
-    let Some(rest) = take_sign(Sign::Colon, rest) else {
-        return Err(TreeFault::NoTree);
-    };
-    let Some(rest) = take_sign(Sign::LeftCurly, rest) else {
-        return Err(TreeFault::NoTree);
-    };
-    let (fields, rest) = take_fields(alloc, rest.len(), List::new(alloc), rest)?;
+    let (name, rest) = take_name(tokens).ok_or(TreeFault::NoTree)?;
+    let rest = take_sign(Sign::Colon, rest).ok_or(TreeFault::NoTree)?;
+    let rest = take_sign(Sign::LeftCurly, rest).ok_or(TreeFault::NoTree)?;
+    let mut fields = List::new(alloc);
+    let rest = take_fields(alloc, rest.len(), &mut fields, rest)?;
     whole_body(Body::Struct(name, fields), rest)
 }
 
@@ -237,12 +175,8 @@ fn define_body(alloc: Global, tokens: &[Token]) -> Result<Body, TreeFault>
     requires { length tokens.now ≤ MAX_ITEM_TOKENS }
     ensures { Gives body_shape result (define_of tokens.now) }
 {
-    let Some((name, rest)) = take_name(tokens) else {
-        return Err(TreeFault::NoTree);
-    };
-    let Some(rest) = take_sign(Sign::Becomes, rest) else {
-        return Err(TreeFault::NoTree);
-    };
+    let (name, rest) = take_name(tokens).ok_or(TreeFault::NoTree)?;
+    let rest = take_sign(Sign::Becomes, rest).ok_or(TreeFault::NoTree)?;
     let expr = read_expression(alloc, rest)?;
     Ok(Body::Define(name, expr))
 }

@@ -30,9 +30,7 @@ fn item_on(
     ensures fault { IfErr result (λ fault. fault ≢ ParseFault.Memory →
         with_line line (piece_body section ended tokens.now) ≡ Err fault) }
 {
-    let Some(section) = section else {
-        return Err(ParseFault::Grammar(line));
-    };
+    let section = section.ok_or(ParseFault::Grammar(line))?;
     if !ended {
         return Err(ParseFault::Grammar(line));
     }
@@ -44,7 +42,7 @@ fn item_on(
 }
 
 /// Whether the first of these tokens ends an item, where it ends a piece; and what stands after it.
-fn behind_end(tokens: &[Token]) -> (bool, &[Token])
+fn after_end(tokens: &[Token]) -> (bool, &[Token])
     ensures ended { result.0 ≡ ended_of tokens.now }
     ensures tail { result.1.now ≡ tail_of tokens.now }
 {
@@ -73,41 +71,32 @@ fn item_at(
     if piece.len() > MAX_ITEM_TOKENS {
         return Err(ParseFault::TooManyTokens(line));
     }
-    let (ended, rest) = behind_end(&tokens[end..]);
+    let (ended, rest) = after_end(&tokens[end..]);
     let item = item_on(alloc, line, section, ended, piece)?;
     Ok((item, rest))
 }
 
-/// Items with one more after them.
-fn with_item(items: List<Item>, item: Item) -> Result<List<Item>, ParseFault>
-    ensures more { IfOk result (λ all. all ≡ items ++ item ∷ []) }
-    ensures only { IfErr result (λ fault. fault ≡ ParseFault.Memory) }
-{
-    let mut items = items;
-    items.push(item)?;
-    Ok(items)
-}
-
-/// What is left after the section's word or the item at the front: the items so far, the section, the tokens.
-fn read_front(
+/// Reads the section's word or the item at the front, and gives what follows it.
+fn read_front<'a>(
     alloc: Global,
-    items: List<Item>,
-    section: Option<Section>,
-    tokens: &[Token],
-) -> Result<(List<Item>, Option<Section>, &[Token]), ParseFault>
+    items: &mut List<Item>,
+    section: &mut Option<Section>,
+    tokens: &'a [Token],
+) -> Result<&'a [Token], ParseFault>
     requires { 0 < length tokens.now }
-    ensures read { IfOk result (λ x. reads_on (map item_shape items) section tokens.now
-        ≡ reads_on (map item_shape x.0) x.1 x.2.now) }
+    ensures read { IfOk result (λ rest. reads_on (map item_shape items.old) section.old tokens.now
+        ≡ reads_on (map item_shape items.new) section.new rest.now) }
     ensures fault { IfErr result (λ fault. fault ≢ ParseFault.Memory →
-        reads_on (map item_shape items) section tokens.now ≡ Err fault) }
-    ensures shorter { IfOk result (λ x. length x.2.now < length tokens.now) }
+        reads_on (map item_shape items.old) section.old tokens.now ≡ Err fault) }
+    ensures shorter { IfOk result (λ rest. length rest.now < length tokens.now) }
 {
     if let Some(next) = section_begun(&tokens[0].what) {
-        return Ok((items, Some(next), &tokens[1..]));
+        *section = Some(next);
+        return Ok(&tokens[1..]);
     }
-    let (item, rest) = item_at(alloc, section, tokens)?;
-    let items = with_item(items, item)?;
-    Ok((items, section, rest))
+    let (item, rest) = item_at(alloc, *section, tokens)?;
+    items.push(item)?;
+    Ok(rest)
 }
 
 /// The trees of the items of a specification, or the fault of its first faulty item.
@@ -132,10 +121,7 @@ pub fn parse(alloc: Global, tokens: &Tokens) -> Result<SpecTree, ParseFault>
     let mut section = None;
     let mut rest = tokens.as_slice();
     while !rest.is_empty() {
-        let (all, begun, left) = read_front(alloc, items, section, rest)?;
-        items = all;
-        section = begun;
-        rest = left;
+        rest = read_front(alloc, &mut items, &mut section, rest)?;
     }
     Ok(SpecTree { items })
 }

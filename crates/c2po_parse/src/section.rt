@@ -33,7 +33,7 @@ pub fn section_begun(what: &What) -> Option<Section>
 }
 
 /// How many braces are open after a token; a `}` without its `{` leaves none open.
-fn braces_behind(what: &What, depth: usize) -> usize
+fn braces_after(what: &What, depth: usize) -> usize
     requires { depth + 1 < 2 ^ 64 }
     ensures { result ≡ braces_after what.now depth }
 {
@@ -45,7 +45,7 @@ fn braces_behind(what: &What, depth: usize) -> usize
 }
 
 /// How many braces are open after a token of an item; `None` where the token ends the item or begins a section.
-fn depth_behind(section: Option<Section>, depth: usize, what: &What) -> Option<usize>
+fn next_depth(section: Option<Section>, depth: usize, what: &What) -> Option<usize>
     requires { depth + 1 < 2 ^ 64 }
     ensures { result ≡ depth_within section depth what.now }
 {
@@ -55,7 +55,7 @@ fn depth_behind(section: Option<Section>, depth: usize, what: &What) -> Option<u
     if section.is_some() && depth == 0 && matches!(what, What::Sign(Sign::Semicolon)) {
         return None;
     }
-    Some(braces_behind(what, depth))
+    Some(braces_after(what, depth))
 }
 
 /// How many tokens stand before the end of the piece at the front.
@@ -68,7 +68,7 @@ pub fn piece_end(section: Option<Section>, tokens: &[Token]) -> usize
     let mut count = 0usize;
     let mut depth = 0usize;
     while let [token, tail @ ..] = rest {
-        let Some(next) = depth_behind(section, depth, &token.what) else {
+        let Some(next) = next_depth(section, depth, &token.what) else {
             return count;
         };
         depth = next;

@@ -5,4 +5,4 @@
 mod expression;
 mod item;
 
-pub use item::{copy_tree, field_names};
+pub use item::{copy_tree, copy_type, field_names};

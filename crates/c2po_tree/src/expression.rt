@@ -10,8 +10,8 @@ ghost use Rattle.c2po_tree.specs.Climbing.{climb, climb_all, closed, bound, befo
 
 use crate::front::{take_middle, take_operator, take_sign, take_start};
 use crate::node::{
-    behind, closing_of, enclose, join, leaf_of, operator_level, pick_of, prefix_level_of, quantify,
-    with_member,
+    add_member, apply_prefix, closing_of, enclose, join, leaf_of, operator_level, pick_of,
+    prefix_level_of, quantify,
 };
 use crate::operator::{Bracket, Operator, Prefix, Quantifier, Start};
 use crate::{Expr, TreeFault};
@@ -24,10 +24,7 @@ use std::alloc::Global;
 fn deeper(room: u32) -> Result<u32, TreeFault>
     ensures { MatchResult result (λ left. room ≡ suc left) (λ e. (room ≡ 0) × (e ≡ NoTree)) }
 {
-    match room.checked_sub(1) {
-        Some(left) => Ok(left),
-        None => Err(TreeFault::NoTree),
-    }
+    room.checked_sub(1).ok_or(TreeFault::NoTree)
 }
 
 /// The level at which the right operand of an operator is read.
@@ -69,9 +66,7 @@ fn operand(
     ensures { Gives (λ x. (shape x.0, x.1.now)) result (climb room (Operand level) tokens.now) }
 {
     let room = deeper(room)?;
-    let Some((start, rest)) = take_start(tokens) else {
-        return Err(TreeFault::NoTree);
-    };
+    let (start, rest) = take_start(tokens).ok_or(TreeFault::NoTree)?;
     match start {
         Start::Leaf(line, atom) => Ok((leaf_of(line, atom), rest)),
         Start::Before(prefix) => prefixed_operand(alloc, room, level, prefix, rest),
@@ -100,7 +95,7 @@ fn prefixed_operand(
         return Err(TreeFault::NoTree);
     }
     let (inner, rest) = whole(alloc, room, own, tokens)?;
-    let expr = behind(alloc, prefix, inner)?;
+    let expr = apply_prefix(alloc, prefix, inner)?;
     Ok((expr, rest))
 }
 
@@ -110,10 +105,8 @@ fn in_brackets(alloc: Global, room: u32, tokens: &[Token]) -> Result<(Expr, &[To
     ensures { Gives (λ x. (shape x.0, x.1.now)) result (closed (climb room) tokens.now) }
 {
     let (expr, rest) = whole(alloc, room, 1, tokens)?;
-    match take_sign(Sign::RightRound, rest) {
-        Some(rest) => Ok((expr, rest)),
-        None => Err(TreeFault::NoTree),
-    }
+    let rest = take_sign(Sign::RightRound, rest).ok_or(TreeFault::NoTree)?;
+    Ok((expr, rest))
 }
 
 /// The set, the number where there is one, and the body of a quantifier.
@@ -130,9 +123,7 @@ fn quantified_operand(
         (bound (climb room) line quantifier variable tokens.now) }
 {
     let (set, rest) = whole(alloc, room, 1, tokens)?;
-    let Some((number, rest)) = take_middle(quantifier, rest) else {
-        return Err(TreeFault::NoTree);
-    };
+    let (number, rest) = take_middle(quantifier, rest).ok_or(TreeFault::NoTree)?;
     let (body, rest) = in_brackets(alloc, room, rest)?;
     let set = Box::new(alloc, set)?;
     let body = Box::new(alloc, body)?;
@@ -183,21 +174,19 @@ fn elements(
     alloc: Global,
     room: u32,
     bracket: Bracket,
-    so_far: Vec<Expr>,
+    mut members: Vec<Expr>,
     tokens: &[Token],
 ) -> Result<(Expr, &[Token]), TreeFault>
     ensures { Gives (λ x. (shape x.0, x.1.now)) result
-        (climb room (Elements bracket (map shape so_far.items)) tokens.now) }
+        (climb room (Elements bracket (map shape members.items)) tokens.now) }
 {
     let room = deeper(room)?;
     let (element, rest) = whole(alloc, room, 1, tokens)?;
-    let members = with_member(so_far, element)?;
+    add_member(&mut members, element)?;
     if let Some(more) = take_sign(Sign::Comma, rest) {
         return elements(alloc, room, bracket, members, more);
     }
-    let Some(rest) = take_sign(closing_of(&bracket), rest) else {
-        return Err(TreeFault::NoTree);
-    };
+    let rest = take_sign(closing_of(&bracket), rest).ok_or(TreeFault::NoTree)?;
     Ok((enclose(bracket, members), rest))
 }
 

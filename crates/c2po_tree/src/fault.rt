@@ -3,7 +3,7 @@
 ghost use Rattle.c2po_tree.specs.declared.fault.TreeFault.TheVariants.{Memory};
 ghost use Rattle.std.specs.Prelude.{◌≡◌};
 
-use std::alloc::AllocFailed;
+use std::alloc::{AllocError, AllocFailed};
 use thiserror::Error;
 
 /// Why an expression wasn't read.
@@ -15,6 +15,14 @@ pub enum TreeFault {
     /// Out of memory.
     #[error("out of memory")]
     Memory,
+}
+
+impl From<AllocError> for TreeFault {
+    ghost from_gives = { λ _ e. e ≡ Memory };
+
+    fn from(_refused: AllocError) -> TreeFault {
+        TreeFault::Memory
+    }
 }
 
 impl<T: Drop> From<AllocFailed<T>> for TreeFault {

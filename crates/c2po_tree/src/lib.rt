@@ -20,7 +20,7 @@ mod node;
 pub mod operator;
 pub mod tree;
 
-pub use copy::{copy_tree, field_names};
+pub use copy::{copy_tree, copy_type, field_names};
 pub use expression::read_expression;
 pub use fault::TreeFault;
 pub use item::{Body, FieldDecl, Item, SpecTree, TypeTree};

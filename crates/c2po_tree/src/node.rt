@@ -80,7 +80,7 @@ pub fn prefixed_by(prefix: Prefix, operand: Box<Expr>) -> Expr
 }
 
 /// An operand put into a box after a prefix.
-pub fn behind(alloc: Global, prefix: Prefix, operand: Expr) -> Result<Expr, TreeFault>
+pub fn apply_prefix(alloc: Global, prefix: Prefix, operand: Expr) -> Result<Expr, TreeFault>
     ensures { Gives shape result (Some (prefixed prefix (shape operand))) }
 {
     let operand = Box::new(alloc, operand)?;
@@ -115,18 +115,17 @@ pub fn quantify(
     }
 }
 
-/// Elements with one more after them.
-pub fn with_member(elements: Vec<Expr>, element: Expr) -> Result<Vec<Expr>, TreeFault>
-    ensures { Gives (λ v. map shape v.items) result
-        (Some (map shape elements.items ++ shape element ∷ [])) }
+/// Puts one more element after those before.
+pub fn add_member(elements: &mut Vec<Expr>, element: Expr) -> Result<(), TreeFault>
+    ensures { Gives (λ _. map shape elements.new.items) result
+        (Some (map shape elements.old.items ++ shape element ∷ [])) }
 {
-    let mut elements = elements;
     // Brackets within one another have one element each, so the first is given no room to spare.
-    if elements.is_empty() && elements.reserve_exact(1).is_err() {
-        return Err(TreeFault::Memory);
+    if elements.is_empty() {
+        elements.reserve_exact(1)?;
     }
     elements.push(element)?;
-    Ok(elements)
+    Ok(())
 }
 
 /// What brackets make of their elements.

@@ -9,7 +9,7 @@ use mltl_base::{List, Name};
 use std::alloc::{AllocError, Global};
 
 /// A second type like this one.
-fn copy_type(alloc: Global, tree: &TypeTree) -> Result<TypeTree, AllocError>
+pub fn copy_type(alloc: Global, tree: &TypeTree) -> Result<TypeTree, AllocError>
     ensures { IfOk result (λ copy. type_shape copy ≡ type_shape tree.now) }
 {
     match tree {

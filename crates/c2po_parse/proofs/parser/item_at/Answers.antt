@@ -21,8 +21,8 @@ returns-clause-item c =
     let ts = c.args.tokens.now in
     let n = c.piece_end-end.result in
     let line : ℕ = (get_or ts 0 c.index-tokens-0.result).line in
-    let ended : c.behind_end-ended.result.0 ≡ ended_of (drop n ts) = c.behind_end-ended.ensures.ended ∙ ap ended_of (rest-is n ts) in
-    let tail : c.behind_end-ended.result.1.now ≡ tail_of (drop n ts) = c.behind_end-ended.ensures.tail ∙ ap tail_of (rest-is n ts) in
+    let ended : c.after_end-ended.result.0 ≡ ended_of (drop n ts) = c.after_end-ended.ensures.ended ∙ ap ended_of (rest-is n ts) in
+    let tail : c.after_end-ended.result.1.now ≡ tail_of (drop n ts) = c.after_end-ended.ensures.tail ∙ ap tail_of (rest-is n ts) in
     let item : with_line line (piece_body c.args.section (ended_of (drop n ts)) (take n ts)) ≡ Ok (item_shape c.in_ok-item.item) =
     subst (λ b. with_line line (piece_body c.args.section b (take n ts)) ≡ Ok (item_shape c.in_ok-item.item)) ended c.in_ok-item.ensures.item in
     read_pieces c.args.section ts c.index-tokens-0.result n (item_shape c.in_ok-item.item) c.requires c.piece_end-end.ensures.before (omega arith) item
@@ -35,7 +35,7 @@ returns-in_err-item-clause-fault c =
     let ts = c.args.tokens.now in
     let n = c.piece_end-end.result in
     let line : ℕ = (get_or ts 0 c.index-tokens-0.result).line in
-    let ended : c.behind_end-ended.result.0 ≡ ended_of (drop n ts) = c.behind_end-ended.ensures.ended ∙ ap ended_of (rest-is n ts) in
+    let ended : c.after_end-ended.result.0 ≡ ended_of (drop n ts) = c.after_end-ended.ensures.ended ∙ ap ended_of (rest-is n ts) in
     let fault : with_line line (piece_body c.args.section (ended_of (drop n ts)) (take n ts)) ≡ Err c.in_err-item.field-0.0 =
     subst (λ b. with_line line (piece_body c.args.section b (take n ts)) ≡ Err c.in_err-item.field-0.0) ended (c.in_err-item.ensures.fault other) in
     faulty_pieces c.args.section ts c.index-tokens-0.result n c.in_err-item.field-0.0 c.requires c.piece_end-end.ensures.before (omega arith) fault)
