@@ -21,12 +21,14 @@ KIT = $(dir $(realpath $(shell command -v rt)))..
 ifeq ($(TARGET),x86_64)
 STRICT = -fsanitize=address,undefined -fno-sanitize-recover=all -g
 TARGET_CC = $(CC)
+TARGET_LINK = $(CC)
 TARGET_AR = $(AR)
 TARGET_NM = nm
 TARGET_SIZE = size
 else
 RT_TARGET = --target $(TARGET)-unknown-linux-gnu
-TARGET_CC = $(TARGET)-linux-gnu-gcc -static
+TARGET_LINK = $(TARGET)-linux-gnu-gcc
+TARGET_CC = $(TARGET_LINK) -static
 TARGET_AR = $(TARGET)-linux-gnu-ar
 TARGET_NM = $(TARGET)-linux-gnu-nm
 TARGET_SIZE = $(TARGET)-linux-gnu-size
@@ -67,21 +69,22 @@ check-embed: embed $(TRIED) check-cpp check-rust check-python check-installed
 	@echo 'check-embed: all passed for $(TARGET)'
 else
 check-embed:
-	@if command -v $(firstword $(TARGET_CC)) > /dev/null && command -v $(RUN) > /dev/null; then \
+	@if command -v $(TARGET_LINK) > /dev/null && command -v $(RUN) > /dev/null; then \
 	  $(MAKE) embed $(TRIED) && echo 'check-embed: all passed for $(TARGET)'; \
-	else echo 'check-embed: no $(firstword $(TARGET_CC)) or no $(RUN), so $(TARGET) is passed over'; fi
+	else echo 'check-embed: no $(TARGET_LINK) or no $(RUN), so $(TARGET) is passed over'; fi
 endif
 
 $(TRIES):
 	@mkdir -p $@
 
-# The library asks for these names alone, and has no data that is written.
+# The library asks for these names alone, has no data that is written, and links at any address.
 ASKED = __divti3 memcpy memmove memset rattle_alloc rattle_dealloc rattle_realloc
 
 check-symbols: | $(TRIES)
 	$(TARGET_NM) -u $(EMBED)/libr2u2.a | awk '$$1 == "U" { print $$2 }' | sort -u > $(TRIES)/symbols
 	printf '%s\n' $(ASKED) | cmp - $(TRIES)/symbols
 	$(TARGET_SIZE) $(EMBED)/libr2u2.a | awk 'NR > 1 { written += $$2 + $$3 } END { exit written > 0 }'
+	$(TARGET_LINK) -shared -nostdlib -Wl,-z,text -Wl,--whole-archive $(EMBED)/libr2u2.a -o $(TRIES)/anywhere.so
 
 check-misuse: | $(TRIES)
 	$(TARGET_CC) $(WARNED) -O1 $(STRICT) -o $(TRIES)/misuse embed/misuse.c $(EMBED)/libr2u2.a -lpthread
