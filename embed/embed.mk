@@ -24,14 +24,14 @@ TARGET_CC = $(CC)
 TARGET_LINK = $(CC)
 TARGET_AR = $(AR)
 TARGET_NM = nm
-TARGET_SIZE = size
+TARGET_READELF = readelf
 else
 RT_TARGET = --target $(TARGET)-unknown-linux-gnu
 TARGET_LINK = $(TARGET)-linux-gnu-gcc
 TARGET_CC = $(TARGET_LINK) -static
 TARGET_AR = $(TARGET)-linux-gnu-ar
 TARGET_NM = $(TARGET)-linux-gnu-nm
-TARGET_SIZE = $(TARGET)-linux-gnu-size
+TARGET_READELF = $(TARGET)-linux-gnu-readelf
 RUN = qemu-$(TARGET)
 endif
 
@@ -83,7 +83,8 @@ ASKED = __divti3 memcpy memmove memset rattle_alloc rattle_dealloc rattle_reallo
 check-symbols: | $(TRIES)
 	$(TARGET_NM) -u $(EMBED)/libr2u2.a | awk '$$1 == "U" { print $$2 }' | sort -u > $(TRIES)/symbols
 	printf '%s\n' $(ASKED) | cmp - $(TRIES)/symbols
-	$(TARGET_SIZE) $(EMBED)/libr2u2.a | awk 'NR > 1 { written += $$2 + $$3 } END { exit written > 0 }'
+	$(TARGET_READELF) -SW $(EMBED)/libr2u2.a | sed 's/^ *\[ *[0-9]*\] *//' > $(TRIES)/sections
+	awk '$$7 ~ /W/ && $$5 !~ /^0*$$/ && $$1 !~ /^\.data\.rel\.ro/ { print; bad = 1 } END { exit bad }' $(TRIES)/sections
 	$(TARGET_LINK) -shared -nostdlib -Wl,-z,text -Wl,--whole-archive $(EMBED)/libr2u2.a -o $(TRIES)/anywhere.so
 
 check-misuse: | $(TRIES)

@@ -26,26 +26,28 @@ static char header[1 << 16], name[64];
 static size_t header_count;
 static int64_t numbers[MOST_COLUMNS];
 static uint32_t width, code, column, kind;
-
-static uint64_t bytes;
+static uint64_t number;
 
 static void nothing(void) {}
-static void tell_bytes(void) { code = r2u2_bytes(program, count, &bytes, &fault); }
+static void tell_bytes(void) { code = r2u2_bytes(program, count, &number, &fault); }
 static void open_it(void) { code = r2u2_open(&it, program, count, &fault); }
 static void open_under(void) { code = r2u2_open_under(&it, program, count, header, header_count, &fault); }
 static void widths(void) { width = r2u2_width(&it); }
 static void outputs(void) { code = r2u2_outputs(&it); }
 static void names(void) { code = r2u2_name(&it, 0, name, sizeof name); }
-static void rows(void) { (void)r2u2_rows(&it); }
+static void rows(void) { number = r2u2_rows(&it); }
 static void delays(void) { code = r2u2_delay(&it, 0); }
-static void steps(void) { (void)r2u2_steps(&it); }
+static void steps(void) { number = r2u2_steps(&it); }
 static void signals(void) { code = r2u2_signals(&it); }
 static void one_signal(void) { code = r2u2_signal(&it, 0, &column, &kind, name, sizeof name); }
 static void row(void) { code = r2u2_row(&it, numbers, width, &row_fault); }
 static void next(void) { code = r2u2_next(&it, R2U2_EACH, &report); }
 static void next_run(void) { code = r2u2_next(&it, R2U2_RUNS, &report); }
 static void reset(void) { code = r2u2_reset(&it); }
-static void close_it(void) { r2u2_close(&it); }
+static void close_it(void) {
+    r2u2_close(&it);
+    code = R2U2_DONE;
+}
 
 static void run(void) { running(); }
 
