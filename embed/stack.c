@@ -40,6 +40,7 @@ static void delays(void) { code = r2u2_delay(&it, 0); }
 static void steps(void) { number = r2u2_steps(&it); }
 static void signals(void) { code = r2u2_signals(&it); }
 static void one_signal(void) { code = r2u2_signal(&it, 0, &column, &kind, name, sizeof name); }
+static void version(void) { code = r2u2_version(); }
 static void row(void) { code = r2u2_row(&it, numbers, width, &row_fault); }
 static void next(void) { code = r2u2_next(&it, R2U2_EACH, &report); }
 static void next_run(void) { code = r2u2_next(&it, R2U2_RUNS, &report); }
@@ -66,10 +67,12 @@ static size_t stack_of(void (*call)(void)) {
     return sizeof stack - left * sizeof *stack;
 }
 
-enum { OPEN, OPEN_UNDER, BYTES, WIDTH, OUTPUTS, ROWS, NAME, DELAY, STEPS, SIGNALS, SIGNAL, ROW, NEXT, RESET, CLOSE, CALLS };
-static const char *const NAMES[CALLS] = {"r2u2_open",    "r2u2_open_under", "r2u2_bytes",  "r2u2_width", "r2u2_outputs",
-                                         "r2u2_rows",    "r2u2_name",       "r2u2_delay",  "r2u2_steps", "r2u2_signals",
-                                         "r2u2_signal",  "r2u2_row",        "r2u2_next",   "r2u2_reset", "r2u2_close"};
+enum {
+    OPEN, OPEN_UNDER, BYTES, WIDTH, OUTPUTS, ROWS, NAME, DELAY, STEPS, SIGNALS, SIGNAL, VERSION, ROW, NEXT, RESET, CLOSE, CALLS
+};
+static const char *const NAMES[CALLS] = {
+    "r2u2_open",  "r2u2_open_under", "r2u2_bytes",  "r2u2_width",   "r2u2_outputs", "r2u2_rows", "r2u2_name",  "r2u2_delay",
+    "r2u2_steps", "r2u2_signals",    "r2u2_signal", "r2u2_version", "r2u2_row",     "r2u2_next", "r2u2_reset", "r2u2_close"};
 static size_t first[CALLS], most[CALLS], base;
 static const char *path, *deepest[CALLS];
 
@@ -106,6 +109,7 @@ static void watch(void) {
     measure(STEPS, steps);
     measure(SIGNALS, signals);
     measure(SIGNAL, one_signal);
+    measure(VERSION, version);
     for (uint32_t i = 0; i < 200; i++) {
         for (uint32_t k = 0; k < width; k++) numbers[k] = (int64_t)(i * 7 + k * 3) % 5 == 0;
         measure(ROW, row);
