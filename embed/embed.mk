@@ -1,12 +1,15 @@
 # The library for other languages; the Makefile includes this file.
 # make embed                  proves and builds the library into build/x86_64/: archives, headers and arena
 # make embed TARGET=aarch64   the same for that processor, into build/aarch64/
-# make check-embed            builds and runs what lies in embed/ and examples/embed/, for TARGET
+# make check-embed            builds and runs what lies in embed/ and examples/embed/, for both processors, or for TARGET alone
 # make python                 build/libr2u2.so, which embed/python/r2u2.py calls
 # make deb                    a Debian package of all that `make install` installs
 #
-# LIBRARY=FILE takes an archive that was built before in the place of proving and building one.
+# LIBRARY=FILE takes an archive that was built before, of TARGET, in the place of proving and building one.
 
+ifeq ($(TARGET)$(LIBRARY),)
+TARGETS = x86_64 aarch64
+endif
 TARGET ?= x86_64
 EMBED = build/$(TARGET)
 TRIES = $(EMBED)/tries
@@ -18,18 +21,22 @@ KIT = $(dir $(realpath $(shell command -v rt)))..
 ifeq ($(TARGET),x86_64)
 STRICT = -fsanitize=address,undefined -fno-sanitize-recover=all -g
 TARGET_CC = $(CC)
+TARGET_LINK = $(CC)
 TARGET_AR = $(AR)
 TARGET_NM = nm
+TARGET_READELF = readelf
 else
 RT_TARGET = --target $(TARGET)-unknown-linux-gnu
-TARGET_CC = $(TARGET)-linux-gnu-gcc -static
+TARGET_LINK = $(TARGET)-linux-gnu-gcc
+TARGET_CC = $(TARGET_LINK) -static
 TARGET_AR = $(TARGET)-linux-gnu-ar
 TARGET_NM = $(TARGET)-linux-gnu-nm
+TARGET_READELF = $(TARGET)-linux-gnu-readelf
 RUN = qemu-$(TARGET)
 endif
 
-.PHONY: embed check-embed python install-embed uninstall-embed deb
-.PHONY: $(addprefix check-,installed misuse arena bytes flight grants stack cpp rust python)
+.PHONY: embed check-embed measure-stack python install-embed uninstall-embed deb
+.PHONY: $(addprefix check-,installed symbols misuse arena bytes flight grants stack cpp rust python)
 
 embed:
 	@mkdir -p $(EMBED)
@@ -52,20 +59,33 @@ endif
 $(EMBED)/libr2u2.a:
 	$(MAKE) embed
 
-TRIED = check-misuse check-arena check-bytes check-flight check-stack check-grants
+TRIED = check-symbols check-misuse check-arena check-bytes check-flight check-stack check-grants
 
-ifeq ($(TARGET),x86_64)
+ifdef TARGETS
+check-embed:
+	@for target in $(TARGETS); do $(MAKE) check-embed TARGET=$$target || exit; done
+else ifeq ($(TARGET),x86_64)
 check-embed: embed $(TRIED) check-cpp check-rust check-python check-installed
 	@echo 'check-embed: all passed for $(TARGET)'
 else
 check-embed:
-	@if command -v $(firstword $(TARGET_CC)) > /dev/null && command -v $(RUN) > /dev/null; then \
+	@if command -v $(TARGET_LINK) > /dev/null && command -v $(RUN) > /dev/null; then \
 	  $(MAKE) embed $(TRIED) && echo 'check-embed: all passed for $(TARGET)'; \
-	else echo 'check-embed: no $(firstword $(TARGET_CC)) or no $(RUN), so $(TARGET) is passed over'; fi
+	else echo 'check-embed: no $(TARGET_LINK) or no $(RUN), so $(TARGET) is passed over'; fi
 endif
 
 $(TRIES):
 	@mkdir -p $@
+
+# The library asks for these names alone, has no data that is written, and links at any address.
+ASKED = __divti3 memcpy memmove memset rattle_alloc rattle_dealloc rattle_realloc
+
+check-symbols: | $(TRIES)
+	$(TARGET_NM) -u $(EMBED)/libr2u2.a | awk '$$1 == "U" { print $$2 }' | sort -u > $(TRIES)/symbols
+	printf '%s\n' $(ASKED) | cmp - $(TRIES)/symbols
+	$(TARGET_READELF) -SW $(EMBED)/libr2u2.a | sed 's/^ *\[ *[0-9]*\] *//' > $(TRIES)/sections
+	awk '$$7 ~ /W/ && $$5 !~ /^0*$$/ && $$1 !~ /^\.data\.rel\.ro/ { print; bad = 1 } END { exit bad }' $(TRIES)/sections
+	$(TARGET_LINK) -shared -nostdlib -Wl,-z,text -Wl,--whole-archive $(EMBED)/libr2u2.a -o $(TRIES)/anywhere.so
 
 check-misuse: | $(TRIES)
 	$(TARGET_CC) $(WARNED) -O1 $(STRICT) -o $(TRIES)/misuse embed/misuse.c $(EMBED)/libr2u2.a -lpthread
@@ -97,6 +117,10 @@ comma = ,
 check-stack: | $(TRIES)
 	$(TARGET_CC) $(WARNED) -O2 $(if $(RUN),,-Wl$(comma)-z$(comma)now) -o $(TRIES)/stack embed/stack.c $(EMBED)/libr2u2.a $(EMBED)/libr2u2_heap.a
 	$(RUN) $(TRIES)/stack $(GRANT)
+
+# The same over all programs of examples/ and bench/, for the table of docs/EMBEDDING.md.
+measure-stack: check-stack
+	$(RUN) $(TRIES)/stack $(GRANT) $$(embed/programs $(TRIES)/programs)
 
 check-grants:
 	$(MAKE) -C examples/embed clean check CC='$(TARGET_CC)' RUN='$(RUN)' LIBRARY=$(abspath $(EMBED)/libr2u2.a) HEAP=$(abspath $(EMBED)/libr2u2_heap.a)

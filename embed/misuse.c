@@ -302,6 +302,22 @@ static void each_block_refused(bool is_under) {
     printf("blocks asked for%s: %ld\n", is_under ? " under a header" : "", k - 1);
 }
 
+/* The same of r2u2_bytes, which tells nothing then. */
+static void each_block_refused_to_bytes(void) {
+    struct r2u2_fault fault = {0};
+    uint64_t bytes = 7;
+    uint32_t code = R2U2_NO_MEMORY;
+    long k = 0;
+    for (; code == R2U2_NO_MEMORY; k++) {
+        refused = asked + k;
+        code = r2u2_bytes(grant.bytes, grant.count, &bytes, &fault);
+        CHECK(held == 0 && (code == R2U2_DONE ? bytes != 7 : code == R2U2_NO_MEMORY && bytes == 7));
+    }
+    refused = -1;
+    CHECK(code == R2U2_DONE && fault.kind == 0);
+    printf("blocks asked for to tell the bytes: %ld\n", k - 1);
+}
+
 static void moved(void) {
     struct r2u2 here = {0}, there;
     CHECK(open_grant(&here) == R2U2_DONE);
@@ -422,6 +438,7 @@ int main(int count, char **words) {
     any_byte();
     each_block_refused(false);
     each_block_refused(true);
+    each_block_refused_to_bytes();
     moved();
     two_threads();
     handed_over();

@@ -1,5 +1,6 @@
-/* Measures the stack of each call: runs it on an array of its own, and counts the bytes that it wrote.
- * stack PROGRAM.. gives the most over these programs; a program of version 2 is opened under a header too. */
+/* Measures the stack of each call: runs it on an array of its own, and counts the bytes that it wrote, in words of 8.
+ * stack PROGRAM.. tells it of the first of these programs, and the most over all of them with the program that took it; a
+ * program of version 2 is opened under a header too. */
 #include <stdio.h>
 #include <stdlib.h>
 #include <string.h>
@@ -7,9 +8,11 @@
 
 #include "r2u2.h"
 
-enum { STACK = 1 << 20, MOST_COLUMNS = 65536, PAINT = 0xa5 };
+enum { WORDS = 1 << 14, MOST_COLUMNS = 65536 };
 
-static _Alignas(64) uint8_t stack[STACK];
+static const uint64_t PAINT = 0xa5a5a5a5a5a5a5a5;
+
+static _Alignas(64) uint64_t stack[WORDS];
 static ucontext_t here, there;
 static void (*running)(void);
 
@@ -23,33 +26,36 @@ static char header[1 << 16], name[64];
 static size_t header_count;
 static int64_t numbers[MOST_COLUMNS];
 static uint32_t width, code, column, kind;
-
-static uint64_t bytes;
+static uint64_t number;
 
 static void nothing(void) {}
-static void tell_bytes(void) { code = r2u2_bytes(program, count, &bytes, &fault); }
+static void tell_bytes(void) { code = r2u2_bytes(program, count, &number, &fault); }
 static void open_it(void) { code = r2u2_open(&it, program, count, &fault); }
 static void open_under(void) { code = r2u2_open_under(&it, program, count, header, header_count, &fault); }
 static void widths(void) { width = r2u2_width(&it); }
 static void outputs(void) { code = r2u2_outputs(&it); }
 static void names(void) { code = r2u2_name(&it, 0, name, sizeof name); }
-static void rows(void) { (void)r2u2_rows(&it); }
+static void rows(void) { number = r2u2_rows(&it); }
 static void delays(void) { code = r2u2_delay(&it, 0); }
-static void steps(void) { (void)r2u2_steps(&it); }
+static void steps(void) { number = r2u2_steps(&it); }
 static void signals(void) { code = r2u2_signals(&it); }
 static void one_signal(void) { code = r2u2_signal(&it, 0, &column, &kind, name, sizeof name); }
+static void version(void) { code = r2u2_version(); }
 static void row(void) { code = r2u2_row(&it, numbers, width, &row_fault); }
 static void next(void) { code = r2u2_next(&it, R2U2_EACH, &report); }
 static void next_run(void) { code = r2u2_next(&it, R2U2_RUNS, &report); }
 static void reset(void) { code = r2u2_reset(&it); }
-static void close_it(void) { r2u2_close(&it); }
+static void close_it(void) {
+    r2u2_close(&it);
+    code = R2U2_DONE;
+}
 
 static void run(void) { running(); }
 
 /* How many bytes of the stack this call writes. */
 static size_t stack_of(void (*call)(void)) {
-    size_t free_bytes = 0;
-    memset(stack, PAINT, sizeof stack);
+    size_t left = 0;
+    memset(stack, 0xa5, sizeof stack);
     running = call;
     getcontext(&there);
     there.uc_stack.ss_sp = stack;
@@ -57,19 +63,24 @@ static size_t stack_of(void (*call)(void)) {
     there.uc_link = &here;
     makecontext(&there, run, 0);
     swapcontext(&here, &there);
-    while (free_bytes < STACK && stack[free_bytes] == PAINT) free_bytes++;
-    return STACK - free_bytes;
+    while (left < WORDS && stack[left] == PAINT) left++;
+    return sizeof stack - left * sizeof *stack;
 }
 
-enum { OPEN, OPEN_UNDER, BYTES, WIDTH, OUTPUTS, ROWS, NAME, DELAY, STEPS, SIGNALS, SIGNAL, ROW, NEXT, RESET, CLOSE, CALLS };
-static const char *const NAMES[CALLS] = {"r2u2_open",    "r2u2_open_under", "r2u2_bytes",  "r2u2_width", "r2u2_outputs",
-                                         "r2u2_rows",    "r2u2_name",       "r2u2_delay",  "r2u2_steps", "r2u2_signals",
-                                         "r2u2_signal",  "r2u2_row",        "r2u2_next",   "r2u2_reset", "r2u2_close"};
-static size_t most[CALLS], base;
+enum {
+    OPEN, OPEN_UNDER, BYTES, WIDTH, OUTPUTS, ROWS, NAME, DELAY, STEPS, SIGNALS, SIGNAL, VERSION, ROW, NEXT, RESET, CLOSE, CALLS
+};
+static const char *const NAMES[CALLS] = {
+    "r2u2_open",  "r2u2_open_under", "r2u2_bytes",  "r2u2_width",   "r2u2_outputs", "r2u2_rows", "r2u2_name",  "r2u2_delay",
+    "r2u2_steps", "r2u2_signals",    "r2u2_signal", "r2u2_version", "r2u2_row",     "r2u2_next", "r2u2_reset", "r2u2_close"};
+static size_t first[CALLS], most[CALLS], base;
+static const char *path, *deepest[CALLS];
 
 static void measure(int which, void (*call)(void)) {
     size_t bytes = stack_of(call) - base;
-    if (bytes > most[which]) most[which] = bytes;
+    if (deepest[which] && bytes <= most[which]) return;
+    most[which] = bytes;
+    deepest[which] = path;
 }
 
 /* The header that names the stored signals in their order, which is that of their columns. */
@@ -98,6 +109,7 @@ static void watch(void) {
     measure(STEPS, steps);
     measure(SIGNALS, signals);
     measure(SIGNAL, one_signal);
+    measure(VERSION, version);
     for (uint32_t i = 0; i < 200; i++) {
         for (uint32_t k = 0; k < width; k++) numbers[k] = (int64_t)(i * 7 + k * 3) % 5 == 0;
         measure(ROW, row);
@@ -109,7 +121,7 @@ static void watch(void) {
     measure(CLOSE, close_it);
 }
 
-static int read_program(const char *path) {
+static int read_program(void) {
     static uint8_t bytes[1 << 24];
     FILE *file = fopen(path, "rb");
     program = bytes;
@@ -117,20 +129,30 @@ static int read_program(const char *path) {
     return file ? fclose(file) : -1;
 }
 
+/* Measures the calls over the program at `path`; 0 where it was opened and run. */
+static int measure_program(void) {
+    if (read_program()) return fprintf(stderr, "stack: cannot read %s\n", path), 6;
+    measure(BYTES, tell_bytes);
+    measure(OPEN, open_it);
+    if (code) return fprintf(stderr, "stack: %s: code %u %s\n", path, code, fault.text), (int)code;
+    watch();
+    if (program[4] != 2) return 0;
+    make_header();
+    measure(OPEN_UNDER, open_under);
+    if (code) return fprintf(stderr, "stack: %s: code %u %s\n", path, code, fault.text), (int)code;
+    watch();
+    return 0;
+}
+
 int main(int words, char **paths) {
     base = stack_of(nothing);
     for (int i = 1; i < words; i++) {
-        if (read_program(paths[i])) return fprintf(stderr, "stack: cannot read %s\n", paths[i]), 6;
-        measure(BYTES, tell_bytes);
-        measure(OPEN, open_it);
-        if (code) return fprintf(stderr, "stack: %s: code %u %s\n", paths[i], code, fault.text), (int)code;
-        watch();
-        if (program[4] != 2) continue;
-        make_header();
-        measure(OPEN_UNDER, open_under);
-        if (code) return fprintf(stderr, "stack: %s: code %u %s\n", paths[i], code, fault.text), (int)code;
-        watch();
+        path = paths[i];
+        int status = measure_program();
+        if (status) return status;
+        if (i == 1) memcpy(first, most, sizeof first);
     }
-    for (int i = 0; i < CALLS; i++) printf("%-16s %6zu bytes\n", NAMES[i], most[i]);
+    for (int i = 0; i < CALLS; i++)
+        printf("%-16s %6zu bytes, and %6zu for %s\n", NAMES[i], first[i], most[i], deepest[i]);
     return 0;
 }

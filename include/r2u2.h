@@ -1,7 +1,7 @@
 /* r2u2.h: the proved monitor of Mission-time LTL, for programs in C and C++.
  *
- * The library is crates/r2u2_c/out/libr2u2_c.a, which `rt lib` makes in crates/r2u2_c; link it with the kit's
- * liblibc_c.a, by which it calls malloc and free. docs/EMBEDDING.md has an example and what is proved of each call.
+ * `make embed` leaves the library with this header in build/: link libr2u2.a, and with it libr2u2_heap.a, by which it
+ * calls malloc, realloc and free, or arena.c in the place of these. docs/EMBEDDING.md says what is proved of each call.
  *
  * WHAT A CALLER OWES. The calls are proved for callers that keep to this, and nothing checks that they do.
  *
