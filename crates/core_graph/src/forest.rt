@@ -4,6 +4,7 @@ ghost use Rattle.std.specs.Prelude.{◌≡◌, ◌<◌, [], length, slice_get, S
 ghost use Rattle.core_graph.specs.Items.{AreBelow, Grows, Has, IsAdded, IsForest, operands_of, tree_of, trees};
 
 use crate::item::Item;
+use crate::keyed::Keyed;
 use indexmap::IndexSet;
 use std::alloc::{AllocError, Global};
 use std::marker::Model;
@@ -11,7 +12,7 @@ use std::marker::Model;
 /// Items that share their operands, which contracts see as their list.
 #[derive(Drop)]
 pub struct Forest {
-    items: IndexSet<Item>,
+    items: IndexSet<Item, Keyed>,
 }
 
 impl Model for Forest {
@@ -24,12 +25,12 @@ impl Model for Forest {
 }
 
 impl Forest {
-    /// No items.
-    pub fn new(alloc: Global) -> Self
+    /// No items; they are found by hashes of this key.
+    pub fn new(alloc: Global, key: Keyed) -> Self
         ensures { result ≡ [] }
     {
         Forest {
-            items: IndexSet::new(alloc),
+            items: IndexSet::with_hasher(alloc, key),
         }
     }
 

@@ -8,6 +8,7 @@ ghost use Rattle.core_graph.specs.Limits.{AreFew, AreMany};
 ghost use Rattle.core_graph.specs.Listings.{asked_from};
 
 use crate::forest::Forest;
+use crate::keyed::Keyed;
 use crate::listing::list;
 use crate::ops::{bz_ops, ft_ops, numbered_outs, pt_ops};
 use crate::reach::reached;
@@ -72,8 +73,8 @@ fn graph_of(
     ensures too_many { result ≡ Err GraphFault.TooManyNodes
         → AreMany (asked_from columns.now nodes.now outs.now) }
 {
-    let mut forest = Forest::new(alloc);
     let marks = reached(alloc, nodes, outs)?;
+    let mut forest = Forest::new(alloc, Keyed::by(&marks, nodes));
     let ids = read(alloc, &mut forest, nodes, &marks, columns)?;
     let bz = list(alloc, &forest, outs, &ids, Part::Bz)?;
     let ft = list(alloc, &forest, outs, &ids, Part::Ft)?;

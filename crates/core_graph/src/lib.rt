@@ -9,6 +9,7 @@ mod connectives;
 mod forest;
 mod graph;
 mod item;
+mod keyed;
 mod listing;
 mod ops;
 mod reach;

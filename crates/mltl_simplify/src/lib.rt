@@ -4,6 +4,7 @@
 #![tactic(auto)]
 
 mod laws;
+mod node_list;
 mod numbers;
 mod parts;
 mod rules;

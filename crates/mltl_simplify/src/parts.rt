@@ -4,9 +4,10 @@ ghost use Rattle.std.specs.Prelude.{◌≡◌, ◌<◌, [], length, IfOk};
 ghost use Rattle.plain_nodes.specs.Nodes.{Has, Tree};
 ghost use Rattle.mltl_simplify.specs.Nodes.{AreFormed, AreNumbered, AreSimplified, IsNumbered, Places, number_at as known_at, place_at as stands_at};
 
+use crate::node_list::NodeList;
 use crate::numbers::{compared, computed, negated};
 use crate::rules::{between, connective, negation, window};
-use plain_nodes::{Nodes, Plain};
+use plain_nodes::Plain;
 use std::alloc::{AllocError, Global};
 
 /// What a node became: the place of the node that stands for it, and the number that it is, where it is a whole number
@@ -51,7 +52,7 @@ fn number_of(parts: &[Part], nodes: &[Plain], i: usize) -> Option<i64>
 
 /// The place of the node that stands for node `i`, given the parts of the nodes before it.
 fn place_of(
-    simple: &mut Nodes,
+    simple: &mut NodeList,
     parts: &[Part],
     nodes: &[Plain],
     i: usize,
@@ -86,7 +87,7 @@ fn place_of(
 }
 
 /// The parts of all nodes, in order.
-pub fn read(alloc: Global, simple: &mut Nodes, nodes: &[Plain]) -> Result<Vec<Part>, AllocError>
+pub fn read(alloc: Global, simple: &mut NodeList, nodes: &[Plain]) -> Result<Vec<Part>, AllocError>
     requires empty { simple.old ≡ [] }
     requires formed { AreFormed nodes.now }
     ensures { IfOk result (λ parts.

@@ -7,13 +7,14 @@ ghost use Rattle.plain_nodes.specs.Nodes.{Has, IsBounded, formula};
 ghost use Rattle.mltl_simplify.specs.Nodes.{AreFormed, IsFormulaAt, KeepsNone, Puts, gives_truth, keeps_truth, simple_between, simple_logic, simple_window};
 ghost use Rattle.mltl_simplify.specs.Simplify.{joined as summed, simple_and, simple_equals, simple_implies, simple_not, simple_or, as_truth};
 
+use crate::node_list::NodeList;
 use mltl_base::limits::MAX_BOUND;
 use mltl_base::{BetweenOp, Interval, LogicOp, WindowOp};
-use plain_nodes::{Nodes, Plain};
+use plain_nodes::Plain;
 use std::alloc::AllocError;
 
 /// The truth that formula `n` is, if it is one.
-fn truth_at(nodes: &Nodes, n: u32) -> Option<bool>
+fn truth_at(nodes: &NodeList, n: u32) -> Option<bool>
     requires { IsFormulaAt nodes.now n }
     ensures { (p : Formula) → Has nodes.now n (formula p) → result ≡ as_truth p }
 {
@@ -24,7 +25,7 @@ fn truth_at(nodes: &Nodes, n: u32) -> Option<bool>
 }
 
 /// The negation of `a`.
-pub fn negation(nodes: &mut Nodes, a: u32) -> Result<u32, AllocError>
+pub fn negation(nodes: &mut NodeList, a: u32) -> Result<u32, AllocError>
     requires formed { AreFormed nodes.old }
     requires there { IsFormulaAt nodes.old a }
     ensures { (p : Formula) → Has nodes.old a (formula p)
@@ -38,7 +39,7 @@ pub fn negation(nodes: &mut Nodes, a: u32) -> Result<u32, AllocError>
 }
 
 /// `a && b`.
-fn conjunction(nodes: &mut Nodes, a: u32, b: u32) -> Result<u32, AllocError>
+fn conjunction(nodes: &mut NodeList, a: u32, b: u32) -> Result<u32, AllocError>
     requires formed { AreFormed nodes.old }
     requires left { IsFormulaAt nodes.old a }
     requires right { IsFormulaAt nodes.old b }
@@ -55,7 +56,7 @@ fn conjunction(nodes: &mut Nodes, a: u32, b: u32) -> Result<u32, AllocError>
 }
 
 /// `a || b`.
-fn disjunction(nodes: &mut Nodes, a: u32, b: u32) -> Result<u32, AllocError>
+fn disjunction(nodes: &mut NodeList, a: u32, b: u32) -> Result<u32, AllocError>
     requires formed { AreFormed nodes.old }
     requires left { IsFormulaAt nodes.old a }
     requires right { IsFormulaAt nodes.old b }
@@ -72,7 +73,7 @@ fn disjunction(nodes: &mut Nodes, a: u32, b: u32) -> Result<u32, AllocError>
 }
 
 /// `a -> b`.
-fn implication(nodes: &mut Nodes, a: u32, b: u32) -> Result<u32, AllocError>
+fn implication(nodes: &mut NodeList, a: u32, b: u32) -> Result<u32, AllocError>
     requires formed { AreFormed nodes.old }
     requires left { IsFormulaAt nodes.old a }
     requires right { IsFormulaAt nodes.old b }
@@ -95,7 +96,7 @@ fn implication(nodes: &mut Nodes, a: u32, b: u32) -> Result<u32, AllocError>
 }
 
 /// `a <-> b`.
-fn equivalence(nodes: &mut Nodes, a: u32, b: u32) -> Result<u32, AllocError>
+fn equivalence(nodes: &mut NodeList, a: u32, b: u32) -> Result<u32, AllocError>
     requires formed { AreFormed nodes.old }
     requires left { IsFormulaAt nodes.old a }
     requires right { IsFormulaAt nodes.old b }
@@ -112,7 +113,7 @@ fn equivalence(nodes: &mut Nodes, a: u32, b: u32) -> Result<u32, AllocError>
 }
 
 /// An operator that looks at one time.
-pub fn connective(nodes: &mut Nodes, op: LogicOp, a: u32, b: u32) -> Result<u32, AllocError>
+pub fn connective(nodes: &mut NodeList, op: LogicOp, a: u32, b: u32) -> Result<u32, AllocError>
     requires formed { AreFormed nodes.old }
     requires left { IsFormulaAt nodes.old a }
     requires right { IsFormulaAt nodes.old b }
@@ -163,7 +164,7 @@ fn is_same(outer: WindowOp, inner: WindowOp) -> bool
 }
 
 /// A temporal operator of one formula, where it can't be left out: two of them in a row are one.
-fn stacked(nodes: &mut Nodes, op: WindowOp, i: Interval, a: u32) -> Result<u32, AllocError>
+fn stacked(nodes: &mut NodeList, op: WindowOp, i: Interval, a: u32) -> Result<u32, AllocError>
     requires formed { AreFormed nodes.old }
     requires bounded { IsBounded i }
     requires there { IsFormulaAt nodes.old a }
@@ -181,7 +182,7 @@ fn stacked(nodes: &mut Nodes, op: WindowOp, i: Interval, a: u32) -> Result<u32, 
 }
 
 /// A temporal operator of one formula.
-pub fn window(nodes: &mut Nodes, op: WindowOp, i: Interval, a: u32) -> Result<u32, AllocError>
+pub fn window(nodes: &mut NodeList, op: WindowOp, i: Interval, a: u32) -> Result<u32, AllocError>
     requires formed { AreFormed nodes.old }
     requires bounded { IsBounded i }
     requires there { IsFormulaAt nodes.old a }
@@ -206,7 +207,7 @@ fn gives(op: BetweenOp, value: bool) -> bool
 
 /// A temporal operator between formulas.
 pub fn between(
-    nodes: &mut Nodes,
+    nodes: &mut NodeList,
     op: BetweenOp,
     i: Interval,
     a: u32,

@@ -12,9 +12,10 @@ ghost use Rattle.mltl_simplify.specs.Outputs.{simple_outputs};
 ghost use Rattle.mltl_simplify.specs.Simplify.{simp};
 
 use crate::laws::simplified_formulas_mean_the_same;
+use crate::node_list::NodeList;
 use crate::parts::{Part, place_at, read};
 use mltl_base::List;
-use plain_nodes::{Expanded, Nodes, PlainOut};
+use plain_nodes::{Expanded, PlainOut};
 use std::alloc::{AllocError, Global};
 
 /// An output over the places of the nodes that stand for its nodes.
@@ -67,7 +68,7 @@ pub fn simplify(alloc: Global, spec: &Expanded) -> Result<Expanded, AllocError>
         IsOrdered p → Settled rows (simp p) t v → Settled rows p t v }
 {
     simplified_formulas_mean_the_same();
-    let mut simple = Nodes::new(alloc);
+    let mut simple = NodeList::new(alloc);
     let parts = read(alloc, &mut simple, spec.nodes.as_slice())?;
     let outs = outs_of(alloc, &parts, spec.outs.as_slice())?;
     Ok(Expanded {

@@ -16,7 +16,7 @@ use Rattle.mltl_simplify.proofs.Signals.{simple_kinds}
 use Rattle.set_expand.specs.Outputs.{HasPlainName}
 use Rattle.obs_build.specs.declared.fault.BuildFault.{BuildFault}
 use Rattle.obs_build.specs.declared.fault.BuildFault.TheVariants as build
-use Rattle.obs_build.specs.Limits.{IsReason, IsWithinLimits, slots_of}
+use Rattle.obs_build.specs.Limits.{IsReason, slots_of}
 use Rattle.obs_files.specs.Names.{NamesFit}
 use Rattle.trace_feed.specs.declared.header_fault.HeaderFault.{HeaderFault}
 use Rattle.spec_compile.specs.declared.fault.CompileFault.{CompileFault}
@@ -26,7 +26,7 @@ use Rattle.spec_compile.specs.Image.{image, over_columns}
 use Rattle.spec_compile.specs.Limits.{limit_refusal}
 use Rattle.spec_compile.specs.Simplified.{are_smaller, is_limit, simple_image, simple_image_of_text, simplified, slots_in, smaller_outputs}
 use Rattle.spec_compile.proofs.CompiledLaws.{compiled}
-use Rattle.spec_compile.proofs.LimitLaws.{first_exceeded}
+use Rattle.spec_compile.proofs.LimitLaws.{first_exceeded, none_fits}
 use Rattle.spec_compile.proofs.TellingLaws.{image_found, image_under_header}
 
 -- names stay
@@ -39,11 +39,11 @@ pub kinds_simple : (signals : List Signal) (spec simple : Expanded) → asked si
 kinds_simple signals spec simple same h = subst (All (ReadsSignals (kinds_of signals))) (sym same) (simple_kinds (kinds_of signals) (asked spec) h)
 
 -- the slots and boxes of an image are few
-pub image_slots : (columns : Columns) (signals : List Signal) (outs : List Asked) (p : Program) → p ≡ image columns signals outs → IsWithinLimits (over_columns columns outs) → slots_in p < 2 ^ 64
+pub image_slots : (columns : Columns) (signals : List Signal) (outs : List Asked) (p : Program) → p ≡ image columns signals outs → limit_refusal (over_columns columns outs) ≡ None → slots_in p < 2 ^ 64
 unfolding image
 image_slots columns signals outs p is within =
     let same : slots_in p ≡ slots_of (over_columns columns outs) = ap slots_in is in
-    omega (arith, within.fits)
+    omega (arith, none_fits (over_columns columns outs) within)
 
 -- ---- which form is taken
 

@@ -11,14 +11,13 @@ ghost use Rattle.spec_compile.specs.Image.{AreColumnsFor, over_columns};
 ghost use Rattle.spec_compile.specs.Simplified.{is_limit as limits, simple_image, slots_in};
 
 use crate::CompileFault;
-use crate::program::built;
+use crate::program::{back, built};
 use c2po_types::TypedSpec;
 use delay_sizes::slot_count;
 use mltl_base::Columns;
 use mltl_simplify::simplify;
 use obs_build::BuildFault;
 use obs_verify::Checked;
-use set_expand::expand;
 use std::alloc::Global;
 
 /// Whether a limit is exceeded; else out of memory.
@@ -58,9 +57,8 @@ pub fn back_simple(
         (limit_refusal (over_columns columns.now (outputs_of (spec_shape spec.now)))) fault) }
     ensures names { IfOk result NamesFit }
 {
-    let expanded = expand(alloc, spec)?;
-    let plain = built(alloc, &expanded, spec, columns)?;
-    let simple = simplify(alloc, &expanded)?;
+    let plain = back(alloc, spec, columns)?;
+    let simple = simplify(alloc, spec.expanded())?;
     match built(alloc, &simple, spec, columns) {
         Ok(simple) => Ok(smaller(simple, plain)),
         Err(fault) if is_limit(fault) => Ok(plain),

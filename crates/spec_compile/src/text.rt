@@ -24,6 +24,7 @@ pub fn front(alloc: Global, text: &[u8]) -> Result<TypedSpec, CompileFault>
 {
     let tokens = lex(alloc, text)?;
     let tree = parse(alloc, &tokens)?;
+    drop(tokens);
     let spec = check(alloc, &tree)?;
     Ok(spec)
 }

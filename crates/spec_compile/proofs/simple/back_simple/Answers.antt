@@ -1,63 +1,57 @@
 use Rattle.std.proofs.Common.{◌≡◌, ◌∙◌, None, List, ap, length, nat_le, subst, sym}
-use Rattle.std.proofs.lemmas.Result.{err_from_is_err_and}
+use Rattle.std.specs.Prelude.{All}
+use Rattle.mltl_base.specs.Kinds.{ReadsSignals, kinds_of}
 use Rattle.mltl_base.specs.Subformulas.{Asked}
 use Rattle.mltl_simplify.specs.Outputs.{simple_outputs}
 use Rattle.c2po_tree.specs.ItemShape.{spec_shape}
 use Rattle.c2po_types.specs.Signals.{signals_of}
 use Rattle.plain_nodes.specs.Outputs.{asked}
 use Rattle.set_expand.specs.Outputs.{outputs_of}
+use Rattle.set_expand.proofs.Signalling.{outputs-read}
 use Rattle.obs_build.specs.Limits.{IsReason}
 use Rattle.obs_files.specs.Names.{NamesFit}
-use Rattle.spec_compile.specs.Refusals.{IsFirstRefusal, build_refusal}
 use Rattle.spec_compile.specs.Limits.{limit_refusal}
 use Rattle.spec_compile.specs.Image.{image, over_columns}
 use Rattle.spec_compile.specs.Simplified.{slots_in}
-use Rattle.spec_compile.proofs.LimitLaws.{none_exceeded, first_exceeded}
+use Rattle.spec_compile.proofs.LimitLaws.{none_exceeded}
 use Rattle.spec_compile.proofs.SimpleLaws.{fits_either, image_slots, kinds_simple, named_simple, plain_is, smaller_is}
 use Rattle.spec_compile.proofs.simple.back_simple.Goals as goal
 
-pub returns-in_err-plain-clause-refused : goal.returns-in_err-plain-clause-refused
-returns-in_err-plain-clause-refused c =
-    let p = err_from_is_err_and c.from_residual-in_err-plain.result c.from_residual-in_err-plain.ensures.1 in
-    rw (p.1, p.2) (subst (λ outs. IsFirstRefusal (limit_refusal (over_columns c.args.columns.now outs)) (build_refusal c.in_err-plain.field-0.0)) c.in_ok-expanded.ensures.unfolds
-    (first_exceeded (over_columns c.args.columns.now (asked c.in_ok-expanded.expanded)) c.in_err-plain.field-0.0 c.in_err-plain.ensures.refused))
-
-pub built-requires-2-clause-unfolded : goal.built-requires-2-clause-unfolded
-built-requires-2-clause-unfolded c =
+pub built-requires-clause-unfolded : goal.built-requires-clause-unfolded
+built-requires-clause-unfolded c =
     let signals = signals_of (spec_shape c.args.spec.now) in
-    let spec = c.in_ok-expanded.expanded in
+    let spec = c.expanded.result.now in
     let simple = c.in_ok-simple.simple in
     let same = c.in_ok-simple.ensures.outputs in
+    let reads = subst (All (ReadsSignals (kinds_of signals))) (sym c.expanded.ensures.unfolds) (outputs-read (spec_shape c.args.spec.now)) in
     record {
-      sound = c.in_ok-simple.ensures.sound (length signals) c.in_ok-expanded.ensures.sound;
+      sound = c.in_ok-simple.ensures.sound (length signals) c.expanded.ensures.sound;
       ranged = c.in_ok-simple.ensures.ranged;
-      kinds = kinds_simple signals spec simple same c.in_ok-expanded.ensures.kinds;
-      named = named_simple spec simple same c.in_ok-expanded.ensures.named;
+      kinds = kinds_simple signals spec simple same reads;
+      named = named_simple spec simple same c.expanded.ensures.named;
     }
 
 pub smaller-requires-clause-simple : goal.smaller-requires-clause-simple
 smaller-requires-clause-simple c =
-    image_slots c.args.columns.now (signals_of (spec_shape c.args.spec.now)) (asked c.in_ok-simple.simple) c.in-Ok.simple c.in-Ok.ensures.image c.in-Ok.ensures.within
+    let outs = asked c.in_ok-simple.simple in
+    image_slots c.args.columns.now (signals_of (spec_shape c.args.spec.now)) outs c.in-Ok.simple c.in-Ok.ensures.image
+    (none_exceeded (over_columns c.args.columns.now outs) c.in-Ok.ensures.within)
 
 pub smaller-requires-clause-plain : goal.smaller-requires-clause-plain
 smaller-requires-clause-plain c =
-    image_slots c.args.columns.now (signals_of (spec_shape c.args.spec.now)) (asked c.in_ok-expanded.expanded) c.in_ok-plain.plain c.in_ok-plain.ensures.image c.in_ok-plain.ensures.within
+    image_slots c.args.columns.now (signals_of (spec_shape c.args.spec.now)) (outputs_of (spec_shape c.args.spec.now)) c.in_ok-plain.plain c.in_ok-plain.ensures.image c.in_ok-plain.ensures.within
 
 pub returns-in-Ok-clause-image : goal.returns-in-Ok-clause-image
 returns-in-Ok-clause-image c =
     let columns = c.args.columns.now in
     let signals = signals_of (spec_shape c.args.spec.now) in
     let outs = outputs_of (spec_shape c.args.spec.now) in
-    let same : asked c.in_ok-simple.simple ≡ simple_outputs outs = c.in_ok-simple.ensures.outputs ∙ ap simple_outputs c.in_ok-expanded.ensures.unfolds in
+    let same : asked c.in_ok-simple.simple ≡ simple_outputs outs = c.in_ok-simple.ensures.outputs ∙ ap simple_outputs c.expanded.ensures.unfolds in
     c.smaller.ensures
     ∙ smaller_is columns signals outs c.in-Ok.simple c.in_ok-plain.plain
     (subst (λ (xs : List Asked). limit_refusal (over_columns columns xs) ≡ None) same (none_exceeded (over_columns columns (asked c.in_ok-simple.simple)) c.in-Ok.ensures.within))
     (c.in-Ok.ensures.image ∙ ap (λ xs. image columns signals xs) same)
-    (c.in_ok-plain.ensures.image ∙ ap (λ xs. image columns signals xs) c.in_ok-expanded.ensures.unfolds)
-
-pub returns-in-Ok-clause-within : goal.returns-in-Ok-clause-within
-returns-in-Ok-clause-within c = subst (λ outs. limit_refusal (over_columns c.args.columns.now outs) ≡ None) c.in_ok-expanded.ensures.unfolds
-    (none_exceeded (over_columns c.args.columns.now (asked c.in_ok-expanded.expanded)) c.in_ok-plain.ensures.within)
+    c.in_ok-plain.ensures.image
 
 pub returns-in-Ok-clause-names : goal.returns-in-Ok-clause-names
 returns-in-Ok-clause-names c =
@@ -69,12 +63,8 @@ returns-in-Err-clause-image c =
     let columns = c.args.columns.now in
     let signals = signals_of (spec_shape c.args.spec.now) in
     let outs = outputs_of (spec_shape c.args.spec.now) in
-    let same : asked c.in_ok-simple.simple ≡ simple_outputs outs = c.in_ok-simple.ensures.outputs ∙ ap simple_outputs c.in_ok-expanded.ensures.unfolds in
+    let same : asked c.in_ok-simple.simple ≡ simple_outputs outs = c.in_ok-simple.ensures.outputs ∙ ap simple_outputs c.expanded.ensures.unfolds in
     plain_is columns signals outs c.in-Err.fault c.in_ok-plain.plain
     (subst (λ (xs : List Asked). IsReason (over_columns columns xs) c.in-Err.fault) same c.in-Err.ensures.refused)
     (sym c.is_limit.ensures ∙ c.if-is_limit.true)
-    (c.in_ok-plain.ensures.image ∙ ap (λ xs. image columns signals xs) c.in_ok-expanded.ensures.unfolds)
-
-pub returns-in-Err-clause-within : goal.returns-in-Err-clause-within
-returns-in-Err-clause-within c = subst (λ outs. limit_refusal (over_columns c.args.columns.now outs) ≡ None) c.in_ok-expanded.ensures.unfolds
-    (none_exceeded (over_columns c.args.columns.now (asked c.in_ok-expanded.expanded)) c.in_ok-plain.ensures.within)
+    c.in_ok-plain.ensures.image
