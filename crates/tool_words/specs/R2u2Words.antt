@@ -46,9 +46,9 @@ kind_in found = if is_set (codes "source") found then Spec else Program
 abbrev pub style_in : List Row → Style
 style_in found = if is_set (codes "runs") found then Runs else Each
 
--- the number of `--mission-time`, at most 2 ^ 40; without one that greatest, or 2 ^ 24 where `--timed` is given
+-- the number of `--mission-time`; without one the greatest that there is, or the usual one where `--timed` is given
 abbrev pub mission_in : List Row → Option ℕ
-mission_in found = option_map_or (number_in 13 1 1099511627776) (first_of (codes "mission-time") found)
+mission_in found = option_map_or (number_in 13 1 MAX_MISSION) (first_of (codes "mission-time") found)
     (Some (if is_set (codes "timed") found then TIMED_MISSION else MAX_MISSION))
 
 -- the run over a file, where an absent trace is `-`
@@ -118,7 +118,7 @@ asked_of (r2u2_ask.TheVariants.Run r) = run (run_of r)
 asked_of (r2u2_ask.TheVariants.Demo seed rows) = demo seed rows
 asked_of r2u2_ask.TheVariants.Nothing = nothing
 
--- a mission time is from 1 to 2 ^ 40, and a demo has from 1 to 10,000,000 rows
+-- a mission time is from 1 to the greatest that there is, and a demo has from 1 to 10,000,000 rows
 abbrev pub IsInBounds : r2u2_ask.R2u2Ask → Type 0
 IsInBounds (r2u2_ask.TheVariants.Run r) = (1 ≤ r.mission) × (r.mission ≤ MAX_MISSION)
 IsInBounds (r2u2_ask.TheVariants.Demo seed rows) = (1 ≤ rows) × (rows ≤ 10000000)

@@ -53,7 +53,7 @@ const MISSION_TIMES: Numbers = Numbers {
 const SEEDS: Numbers = Numbers {
     digits: 10,
     least: 0,
-    greatest: 4_294_967_295,
+    greatest: u32::MAX as u64,
 };
 
 /// What stands after it.
