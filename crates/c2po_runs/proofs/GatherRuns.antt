@@ -270,9 +270,9 @@ module _ (asked : MakeAsked) (bytes : List ℕ) (first second : List Event) (rea
     header_made (Err (answers.OpenFault at.Header)) (inr is) = header_untold is
     header_made (Err (answers.ReadFault at.Header)) is =
         let line = is.2 in
-        let lines = lines_of line.ended line.bytes in
-        gather_not asked bytes true first second ((at.Header, name) ∷ []) lines line.ended read (after_header asked name line.bytes line.ended is.0 second is.1 line.takes) (answers.ReadFault at.Header) whole_front
-        (record { named = has_name; spec = faultless lines line.ended; none_out = refl }) (λ tried. faultless lines line.ended) (header_attached is.0 is.1)
+        let lines = lines_of false line.bytes in
+        gather_not asked bytes true first second ((at.Header, name) ∷ []) lines false read (after_header asked name line.bytes false is.0 second is.1 line.takes) (answers.ReadFault at.Header) whole_front
+        (record { unheaded = record { named = has_name; spec = faultless lines false; none_out = refl }; not_ended = refl; no_line = line.no_line }) (λ tried. faultless lines false) (header_attached is.0 is.1)
     header_made (Err answers.Memory) is =
         let line = is.2 in
         let lines = lines_of line.ended line.bytes in
@@ -363,10 +363,10 @@ open_outcome (Compiled form) asked run is none silent = (ap (λ p. file_place (f
 open_outcome Upgrade asked run is none silent = (ap (λ p. file_place (file_kind p)) (sym is), none, silent)
 open_outcome Show asked run is none silent = (ap (λ p. file_place (file_kind p)) (sym is), none, silent)
 
-read_outcome : (product : Product) (asked : MakeAsked) (run : Seen) → asked.product ≡ product → length run.file ≤ file_limit (file_kind asked.product) → run.out ≡ [] → MakeOutcome (answers.ReadFault (file_place (file_kind product))) asked run
-read_outcome (Compiled form) asked run is within silent = (ap (λ p. file_place (file_kind p)) (sym is), within, silent)
-read_outcome Upgrade asked run is within silent = (ap (λ p. file_place (file_kind p)) (sym is), within, silent)
-read_outcome Show asked run is within silent = (ap (λ p. file_place (file_kind p)) (sym is), within, silent)
+read_outcome : (product : Product) (asked : MakeAsked) (run : Seen) → asked.product ≡ product → run.whole ≡ false → length run.file ≤ file_limit (file_kind asked.product) → run.out ≡ [] → MakeOutcome (answers.ReadFault (file_place (file_kind product))) asked run
+read_outcome (Compiled form) asked run is unended within silent = (ap (λ p. file_place (file_kind p)) (sym is), unended, within, silent)
+read_outcome Upgrade asked run is unended within silent = (ap (λ p. file_place (file_kind p)) (sym is), unended, within, silent)
+read_outcome Show asked run is unended within silent = (ap (λ p. file_place (file_kind p)) (sym is), unended, within, silent)
 
 long_outcome : (product : Product) (asked : MakeAsked) (run : Seen) → asked.product ≡ product → file_limit (file_kind asked.product) < length run.file → run.out ≡ [] → MakeOutcome (answers.TextTooLong (file_place (file_kind product))) asked run
 long_outcome (Compiled form) asked run is long silent = (ap (λ p. file_place (file_kind p)) (sym is), long, silent)
@@ -383,7 +383,7 @@ gather_unread asked (answers.OpenFault p) events is =
     (file_missed asked events is.1 (open_outcome asked.product asked (untouched asked) refl refl refl) (open_outcome asked.product asked (record (untouched asked) { names = [] }) refl refl refl))
 gather_unread asked (answers.ReadFault p) events is =
     subst (λ q. NotGathered asked (answers.ReadFault q) events) (sym is.0)
-    (read_alone asked (answers.ReadFault (place_of asked)) is.2 is.1 events is.3 is.4 (read_outcome asked.product asked (read_so asked is.2 false [] [] false) refl is.5 refl)
+    (read_alone asked (answers.ReadFault (place_of asked)) is.2 is.1 events is.3 is.4 (read_outcome asked.product asked (read_so asked is.2 false [] [] false) refl refl is.5 refl)
     (ap (is_attached (place_of asked)) is.3 ∙ file_attached_so (file_kind asked.product) asked.file is.1))
 gather_unread asked (answers.TextTooLong p) events is =
     subst (λ q. NotGathered asked (answers.TextTooLong q) events) (sym is.0)

@@ -9,7 +9,7 @@ use Rattle.tool_io.specs.declared.line_cut.Line as line
 use Rattle.tool_io.specs.Log.{Event, Attached}
 use Rattle.tool_io.specs.Whole.{Takes}
 use Rattle.tool_io.specs.Cutting.{Cutting, IsRow, CutsLine, line_text, lines_of, fresh, row_of}
-use Rattle.tool_io.proofs.CutLaws.{lines_of-row, lines_of-last, lines_of-long, is_long-row}
+use Rattle.tool_io.proofs.CutLaws.{lines_of-row, lines_of-last, lines_of-long, lines_of-none, is_long-row}
 use Rattle.c2po_tree.specs.ItemShape.{ItemShape}
 use Rattle.spec_compile.specs.Front.{first_refusal, items_in}
 use Rattle.spec_compile.specs.Refusals.{IsFirstRefusal}
@@ -124,7 +124,11 @@ module _ (cut : Cutting) (events : List Event) where
         }
 
   pub fault_made : (form : Form) (text : List ℕ) → CutsLine Header fresh cut line.TheVariants.ReadFault events → LineLog (Err (answers.ReadFault Header)) form text events
-  fault_made form text cuts = record { bytes = concat cuts.pieces; ended = cut.ended; takes = cut_takes line.TheVariants.ReadFault cuts }
+  fault_made form text cuts = record {
+    bytes = concat cuts.pieces;
+    takes = subst (λ ended. Takes Header (concat cuts.pieces) ended events) cuts.answer.2 (cut_takes line.TheVariants.ReadFault cuts);
+    no_line = lines_of-none (concat cuts.pieces) cuts.answer.0.no_newline cuts.answer.1;
+  }
 
 -- nothing was read
 pub none_made : (form : Form) (text : List ℕ) → LineLog (Err answers.Memory) form text []

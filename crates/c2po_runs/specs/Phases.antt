@@ -52,10 +52,16 @@ pub record ReadsNone (log : List Event) : Type 0 where
   pub ended : Bool
   pub takes : Takes place.TheVariants.Header bytes ended log
 
+-- reads that met no end, and gave no line yet
+pub record ReadsNoLine (log : List Event) : Type 0 where
+  pub bytes : List ℕ
+  pub takes : Takes place.TheVariants.Header bytes false log
+  pub no_line : lines_of false bytes ≡ []
+
 -- the log under the first line of an attached header file, by a text that isn't refused
 abbrev pub LineLog : Result (Vec ℕ Global) status.Status → Form → List ℕ → List Event → Type 0
 LineLog (Ok bytes) form text log = ReadsLine form text (Ok bytes.items) log
-LineLog (Err (status.TheVariants.ReadFault place.TheVariants.Header)) form text log = ReadsNone log
+LineLog (Err (status.TheVariants.ReadFault place.TheVariants.Header)) form text log = ReadsNoLine log
 LineLog (Err status.TheVariants.Memory) form text log = ReadsNone log
 LineLog (Err (status.TheVariants.TextTooLong place.TheVariants.Header)) form text log =
     ReadsLine form text (Err (status.TheVariants.TextTooLong place.TheVariants.Header)) log

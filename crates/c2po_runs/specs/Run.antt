@@ -113,6 +113,12 @@ pub record IsUnheaded (asked : MakeAsked) (run : Seen) : Type 0 where
   pub spec : IsFaultless asked run
   pub none_out : run.out ≡ []
 
+-- so it was, and couldn't be read on: its end wasn't met, and its first line isn't there
+pub record IsHeaderUnread (asked : MakeAsked) (run : Seen) : Type 0 where
+  pub unheaded : IsUnheaded asked run
+  pub not_ended : run.header_ended ≡ false
+  pub no_line : run.header ≡ []
+
 -- what was read is refused so, and nothing is out
 pub record IsRefused (answer : status.Status) (asked : MakeAsked) (run : Seen) : Type 0 where
   pub refused : Makes asked run (Err answer)
@@ -129,14 +135,15 @@ MakeOutcome status.TheVariants.Done asked run = IsWritten asked run
 MakeOutcome (status.TheVariants.WriteFault place.TheVariants.Out) asked run = IsPartlyWritten asked run
 MakeOutcome (status.TheVariants.OpenFault place.TheVariants.Out) asked run = IsUnwritten asked run
 MakeOutcome (status.TheVariants.OpenFault place.TheVariants.Header) asked run = IsUnheaded asked run
-MakeOutcome (status.TheVariants.ReadFault place.TheVariants.Header) asked run = IsUnheaded asked run
+MakeOutcome (status.TheVariants.ReadFault place.TheVariants.Header) asked run = IsHeaderUnread asked run
 MakeOutcome (status.TheVariants.TextTooLong place.TheVariants.Header) asked run =
     IsRefused (status.TheVariants.TextTooLong place.TheVariants.Header) asked run
 MakeOutcome (status.TheVariants.TextTooLong place.TheVariants.Out) asked run =
     IsRefused (status.TheVariants.TextTooLong place.TheVariants.Out) asked run
 MakeOutcome (status.TheVariants.OpenFault p) asked run = (p ≡ place_of asked) × (run.file ≡ []) × (run.out ≡ [])
 MakeOutcome (status.TheVariants.ReadFault p) asked run =
-    (p ≡ place_of asked) × (length run.file ≤ file_limit (file_kind asked.product)) × (run.out ≡ [])
+    (p ≡ place_of asked) × (run.whole ≡ false)
+    × (length run.file ≤ file_limit (file_kind asked.product)) × (run.out ≡ [])
 MakeOutcome (status.TheVariants.TextTooLong p) asked run =
     (p ≡ place_of asked) × (file_limit (file_kind asked.product) < length run.file) × (run.out ≡ [])
 MakeOutcome (status.TheVariants.Refused line why) asked run = IsRefused (status.TheVariants.Refused line why) asked run
