@@ -61,9 +61,10 @@ def structs_within(fields, depth, definitions):
 
 
 def equivalences():
-    items = ['d%d := foreach(v: s)(F[0,%d] v%s);\n' % (k, k, '<->p' * 126) for k in range(127)]
+    """Definitions of 4,128,897 nodes, which are not used."""
+    items = ['e%d := foreach(v: s)(F[0,%d] v%s);\n' % (k, k, '<->p' * 126) for k in range(127)]
     signals = 'INPUT p: bool; %s: bool;\n' % members(254, 'p#')
-    return signals + 'DEFINE s := {' + members(254, 'p#') + '};\n' + ''.join(items) + 'FTSPEC p;\n'
+    return signals + 'DEFINE s := {' + members(254, 'p#') + '};\n' + ''.join(items)
 
 
 def declared(names):
@@ -100,8 +101,9 @@ TEXTS = [
     filled('items', 'items of two bytes', SIGNALS + 'FTSPEC\n', numbered('p;'), ''),
     Text('small-picks', 'picked fields in bodies that count for nothing, in 84 KB', lambda: structs_within(100, 100, 50)),
     Text('picks', 'the same in 1 MiB, of structs of 500 fields', lambda: structs_within(500, 129, 1200)),
-    Text('iffs', 'equivalences in definitions that are not used, in 71 KB', equivalences),
+    Text('iffs', 'equivalences in definitions that are not used, in 71 KB', lambda: equivalences() + 'FTSPEC p;\n'),
+    Text('iffs-braces', 'the same, and sets within one another', lambda: full(equivalences(), nested, 'FTSPEC p;\n')),
     Text('colliding', '65,536 signals whose names collide', lambda: declared(colliding.names(65_536))),
-    Text('constants', '32,000 numbers whose hashes collide', lambda: constants(colliding.numbers(32_000))),
+    Text('constants', '32,000 numbers whose hashes would collide without a key', lambda: constants(colliding.numbers(32_000))),
     Text('any-constants', '32,000 numbers in a row', lambda: constants(list(map(str, range(10 ** 9, 10 ** 9 + 32_000))))),
 ] + [Text('deep-' + deep.name, deep.shows, lambda deep=deep: deep.text) for deep in deepest.TEXTS]
