@@ -15,20 +15,14 @@ const REQUIREMENT: &[u8] = b"INPUT request, grant: bool; FTSPEC granted: request
 /// At each time whether something is requested, and whether it is granted.
 const ROWS: [[i64; 2]; 6] = [[1, 0], [0, 1], [1, 0], [0, 0], [0, 0], [0, 0]];
 
-/// Prints the line of each verdict that the last row decided.
-fn print_verdicts(rt: &impl Print, monitor: &mut Monitor) -> Result<()> {
-    while let Some(report) = monitor.next_report() {
-        print!(rt; "{}", str::from_utf8(&monitor.line_of(&report))?)?;
-    }
-    Ok(())
-}
-
 fn main(rt: HostRuntime) -> Result<()> {
     let checked = compile(rt.alloc(), REQUIREMENT, None)?;
     let mut monitor = Monitor::load(rt.alloc(), checked)?;
     for row in &ROWS {
         monitor.take(row)?;
-        print_verdicts(&rt, &mut monitor)?;
+        while let Some(report) = monitor.next_report() {
+            print!(rt; "{}", str::from_utf8(&monitor.line_of(&report))?)?;
+        }
     }
     Ok(())
 }
