@@ -1,7 +1,8 @@
 # make try        runs r2u2, unproved, over SPEC and TRACE, by default those of the first example, within about a minute
 # make test       plays the cases and the tests of the tools, unproved, within two minutes
 # make            proves and builds both programs into build/
-# make check      passes the whole gate: proofs, edits that must fail, cases; the programs and the library come into build/
+# make check      passes the whole gate: proofs, edits that must fail, cases; the programs and the library come into build/,
+#                 and the programs are tried on real files, pipes and terminals
 # make install    installs programs, tools, man pages, completions and syntax under PREFIX; make uninstall removes them
 # embed/embed.mk has the goals of the library for other languages: embed, check-embed, python, deb
 
@@ -56,6 +57,7 @@ check:
 	rt ci
 	@mkdir -p build
 	cp $(wildcard crates/r2u2_c/out/libr2u2_c.a) $(foreach name,$(PROGRAMS),crates/$(name)/out/$(name)) build
+	tools/edges
 
 install: $(BUILT)
 	install -d $(INTO)/bin $(INTO)/share/man/man1 $(SHARED)/tools/lib $(SHARED)/vscode $(BASH) $(ZSH) $(FISH) $(VIM)/syntax $(VIM)/ftdetect

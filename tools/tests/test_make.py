@@ -17,6 +17,7 @@ class Goals(Case):
             shutil.copy(ROOT / name, self.folder)
         self.program("bin/rt", RT)
         self.program("tools/test", "#!/bin/sh\necho 3 passed, 0 failed\n")
+        self.program("tools/edges", "#!/bin/sh\necho 2 passed, 0 failed\n")
         self.file("crates/worked_cases/stdin", "")
         for name in ("grant.c2po", "grant.csv"):
             self.file(f"examples/{name}", "")
@@ -52,7 +53,7 @@ class Goals(Case):
         self.assertNotEqual(self.make("test", RT_STATUS=1)[0], 0)
 
     def test_check_leaves_programs_and_library(self):
-        self.assertEqual(self.make("check")[:2], (0, "rt ci in " + self.folder.name + "\n"))
+        self.assertEqual(self.make("check")[:2], (0, "rt ci in " + self.folder.name + "\n2 passed, 0 failed\n"))
         self.assertEqual(self.built(), ["c2po", "libr2u2_c.a", "r2u2"])
 
     def test_a_gate_that_fails_leaves_nothing(self):
