@@ -1,5 +1,5 @@
 # make try        runs r2u2, unproved, over SPEC and TRACE, by default those of the first example, within about a minute
-# make test       plays the cases, but those named (long), and the tests of the tools, unproved, in some minutes
+# make test       plays the cases, but those named (long), and the tests of the tools, unproved, in ten minutes or more
 # make            proves and builds both programs into build/
 # make check      passes the whole gate: proofs, edits that must fail, cases; the programs and the library come into build/,
 #                 and the programs are tried on real files, pipes and terminals
@@ -49,7 +49,7 @@ try:
 
 test:
 	@echo 'Unproved. The gate is "make check".'
-	cd crates/worked_cases && awk '/^case /{ long = /\(long\)$$/ } !long' stdin | rt try --seconds 600
+	cd crates/worked_cases && awk '/^case /{ long = /\(long\)$$/ } !long' stdin | rt try --seconds 1800
 	tools/test
 
 # The library comes along where the kit's gate builds it; else `rt lib` in its folder does.

@@ -49,7 +49,7 @@ class Goals(Case):
 
     def test_test_ends_with_a_count(self):
         status, out, _ = self.make("test")
-        self.assertEqual((status, out.splitlines()[-2:]), (0, ["rt try --seconds 600 in worked_cases", "3 passed, 0 failed"]))
+        self.assertEqual((status, out.splitlines()[-2:]), (0, ["rt try --seconds 1800 in worked_cases", "3 passed, 0 failed"]))
         self.assertNotEqual(self.make("test", RT_STATUS=1)[0], 0)
 
     def test_check_leaves_programs_and_library(self):
