@@ -9,7 +9,6 @@
 PREFIX ?= /usr/local
 SPEC ?= examples/grant.c2po
 TRACE ?= examples/grant.csv
-JOBS ?= $(shell nproc)
 VERSION = $(shell cat VERSION)
 
 PROGRAMS = r2u2 c2po
@@ -24,20 +23,15 @@ FISH = $(INTO)/share/fish/vendor_completions.d
 VIM = $(INTO)/share/vim/vimfiles
 SHARED = $(INTO)/share/r2u2
 
-.PHONY: all try test check install uninstall clean libraries $(PROGRAMS)
+.PHONY: all try test check install uninstall clean $(PROGRAMS)
 .NOTPARALLEL:
 
-all: $(PROGRAMS)
+# As many proofs side by side as there are processors.
+all:
+	tools/prove $(PROGRAMS)
 
-# `rt all` proves r2u2 and each crate below it, which are those below c2po too, as many side by side as JOBS says.
-libraries:
-	cd crates/r2u2 && rt all check --jobs $(JOBS)
-
-# `rt run` proves what has changed, links the program and runs it: here it only prints its usage line.
-$(PROGRAMS): libraries
-	@mkdir -p build
-	cd crates/$@ && rt run -- --help
-	cp crates/$@/out/$@ build/$@
+$(PROGRAMS):
+	tools/prove $@
 
 # Only what isn't there is built before an installation.
 $(BUILT):
