@@ -1,5 +1,5 @@
 # make try        runs r2u2, unproved, over SPEC and TRACE, by default those of the first example, within about a minute
-# make test       plays the cases, but those named (long), and the tests of the tools, unproved, in ten minutes or more
+# make test       plays the cases, but those named (long), and the tests of the tools, unproved, in two minutes
 # make            proves and builds both programs into build/
 # make check      passes the whole gate: proofs, edits that must fail, cases; the programs and the library come into build/,
 #                 and the programs are tried on real files, pipes and terminals
@@ -23,6 +23,9 @@ FISH = $(INTO)/share/fish/vendor_completions.d
 VIM = $(INTO)/share/vim/vimfiles
 SHARED = $(INTO)/share/r2u2
 
+# All lines of a script but those of cases whose names end in (long); an empty line ends a case.
+SHORT_CASES = /^case .*\(long\)$$/ { long = 1 } !long; /^$$/ { long = 0 }
+
 .PHONY: all try test check install uninstall clean $(PROGRAMS)
 .NOTPARALLEL:
 
@@ -41,10 +44,15 @@ try:
 	@echo 'Unproved. The proved programs come by "make".'
 	@spec=$$(realpath -- '$(SPEC)') && trace=$$(realpath -- '$(TRACE)') && cd crates/r2u2 && rt try -- --source "$$spec" "$$trace"
 
+# Side by side: the tests as they go, and what the cases gave at the end. `rt try` runs the cases compiled with checks.
 test:
 	@echo 'Unproved. The gate is "make check".'
-	cd crates/worked_cases && awk '/^case /{ long = /\(long\)$$/ } !long' stdin | rt try --seconds 1800
-	tools/test
+	@mkdir -p build
+	@(cd crates/worked_cases && awk '$(SHORT_CASES)' stdin | rt try --steps 1 --seconds 300) > build/cases.log 2>&1 & cases=$$!; \
+	    tools/test; tests=$$?; \
+	    wait $$cases; played=$$?; \
+	    grep -v '^interpreter: ' build/cases.log; \
+	    [ $$tests -eq 0 ] && [ $$played -eq 0 ]
 
 # The library comes along where the kit's gate builds it; else `rt lib` in its folder does.
 check:
