@@ -1,5 +1,5 @@
 # make try        runs r2u2, unproved, over SPEC and TRACE, by default those of the first example, within about a minute
-# make test       plays the cases, but those named (long), and the tests of the tools, unproved, in ten minutes or more
+# make test       plays the cases, but those named (long), and the tests of the tools, unproved, in two minutes
 # make            proves and builds both programs into build/
 # make check      passes the whole gate: proofs, edits that must fail, cases; the programs and the library come into build/,
 #                 and the programs are tried on real files, pipes and terminals
@@ -9,7 +9,6 @@
 PREFIX ?= /usr/local
 SPEC ?= examples/grant.c2po
 TRACE ?= examples/grant.csv
-JOBS ?= $(shell nproc)
 VERSION = $(shell cat VERSION)
 
 PROGRAMS = r2u2 c2po
@@ -24,20 +23,18 @@ FISH = $(INTO)/share/fish/vendor_completions.d
 VIM = $(INTO)/share/vim/vimfiles
 SHARED = $(INTO)/share/r2u2
 
-.PHONY: all try test check install uninstall clean libraries $(PROGRAMS)
+# All lines of a script but those of cases whose names end in (long); an empty line ends a case.
+SHORT_CASES = /^case .*\(long\)$$/ { long = 1 } !long; /^$$/ { long = 0 }
+
+.PHONY: all try test check install uninstall clean $(PROGRAMS)
 .NOTPARALLEL:
 
-all: $(PROGRAMS)
+# As many proofs side by side as there are processors.
+all:
+	tools/prove $(PROGRAMS)
 
-# `rt all` proves r2u2 and each crate below it, which are those below c2po too, as many side by side as JOBS says.
-libraries:
-	cd crates/r2u2 && rt all check --jobs $(JOBS)
-
-# `rt run` proves what has changed, links the program and runs it: here it only prints its usage line.
-$(PROGRAMS): libraries
-	@mkdir -p build
-	cd crates/$@ && rt run -- --help
-	cp crates/$@/out/$@ build/$@
+$(PROGRAMS):
+	tools/prove $@
 
 # Only what isn't there is built before an installation.
 $(BUILT):
@@ -47,10 +44,15 @@ try:
 	@echo 'Unproved. The proved programs come by "make".'
 	@spec=$$(realpath -- '$(SPEC)') && trace=$$(realpath -- '$(TRACE)') && cd crates/r2u2 && rt try -- --source "$$spec" "$$trace"
 
+# Side by side: the tests as they go, and what the cases gave at the end. `rt try` runs the cases compiled with checks.
 test:
 	@echo 'Unproved. The gate is "make check".'
-	cd crates/worked_cases && awk '/^case /{ long = /\(long\)$$/ } !long' stdin | rt try --seconds 1800
-	tools/test
+	@mkdir -p build
+	@(cd crates/worked_cases && awk '$(SHORT_CASES)' stdin | rt try --steps 1 --seconds 300) > build/cases.log 2>&1 & cases=$$!; \
+	    tools/test; tests=$$?; \
+	    wait $$cases; played=$$?; \
+	    grep -v '^interpreter: ' build/cases.log; \
+	    [ $$tests -eq 0 ] && [ $$played -eq 0 ]
 
 # The library comes along where the kit's gate builds it; else `rt lib` in its folder does.
 check:

@@ -18,6 +18,7 @@ class Goals(Case):
         self.program("bin/rt", RT)
         self.program("tools/test", "#!/bin/sh\necho 3 passed, 0 failed\n")
         self.program("tools/edges", "#!/bin/sh\necho 2 passed, 0 failed\n")
+        self.program("tools/prove", "#!/bin/sh\necho prove $*\n")
         self.file("crates/worked_cases/stdin", "")
         for name in ("grant.c2po", "grant.csv"):
             self.file(f"examples/{name}", "")
@@ -47,10 +48,20 @@ class Goals(Case):
         self.assertEqual(status, 0)
         self.assertIn(f"--source {spec.resolve()} {trace.resolve()} in r2u2", out)
 
-    def test_test_ends_with_a_count(self):
+    def test_test_tells_both_counts(self):
         status, out, _ = self.make("test")
-        self.assertEqual((status, out.splitlines()[-2:]), (0, ["rt try --seconds 1800 in worked_cases", "3 passed, 0 failed"]))
+        lines = ["3 passed, 0 failed", "rt try --steps 1 --seconds 300 in worked_cases"]
+        self.assertEqual((status, out.splitlines()[-2:]), (0, lines))
         self.assertNotEqual(self.make("test", RT_STATUS=1)[0], 0)
+
+    def test_test_fails_where_a_tool_does(self):
+        self.program("tools/test", "#!/bin/sh\necho 2 passed, 1 failed\nexit 1\n")
+        self.assertNotEqual(self.make("test")[0], 0)
+
+    def test_test_leaves_long_cases_out(self):
+        self.program("bin/rt", "#!/bin/sh\ncat\n")
+        self.file("crates/worked_cases/stdin", "case one (long)\n$ r2u2\n\nfile all\n\ncase two\n$ c2po\n")
+        self.assertEqual(self.make("test")[1].splitlines()[-4:], ["file all", "", "case two", "$ c2po"])
 
     def test_check_leaves_programs_and_library(self):
         self.assertEqual(self.make("check")[:2], (0, "rt ci in " + self.folder.name + "\n2 passed, 0 failed\n"))
@@ -61,7 +72,7 @@ class Goals(Case):
         self.assertEqual(self.built(), [])
 
     def test_all(self):
-        status, out, _ = self.make("JOBS=3")
-        lines = ["rt all check --jobs 3 in r2u2", "rt run -- --help in r2u2", "rt run -- --help in c2po"]
-        self.assertEqual((status, out.splitlines()), (0, lines))
-        self.assertEqual(self.built(), ["c2po", "r2u2"])
+        self.assertEqual(self.make("")[:2], (0, "prove r2u2 c2po\n"))
+
+    def test_one_program(self):
+        self.assertEqual(self.make("c2po")[:2], (0, "prove c2po\n"))
