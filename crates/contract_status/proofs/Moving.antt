@@ -22,9 +22,9 @@ use Rattle.contract_status.specs.declared.engines.Stretch.{Stretch}
 use Rattle.contract_status.specs.Open.{AreKnown, ArePlaced, known_counts, known_counts_of, left_open, open_of, times_left}
 use Rattle.contract_status.specs.Standing.{StandFor}
 use Rattle.contract_status.specs.Cursors.{IsCursor}
-use Rattle.contract_status.specs.Stretches.{AreTold, Covers, FindsOpen, HaveTaken, IsFirstOpen, Lasts, known_words}
+use Rattle.contract_status.specs.Stretches.{AreTold, Covers, FindsOpen, HaveTaken, IsFirstOpen, IsLongestStretch, known_words}
 use Rattle.contract_status.proofs.Opening.{no_other, no_words}
-use Rattle.contract_status.proofs.Stretching.{count_at, lasts_in_rows, lasts_within, more_told}
+use Rattle.contract_status.proofs.Stretching.{count_at, covers_one, lasts_in_rows, lasts_within, more_told, stretch_goes_on}
 
 -- nothing is open at a next time past all words
 nothing_past : (style : Style) (k next_time : ℕ) (ws : List Word) → length ws ≤ next_time → of_words style k next_time (drop next_time ws) ≡ []
@@ -182,12 +182,9 @@ placed_moved program rows next_times k next output placed there up within =
 pub fewer_left : (n : ℕ) (next_times : List ℕ) (k next : ℕ) → k < length next_times → slice_index next_times k < next → next ≤ n → times_left n (slice_set next_times k next) < times_left n next_times
 fewer_left n next_times k next inside up within = omega (arith, sum_by-set (λ next_time. n - next_time) next_times k next 0 inside)
 
--- the first open output goes by what stands at its number
-pub open_here : (program : Program) (rows : List Row) (next_times : List ℕ) (k : ℕ) (stretch : Stretch) (output : Out) → slice_get program.outs k ≡ Some output → IsFirstOpen program rows next_times k stretch
-    → Lasts (known_words program rows output) (slice_index next_times k) stretch.last stretch.word
-open_here program rows next_times k stretch output there first =
-    let same : first.output ≡ output = let named = first.there in cc in
-    subst (λ o. Lasts (known_words program rows o) (slice_index next_times k) stretch.last stretch.word) same first.here
+-- the engines' part of the state
+pub taken_by : (program : Program) (rows : List Row) (engines : Engines) (next_times : List ℕ) → StandFor program rows engines.rows engines.ft.now engines.pt.now next_times → HaveTaken program rows engines
+taken_by program rows engines next_times stands = record { future = stands.future; past = stands.past; count = stands.count }
 
 -- what holds once the report of an output up to this time was given
 pub record IsTold (style : Style) (program : Program) (rows : List Row) (next_times : List ℕ) (k last : ℕ) (word : Word) : Type 0 where
@@ -198,9 +195,11 @@ pub record IsTold (style : Style) (program : Program) (rows : List Row) (next_ti
   pub first : open_of style program rows next_times ≡ record { out = k; time = last; word = word } ∷ open_of style program rows (slice_set next_times k (last + 1))
   pub placed : ArePlaced program rows (slice_set next_times k (last + 1))
 
-pub tells : (style : Style) (program : Program) (rows : List Row) (next_times : List ℕ) (k last : ℕ) (stretch : Stretch) (output : Out) → slice_get program.outs k ≡ Some output → ArePlaced program rows next_times → IsFirstOpen program rows next_times k stretch
-    → Covers style (known_words program rows output) (slice_index next_times k) last stretch.word → IsTold style program rows next_times k last stretch.word
-tells style program rows next_times k last stretch output there placed first covers =
+tells : (style : Style) (program : Program) (rows : List Row) (next_times : List ℕ) (k last : ℕ) (stretch : Stretch) → ArePlaced program rows next_times → (first : IsFirstOpen program rows next_times k stretch)
+    → Covers style (known_words program rows first.output) (slice_index next_times k) last stretch.word → IsTold style program rows next_times k last stretch.word
+tells style program rows next_times k last stretch placed first covers =
+    let output : Out = first.output in
+    let there : slice_get program.outs k ≡ Some output = first.there in
     let exists : k < length program.outs = slice_get_within program.outs k output there in
     let inside : k < length next_times = omega (arith, placed.count) in
     let up : slice_index next_times k ≤ last = covers.lasts.upward in
@@ -212,6 +211,33 @@ tells style program rows next_times k last stretch output there placed first cov
       early = lasts_in_rows program rows output (slice_index next_times k) last stretch.word covers.lasts;
       first = gives_first style program rows next_times k last stretch output there inside first covers;
       placed = placed_moved program rows next_times k (last + 1) output placed there (omega arith) (omega arith);
+    }
+
+-- the same where a call gave the first open output, and another one the last time that its report covers
+pub told_by : (style : Style) (program : Program) (rows : List Row) (engines : Engines) (next_times : List ℕ) (k last : ℕ) (stretch : Stretch) → StandFor program rows engines.rows engines.ft.now engines.pt.now next_times
+    → ((rows : List Row) → HaveTaken program rows engines → AreKnown program rows next_times → IsFirstOpen program rows next_times k stretch)
+    → ((told : List Word) → IsLongestStretch told (slice_index next_times k) stretch.last stretch.word → Covers style told (slice_index next_times k) last stretch.word) → IsTold style program rows next_times k last stretch.word
+told_by style program rows engines next_times k last stretch stands finds covers =
+    let first = finds rows (taken_by program rows engines next_times stands) stands.placed.known in
+    tells style program rows next_times k last stretch stands.placed first (covers (known_words program rows first.output) first.here)
+
+-- where the word that was told is known at the next time too, the stretch goes on
+pub record GoesOn (rows : List Row) (last : ℕ) (stretch : Stretch) : Type 0 where
+  pub later : last < stretch.last
+  pub early : last + 1 < length rows
+
+pub goes_past : (style : Style) (program : Program) (rows : List Row) (engines : Engines) (next_times : List ℕ) (k last : ℕ) (stretch : Stretch) → StandFor program rows engines.rows engines.ft.now engines.pt.now next_times
+    → ((rows : List Row) → HaveTaken program rows engines → AreKnown program rows next_times → IsFirstOpen program rows next_times k stretch)
+    → ((told : List Word) → IsLongestStretch told (slice_index next_times k) stretch.last stretch.word → Covers style told (slice_index next_times k) last stretch.word)
+    → (output : Out) → slice_get program.outs k ≡ Some output → slice_get (known_words program rows output) (last + 1) ≡ Some stretch.word → GoesOn rows last stretch
+goes_past style program rows engines next_times k last stretch stands finds covers output there next =
+    let first = finds rows (taken_by program rows engines next_times stands) stands.placed.known in
+    let told : List Word = known_words program rows first.output in
+    let same : output ≡ first.output = let named = first.there in cc in
+    let goes_on : slice_get told (last + 1) ≡ Some stretch.word = subst (λ o. slice_get (known_words program rows o) (last + 1) ≡ Some stretch.word) same next in
+    record {
+      later = stretch_goes_on style told (slice_index next_times k) last stretch.last stretch.word (covers told first.here) first.here goes_on;
+      early = omega (arith, slice_get_within told (last + 1) stretch.word goes_on, words_fit rows (output_of program first.output));
     }
 
 -- two answers that are one have one stretch
@@ -258,7 +284,10 @@ cursor_after program rows next_times k last stretch cursor inside up first here 
             output = first.output;
             there = first.there;
             told = told;
-            here = rw moved (record { upward = omega (arith, ends); alike = λ t low high. first.here.alike t (omega arith) high });
+            here = rw moved (record {
+              lasts = record { upward = omega (arith, ends); alike = λ t low high. first.here.lasts.alike t (omega arith) high };
+              ends = first.here.ends;
+            });
           } in
           rw (at, same) rest;
     }
@@ -267,12 +296,8 @@ cursor_after program rows next_times k last stretch cursor inside up first here 
 open_some : (program : Program) (rows : List Row) (next_times : List ℕ) (k : ℕ) (stretch : Stretch) → ArePlaced program rows next_times → IsFirstOpen program rows next_times k stretch → open_of Each program rows next_times ≢ []
 open_some program rows next_times k stretch placed first none =
     let next_time : ℕ = slice_index next_times k in
-    let up : next_time ≤ stretch.last = first.here.upward in
-    let covers : Covers Each (known_words program rows first.output) next_time next_time stretch.word = record {
-      lasts = record { upward = omega arith; alike = λ t low high. first.here.alike t low (omega arith) };
-      ends = refl;
-    } in
-    let told = tells Each program rows next_times k next_time stretch first.output first.there placed first covers in
+    let covers = covers_one (known_words program rows first.output) next_time stretch.last stretch.word first.here in
+    let told = tells Each program rows next_times k next_time stretch placed first covers in
     let some = told.first in
     cc
 
@@ -293,7 +318,3 @@ counts_at_start program = go program.outs
     go (output ∷ outs) =
         let none : length (words [] (output_of program output)) ≡ 0 = omega (arith, words_fit [] (output_of program output)) in
         rw none (ap (λ (ns : List ℕ). 0 ∷ ns) (go outs))
-
--- the engines' part of the state
-pub taken_by : (program : Program) (rows : List Row) (engines : Engines) (next_times : List ℕ) → StandFor program rows engines.rows engines.ft.now engines.pt.now next_times → HaveTaken program rows engines
-taken_by program rows engines next_times stands = record { future = stands.future; past = stands.past; count = stands.count }

@@ -1,21 +1,20 @@
--- Stretches of words, one after another, and the next times of outputs.
+-- Stretches of words, and the next times of outputs.
 
-use Rattle.std.proofs.Common.{◌≡◌, ℕ, ◌+◌, ◌<◌, ◌≤◌, inl, inr, Some, None, List, length, slice_get, slice_index, refl, ◌∙◌, ap, arith}
+use Rattle.std.proofs.Common.{◌≡◌, ℕ, ◌+◌, ◌<◌, ◌≤◌, inl, inr, Some, List, length, slice_get, slice_index, refl, ◌∙◌, ap, arith}
 use Rattle.std.proofs.lemmas.Bool.{cases_lt}
-use Rattle.std.proofs.lemmas.Option.{get_or_from_slice_get, slice_get-map, slice_get_past, slice_get_within}
-use Rattle.mltl_base.specs.declared.interval.Engine as engine
+use Rattle.std.proofs.lemmas.Option.{get_or_from_slice_get, slice_get-map, slice_get_within}
 use Rattle.mltl_base.specs.declared.program.Out as out
 use Rattle.mltl_base.specs.declared.program.Program.{Program}
 use Rattle.mltl_base.specs.declared.report.Word.{Word}
-use Rattle.mltl_base.specs.declared.report.Style.TheVariants.{Runs}
+use Rattle.mltl_base.specs.declared.report.Style.{Style}
+use Rattle.mltl_base.specs.declared.report.Style.TheVariants.{Each, Runs}
 use Rattle.mltl_base.specs.Atoms.{Row}
 use Rattle.mltl_base.specs.Programs.{output_of, outputs}
 use Rattle.mltl_base.specs.Reports.{Output, words}
 use Rattle.mltl_base.proofs.Words.{words_fit}
-use Rattle.contract_status.specs.declared.engines.Engines.{Engines}
 use Rattle.contract_status.specs.declared.engines.Stretch.{Stretch}
 use Rattle.contract_status.specs.Open.{AreKnown, known_counts_of}
-use Rattle.contract_status.specs.Stretches.{CanRead, CanReport, Covers, IsFirstOpen, Lasts, known_words}
+use Rattle.contract_status.specs.Stretches.{Covers, IsFirstOpen, IsLongestStretch, Lasts, known_words}
 
 -- a stretch ends within the words, and within the rows
 pub lasts_within : {X : Type 0} (values : List X) (from last : ℕ) (value : X) → Lasts values from last value → last < length values
@@ -25,37 +24,26 @@ pub lasts_in_rows : (program : Program) (rows : List Row) (output : out.Out) (fr
 lasts_in_rows program rows output from last word h =
     omega (arith, lasts_within (known_words program rows output) from last word h, words_fit rows (output_of program output))
 
--- one stretch goes on with the next
-pub lasts_more : {X : Type 0} (values : List X) (from last next : ℕ) (value other : X) → Lasts values from last value → Lasts values (last + 1) next other → other ≡ value → Lasts values from next value
-lasts_more values from last next value other h g same =
-    let up : from ≤ last = h.upward in
-    let up' : last + 1 ≤ next = g.upward in
-    record {
-      upward = omega arith;
-      alike = λ t low high. elim (cases_lt last t) [ inl past ↦ g.alike t (omega arith) high ∙ ap Some same | inr here ↦ h.alike t low (omega arith) ];
-    }
+-- the first report from a time on covers that time alone, or the longest stretch
+pub covers_one : (told : List Word) (from last : ℕ) (word : Word) → IsLongestStretch told from last word → Covers Each told from from word
+covers_one told from last word h =
+    let up : from ≤ last = h.lasts.upward in
+    record { lasts = record { upward = omega arith; alike = λ t low high. h.lasts.alike t low (omega arith) }; ends = refl }
 
--- it ends where the next word is unknown, or another
-pub longest_at_end : (told : List Word) (from last : ℕ) (word : Word) → Lasts told from last word → length told ≤ last + 1 → Covers Runs told from last word
-longest_at_end told from last word h end = record {
-  lasts = h;
-  ends = λ e. let none : slice_get told (last + 1) ≡ None = slice_get_past told (last + 1) end in cc;
-}
+pub covers_longest : (told : List Word) (from last : ℕ) (word : Word) → IsLongestStretch told from last word → Covers Runs told from last word
+covers_longest told from last word h = record { lasts = h.lasts; ends = h.ends }
 
-pub longest_before : (told : List Word) (from last next : ℕ) (word other : Word) → Lasts told from last word → Lasts told (last + 1) next other → (other ≡ word → ⊥) → Covers Runs told from last word
-longest_before told from last next word other h g differ = record {
-  lasts = h;
-  ends = λ e. let there : slice_get told (last + 1) ≡ Some other = g.alike (last + 1) (omega arith) g.upward in differ (cc);
-}
-
--- what can be read from some time on, can be read later
-read_later : (engines : Engines) (e : engine.Engine) (i from t : ℕ) → CanRead engines e i from → from ≤ t → CanRead engines e i t
-read_later engines engine.TheVariants.Ft i from t h later = (h.0, omega (arith, h.1))
-read_later engines engine.TheVariants.Pt i from t h later = (h.0, omega (arith, h.1))
-
-pub report_later : (engines : Engines) (output : out.Out) (from t : ℕ) → CanReport engines output from → from ≤ t → CanReport engines output t
-report_later engines (out.TheVariants.Formula e i name) from t h later = read_later engines e i from t h later
-report_later engines (out.TheVariants.Contract e i j name) from t h later = (read_later engines e i from t h.0 later, read_later engines e j from t h.1 later)
+-- where the same word comes after those that a report covers, the stretch goes on past them
+pub stretch_goes_on : (style : Style) (told : List Word) (from covered last : ℕ) (word : Word) → Covers style told from covered word → IsLongestStretch told from last word → slice_get told (covered + 1) ≡ Some word → covered < last
+stretch_goes_on style told from covered last word covers h same = elim (cases_lt covered last) [
+  | inl before ↦ before
+  | inr past ↦
+      let up : from ≤ last = h.lasts.upward in
+      absurd (h.ends (elim (cases_lt last covered) [
+        | inl inside ↦ covers.lasts.alike (last + 1) (omega arith) (omega arith)
+        | inr here ↦ let level : last ≡ covered = omega arith in ap (λ (t : ℕ). slice_get told (t + 1)) level ∙ same
+      ]))
+]
 
 -- the number of known words of an output, among those of all
 pub count_at : (program : Program) (rows : List Row) (k : ℕ) (output : out.Out) → slice_get program.outs k ≡ Some output → slice_index (known_counts_of program rows) k ≡ length (known_words program rows output)
@@ -80,5 +68,5 @@ more_told program rows next_times k output there told here j below = elim (cases
 
 -- the first output that is open
 pub first_here : (program : Program) (rows : List Row) (next_times : List ℕ) (k : ℕ) (output : out.Out) (stretch : Stretch) → slice_get program.outs k ≡ Some output → ((j : ℕ) → j < k → slice_index (known_counts_of program rows) j ≤ slice_index next_times j)
-    → Lasts (known_words program rows output) (slice_index next_times k) stretch.last stretch.word → IsFirstOpen program rows next_times k stretch
-first_here program rows next_times k output stretch there told lasts = record { output = output; there = there; told = told; here = lasts }
+    → IsLongestStretch (known_words program rows output) (slice_index next_times k) stretch.last stretch.word → IsFirstOpen program rows next_times k stretch
+first_here program rows next_times k output stretch there told here = record { output = output; there = there; told = told; here = here }

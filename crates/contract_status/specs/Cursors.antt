@@ -1,6 +1,7 @@
 -- Where the search for open reports goes on, after the same rows.
 
-use Rattle.std.specs.Prelude.{ℕ, ◌≡◌, ◌+◌, ◌<◌, Some, List, length}
+use Rattle.std.specs.Prelude.{ℕ, ◌≡◌, ◌+◌, ◌<◌, IsSome, Some, List, length, slice_get}
+use Rattle.mltl_base.specs.declared.program.Out.{Out}
 use Rattle.mltl_base.specs.declared.program.Program.{Program}
 use Rattle.mltl_base.specs.declared.report.Report.{Report}
 use Rattle.mltl_base.specs.Atoms.{Row}
@@ -12,7 +13,7 @@ use Rattle.contract_status.specs.declared.cursor.Cursor.{Cursor}
 use Rattle.contract_status.specs.declared.engines.Engines.{Engines}
 use Rattle.contract_status.specs.declared.engines.Stretch.{Stretch}
 use Rattle.contract_status.specs.Open.{AreKnown}
-use Rattle.contract_status.specs.Stretches.{AreTold, HaveTaken, IsFirstOpen}
+use Rattle.contract_status.specs.Stretches.{AreTold, HaveTaken, IsFirstOpen, known_words}
 
 -- all outputs before the cursor's were told, and the stretch that it keeps is the first that is open
 pub record IsCursor (program : Program) (rows : List Row) (next_times : List ℕ) (cursor : Cursor) : Type 0 where
@@ -39,3 +40,9 @@ pub record MovesPast (n : ℕ) (report : Report) (before after : Cursor) : Type 
   pub next : report.time + 1 ≡ n → after.out ≡ report.out + 1
   pub keeps : (stretch : Stretch) → before.stretch ≡ Some stretch → report.time < stretch.last → report.time + 1 < n
       → after.stretch ≡ Some stretch
+
+-- where the word that a report told is known at the next time of its output too, the cursor has a stretch
+abbrev pub KeepsStretch : Program → List Row → Report → Cursor → Type 0
+KeepsStretch program rows report after =
+    (output : Out) → slice_get program.outs report.out ≡ Some output
+    → slice_get (known_words program rows output) (report.time + 1) ≡ Some report.word → IsSome after.stretch

@@ -66,14 +66,19 @@ pub record Lasts {X : Type 0} (values : List X) (from last : ℕ) (value : X) : 
   pub upward : from ≤ last
   pub alike : (t : ℕ) → from ≤ t → t ≤ last → slice_get values t ≡ Some value
 
--- a run of the verdicts from this time on; nothing exactly where none is known
+-- the value stands at each time from one up to another, and not at the time after that
+pub record IsLongestStretch {X : Type 0} (values : List X) (from last : ℕ) (value : X) : Type 0 where
+  pub lasts : Lasts values from last value
+  pub ends : slice_get values (last + 1) ≢ Some value
+
+-- the longest run of the verdicts from this time on; nothing exactly where none is known
 abbrev pub ShowsVerdicts : List Bool → ℕ → Seen → Type 0
-ShowsVerdicts values from (Run last value) = Lasts values from last value
+ShowsVerdicts values from (Run last value) = IsLongestStretch values from last value
 ShowsVerdicts values from Nothing = length values ≤ from
 
--- a stretch of one word from this time on; nothing exactly where none is known
+-- the longest stretch of one word from this time on; nothing exactly where none is known
 abbrev pub ShowsWords : List Word → ℕ → Option Stretch → Type 0
-ShowsWords told from (Some stretch) = Lasts told from stretch.last stretch.word
+ShowsWords told from (Some stretch) = IsLongestStretch told from stretch.last stretch.word
 ShowsWords told from None = length told ≤ from
 
 -- where the first report from a time on ends: there with a report for each time, else with the longest stretch
@@ -91,13 +96,13 @@ abbrev pub AreTold : Program → List Row → List ℕ → ℕ → Type 0
 AreTold program rows next_times k =
     (j : ℕ) → j < k → slice_index (known_counts_of program rows) j ≤ slice_index next_times j
 
--- output k is the first that has a known word at its next time, and this is a stretch of it
+-- output k is the first that has a known word at its next time, and this is the longest stretch of it from there
 pub record IsFirstOpen (program : Program) (rows : List Row) (next_times : List ℕ) (k : ℕ)
     (stretch : Stretch) : Type 0 where
   pub output : out.Out
   pub there : slice_get program.outs k ≡ Some output
   pub told : AreTold program rows next_times k
-  pub here : Lasts (known_words program rows output) (slice_index next_times k) stretch.last stretch.word
+  pub here : IsLongestStretch (known_words program rows output) (slice_index next_times k) stretch.last stretch.word
 
 -- the first output with a known word at its next time; none where each next time is past all known words
 abbrev pub FindsOpen : Program → List Row → List ℕ → Option (ℕ × Stretch) → Type 0

@@ -6,7 +6,6 @@ ghost use Rattle.mltl_base.specs.Atoms.{Row};
 ghost use Rattle.mltl_base.specs.declared.program.Program.{Program as Observer};
 ghost use Rattle.mltl_base.specs.declared.program.Out.{Out as Output};
 ghost use Rattle.mltl_base.specs.declared.interval.Engine.TheVariants.{Pt as past};
-ghost use Rattle.mltl_base.specs.declared.report.Style.TheVariants.{Runs as runs};
 
 use crate::cursor::Cursor;
 use ft_engine::Ft;
@@ -22,21 +21,37 @@ pub struct Engines<'a> {
     pub rows: u64,
 }
 
-/// A word that an output has at all times from some time up to `last`.
+/// A word that an output has at all times from some time up to `last`, and not at the time after that.
 #[derive(Clone, Copy)]
 pub struct Stretch {
     pub last: u64,
     pub word: Word,
 }
 
+impl Stretch {
+    ghost use Rattle.mltl_base.specs.declared.report.Word.{Word as Told};
+    ghost use Rattle.contract_status.specs.Stretches.{Covers, IsLongestStretch};
+
+    /// The last time that the first report from `from` on covers, where this is the longest stretch from there.
+    #[inline(always)]
+    pub fn last_covered(self, style: Style, from: u64) -> u64
+        ensures covers { (told : List Told) → IsLongestStretch told from self.last self.word
+            → Covers style told from result self.word }
+    {
+        match style {
+            Style::Each => from,
+            Style::Runs => self.last,
+        }
+    }
+}
+
 impl Engines<'_> {
-    ghost use Rattle.mltl_base.specs.declared.limits.TheConstants.{MAX_MISSION};
     ghost use Rattle.contract_status.specs.Cursors.{FitsEngines};
-    ghost use Rattle.contract_status.specs.Stretches.{AreReadable, AreTold, CanRead, CanReport, Covers, FindsOpen, HaveTaken, Lasts, ShowsVerdicts, ShowsWords, contract_words, formula_words, known_verdicts, known_words};
+    ghost use Rattle.contract_status.specs.Stretches.{AreReadable, AreTold, CanRead, CanReport, FindsOpen, HaveTaken, IsLongestStretch, ShowsVerdicts, ShowsWords, contract_words, formula_words, known_verdicts, known_words};
     ghost use Rattle.contract_status.specs.Open.{AreKnown};
     ghost use Rattle.contract_status.specs.declared.engines.Stretch.{Stretch as Found};
 
-    /// The verdict of an instruction at a time, and a time up to which it stays the same.
+    /// The verdict of an instruction at a time, and the last time up to which it stays the same.
     #[inline(always)]
     fn verdicts_from(&self, engine: Engine, i: u32, from: u64) -> Seen
         requires readable { CanRead self.now engine i from }
@@ -63,7 +78,7 @@ impl Engines<'_> {
         }
     }
 
-    /// The word of a formula at a time, and a time up to which it stays the same.
+    /// The word of a formula at a time, and the last time up to which it stays the same.
     #[inline(always)]
     fn formula_from(&self, engine: Engine, i: u32, from: u64) -> Option<Stretch>
         requires readable { CanRead self.now engine i from }
@@ -83,7 +98,7 @@ impl Engines<'_> {
         }
     }
 
-    /// The status of a contract of two instructions at a time, and a time up to which it stays the same. Where the
+    /// The status of a contract of two instructions at a time, and the last time up to which it stays the same. Where the
     /// first is false, the second needn't be known.
     #[inline(always)]
     fn contract_from(&self, engine: Engine, i: u32, j: u32, from: u64) -> Option<Stretch>
@@ -108,7 +123,8 @@ impl Engines<'_> {
         requires readable { CanRead self.now engine j from }
         ensures shows { (program : Observer) (rows : List Row) (i : ℕ)
             → HaveTaken program rows self.now
-            → from ≤ length (contract_words program rows engine i j) → Lasts (known_verdicts program rows engine i) from last holds
+            → from ≤ length (contract_words program rows engine i j)
+            → IsLongestStretch (known_verdicts program rows engine i) from last holds
             → ShowsWords (contract_words program rows engine i j) from result }
     {
         match self.verdicts_from(engine, j, from) {
@@ -124,7 +140,7 @@ impl Engines<'_> {
         }
     }
 
-    /// The word of an output at a time, and a time up to which it stays the same.
+    /// The word of an output at a time, and the last time up to which it stays the same.
     #[inline(always)]
     fn stretch_from(&self, out: &Out, from: u64) -> Option<Stretch>
         requires readable { CanReport self.now out.now from }
@@ -137,43 +153,7 @@ impl Engines<'_> {
         }
     }
 
-    /// The last time that the first report of the output from `from` on covers, where this is a stretch from there.
-    pub fn last_covered(&self, style: Style, out: &Out, from: u64, stretch: Stretch) -> u64
-        requires readable { CanReport self.now out.now from }
-        requires taken { (program : Observer) × (rows : List Row) × HaveTaken program rows self.now
-            × Lasts (known_words program rows out.now) from stretch.last stretch.word }
-        requires early { self.now.rows ≤ MAX_MISSION }
-        ensures covers { (program : Observer) (rows : List Row) → HaveTaken program rows self.now
-            → Lasts (known_words program rows out.now) from stretch.last stretch.word
-            → Covers style (known_words program rows out.now) from result stretch.word }
-    {
-        match style {
-            Style::Each => from,
-            Style::Runs => self.last_alike(out, from, stretch),
-        }
-    }
-
-    /// The last time of the longest stretch with the word of this one, which is one from `from` on.
-    fn last_alike(&self, out: &Out, from: u64, stretch: Stretch) -> u64
-        requires readable { CanReport self.now out.now from }
-        requires taken { (program : Observer) × (rows : List Row) × HaveTaken program rows self.now
-            × Lasts (known_words program rows out.now) from stretch.last stretch.word }
-        requires early { self.now.rows ≤ MAX_MISSION }
-        ensures covers { (program : Observer) (rows : List Row) → HaveTaken program rows self.now
-            → Lasts (known_words program rows out.now) from stretch.last stretch.word
-            → Covers runs (known_words program rows out.now) from result stretch.word }
-    {
-        let mut last = stretch.last;
-        while let Some(next) = self.stretch_from(out, last + 1) {
-            if next.word != stretch.word {
-                return last;
-            }
-            last = next.last;
-        }
-        last
-    }
-
-    /// The first output from `first` on with a known word at its next time, and a stretch of that word.
+    /// The first output from `first` on with a known word at its next time, and the longest stretch of it.
     #[inline(always)]
     pub fn first_open(
         &self,
@@ -198,7 +178,7 @@ impl Engines<'_> {
         None
     }
 
-    /// The first output with a known word at its next time, and a stretch of that word; the search goes on at a cursor.
+    /// The first output with a known word at its next time, and the longest stretch of it; the search goes on at a cursor.
     #[inline(always)]
     pub fn next_open(
         &self,

@@ -31,7 +31,7 @@ impl Outs {
     ghost use Rattle.mltl_base.specs.declared.report.Style.{Style as Form};
     ghost use Rattle.mltl_base.specs.declared.report.Style.TheVariants.{Each as each, Runs as runs};
     ghost use Rattle.mltl_base.specs.Atoms.{Row};
-    ghost use Rattle.contract_status.specs.Cursors.{FitsCursor, MovesPast};
+    ghost use Rattle.contract_status.specs.Cursors.{FitsCursor, KeepsStretch, MovesPast};
     ghost use Rattle.contract_status.specs.Open.{ArePlaced, known_counts_of, open_of};
     ghost use Rattle.contract_status.specs.Standing.{GivesNext, StandFor};
 
@@ -88,6 +88,8 @@ impl Outs {
         ensures gives { GivesNext style checked.now n ft.now pt.now result self.old self.new }
         ensures cursor { FitsCursor checked.now n ft.now pt.now self.new cursor.new }
         ensures moves { IfSome result (λ report. MovesPast n report cursor.old cursor.new) }
+        ensures keeps { (rows : List Row) → StandFor checked.now rows n ft.now pt.now self.old
+            → IfSome result (λ report. KeepsStretch checked.now rows report cursor.new) }
     {
         let engines = Engines { ft, pt, rows: n };
         tell_first(style, checked, &engines, self.times.as_mut_slice(), cursor)

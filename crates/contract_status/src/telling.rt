@@ -1,11 +1,10 @@
 //! The first report that is open.
 
-ghost use Rattle.std.specs.Prelude.{◌≡◌, ℕ, ◌^◌, ◌≤◌, List, IfSome, IsNone};
+ghost use Rattle.std.specs.Prelude.{◌^◌, ◌≤◌, List, IfSome};
 ghost use Rattle.mltl_base.specs.declared.limits.TheConstants.{MAX_MISSION};
 ghost use Rattle.mltl_base.specs.Atoms.{Row};
-ghost use Rattle.contract_status.specs.Cursors.{FitsEngines, MovesPast};
-ghost use Rattle.contract_status.specs.Open.{ArePlaced, GivesFirst, IsGiven};
-ghost use Rattle.contract_status.specs.Stretches.{HaveTaken};
+ghost use Rattle.contract_status.specs.Cursors.{FitsEngines, KeepsStretch, MovesPast};
+ghost use Rattle.contract_status.specs.Standing.{GivesNext, StandFor};
 
 use crate::cursor::Cursor;
 use crate::engines::Engines;
@@ -23,25 +22,20 @@ pub fn tell_first(
     cursor: &mut Cursor,
 ) -> Option<Report>
     requires early { engines.now.rows ≤ MAX_MISSION }
-    requires stands { (rows : List Row) × HaveTaken checked.now rows engines.now
-        × ArePlaced checked.now rows next_times.old }
+    requires stands { (rows : List Row) × StandFor checked.now rows engines.now.rows
+        engines.now.ft.now engines.now.pt.now next_times.old }
     requires cursor { FitsEngines checked.now engines.now next_times.old cursor.old }
-    ensures first { (rows : List Row) → HaveTaken checked.now rows engines.now
-        → ArePlaced checked.now rows next_times.old
-        → GivesFirst style checked.now rows next_times.old next_times.new result }
-    ensures placed { (rows : List Row) → HaveTaken checked.now rows engines.now
-        → ArePlaced checked.now rows next_times.old
-        → ArePlaced checked.now rows next_times.new }
+    ensures gives { GivesNext style checked.now engines.now.rows
+        engines.now.ft.now engines.now.pt.now result next_times.old next_times.new }
     ensures cursor { FitsEngines checked.now engines.now next_times.new cursor.new }
     ensures moves { IfSome result (λ report.
         MovesPast engines.now.rows report cursor.old cursor.new) }
-    ensures none { IsNone result → next_times.new ≡ next_times.old }
-    ensures given { IfSome result (λ report.
-        IsGiven checked.now engines.now.rows report next_times.old next_times.new) }
+    ensures keeps { (rows : List Row) → StandFor checked.now rows engines.now.rows
+        engines.now.ft.now engines.now.pt.now next_times.old
+        → IfSome result (λ report. KeepsStretch checked.now rows report cursor.new) }
 {
-    let program = checked.program();
-    let (k, stretch) = engines.next_open(program, next_times, *cursor)?;
-    let time = engines.last_covered(style, program.outs.get(k), next_times[k], stretch);
+    let (k, stretch) = engines.next_open(checked.program(), next_times, *cursor)?;
+    let time = stretch.last_covered(style, next_times[k]);
     next_times[k] = time + 1;
     cursor.move_after(k, time, stretch, engines.rows);
     Some(Report {

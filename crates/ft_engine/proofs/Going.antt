@@ -56,4 +56,4 @@ tells_more value start b ys upto v c zs told w new = record {
 pub shown_run : (ring : Ring) (slots : List Slot) (known : Known) (from end : ℕ) (v : Bool) → Shown ring slots known → low_of ring ≤ from → Shows ring slots from (Run end v)
     → (t : ℕ) → from ≤ t → t ≤ end → known t ≡ Some v
 shown_run ring slots known from end v shown kept seen t t_from t_to =
-    shown.kept t (omega arith) (omega (arith, seen.1)) ∙ ap (λ (x : Bool). Some x) (seen.2 t t_from t_to)
+    shown.kept t (omega arith) (omega (arith, seen.known)) ∙ ap (λ (x : Bool). Some x) (seen.alike t t_from t_to)

@@ -1,6 +1,6 @@
 -- Queues that begin again stand for no rows.
 
-use Rattle.std.proofs.Common.{◌≡◌, ◌≢◌, ◌+◌, ◌<◌, ◌≤◌, ℕ, List, [], length, set, sum, inl, inr, refl, arith, ap, subst, sym, ◌∙◌, length-set}
+use Rattle.std.proofs.Common.{◌≡◌, ◌+◌, ◌<◌, ℕ, List, [], length, set, inl, inr, arith, ap, subst, sym, ◌∙◌, length-set}
 use Rattle.std.proofs.lemmas.Bool.{cases_eq}
 use Rattle.std.proofs.lemmas.List.{get_or-set_other, get_or-set_same}
 use Rattle.mltl_base.specs.declared.operators.FtOp.{FtOp}

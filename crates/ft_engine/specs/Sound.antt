@@ -1,9 +1,9 @@
 -- That each ring has its part of the slab is a fact with one proof at most.
-use Rattle.std.specs.Prelude.{ℕ, ◌+◌, List, [], ◌∷◌}
+use Rattle.std.specs.Prelude.{ℕ, ◌+◌, Bool, List, [], ◌∷◌}
 use Rattle.std.proofs.Props.{props}
 use Rattle.scq_ring.specs.declared.Ring.{Ring}
 use Rattle.scq_ring.specs.declared.Slot.{Slot}
-use Rattle.scq_ring.specs.Runs.{Belongs, Spans}
+use Rattle.scq_ring.specs.Runs.{Alternate, Belongs, Spans}
 use Rattle.ft_engine.specs.declared.queue.Queue.{Queue}
 use Rattle.ft_engine.specs.Queues.{AreSound}
 
@@ -12,9 +12,14 @@ pub Spans-prop : (low : ℕ) (runs : List Slot) (end : ℕ) → IsProp (Spans lo
 Spans-prop low [] end = hlevel props
 Spans-prop low (r ∷ rs) end = hlevel (props, Spans-prop (r.upto + 1) rs end)
 
+-- that neighbouring runs differ has one proof at most
+pub Alternate-prop : (runs : List Slot) (newest : Bool) → IsProp (Alternate runs newest)
+Alternate-prop [] newest = hlevel props
+Alternate-prop (r ∷ rs) newest = hlevel (props, Alternate-prop rs newest)
+
 -- that slots are those of a ring has one proof at most
 pub Belongs-prop : (ring : Ring) (slots : List Slot) → IsProp (Belongs ring slots)
-Belongs-prop ring slots = hlevel (props, Spans-prop)
+Belongs-prop ring slots = hlevel (props, Spans-prop, Alternate-prop)
 
 -- that each ring of the queues has its own slots has one proof at most
 pub AreSound-prop : (queues : List Queue) (slab : List Slot) → IsProp (AreSound queues slab)

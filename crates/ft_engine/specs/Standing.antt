@@ -11,7 +11,7 @@ use Rattle.mltl_base.specs.Queues.{readers, worst_delays, widest}
 use Rattle.mltl_base.specs.Verdicts.{verdicts}
 use Rattle.scq_ring.specs.declared.Seen.{Seen}
 use Rattle.scq_ring.specs.declared.Seen.TheVariants.{Run, Nothing}
-use Rattle.scq_ring.specs.Runs.{frontier_of, low_of, verdict_at}
+use Rattle.scq_ring.specs.Runs.{IsLongestRun, frontier_of, low_of, verdict_at}
 use Rattle.scq_ring.specs.Seats.{part}
 use Rattle.ft_engine.specs.declared.engine.Ft.{Ft}
 use Rattle.ft_engine.specs.Plans.{IsPaced, plan_of}
@@ -43,10 +43,9 @@ slots_at ft i = (queue_at ft.queues i).seat.size
 unfoldable pub slot_total : Ft → ℕ
 slot_total ft = length ft.slab
 
--- a run of the verdicts of instruction i from time `from` on; nothing exactly at or past its frontier
+-- the longest run of the verdicts of instruction i from time `from` on; nothing exactly at or past its frontier
 abbrev pub ShowsFrom : Ft → ℕ → ℕ → Seen → Type 0
-ShowsFrom ft i from (Run end v) =
-    (from ≤ end) × (end < frontier_at ft i) × ((t : ℕ) → from ≤ t → t ≤ end → kept_verdict ft i t ≡ v)
+ShowsFrom ft i from (Run end v) = IsLongestRun (frontier_at ft i) (kept_verdict ft i) from end v
 ShowsFrom ft i from Nothing = frontier_at ft i ≤ from
 
 -- where an instruction of these reads its operands next

@@ -1,5 +1,5 @@
 -- The verdicts of instructions that are known after some rows, and a queue that has them.
-use Rattle.std.specs.Prelude.{◌≡◌, ℕ, ◌+◌, ◌≤◌, ◌<◌, ◌^◌, Bool, true, List, [], length, ℤ, Some, None, slice_get}
+use Rattle.std.specs.Prelude.{◌≡◌, ℕ, ◌+◌, ◌≤◌, ◌<◌, Bool, true, List, [], length, ℤ, Some, None, slice_get}
 use Rattle.std.specs.Prelude.{slice_index_or, if◌then◌else◌, nat_lt, ⊤}
 use Rattle.mltl_base.specs.declared.limits.TheConstants.{MAX_MISSION}
 use Rattle.mltl_base.specs.declared.operators.FtOp.{FtOp}

@@ -117,8 +117,8 @@ impl Ft {
         }
     }
 
-    /// The verdict of instruction `i` at time `from`, and a time up to which it stays the same; nothing exactly at or
-    /// past its frontier.
+    /// The verdict of instruction `i` at time `from`, and the last time up to which it stays the same; nothing exactly at
+    /// or past its frontier.
     pub fn run_from(&self, i: u32, from: u64) -> Seen
         requires exists { i < instruction_count self.now }
         requires kept { lowest_at self.now i ≤ from }

@@ -1,9 +1,9 @@
 -- Runs that follow one another.
-use Rattle.std.proofs.Common.{◌≡◌, ℕ, ◌+◌, ◌-◌, ◌<◌, ◌≤◌, List, [], ◌∷◌, ◌++◌, length, get_or, arith, refl, subst, sym, ap, ◌∙◌, inl, inr, zero, suc}
+use Rattle.std.proofs.Common.{◌≡◌, ◌≢◌, ℕ, Bool, ◌+◌, ◌-◌, ◌<◌, ◌≤◌, List, [], ◌∷◌, ◌++◌, length, get_or, arith, refl, subst, sym, ap, ◌∙◌, inl, inr, zero, suc}
 use Rattle.std.proofs.lemmas.Bool.Decides.{nat_tests}
 use Rattle.std.proofs.lemmas.Bool.{cases_lt}
 use Rattle.scq_ring.specs.declared.runs.Slot.{Slot}
-use Rattle.scq_ring.specs.Runs.{Belongs, Spans, low_of, no_slot, ring_index_of, runs_of, upto_at, value_in, verdict_at}
+use Rattle.scq_ring.specs.Runs.{Alternate, Belongs, Spans, first_value, low_of, no_slot, ring_index_of, runs_of, upto_at, value_in, verdict_at}
 use Rattle.scq_ring.proofs.Windows.{get_or-window, length-window}
 use Rattle.scq_ring.specs.declared.runs.Ring.{Ring}
 
@@ -104,6 +104,41 @@ value_in_first (r ∷ rs) (suc k) from k_in below t t_from t_to =
     let rest : value_in rs t ≡ (get_or rs k no_slot).value = value_in_first rs k from (omega arith) (λ j jk. below (suc j) (omega arith)) t t_from t_to in
     grind (arith, nat_tests, rest)
 
+-- a run is added, and a newest one of another value comes after it
+first_pushed : (runs : List Slot) (r : Slot) (newest : Bool) → first_value (runs ++ r ∷ []) newest ≡ first_value runs r.value
+first_pushed [] r newest = refl
+first_pushed (q ∷ qs) r newest = refl
+
+pub Alternate-push : (runs : List Slot) (r : Slot) (newest : Bool) → Alternate runs r.value → newest ≢ r.value → Alternate (runs ++ r ∷ []) newest
+Alternate-push [] r newest a other = (λ e. other (sym e), tt)
+Alternate-push (q ∷ qs) r newest a other = (λ e. a.0 (e ∙ first_pushed qs r newest), Alternate-push qs r newest a.1 other)
+
+pub Alternate-none : (runs : List Slot) (newest : Bool) → length runs ≡ 0 → Alternate runs newest
+Alternate-none [] newest none = tt
+Alternate-none (r ∷ rs) newest none = absurd (omega arith)
+
+-- at the end of a run the value turns
+value_in_turns : (low : ℕ) (runs : List Slot) (end : ℕ) (newest : Bool) → Spans low runs end → Alternate runs newest → (k : ℕ) → k < length runs → (get_or runs k no_slot).upto + 1 < end
+    → value_in runs ((get_or runs k no_slot).upto + 1) ≢ (get_or runs k no_slot).value
+value_in_turns low [] end newest s a k k_in further = absurd (omega arith)
+value_in_turns low (r ∷ []) end newest s a zero k_in further = absurd (omega (arith, s.1))
+value_in_turns low (r ∷ q ∷ qs) end newest s a zero k_in further =
+    let next_reaches : r.upto + 1 ≤ q.upto = s.1.0 in
+    let next : value_in (r ∷ q ∷ qs) (r.upto + 1) ≡ q.value = grind (arith, nat_tests) in
+    λ same. a.0 (sym same ∙ next)
+value_in_turns low (r ∷ rs) end newest s a (suc k) k_in further =
+    let later : r.upto + 1 ≤ (get_or rs k no_slot).upto = Spans-from (r.upto + 1) rs end s.1 k (omega arith) in
+    let after : ℕ = (get_or rs k no_slot).upto + 1 in
+    let past : r.upto < after = omega arith in
+    let rest : value_in (r ∷ rs) after ≡ value_in rs after = grind (arith, nat_tests) in
+    λ same. value_in_turns (r.upto + 1) rs end newest s.1 a.1 k (omega arith) further (sym rest ∙ same)
+
+newest_differs : (low : ℕ) (runs : List Slot) (end : ℕ) (newest : Bool) → Spans low runs end → Alternate runs newest → (k : ℕ) → k < length runs → (get_or runs k no_slot).upto + 1 ≡ end → newest ≢ (get_or runs k no_slot).value
+newest_differs low [] end newest s a k k_in last = absurd (omega arith)
+newest_differs low (r ∷ []) end newest s a zero k_in last = λ same. a.0 (sym same)
+newest_differs low (r ∷ q ∷ qs) end newest s a zero k_in last = absurd (omega (arith, Spans-room (r.upto + 1) (q ∷ qs) end s.1))
+newest_differs low (r ∷ rs) end newest s a (suc k) k_in last = newest_differs (r.upto + 1) rs end newest s.1 a.1 k (omega arith) last
+
 -- there is a run where some time is covered
 pub some_run : (low : ℕ) (runs : List Slot) (end : ℕ) → Spans low runs end → low < end → 0 < length runs
 some_run low [] end s h = absurd (omega arith)
@@ -128,6 +163,18 @@ run_at_index ring slots k ring_index b k_in place_is =
 -- the kept runs are as many as are used
 pub length-runs : (ring : Ring) (slots : List Slot) → Belongs ring slots → length (runs_of ring slots) ≡ ring.used
 length-runs ring slots b = length-window ring.oldest ring.used slots b.oldest_in b.used_in
+
+-- after the end of run k the verdict is another
+pub verdict_turns : (ring : Ring) (slots : List Slot) (k : ℕ) → Belongs ring slots → k < ring.used → verdict_at ring slots (upto_at (runs_of ring slots) k + 1) ≢ (get_or (runs_of ring slots) k no_slot).value
+verdict_turns ring slots k b k_in =
+    let runs : List Slot = runs_of ring slots in
+    let end : ℕ = upto_at runs k in
+    let size : length runs ≡ ring.used = length-runs ring slots b in
+    let before : end < ring.since = Spans-upto ring.low runs ring.since b.spans k (omega arith) in
+    elim (cases_lt (end + 1) ring.since) [
+      | inl further ↦ λ same. value_in_turns ring.low runs ring.since ring.value b.spans b.alternate k (omega arith) further (sym (verdict_before ring slots (end + 1) further) ∙ same)
+      | inr last ↦ λ same. newest_differs ring.low runs ring.since ring.value b.spans b.alternate k (omega arith) (omega arith) (sym (verdict_newest ring slots (end + 1) last) ∙ same)
+    ]
 
 -- the last run in the slots ends where the newest one begins
 pub record HasLast (ring : Ring) (slots : List Slot) : Type 0 where

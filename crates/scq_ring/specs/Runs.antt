@@ -1,7 +1,7 @@
 -- What a ring and its slots stand for: a frontier, a low time, and a verdict for each time from the low time to the
 -- frontier - 1.
-use Rattle.std.specs.Prelude.{◌≡◌, ℕ, ◌+◌, ◌-◌, ◌<◌, ◌≤◌, ◌⊎◌, Bool, false, List, [], ◌∷◌, ◌++◌, length, slice_index_or}
-use Rattle.std.specs.Prelude.{take, drop, if◌then◌else◌, nat_le, nat_lt}
+use Rattle.std.specs.Prelude.{◌≡◌, ◌≢◌, ℕ, ◌+◌, ◌-◌, ◌<◌, ◌≤◌, ◌⊎◌, Bool, false, List, [], ◌∷◌, ◌++◌, length}
+use Rattle.std.specs.Prelude.{slice_index_or, take, drop, if◌then◌else◌, nat_le, nat_lt, ⊤}
 use Rattle.scq_ring.specs.declared.runs.Ring.{Ring}
 use Rattle.scq_ring.specs.declared.runs.Slot.{Slot}
 use Rattle.scq_ring.specs.declared.runs.Seen.{Seen}
@@ -28,6 +28,16 @@ no_slot = record { upto = 0; value = false }
 abbrev pub Spans : ℕ → List Slot → ℕ → Type 0
 Spans low [] end = low ≡ end
 Spans low (run ∷ runs) end = (low ≤ run.upto) × Spans (run.upto + 1) runs end
+
+-- the value of the first of these runs, or of the newest one where there are none before it
+abbrev pub first_value : List Slot → Bool → Bool
+first_value [] newest = newest
+first_value (run ∷ runs) newest = run.value
+
+-- each of these runs has another value than the run after it; after the last one comes the newest
+abbrev pub Alternate : List Slot → Bool → Type 0
+Alternate [] newest = ⊤
+Alternate (run ∷ runs) newest = (run.value ≢ first_value runs newest) × Alternate runs newest
 
 -- the runs before the newest one that are kept, oldest first
 abbrev pub runs_of : Ring → List Slot → List Slot
@@ -56,6 +66,8 @@ pub record Belongs (ring : Ring) (slots : List Slot) : Type 0 where
   pub spans : Spans ring.low (runs_of ring slots) ring.since
   pub begun : ring.since ≤ ring.frontier
   pub some_time : 0 < ring.frontier → ring.since < ring.frontier
+  -- so each run is the longest one of its verdict
+  pub alternate : Alternate (runs_of ring slots) ring.value
 
 -- the newest run stays as it is
 pub record KeepsNewest (old new : Ring) : Type 0 where
@@ -68,6 +80,7 @@ pub record IsClosed (old : Ring) (old_slots : List Slot) (new : Ring) (new_slots
   pub oldest_in : new.oldest < length new_slots
   pub used_in : new.used ≤ length new_slots
   pub spans : Spans new.low (runs_of new new_slots) new.frontier
+  pub alternate : (next : Bool) → next ≢ old.value → Alternate (runs_of new new_slots) next
   pub frontier : new.frontier ≡ old.frontier
   pub rises : old.low ≤ new.low
   pub bounded : (new.low ≡ old.low) ⊎ (new.low + length old_slots ≤ old.frontier)
@@ -92,10 +105,16 @@ pub record IsAround (ring : Ring) (slots : List Slot) (from first last : ℕ) : 
   pub below : (k : ℕ) → k < first → upto_at (runs_of ring slots) k < from
   pub reached : from ≤ upto_at (runs_of ring slots) last
 
--- what a read from time `from` on shows: all times up to `end` have the value; nothing exactly at or past the frontier
+-- all times from `from` to `end` have the value, and the time after them, where it has a verdict, has another one
+pub record IsLongestRun (frontier : ℕ) (verdict : ℕ → Bool) (from end : ℕ) (value : Bool) : Type 0 where
+  pub upward : from ≤ end
+  pub known : end < frontier
+  pub alike : (t : ℕ) → from ≤ t → t ≤ end → verdict t ≡ value
+  pub ends : end + 1 < frontier → verdict (end + 1) ≢ value
+
+-- what a read from time `from` on shows: the longest run from there; nothing exactly at or past the frontier
 abbrev pub Shows : Ring → List Slot → ℕ → Seen → Type 0
-Shows ring slots from (Run end value) =
-    (from ≤ end) × (end < frontier_of ring) × ((t : ℕ) → from ≤ t → t ≤ end → verdict_at ring slots t ≡ value)
+Shows ring slots from (Run end value) = IsLongestRun (frontier_of ring) (verdict_at ring slots) from end value
 Shows ring slots from Nothing = frontier_of ring ≤ from
 
 -- the slot holds no verdict

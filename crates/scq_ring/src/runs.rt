@@ -1,6 +1,6 @@
 //! A ring of merged runs, and its slots.
 
-ghost use Rattle.std.specs.Prelude.{◌≡◌, ℕ, ◌+◌, ◌-◌, ◌^◌, ◌<◌, ◌≤◌, max, length, List, nat_lt, if◌then◌else◌};
+ghost use Rattle.std.specs.Prelude.{◌≡◌, ◌≢◌, ℕ, ◌+◌, ◌-◌, ◌^◌, ◌<◌, ◌≤◌, max, length, List, nat_lt, if◌then◌else◌};
 ghost use Rattle.mltl_base.specs.declared.limits.TheConstants.{TIME_END};
 ghost use Rattle.scq_ring.specs.Runs.{Belongs, IsAround, IsClear, IsClosed, IsTurned, KeepsNewest, Shows, frontier_of, low_of, ring_index_of, verdict_at};
 ghost use Rattle.scq_ring.specs.declared.runs.Slot.{Slot};
@@ -135,7 +135,7 @@ impl Ring {
         }
     }
 
-    /// The verdict at time `from`, and a time up to which it stays the same; counts one step.
+    /// The verdict at time `from`, and the last time up to which it stays the same; counts one step.
     #[tactic(auto, unfolding(crate::specs::Runs::frontier_of, crate::specs::Runs::low_of))]
     pub fn read<L: Ledger>(&self, slots: &[Slot], from: u64, steps: &mut Steps<L>) -> Seen
         requires belongs { Belongs self.now slots.now }
@@ -159,6 +159,7 @@ impl Ring {
         requires belongs { Belongs self.old slots.old }
         requires ahead { self.old.frontier ≤ upto }
         requires in_time { upto < TIME_END }
+        requires other { value ≢ self.old.value }
         ensures turned { IsTurned self.old slots.old upto value self.new slots.new }
     {
         self.close(slots);
@@ -224,6 +225,7 @@ impl Ring {
         ensures before { result.upto < self.now.since }
         ensures verdict { (t : ℕ) → from ≤ t → t ≤ result.upto
             → verdict_at self.now slots.now t ≡ result.value }
+        ensures ends { verdict_at self.now slots.now (result.upto + 1) ≢ result.value }
     {
         let (mut first, mut last) = self.newest_around(slots, from);
         'halving: while first < last {

@@ -17,7 +17,7 @@ returns-in-Nothing-read-clause-decided g c =
 pub returns-then-value-clause-decided : goal.returns-then-value-clause-decided
 returns-then-value-clause-decided g c =
     λ p q left right.
-    let live : q c.args.from ≡ Some c.in-Run-read.value = shown_run c.args.right.ring.now c.args.right.slots.now q c.args.from c.in-Run-read.end c.in-Run-read.value right c.requires.right.kept c.in-Run-read.ensures.seen c.args.from (omega arith) c.in-Run-read.ensures.seen.0 in
+    let live : q c.args.from ≡ Some c.in-Run-read.value = shown_run c.args.right.ring.now c.args.right.slots.now q c.args.from c.in-Run-read.end c.in-Run-read.value right c.requires.right.kept c.in-Run-read.ensures.seen c.args.from (omega arith) c.in-Run-read.ensures.seen.upward in
     let value : c.in-Run-read.value ≡ true = c.if-value.true in
     and_none_left (p c.args.from) (q c.args.from) (left.ends c.args.from c.in-Nothing.ensures.seen) (λ e. cc)
 
@@ -29,7 +29,7 @@ returns-else-value-clause-decided g c =
 pub returns-in-Nothing-read-2-clause-decided : goal.returns-in-Nothing-read-2-clause-decided
 returns-in-Nothing-read-2-clause-decided g c =
     λ p q left right.
-    let live : p c.args.from ≡ Some c.in-Run.left_value = shown_run c.args.left.ring.now c.args.left.slots.now p c.args.from c.in-Run.left_end c.in-Run.left_value left c.requires.left.kept c.in-Run.ensures.seen c.args.from (omega arith) c.in-Run.ensures.seen.0 in
+    let live : p c.args.from ≡ Some c.in-Run.left_value = shown_run c.args.left.ring.now c.args.left.slots.now p c.args.from c.in-Run.left_end c.in-Run.left_value left c.requires.left.kept c.in-Run.ensures.seen c.args.from (omega arith) c.in-Run.ensures.seen.upward in
     let value : c.in-Run.left_value ≡ true = c.if-not-left_value.false in
     and_none_right (p c.args.from) (q c.args.from) (λ e. cc) (right.ends c.args.from c.in-Nothing-read-2.ensures.seen)
 

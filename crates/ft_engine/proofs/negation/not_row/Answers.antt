@@ -13,10 +13,10 @@ turns-preserved g c =
     let w : Written c.turns.own c.turns.own_slots c.in-Run.end (not c.in-Run.value) c.write.new.self c.write.new.slots =
     record { belongs = e.belongs; frontier = e.frontier; rises = e.rises; bounded = e.bounded; kept = e.kept; written = e.written } in
     let from : c.frontier.result ≡ frontier_of c.turns.own = c.frontier.ensures.frontier in
-    let ahead : frontier_of c.turns.own ≤ c.in-Run.end = omega (arith, c.in-Run.ensures.seen.0) in
+    let ahead : frontier_of c.turns.own ≤ c.in-Run.end = omega (arith, c.in-Run.ensures.seen.upward) in
     record {
       goes_on = goes_further c.args.own.now c.args.own_slots.now c.turns.own c.turns.own_slots c.in-Run.end (not c.in-Run.value) c.write.new.self c.write.new.slots c.turns.invariant.goes_on w ahead c.turns.auto.own_slots;
-      within = omega (arith, c.in-Run.ensures.seen.1, e.frontier);
+      within = omega (arith, c.in-Run.ensures.seen.known, e.frontier);
       counted = omega (arith, e.frontier, e.step, c.read.ensures.step, c.turns.invariant.counted);
       told = λ p shown. tells_more (k_negation p) (frontier_of c.args.own.now) c.turns.own c.turns.own_slots c.in-Run.end (not c.in-Run.value) c.write.new.self c.write.new.slots (c.turns.invariant.told p shown) w
           (λ t t_from t_to. ap k_not (shown_run c.args.operand.ring.now c.args.operand.slots.now p c.frontier.result c.in-Run.end c.in-Run.value shown (omega arith) c.in-Run.ensures.seen t (omega arith) t_to));

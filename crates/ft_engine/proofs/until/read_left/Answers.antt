@@ -11,7 +11,7 @@ returns-else-value-clause-finds g c =
     let lo : c.from-lo.result ≡ i.lo = c.from-lo.ensures in
     let seen = c.in-Run.ensures.seen in
     let last = c.min-last.result in
-    let further : at.reads_at ≤ last = omega (arith, seen.0, c.min-last.ensures) in
+    let further : at.reads_at ≤ last = omega (arith, seen.upward, c.min-last.ensures) in
     let within : last < at.seen = omega (arith, c.min-last.ensures) in
     let fails : (k : ℕ) → at.reads_at ≤ k → k ≤ last → p k ≡ Some false =
     λ k from to. shown_run c.args.until.left.ring.now c.args.until.left.slots.now p at.reads_at c.in-Run.end c.in-Run.value left c.requires.can_scan.left.kept seen k from (omega (arith, c.min-last.ensures)) ∙ ap (λ (v : Bool). Some v) c.if-value.false in (

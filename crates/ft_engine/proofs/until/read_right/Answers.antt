@@ -25,6 +25,6 @@ returns-then-value-clause-finds g c =
     let seen = c.in-Run.ensures.seen in
     let holds : (k : ℕ) → at.reads_at ≤ k → k ≤ c.in-Run.end → q k ≡ Some true =
     λ k from to. shown_run c.args.until.right.ring.now c.args.until.right.slots.now q at.reads_at c.in-Run.end c.in-Run.value right c.requires.can_scan.right.kept seen k from to ∙ ap (λ (v : Bool). Some v) c.if-value.true in (
-      λ x from to. right_true i p q c.args.from at.reads_at c.in-Run.end c.requires.can_scan.ordered here (omega arith) seen.0 holds x from (omega (arith, seen.0)),
-      fresh_scan i p q (c.in-Run.end - c.from-lo.result + 1) (c.in-Run.end + 1) (omega (arith, seen.0)),
+      λ x from to. right_true i p q c.args.from at.reads_at c.in-Run.end c.requires.can_scan.ordered here (omega arith) seen.upward holds x from (omega (arith, seen.upward)),
+      fresh_scan i p q (c.in-Run.end - c.from-lo.result + 1) (c.in-Run.end + 1) (omega (arith, seen.upward)),
     )

@@ -1,10 +1,10 @@
-use Rattle.std.proofs.Common.{◌≡◌, ℕ, ◌+◌, ◌-◌, [], ◌∷◌, ◌++◌, set, arith, refl, ap, subst, sym, ◌∙◌, inl, inr}
+use Rattle.std.proofs.Common.{◌≡◌, ℕ, ◌+◌, ◌-◌, List, [], ◌∷◌, ◌++◌, set, arith, refl, ap, subst, sym, ◌∙◌, inl, inr}
 use Rattle.std.proofs.lemmas.Bool.{cases_lt}
 use Rattle.std.proofs.lemmas.List.{length-set}
-use Rattle.scq_ring.specs.Runs.{Spans, window}
+use Rattle.scq_ring.specs.Runs.{Alternate, Spans, window}
 use Rattle.scq_ring.specs.declared.runs.Slot.{Slot}
 use Rattle.scq_ring.proofs.Windows.{window_after_push}
-use Rattle.scq_ring.proofs.RunLemmas.{pushed, verdict_before, verdict_newest}
+use Rattle.scq_ring.proofs.RunLemmas.{Alternate-push, pushed, verdict_before, verdict_newest}
 use Rattle.scq_ring.proofs.runs.Ring.add.Goals as goal
 
 pub returns-clause-closed : goal.returns-clause-closed
@@ -22,6 +22,7 @@ returns-clause-closed c =
       oldest_in = omega arith;
       used_in = omega arith;
       spans = subst (Spans ring.low (window ring.oldest (ring.used + 1) (set slots c.ring_index.result r))) ends q.spans;
+      alternate = λ next other. subst (λ (rs : List Slot). Alternate rs next) (sym e) (Alternate-push (window ring.oldest ring.used slots) r next c.requires.belongs.alternate other);
       frontier = refl;
       rises = omega arith;
       bounded = inl refl;

@@ -2,7 +2,8 @@ use Rattle.std.proofs.Common.{◌≡◌, ℕ, ◌+◌, ◌≤◌, ◌⊎◌, Lis
 use Rattle.scq_ring.specs.Runs.{IsClosed, Spans, low_of, runs_of, verdict_at}
 use Rattle.scq_ring.specs.declared.runs.Ring.{Ring}
 use Rattle.scq_ring.specs.declared.runs.Slot.{Slot}
-use Rattle.scq_ring.proofs.RunLemmas.{verdict_before}
+use Rattle.std.proofs.lemmas.Bool.{cases_lt}
+use Rattle.scq_ring.proofs.RunLemmas.{Alternate-none, Spans-room, verdict_before}
 use Rattle.scq_ring.proofs.runs.Ring.close.Goals.{then-self-slots, else-self-slots}
 use Rattle.scq_ring.proofs.runs.Ring.close.Goals as goal
 
@@ -11,11 +12,17 @@ returns-then-self c =
     let ring = c.args.self.now in
     let slots = c.args.slots.now in
     let b = c.requires.belongs in
+    let none : ring.frontier ≡ 0 = elim (cases_lt 0 ring.frontier) [
+      | inl some ↦ absurd (omega (arith, b.some_time some, c.if-self.true))
+      | inr early ↦ omega arith
+    ] in
+    let room = Spans-room ring.low (runs_of ring slots) ring.since b.spans in
     record {
       closed = record {
         oldest_in = b.oldest_in;
         used_in = b.used_in;
         spans = subst (Spans ring.low (runs_of ring slots)) c.if-self.true b.spans;
+        alternate = λ next other. Alternate-none (runs_of ring slots) next (omega (arith, room, none, c.if-self.true));
         frontier = refl;
         rises = omega arith;
         bounded = inl refl;
@@ -26,6 +33,7 @@ returns-then-self c =
 -- a ring that may have let the oldest run go, and stays the same otherwise
 record LetsGo (old : Ring) (slots : List Slot) (mid : Ring) : Type 0 where
   frontier : mid.frontier ≡ old.frontier
+  value : mid.value ≡ old.value
   rises : old.low ≤ mid.low
   bounded : (mid.low ≡ old.low) ⊎ (mid.low + length slots ≤ old.frontier)
   kept : (t : ℕ) → mid.low ≤ t → verdict_at mid slots t ≡ verdict_at old slots t
@@ -38,6 +46,7 @@ closed_after old mid new slots new_slots lets low is =
       oldest_in = is.oldest_in;
       used_in = is.used_in;
       spans = is.spans;
+      alternate = λ next other. is.alternate next (λ same. other (same ∙ lets.value));
       frontier = is.frontier ∙ frontier;
       rises = omega arith;
       bounded = elim lets.bounded [ inl same ↦ inl (low ∙ same) | inr few ↦ inr (omega arith) ];
@@ -60,7 +69,7 @@ returns c =
           let fewer = forgot.fewer in
           let bounded = forgot.bounded in
           let room : w.forget.new.self.low + length slots ≤ ring.frontier = omega (arith, some_time) in
-          record { closed = closed (subst (LetsGo ring slots) (sym w.self-is) record { frontier = newest.frontier; rises = forgot.rises; bounded = inr room; kept = forgot.kept }) }
+          record { closed = closed (subst (LetsGo ring slots) (sym w.self-is) record { frontier = newest.frontier; value = newest.value; rises = forgot.rises; bounded = inr room; kept = forgot.kept }) }
       | else-self-slots w ↦
-          record { closed = closed (subst (LetsGo ring slots) (sym w.self-is) record { frontier = refl; rises = omega arith; bounded = inl refl; kept = λ t from. refl }) }
+          record { closed = closed (subst (LetsGo ring slots) (sym w.self-is) record { frontier = refl; value = refl; rises = omega arith; bounded = inl refl; kept = λ t from. refl }) }
     ]

@@ -1,5 +1,5 @@
 use Rattle.std.proofs.Common.{◌≡◌, ℕ, ◌-◌, ◌<◌, ◌≤◌, List, ◌∷◌, length, get_or, arith, refl, ap, subst, sym, ◌∙◌, if◌then◌else◌, nat_le}
-use Rattle.scq_ring.specs.Runs.{low_of, no_slot, verdict_at, window, Spans, value_in}
+use Rattle.scq_ring.specs.Runs.{Alternate, low_of, no_slot, verdict_at, window, Spans, value_in}
 use Rattle.scq_ring.specs.declared.runs.Slot.{Slot}
 use Rattle.scq_ring.proofs.Windows.{window_before_pop, next_within, length-window}
 use Rattle.scq_ring.proofs.RunLemmas.{shortened, Shortened, Spans-upto}
@@ -30,12 +30,20 @@ returns c =
     ∙ ap (λ (j : ℕ). first ∷ window j (ring.used - 1) slots) (sym c.ring_index-self.ensures.ring_index) in
     let q : Shortened ring.low first rest ring.since =
     shortened ring.low first rest ring.since (subst (λ (rs : List Slot). Spans ring.low rs ring.since) e c.requires.belongs.spans) in
+    let alternate : Alternate (first ∷ rest) ring.value = subst (λ (rs : List Slot). Alternate rs ring.value) e c.requires.belongs.alternate in
     let P : ℕ → Type 0 = λ j. j < length slots in
     let oldest_in : c.ring_index-self.result < length slots = subst P (sym c.ring_index-self.ensures.ring_index) (next_within ring.oldest (length slots) c.requires.belongs.oldest_in) in
     let used_in : ring.used - 1 ≤ length slots = omega (arith, c.requires.belongs.used_in) in
     let size : length rest ≡ ring.used - 1 = length-window c.ring_index-self.result (ring.used - 1) slots oldest_in used_in in
     record {
-      belongs = record { oldest_in = oldest_in; used_in = used_in; spans = q.spans; begun = c.requires.belongs.begun; some_time = c.requires.belongs.some_time };
+      belongs = record {
+        oldest_in = oldest_in;
+        used_in = used_in;
+        spans = q.spans;
+        begun = c.requires.belongs.begun;
+        some_time = c.requires.belongs.some_time;
+        alternate = alternate.1;
+      };
       newest = record { frontier = refl; since = refl; value = refl };
       rises = omega arith;
       fewer = omega arith;

@@ -1,7 +1,7 @@
-use Rattle.std.proofs.Common.{◌≡◌, ℕ, ◌+◌, ◌-◌, ◌/◌, ◌<◌, ◌≤◌, List, length, get_or, arith, subst, sym, ◌∙◌}
-use Rattle.scq_ring.specs.Runs.{no_slot, runs_of, value_in}
+use Rattle.std.proofs.Common.{◌≡◌, ◌≢◌, ℕ, ◌+◌, ◌-◌, ◌/◌, ◌<◌, ◌≤◌, List, length, get_or, arith, subst, sym, ◌∙◌}
+use Rattle.scq_ring.specs.Runs.{no_slot, runs_of, value_in, verdict_at}
 use Rattle.scq_ring.specs.declared.runs.Slot.{Slot}
-use Rattle.scq_ring.proofs.RunLemmas.{Spans-upto, Spans-rising, length-runs, run_at_index, value_in_first, verdict_before}
+use Rattle.scq_ring.proofs.RunLemmas.{Spans-upto, Spans-rising, length-runs, run_at_index, value_in_first, verdict_before, verdict_turns}
 use Rattle.scq_ring.proofs.runs.Ring.run_at.Goals as goal
 
 pub halving-preserved-then-slots-ring_index : goal.halving-preserved-then-slots-ring_index
@@ -60,9 +60,11 @@ returns c =
     let before : (get_or slots c.ring_index-2.result no_slot).upto < ring.since = subst Before same (Spans-upto ring.low runs ring.since c.requires.belongs.spans c.halving.first (omega arith)) in
     let Alike : Slot → Type 0 = λ r. (t : ℕ) → c.args.from ≤ t → t ≤ r.upto → value_in runs t ≡ r.value in
     let alike = subst Alike same (value_in_first runs c.halving.first c.args.from (omega arith) around.below) in
+    let Turns : Slot → Type 0 = λ r. verdict_at ring slots (r.upto + 1) ≢ r.value in
     let At : ℕ → Type 0 = λ k. c.args.from ≤ (get_or runs k no_slot).upto in
     record {
       reaches = subst Reaches same (subst At (sym only) around.reached);
       before = before;
       verdict = λ t from to. verdict_before ring slots t (omega arith) ∙ alike t from to;
+      ends = subst Turns same (verdict_turns ring slots c.halving.first c.requires.belongs (omega arith));
     }

@@ -11,7 +11,14 @@ returns c =
     let turned : Ring = record { frontier = c.args.upto + 1; low = ring.low; since = ring.frontier; oldest = ring.oldest; used = ring.used; value = c.args.value } in
     record {
       turned = record {
-        belongs = record { oldest_in = closed.oldest_in; used_in = closed.used_in; spans = closed.spans; begun = omega (arith, closed.frontier, c.requires.ahead); some_time = λ some. omega (arith, closed.frontier, c.requires.ahead) };
+        belongs = record {
+          oldest_in = closed.oldest_in;
+          used_in = closed.used_in;
+          spans = closed.spans;
+          begun = omega (arith, closed.frontier, c.requires.ahead);
+          some_time = λ some. omega (arith, closed.frontier, c.requires.ahead);
+          alternate = closed.alternate c.args.value c.requires.other;
+        };
         frontier = refl;
         rises = closed.rises;
         bounded = elim closed.bounded [ inl same ↦ inl same | inr few ↦ inr (omega (arith, few, c.requires.ahead)) ];

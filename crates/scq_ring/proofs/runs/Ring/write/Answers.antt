@@ -8,6 +8,9 @@ pub turn-requires-clause-ahead : goal.turn-requires-clause-ahead
 unfolding frontier_of
 turn-requires-clause-ahead g c = c.requires.ahead
 
+pub turn-requires-clause-other : goal.turn-requires-clause-other
+turn-requires-clause-other g c = λ same. let other = c.if-value-self.false in grind (arith, common_steps)
+
 pub returns-then-value-self : goal.returns-then-value-self
 unfolding frontier_of low_of verdict_at
 returns-then-value-self g c =
@@ -15,7 +18,7 @@ returns-then-value-self g c =
     let begun = b.begun in
     let ahead = c.requires.ahead in
     record {
-      belongs = record { oldest_in = b.oldest_in; used_in = b.used_in; spans = b.spans; begun = omega arith; some_time = λ some. omega arith };
+      belongs = record { oldest_in = b.oldest_in; used_in = b.used_in; spans = b.spans; begun = omega arith; some_time = λ some. omega arith; alternate = b.alternate };
       frontier = refl;
       rises = omega arith;
       bounded = omega arith;
