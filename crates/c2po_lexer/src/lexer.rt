@@ -74,35 +74,35 @@ fn read(line: u32, front: Front, bytes: &[u8]) -> Result<Option<What>, LexFault>
     }
 }
 
-/// A place in a text: its line, counted from 1, and the number of bytes before it.
+/// A position in a text: its line, counted from 1, and the number of bytes before it.
 #[derive(Clone, Copy)]
-struct Place {
+struct Position {
     line: u32,
     start: usize,
 }
 
-// the token at a place, if a token stands there, and the place after it
-fn piece(text: &[u8], place: Place) -> Result<(Option<Token>, Place), LexFault>
+// the token at a position, if a token stands there, and the position after it
+fn piece(text: &[u8], at: Position) -> Result<(Option<Token>, Position), LexFault>
     requires limit { length text.now ≤ MAX_SPEC_BYTES }
-    requires inside { place.start < length text.now }
-    requires line { place.line ≡ line_at text.now place.start }
-    ensures token { IfOk result (λ r. reading_at text.now place.start ≡ Ok r.0) }
-    ensures next { IfOk result (λ r. IsAfter text.now place.start r.1.start r.1.line) }
-    ensures some { 1 ≤ size_at text.now place.start }
-    ensures fault { IfErr result (λ fault. reading_at text.now place.start ≡ Err fault) }
+    requires inside { at.start < length text.now }
+    requires line { at.line ≡ line_at text.now at.start }
+    ensures token { IfOk result (λ r. reading_at text.now at.start ≡ Ok r.0) }
+    ensures next { IfOk result (λ r. IsAfter text.now at.start r.1.start r.1.line) }
+    ensures some { 1 ≤ size_at text.now at.start }
+    ensures fault { IfErr result (λ fault. reading_at text.now at.start ≡ Err fault) }
 {
-    let rest = &text[place.start..];
+    let rest = &text[at.start..];
     let front = Front::of(rest);
     let bytes = &rest[..front.size()];
-    let end = place.start + bytes.len();
-    let next = Place {
-        line: place.line + newlines(bytes),
+    let end = at.start + bytes.len();
+    let next = Position {
+        line: at.line + newlines(bytes),
         start: end,
     };
-    let token = read(place.line, front, bytes)?.map(|what| Token {
+    let token = read(at.line, front, bytes)?.map(|what| Token {
         what,
-        line: place.line,
-        start: place.start as u32,
+        line: at.line,
+        start: at.start as u32,
         end: end as u32,
     });
     Ok((token, next))
@@ -138,11 +138,11 @@ pub fn lex(alloc: Global, text: &[u8]) -> Result<Tokens, LexFault>
     ensures names { IfOk result (All (λ token. HasPlainName token.what)) }
 {
     let mut tokens = List::new(alloc);
-    let mut place = Place { line: 1, start: 0 };
-    while place.start < text.len() {
-        let (token, next) = piece(text, place)?;
+    let mut at = Position { line: 1, start: 0 };
+    while at.start < text.len() {
+        let (token, next) = piece(text, at)?;
         add(&mut tokens, token)?;
-        place = next;
+        at = next;
     }
     Ok(tokens)
 }
