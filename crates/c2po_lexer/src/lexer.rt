@@ -14,7 +14,7 @@ use mltl_base::{List, Name};
 use std::alloc::Global;
 use std::str;
 
-// how many newlines these bytes have
+/// How many newlines these bytes have.
 fn newlines(bytes: &[u8]) -> u32
     requires { length bytes.now ≤ MAX_SPEC_BYTES }
     ensures { result ≡ count_by (λ b. b == 10) bytes.now }
@@ -22,7 +22,7 @@ fn newlines(bytes: &[u8]) -> u32
     bytes.iter().filter(|byte| **byte == b'\n').count() as u32
 }
 
-// the number that digits write, if it is small enough
+/// The number that digits write, if it is small enough.
 fn value_of(digits: &[u8]) -> Option<i64>
     requires some { 1 ≤ length digits.now }
     requires digits { IsTrue (all_ascii_digits digits.now) }
@@ -35,6 +35,7 @@ fn value_of(digits: &[u8]) -> Option<i64>
     }
 }
 
+/// The token of a number.
 fn number(line: u32, digits: &[u8]) -> Result<What, LexFault>
     requires some { 1 ≤ length digits.now }
     requires digits { IsTrue (all_ascii_digits digits.now) }
@@ -46,6 +47,7 @@ fn number(line: u32, digits: &[u8]) -> Result<What, LexFault>
     }
 }
 
+/// The token of a word, reserved or not.
 fn word(line: u32, word: &[u8]) -> Result<What, LexFault>
     requires { 1 ≤ length word.now }
     ensures { result ≡ word_of line word.now }
@@ -59,7 +61,7 @@ fn word(line: u32, word: &[u8]) -> Result<What, LexFault>
     }
 }
 
-// what a piece of the text is, if it is a token at all
+/// What a piece of the text is, if it is a token at all.
 fn read(line: u32, front: Front, bytes: &[u8]) -> Result<Option<What>, LexFault>
     requires some { 1 ≤ length bytes.now }
     requires digits { HasDigitsAlone front bytes.now }
@@ -81,7 +83,7 @@ struct Position {
     start: usize,
 }
 
-// the token at a position, if a token stands there, and the position after it
+/// The token at a position, if a token stands there, and the position after it.
 fn piece(text: &[u8], at: Position) -> Result<(Option<Token>, Position), LexFault>
     requires limit { length text.now ≤ MAX_SPEC_BYTES }
     requires inside { at.start < length text.now }
@@ -108,7 +110,7 @@ fn piece(text: &[u8], at: Position) -> Result<(Option<Token>, Position), LexFaul
     Ok((token, next))
 }
 
-// puts a token after the others
+/// Puts a token after the others, if there is one.
 fn add(tokens: &mut Tokens, token: Option<Token>) -> Result<(), LexFault>
     ensures added { OnOk result (tokens.new ≡ tokens.old ++ option_to_list token) }
     ensures memory { IfErr result (λ fault. fault ≡ LexFault.Memory) }
