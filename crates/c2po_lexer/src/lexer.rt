@@ -29,10 +29,7 @@ fn value_of(digits: &[u8]) -> Option<i64>
     ensures limit { IsSome result ↔ (digits_value 10 digits.now ≤ MAX_NUMBER) }
     ensures value { IfSome result (λ value. value ≡ pos (digits_value 10 digits.now)) }
 {
-    match str::from_utf8(digits) {
-        Ok(text) => text.parse::<i64>().ok(),
-        Err(_) => unreachable!(),
-    }
+    str::from_utf8(digits).unwrap().parse::<i64>().ok()
 }
 
 /// The token of a number.
@@ -41,10 +38,8 @@ fn number(line: u32, digits: &[u8]) -> Result<What, LexFault>
     requires digits { IsTrue (all_ascii_digits digits.now) }
     ensures { result ≡ number_of line digits.now }
 {
-    match value_of(digits) {
-        Some(value) => Ok(What::Number(value)),
-        None => Err(LexFault::Number(line)),
-    }
+    let value = value_of(digits).ok_or(LexFault::Number(line))?;
+    Ok(What::Number(value))
 }
 
 /// The token of a word, reserved or not.
