@@ -10,7 +10,6 @@ ghost use Rattle.c2po_kinds.specs.Expressions.{kind_of as kind_in, kinds_of as k
 use crate::operand::{
     TRUTH, WHOLE, are_same, build, expect, gather, is_same, member_of, pick, value_of,
 };
-use crate::scope::{declared_in, meaning};
 use crate::{Kind, Scope, TypeFault};
 use c2po_tree::{Expr, Node};
 use mltl_base::Name;
@@ -60,7 +59,7 @@ fn quantified(
         (quantifier_kind line variable.now set number (shape body.now) (visible scope.now)) }
 {
     let member = member_of(line, set)?;
-    if meaning(scope, variable).is_some() {
+    if scope.meaning(variable).is_some() {
         return Err(TypeFault::Twice(line));
     }
     if number > u64::from(MAX_COUNT) {
@@ -81,7 +80,7 @@ fn built(
     ensures { Gives (λ k. k) result (kinds.known_built line (visible scope.now).declared
         operands.now (meaning_of name.now (visible scope.now))) }
 {
-    build(line, declared_in(scope), operands, meaning(scope, name))
+    build(line, scope.declared(), operands, scope.meaning(name))
 }
 
 /// The kind that an operator between whole numbers gives, from the kind at its left and its right operand.
@@ -146,7 +145,7 @@ pub fn kind_of(alloc: Global, scope: &Scope<'_>, expr: &Expr) -> Result<Kind, Ty
     match &expr.node {
         Node::Number(_) => Ok(WHOLE),
         Node::Truth(_) => Ok(TRUTH),
-        Node::Ref(name) => value_of(line, meaning(scope, name)),
+        Node::Ref(name) => value_of(line, scope.meaning(name)),
         Node::Build(name, arguments) => {
             let kinds = kinds_of(alloc, scope, arguments.as_slice())?;
             built(line, scope, kinds.as_slice(), name)
@@ -155,7 +154,7 @@ pub fn kind_of(alloc: Global, scope: &Scope<'_>, expr: &Expr) -> Result<Kind, Ty
             let kinds = kinds_of(alloc, scope, elements.as_slice())?;
             gather(line, kinds.as_slice())
         }
-        Node::Pick(a, field) => pick(line, declared_in(scope), field, kind_of(alloc, scope, a)?),
+        Node::Pick(a, field) => pick(line, scope.declared(), field, kind_of(alloc, scope, a)?),
         Node::Minus(a) => expect(line, is_same(kind_of(alloc, scope, a)?, WHOLE), WHOLE),
         Node::Not(a) => expect(line, is_same(kind_of(alloc, scope, a)?, TRUTH), TRUTH),
         Node::Arith(_, a, b) => numbers(alloc, scope, line, kind_of(alloc, scope, a)?, b, WHOLE),
