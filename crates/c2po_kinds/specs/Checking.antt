@@ -1,3 +1,5 @@
+-- Checks that find something, or the first fault.
+
 use Rattle.std.specs.Prelude.{◌≡◌, List, [], ◌∷◌, Result, Ok, Err, ⊤}
 use Rattle.c2po_kinds.specs.declared.fault.TypeFault.{TypeFault}
 use Rattle.c2po_kinds.specs.declared.fault.TypeFault.TheVariants.{Memory}
