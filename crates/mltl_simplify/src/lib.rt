@@ -4,7 +4,6 @@
 #![tactic(auto)]
 
 mod laws;
-mod node_list;
 mod numbers;
 mod parts;
 mod rules;

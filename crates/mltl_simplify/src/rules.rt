@@ -7,10 +7,9 @@ ghost use Rattle.plain_nodes.specs.Nodes.{Has, IsBounded, formula};
 ghost use Rattle.mltl_simplify.specs.Nodes.{AreFormed, IsFormulaAt, KeepsNone, Puts, gives_truth, keeps_truth, simple_between, simple_logic, simple_window};
 ghost use Rattle.mltl_simplify.specs.Simplify.{joined as summed, simple_and, simple_equals, simple_implies, simple_not, simple_or, as_truth};
 
-use crate::node_list::NodeList;
 use mltl_base::limits::MAX_BOUND;
 use mltl_base::{BetweenOp, Interval, LogicOp, WindowOp};
-use plain_nodes::Plain;
+use plain_nodes::{NodeList, Plain};
 use std::alloc::AllocError;
 
 /// The truth that formula `n` is, if it is one.

@@ -12,10 +12,9 @@ ghost use Rattle.mltl_simplify.specs.Outputs.{simple_outputs};
 ghost use Rattle.mltl_simplify.specs.Simplify.{simp};
 
 use crate::laws::simplified_formulas_mean_the_same;
-use crate::node_list::NodeList;
 use crate::parts::{Part, place_at, read};
 use mltl_base::List;
-use plain_nodes::{Expanded, PlainOut};
+use plain_nodes::{Expanded, NodeList, PlainOut};
 use std::alloc::{AllocError, Global};
 
 /// An output over the places of the nodes that stand for its nodes.
