@@ -44,7 +44,7 @@ impl Unfolding {
         match self.head(visits, depth, at.scope, e)? {
             Head::Nothing => self.token(Plain::Truth(false), room),
             Head::Held(stored) => {
-                let _left = less(room, stored.weight)?;
+                less(room, stored.weight)?;
                 Ok(stored)
             }
             Head::Struct(scope, name, parts) => {

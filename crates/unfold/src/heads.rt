@@ -166,10 +166,7 @@ impl Unfolding {
                     return Ok(whole);
                 };
                 match parts.get(place) {
-                    Some(part) => {
-                        let part = self.head(visits, levels, within, part)?;
-                        Ok(part)
-                    }
+                    Some(part) => self.head(visits, levels, within, part),
                     None => Ok(whole),
                 }
             }

@@ -140,9 +140,8 @@ impl Unfolding {
             (λ s. Holds self.new s (leaf (tree_of (trees self.old.nodes) node) 1)) }
         ensures heavy { IfErr result (λ why. why ≡ Heavy → room < 1) }
     {
-        let _left = less(room, 1)?;
-        let value = self.leaf(node, 1)?;
-        Ok(value)
+        less(room, 1)?;
+        Ok(self.leaf(node, 1)?)
     }
 
     /// A truth with a weight.
