@@ -15,7 +15,7 @@ use crate::counting::gates_weight;
 use crate::fault::{deeper, less};
 use crate::operators::{BinaryOp, Bodies, Operation, UnaryOp};
 use crate::scope::{Head, Site};
-use crate::values::{Place, Stored, Whole};
+use crate::values::{Location, Stored, Whole};
 use crate::visits::Visits;
 use crate::{UnfoldFault, Unfolding};
 use c2po_tree::Expr;
@@ -262,7 +262,7 @@ impl Unfolding {
         let gates = gates_weight(nodes.len(), number, left)?;
         let node = self.gates(at.alloc, op, number, &nodes)?;
         Ok(Stored {
-            place: Place::Node(node),
+            location: Location::Node(node),
             weight: room - left + gates,
             fault: self.nodes.fault(node),
         })

@@ -7,7 +7,7 @@ use Rattle.count_sets.specs.Counting.{counting}
 use Rattle.plain_nodes.specs.Nodes.{Has, formula}
 use Rattle.c2po_tree.specs.Shape.{shape, node_shape}
 use Rattle.unfold.specs.declared.fault.UnfoldFault.TheVariants.{Heavy}
-use Rattle.unfold.specs.declared.values.Place.TheVariants.{Node}
+use Rattle.unfold.specs.declared.values.Location.TheVariants.{Node}
 use Rattle.unfold.specs.declared.values.Stored.{Stored}
 use Rattle.unfold.specs.Values.{weight, members, formula_of, truth_value, connected_all, counted, counted_formula, counting_weight}
 use Rattle.unfold.specs.Environment.{value_of, bind}
@@ -238,6 +238,6 @@ counted_bodies-returns-clause-holds t c = λ env h.
     subst (λ ns. HaveFormulas c.body_nodes.new.self.nodes ns (map formula_of bodies)) (sym c.deref.ensures.value) have in
     let has = subst (λ n. Has c.gates.new.self.nodes c.in_ok-node.node (formula (counted_formula (map formula_of bodies) (counting c.args.op n c.args.number))))
     (length-map bodies formula_of) (c.in_ok-node.ensures.has (map formula_of bodies) have_all) in
-    subst (λ x. Holds c.gates.new.self (record { place = Node c.in_ok-node.node; weight = (c.args.room - c.in_ok-nodes.left) + c.in_ok-gates.gates; fault = c.fault.result }) x)
+    subst (λ x. Holds c.gates.new.self (record { location = Node c.in_ok-node.node; weight = (c.args.room - c.in_ok-nodes.left) + c.in_ok-gates.gates; fault = c.fault.result }) x)
     (sym (counted_is_some c.args.op c.args.number bodies some))
     (omega (arith, c.in_ok-nodes.ensures.weight env h, beside, c.in_ok-gates.ensures.weight), (c.in_ok-node.node, refl, has, c.fault.ensures (formula (counted_formula (map formula_of bodies) (counting c.args.op (length bodies) c.args.number))) has))
