@@ -5,7 +5,7 @@
 
 mod laws;
 mod numbers;
-mod parts;
+mod proxies;
 mod rules;
 mod simplifying;
 
