@@ -11,7 +11,6 @@ ghost use Rattle.mltl_simplify.specs.Nodes.{NamesNodes, out_over};
 ghost use Rattle.mltl_simplify.specs.Outputs.{simple_outputs};
 ghost use Rattle.mltl_simplify.specs.Simplify.{simp};
 
-use crate::laws::simplified_formulas_mean_the_same;
 use crate::proxies::{Proxy, place_at, read};
 use mltl_base::List;
 use plain_nodes::{Expanded, NodeList, PlainOut};
@@ -55,6 +54,7 @@ fn outs_of(
 /// goes over each node once, shared ones too; no clause bounds the nodes that it makes.
 ///
 /// Errors: out of memory.
+#[tactic(auto, using(crate::proofs::Meaning::simp_sat, crate::proofs::Delays::simp_wpd, crate::proofs::Delays::simp_settled))]
 pub fn simplify(alloc: Global, spec: &Expanded) -> Result<Expanded, AllocError>
     requires sound { (signals : ℕ) × IsSound spec.now signals }
     requires ranged { All HasRanges (asked spec.now) }
@@ -70,7 +70,6 @@ pub fn simplify(alloc: Global, spec: &Expanded) -> Result<Expanded, AllocError>
     ensures settled { (rows : Seq Row) (p : Formula) (t : ℕ) (v : Bool) →
         IsOrdered p → Settled rows (simp p) t v → Settled rows p t v }
 {
-    simplified_formulas_mean_the_same();
     let mut simple = NodeList::new(alloc);
     let proxies = read(alloc, &mut simple, spec.nodes.as_slice())?;
     let outs = outs_of(alloc, &proxies, spec.outs.as_slice())?;
