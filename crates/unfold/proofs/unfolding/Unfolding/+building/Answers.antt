@@ -2,21 +2,20 @@ use Rattle.std.proofs.Common.{◌≡◌, ◌+◌, ◌-◌, ◌<◌, ℕ, false, 
 use Rattle.std.specs.Vec.{vec_len}
 use Rattle.std.proofs.lemmas.List.{take_all, length-map}
 use Rattle.std.proofs.lemmas.Result.{err_from_is_err_and}
-use Rattle.mltl_base.specs.declared.operators.LogicOp.TheVariants.{And, Or}
 use Rattle.count_sets.specs.Counting.{counting}
 use Rattle.plain_nodes.specs.Nodes.{Has, formula}
-use Rattle.c2po_tree.specs.Shape.{shape, node_shape}
+use Rattle.c2po_tree.specs.Shape.{shape}
 use Rattle.unfold.specs.declared.fault.UnfoldFault.TheVariants.{Heavy}
 use Rattle.unfold.specs.declared.values.Location.TheVariants.{Node}
 use Rattle.unfold.specs.declared.values.Stored.{Stored}
-use Rattle.unfold.specs.Values.{weight, members, formula_of, truth_value, connected_all, counted, counted_formula, counting_weight}
+use Rattle.unfold.specs.Values.{weight, members, formula_of, truth_value, connected_all, counted_formula, counting_weight}
 use Rattle.unfold.specs.Environment.{value_of, bind}
 use Rattle.unfold.specs.Operators.{bodies_over, bodies_of, operation_value}
 use Rattle.unfold.specs.Holding.{Holds, IsLater}
 use Rattle.unfold.specs.Bodies.{HaveFormulas}
 use Rattle.unfold.proofs.Later.{holds_later, fits_later, heads_later, later_then}
 use Rattle.unfold.proofs.Members.{holds_weight, found_at}
-use Rattle.unfold.proofs.Loops.{BuiltSoFar, built_more, weight_within, values_over, bodies_count, body_at, member_at, joined_first, joined_one, joined_next, joined_within, sum_within, counted_is_some, some_left, binary_weight}
+use Rattle.unfold.proofs.Loops.{BuiltSoFar, built_more, weight_within, bodies_count, body_at, member_at, joined_first, joined_one, joined_next, joined_within, sum_within, counted_is_some, some_left, binary_weight}
 use Rattle.unfold.proofs.Gates.{CountedSoFar, counted_more}
 use Rattle.unfold.proofs.unfolding.Unfolding.+building.Goals as goal
 
