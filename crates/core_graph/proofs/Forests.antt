@@ -1,6 +1,6 @@
 -- Forests: what vertices unfold to, that a tree has one vertex, and what a vertex more changes.
 
-use Rattle.std.proofs.Common.{◌≡◌, ℕ, ◌+◌, ◌<◌, Bool, Some, List, [], ◌∷◌, ◌++◌, length, take, drop, fold, get_or, slice_get, true, false, if◌then◌else◌, refl, sym, subst, ap, ap₂, ◌∙◌, arith, inl, inr}
+use Rattle.std.proofs.Common.{◌≡◌, Result, Ok, Err, IfOk, OnOk, ℕ, ◌+◌, ◌<◌, Bool, Some, List, [], ◌∷◌, ◌++◌, length, take, drop, fold, get_or, slice_get, true, false, if◌then◌else◌, refl, sym, subst, ap, ap₂, ◌∙◌, arith, inl, inr}
 use Rattle.std.proofs.lemmas.List.{length_push, length-take-le, get_or_append_left, get_or_push, take-append-drop, take_more}
 use Rattle.std.specs.Cmp.{IsEquivalence}
 use Rattle.std.specs.List.{list_any}
@@ -279,6 +279,12 @@ has_added old new vertex n f below a e =
     = joined_kept (trees new) (trees old) (label_of vertex) (operands_of vertex) (length old) below
     (λ b l. (g.kept b (tree_at (trees old) b) (record { within = l; is = refl })).is) in
     subst (λ t. Has new n t) same h
+
+-- the same of the number that was answered, if one was
+pub shared_has : {E : Type 0} (r : Result ℕ E) (old new : List Vertex) (vertex : Vertex) → IsForest old → AreBelow (length old) (operands_of vertex)
+    → OnOk r (IsAdded old new vertex) → IfOk r (λ n. slice_get new n ≡ Some vertex) → IfOk r (λ n. Has new n (tree_of (trees old) vertex))
+shared_has (Ok n) old new vertex f below a e = has_added old new vertex n f below a e
+shared_has (Err fault) old new vertex f below a e = tt
 
 -- core formulas stay core formulas
 pub core_here : (vertices : List Vertex) (n : ℕ) (p : Core) → Has vertices n (of_core p) → IsCoreAt vertices n

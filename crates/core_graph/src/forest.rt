@@ -56,8 +56,7 @@ impl Forest {
         ensures grows { OnOk result (Grows self.old self.new) }
         ensures has { IfOk result (λ n. Has self.new n (tree_of (trees self.old) vertex)) }
     {
-        let number = self.insert(vertex)?;
-        Ok(number)
+        self.insert(vertex)
     }
 
     /// The number of a vertex, which goes last where it isn't there.

@@ -53,12 +53,7 @@ pub fn completion(
     for root in roots {
         walk.visit(alloc, forest, *root, part)?;
     }
-    let Walk {
-        order,
-        done: _,
-        count: _,
-    } = walk;
-    Ok(order)
+    Ok(walk.order)
 }
 
 /// The first operand that isn't complete.
@@ -144,7 +139,7 @@ impl Walk {
                 self.order.push(top)?;
                 self.done[top] = true;
                 self.count += usize::from(is_in(part, vertex));
-                let _top = stack.pop();
+                stack.pop();
                 Ok(())
             }
         }

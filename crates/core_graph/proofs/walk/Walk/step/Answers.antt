@@ -7,7 +7,7 @@ use Rattle.core_graph.specs.Walks.{AreDone, IsFirstOpen, IsStack, trees_of, fini
 use Rattle.core_graph.proofs.Lists.{counted_push}
 use Rattle.core_graph.proofs.Walking.{IsAt, below_length, popped, top_inside, operand_stack, operand_goal, operand_less, complete_walk, complete_stack, complete_goal, complete_less}
 use Rattle.core_graph.proofs.walk.Walk.step.Goals as goal
-use Rattle.core_graph.proofs.walk.Walk.step.Goals.{In_ok-push-in-Some, After-pop-top}
+use Rattle.core_graph.proofs.walk.Walk.step.Goals.{In_ok-push-in-Some, After-pop}
 
 pub get-vertex-requires : goal.get-vertex-requires
 get-vertex-requires c = top_inside c.args.forest.now c.args.self.now.done.items c.args.stack.now.items c.requires.top.0 c.args.top c.requires.stack c.requires.top.1
@@ -48,16 +48,16 @@ returns-in_ok-push-in-Some-clause-less c =
     operand_less c.args.forest.now c.args.self.now.order.items c.args.self.now.done.items c.args.stack.now.items c.args.top c.get-vertex.result c.requires.top.0
     c.in-Some.operand c.push.new.self.items (at_some c) (first c) c.in_ok-push-in-Some.ensures.items
 
-at_none : (c : After-pop-top) → IsAt c.args.forest.now c.args.self.now.order.items c.args.self.now.done.items c.args.stack.now.items c.args.top c.get-vertex.result c.requires.top.0
+at_none : (c : After-pop) → IsAt c.args.forest.now c.args.self.now.order.items c.args.self.now.done.items c.args.stack.now.items c.args.top c.get-vertex.result c.requires.top.0
 at_none c = record { forest = c.requires.walk.forest; walk = c.requires.walk.walked; waiting = c.requires.stack; latest = c.requires.top.1; there = c.get-vertex.ensures }
 
-all_done : (c : After-pop-top) → AreDone c.args.self.now.done.items (operands_of c.get-vertex.result)
+all_done : (c : After-pop) → AreDone c.args.self.now.done.items (operands_of c.get-vertex.result)
 all_done c =
     subst (λ (d : List Bool). AreDone d (operands_of c.get-vertex.result)) c.deref.ensures.value
     (subst (λ (o : Operands). AreDone c.deref.result.now o) c.operands.ensures c.in-None.ensures)
 
-rest : (c : After-pop-top) → c.requires.top.0 ≡ c.pop-top.new.self.items
-rest c = popped c.args.stack.now.items c.requires.top.0 c.pop-top.new.self.items c.args.top (vec_len c.args.stack.now) c.requires.top.1 (omega arith) c.pop-top.ensures.rest
+rest : (c : After-pop) → c.requires.top.0 ≡ c.pop.new.self.items
+rest c = popped c.args.stack.now.items c.requires.top.0 c.pop.new.self.items c.args.top (vec_len c.args.stack.now) c.requires.top.1 (omega arith) c.pop.ensures.rest
 
 pub returns-in_ok-push-in-None-clause-walk : goal.returns-in_ok-push-in-None-clause-walk
 returns-in_ok-push-in-None-clause-walk c = record {
