@@ -54,9 +54,9 @@ pub fn check(alloc: Global, tree: &SpecTree) -> Result<TypedSpec, TypeFault>
         outs,
         ..
     } = run(alloc, tree.items.as_slice())?;
-    let Ok(_count) = u32::try_from(outs.len()) else {
+    if outs.len() > u32::MAX as usize {
         return Err(TypeFault::Memory);
-    };
+    }
     let nodes = values.into_nodes();
     let copy = copy_tree(alloc, tree)?;
     Ok(TypedSpec::of(copy, declared.signals, Expanded { nodes, outs }))
