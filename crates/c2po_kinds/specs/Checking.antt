@@ -1,3 +1,5 @@
+-- Checks that find something, or the first fault.
+
 use Rattle.std.specs.Prelude.{◌≡◌, List, [], ◌∷◌, Result, Ok, Err, ⊤}
 use Rattle.c2po_kinds.specs.declared.fault.TypeFault.{TypeFault}
 use Rattle.c2po_kinds.specs.declared.fault.TypeFault.TheVariants.{Memory}
@@ -23,6 +25,14 @@ Fails Memory found = ⊤
 Fails fault found = found ≡ Err fault
 
 -- What was answered, as view sees it, is what the definition finds, unless out of memory.
-abbrev pub Gives : {X Y : Type 0} → (X → Y) → Checked X → Checked Y → Type 0
-Gives view (Ok x) found = found ≡ Ok (view x)
-Gives view (Err fault) found = Fails fault found
+abbrev pub GivesAs : {X Y : Type 0} → (X → Y) → Checked X → Checked Y → Type 0
+GivesAs view (Ok x) found = found ≡ Ok (view x)
+GivesAs view (Err fault) found = Fails fault found
+
+-- What was answered is what the definition finds, unless out of memory.
+abbrev pub Gives : {X : Type 0} → Checked X → Checked X → Type 0
+Gives answer found = GivesAs (λ x. x) answer found
+
+-- What a call made is what the definition finds, and its fault is that of the definition, unless out of memory.
+abbrev pub Makes : {X : Type 0} → Checked ⊤ → X → Checked X → Type 0
+Makes answer made found = GivesAs (λ _. made) answer found

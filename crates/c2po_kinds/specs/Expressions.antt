@@ -1,3 +1,5 @@
+-- The kind of an expression, or its first fault of names and kinds: operands first, from the left.
+
 use Rattle.std.specs.Prelude.{ℕ, nat_le, ◌&&◌, List, [], ◌∷◌, Option, is_some, Ok, Err, if◌then◌else◌}
 use Rattle.mltl_base.specs.declared.limits.TheConstants.{MAX_BOUND, MAX_COUNT}
 use Rattle.c2po_tree.specs.Shape.{Shape, Shapes, number, truth, named, build, group, pick, minus, negation, arith}
@@ -9,8 +11,6 @@ use Rattle.c2po_kinds.specs.Kinds as kinds
 use Rattle.c2po_kinds.specs.Kinds.{Placed, whole, same_kind, expected, member_kind, known_value, known_built, grouped}
 use Rattle.c2po_kinds.specs.Kinds.{picked}
 use Rattle.c2po_kinds.specs.Scopes.{Visible, inside, meaning_of}
-
--- The kind of an expression, or its first fault of names and kinds: operands first, from the left.
 
 -- the line of an expression
 abbrev pub line_of : Shape → ℕ

@@ -1,3 +1,5 @@
+-- What items declare, and their faults of names and kinds. Faults of items stand at the item's line.
+
 use Rattle.std.specs.Prelude.{ℕ, nat_le, Bool, true, false, List, [], ◌∷◌, ◌++◌, length, codes, Option, Some, None, Ok}
 use Rattle.std.specs.Prelude.{Err, if◌then◌else◌, ⊤}
 use Rattle.std.specs.Str.{bytes_eq}
@@ -15,8 +17,6 @@ use Rattle.name_table.specs.Tables.{Table, entry_of, is_named}
 use Rattle.c2po_kinds.specs.Kinds.{plain, whole, truth, same_kind, set_kind}
 use Rattle.c2po_kinds.specs.Scopes.{outside}
 use Rattle.c2po_kinds.specs.Expressions.{kind_of, two, of_one, of_two}
-
--- What items declare, and their faults of names and kinds. Faults of items stand at the item's line.
 
 -- nothing is declared before the first item
 abbrev pub nothing : Declarations

@@ -1,3 +1,5 @@
+-- Kinds, and what is asked of them.
+
 use Rattle.std.specs.Prelude.{ℕ, suc, pred, ◌==◌, Bool, true, false, ◌&&◌, List, [], ◌∷◌, length, slice_get, Option}
 use Rattle.std.specs.Prelude.{Some, None, Ok, Err, if◌then◌else◌}
 use Rattle.c2po_kinds.specs.declared.kind.Base.{Base}
@@ -9,8 +11,6 @@ use Rattle.c2po_kinds.specs.declared.declarations.Declarations.{Declarations}
 use Rattle.c2po_kinds.specs.declared.fault.TypeFault.TheVariants as fault
 use Rattle.name_table.specs.Tables.{Table, entry_of}
 use Rattle.c2po_kinds.specs.Checking.{Checked, ◌>>=◌}
-
--- Kinds, and what is asked of them.
 
 -- a kind that is no set
 abbrev pub plain : Base → Kind

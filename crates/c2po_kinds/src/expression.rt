@@ -2,7 +2,7 @@
 
 ghost use Rattle.std.specs.Prelude.{◌≡◌};
 ghost use Rattle.c2po_tree.specs.Shape.{shape, shapes};
-ghost use Rattle.c2po_kinds.specs.Checking.{Gives};
+ghost use Rattle.c2po_kinds.specs.Checking.{Gives, GivesAs};
 ghost use Rattle.c2po_kinds.specs.Kinds as kinds;
 ghost use Rattle.c2po_kinds.specs.Scopes.{meaning_of, visible};
 ghost use Rattle.c2po_kinds.specs.Expressions.{kind_of as kind_in, kinds_of as kinds_in, infix_kind, quantifier_kind, window_kind, within_bounds};
@@ -10,7 +10,6 @@ ghost use Rattle.c2po_kinds.specs.Expressions.{kind_of as kind_in, kinds_of as k
 use crate::operand::{
     TRUTH, WHOLE, are_same, build, expect, gather, is_same, member_of, pick, value_of,
 };
-use crate::scope::{declared_in, meaning};
 use crate::{Kind, Scope, TypeFault};
 use c2po_tree::{Expr, Node};
 use mltl_base::Name;
@@ -19,8 +18,7 @@ use std::alloc::Global;
 
 /// The kind of a formula over an interval, whose operands are truths where a test holds.
 fn window(line: u32, low: u64, high: u64, holds: bool) -> Result<Kind, TypeFault>
-    ensures { Gives (λ k. k) result
-        (within_bounds line low high (kinds.expected line holds kinds.truth)) }
+    ensures { Gives result (within_bounds line low high (kinds.expected line holds kinds.truth)) }
 {
     if low > high || high > u64::from(MAX_BOUND) {
         return Err(TypeFault::Bounds(line));
@@ -35,7 +33,7 @@ fn kinds_of(
     scope: &Scope<'_>,
     operands: &[Expr],
 ) -> Result<Vec<(u32, Kind)>, TypeFault>
-    ensures { Gives (λ v. v.items) result (kinds_in (shapes operands.now) (visible scope.now)) }
+    ensures { GivesAs (λ v. v.items) result (kinds_in (shapes operands.now) (visible scope.now)) }
 {
     let mut kinds = Vec::new(alloc);
     for operand in operands {
@@ -56,11 +54,11 @@ fn quantified(
     number: u64,
     body: &Expr,
 ) -> Result<Kind, TypeFault>
-    ensures { Gives (λ k. k) result
+    ensures { Gives result
         (quantifier_kind line variable.now set number (shape body.now) (visible scope.now)) }
 {
     let member = member_of(line, set)?;
-    if meaning(scope, variable).is_some() {
+    if scope.meaning(variable).is_some() {
         return Err(TypeFault::Twice(line));
     }
     if number > u64::from(MAX_COUNT) {
@@ -78,10 +76,10 @@ fn built(
     operands: &[(u32, Kind)],
     name: &Name,
 ) -> Result<Kind, TypeFault>
-    ensures { Gives (λ k. k) result (kinds.known_built line (visible scope.now).declared
+    ensures { Gives result (kinds.known_built line (visible scope.now).declared
         operands.now (meaning_of name.now (visible scope.now))) }
 {
-    build(line, declared_in(scope), operands, meaning(scope, name))
+    build(line, scope.declared(), operands, scope.meaning(name))
 }
 
 /// The kind that an operator between whole numbers gives, from the kind at its left and its right operand.
@@ -94,7 +92,7 @@ fn numbers(
     right: &Expr,
     given: Kind,
 ) -> Result<Kind, TypeFault>
-    ensures { Gives (λ k. k) result
+    ensures { Gives result
         (infix_kind line kinds.whole given left (shape right.now) (visible scope.now)) }
 {
     let right = kind_of(alloc, scope, right)?;
@@ -110,7 +108,7 @@ fn truths(
     left: Kind,
     right: &Expr,
 ) -> Result<Kind, TypeFault>
-    ensures { Gives (λ k. k) result
+    ensures { Gives result
         (infix_kind line kinds.truth kinds.truth left (shape right.now) (visible scope.now)) }
 {
     let right = kind_of(alloc, scope, right)?;
@@ -127,8 +125,7 @@ fn in_window(
     high: u64,
     operand: &Expr,
 ) -> Result<Kind, TypeFault>
-    ensures { Gives (λ k. k) result
-        (window_kind line low high (shape operand.now) (visible scope.now)) }
+    ensures { Gives result (window_kind line low high (shape operand.now) (visible scope.now)) }
 {
     let kind = kind_of(alloc, scope, operand)?;
     window(line, low, high, is_same(kind, TRUTH))
@@ -140,13 +137,13 @@ fn in_window(
 /// `Memory` when out of memory.
 #[cycle(kinds)]
 pub fn kind_of(alloc: Global, scope: &Scope<'_>, expr: &Expr) -> Result<Kind, TypeFault>
-    ensures kind { Gives (λ k. k) result (kind_in (shape expr.now) (visible scope.now)) }
+    ensures kind { Gives result (kind_in (shape expr.now) (visible scope.now)) }
 {
     let line = expr.line;
     match &expr.node {
         Node::Number(_) => Ok(WHOLE),
         Node::Truth(_) => Ok(TRUTH),
-        Node::Ref(name) => value_of(line, meaning(scope, name)),
+        Node::Ref(name) => value_of(line, scope.meaning(name)),
         Node::Build(name, arguments) => {
             let kinds = kinds_of(alloc, scope, arguments.as_slice())?;
             built(line, scope, kinds.as_slice(), name)
@@ -155,7 +152,7 @@ pub fn kind_of(alloc: Global, scope: &Scope<'_>, expr: &Expr) -> Result<Kind, Ty
             let kinds = kinds_of(alloc, scope, elements.as_slice())?;
             gather(line, kinds.as_slice())
         }
-        Node::Pick(a, field) => pick(line, declared_in(scope), field, kind_of(alloc, scope, a)?),
+        Node::Pick(a, field) => pick(line, scope.declared(), field, kind_of(alloc, scope, a)?),
         Node::Minus(a) => expect(line, is_same(kind_of(alloc, scope, a)?, WHOLE), WHOLE),
         Node::Not(a) => expect(line, is_same(kind_of(alloc, scope, a)?, TRUTH), TRUTH),
         Node::Arith(_, a, b) => numbers(alloc, scope, line, kind_of(alloc, scope, a)?, b, WHOLE),

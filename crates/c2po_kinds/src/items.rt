@@ -3,7 +3,7 @@
 ghost use Rattle.std.specs.Prelude.{◌≡◌, [], false, Ok, OnOk, map};
 ghost use Rattle.c2po_tree.specs.Shape.{shape};
 ghost use Rattle.c2po_tree.specs.ItemShape.{type_shape, field_shape};
-ghost use Rattle.c2po_kinds.specs.Checking.{Gives, in_turn};
+ghost use Rattle.c2po_kinds.specs.Checking.{Gives, Makes, in_turn};
 ghost use Rattle.name_table.specs.Tables.{is_named};
 ghost use Rattle.c2po_kinds.specs.Items.{nothing, type_kind, signal_truth, with_field, with_struct, with_signal, with_input, define_kind, with_value, with_label, formula_kind, contract_kind};
 
@@ -22,7 +22,7 @@ const BOOL: &[u8] = b"bool";
 
 /// The kind that a type names.
 fn written_kind(line: u32, declared: &Declarations, tree: &TypeTree) -> Result<Kind, TypeFault>
-    ensures { Gives (λ k. k) result (type_kind line declared.now (type_shape tree.now)) }
+    ensures { Gives result (type_kind line declared.now (type_shape tree.now)) }
 {
     match tree {
         TypeTree::Named(name) => {
@@ -55,7 +55,7 @@ fn add_field(
     fields: &mut NameTable<Kind>,
     field: &FieldDecl,
 ) -> Result<(), TypeFault>
-    ensures { Gives (λ _. fields.new) result
+    ensures { Makes result fields.new
         (with_field line declared.now (field_shape field.now) fields.old) }
 {
     if fields.contains(&field.name) {
@@ -73,8 +73,7 @@ fn fields_of(
     line: u32,
     decls: &[FieldDecl],
 ) -> Result<NameTable<Kind>, TypeFault>
-    ensures { Gives (λ t. t) result
-        (in_turn (with_field line declared.now) (map field_shape decls.now) []) }
+    ensures { Gives result (in_turn (with_field line declared.now) (map field_shape decls.now) []) }
 {
     let mut fields = NameTable::new(alloc);
     for decl in decls {
@@ -85,7 +84,7 @@ fn fields_of(
 
 /// Whether a signal of a kind is a truth.
 fn is_truth(line: u32, kind: Kind) -> Result<bool, TypeFault>
-    ensures { Gives (λ b. b) result (signal_truth line kind) }
+    ensures { Gives result (signal_truth line kind) }
 {
     if is_same(kind, TRUTH) {
         return Ok(true);
@@ -116,7 +115,7 @@ impl Declarations {
         name: &Name,
         fields: &List<FieldDecl>,
     ) -> Result<(), TypeFault>
-        ensures { Gives (λ _. self.new) result
+        ensures { Makes result self.new
             (with_struct line name.now (map field_shape fields.now) self.old) }
     {
         if self.names.contains(name) {
@@ -137,7 +136,7 @@ impl Declarations {
         truth: bool,
         name: &Name,
     ) -> Result<(), TypeFault>
-        ensures { Gives (λ _. self.new) result (with_signal line truth name.now self.old) }
+        ensures { Makes result self.new (with_signal line truth name.now self.old) }
     {
         if self.names.contains(name) {
             return Err(TypeFault::Twice(line));
@@ -163,8 +162,7 @@ impl Declarations {
         truth: bool,
         names: &[Name],
     ) -> Result<(), TypeFault>
-        ensures { Gives (λ _. self.new) result
-            (in_turn (with_signal line truth) names.now self.old) }
+        ensures { Makes result self.new (in_turn (with_signal line truth) names.now self.old) }
     {
         for name in names {
             self.declare_signal(alloc, line, truth, name)?;
@@ -180,8 +178,7 @@ impl Declarations {
         names: &List<Name>,
         tree: &TypeTree,
     ) -> Result<(), TypeFault>
-        ensures { Gives (λ _. self.new) result
-            (with_input line names.now (type_shape tree.now) self.old) }
+        ensures { Makes result self.new (with_input line names.now (type_shape tree.now) self.old) }
     {
         let kind = written_kind(line, self, tree)?;
         let truth = is_truth(line, kind)?;
@@ -191,7 +188,7 @@ impl Declarations {
     /// Declares one more defined value, whose name isn't among those declared.
     pub fn declare_value(&mut self, alloc: Global, name: &Name, kind: Kind) -> Result<(), TypeFault>
         requires { is_named name.now self.old.names ≡ false }
-        ensures { Gives (λ _. self.new) result (Ok (with_value name.now kind self.old)) }
+        ensures { Makes result self.new (Ok (with_value name.now kind self.old)) }
     {
         self.names.add(alloc, name, Meaning::Value(kind))?;
         Ok(())
@@ -206,7 +203,7 @@ pub fn check_define(
     name: &Name,
     expr: &Expr,
 ) -> Result<Kind, TypeFault>
-    ensures kind { Gives (λ k. k) result (define_kind line name.now (shape expr.now) declared.now) }
+    ensures kind { Gives result (define_kind line name.now (shape expr.now) declared.now) }
     ensures fresh { OnOk result (is_named name.now declared.now.names ≡ false) }
 {
     let kind = kind_of(alloc, &Scope::Items(declared), expr)?;
@@ -223,7 +220,7 @@ pub fn declare_label(
     line: u32,
     label: &Option<Name>,
 ) -> Result<(), TypeFault>
-    ensures { Gives (λ _. labels.new) result (with_label line label.now labels.old) }
+    ensures { Makes result labels.new (with_label line label.now labels.old) }
 {
     let Some(name) = label else {
         return Ok(());
@@ -242,7 +239,7 @@ pub fn check_formula(
     line: u32,
     expr: &Expr,
 ) -> Result<Kind, TypeFault>
-    ensures { Gives (λ k. k) result (formula_kind line (shape expr.now) declared.now) }
+    ensures { Gives result (formula_kind line (shape expr.now) declared.now) }
 {
     let found = kind_of(alloc, &Scope::Items(declared), expr)?;
     expect(line, is_same(found, TRUTH), TRUTH)
@@ -256,8 +253,7 @@ pub fn check_contract(
     left: &Expr,
     right: &Expr,
 ) -> Result<Kind, TypeFault>
-    ensures { Gives (λ k. k) result
-        (contract_kind line (shape left.now) (shape right.now) declared.now) }
+    ensures { Gives result (contract_kind line (shape left.now) (shape right.now) declared.now) }
 {
     let scope = Scope::Items(declared);
     let left = kind_of(alloc, &scope, left)?;

@@ -35,7 +35,7 @@ pub fn are_same(left: Kind, right: Kind, wanted: Kind) -> bool
 
 /// A kind where a test holds; the fault `Kind` where it fails.
 pub fn expect(line: u32, holds: bool, given: Kind) -> Result<Kind, TypeFault>
-    ensures { Gives (λ k. k) result (expected line holds given) }
+    ensures { Gives result (expected line holds given) }
 {
     if holds {
         Ok(given)
@@ -46,7 +46,7 @@ pub fn expect(line: u32, holds: bool, given: Kind) -> Result<Kind, TypeFault>
 
 /// The kind of sets of a kind.
 pub fn set_of(kind: Kind) -> Result<Kind, TypeFault>
-    ensures { Gives (λ k. k) result (Ok (set_kind kind)) }
+    ensures { Gives result (Ok (set_kind kind)) }
 {
     let sets = kind.sets.checked_add(1).ok_or(TypeFault::Memory)?;
     Ok(Kind {
@@ -57,7 +57,7 @@ pub fn set_of(kind: Kind) -> Result<Kind, TypeFault>
 
 /// The kind of the members of a set.
 pub fn member_of(line: u32, kind: Kind) -> Result<Kind, TypeFault>
-    ensures { Gives (λ k. k) result (member_kind line kind) }
+    ensures { Gives result (member_kind line kind) }
 {
     let sets = kind.sets.checked_sub(1).ok_or(TypeFault::Kind(line))?;
     Ok(Kind {
@@ -68,7 +68,7 @@ pub fn member_of(line: u32, kind: Kind) -> Result<Kind, TypeFault>
 
 /// The kind of a name that stands for a value.
 pub fn value_of(line: u32, meaning: Option<Meaning>) -> Result<Kind, TypeFault>
-    ensures { Gives (λ k. k) result (known_value line meaning) }
+    ensures { Gives result (known_value line meaning) }
 {
     match meaning {
         None => Err(TypeFault::Unknown(line)),
@@ -99,7 +99,7 @@ fn build_struct(
     operands: &[(u32, Kind)],
     number: u32,
 ) -> Result<Kind, TypeFault>
-    ensures { Gives (λ k. k) result
+    ensures { Gives result
         (built_from line number operands.now (slice_get declared.now.structs number)) }
 {
     let structs = declared.structs.as_slice();
@@ -121,7 +121,7 @@ pub fn build(
     operands: &[(u32, Kind)],
     meaning: Option<Meaning>,
 ) -> Result<Kind, TypeFault>
-    ensures { Gives (λ k. k) result (known_built line declared.now operands.now meaning) }
+    ensures { Gives result (known_built line declared.now operands.now meaning) }
 {
     match meaning {
         None => Err(TypeFault::Unknown(line)),
@@ -146,7 +146,7 @@ fn first_other(kind: Kind, operands: &[(u32, Kind)]) -> Option<u32>
 
 /// A set of operands.
 pub fn gather(line: u32, operands: &[(u32, Kind)]) -> Result<Kind, TypeFault>
-    ensures { Gives (λ k. k) result (grouped line operands.now) }
+    ensures { Gives result (grouped line operands.now) }
 {
     match operands {
         [] => Err(TypeFault::Kind(line)),
@@ -169,7 +169,7 @@ fn struct_number(kind: Kind) -> Option<u32>
 
 /// A field of a value.
 pub fn pick(line: u32, declared: &Declarations, field: &Name, kind: Kind) -> Result<Kind, TypeFault>
-    ensures { Gives (λ k. k) result (picked line field.now declared.now kind) }
+    ensures { Gives result (picked line field.now declared.now kind) }
 {
     let number = struct_number(kind).ok_or(TypeFault::Kind(line))?;
     let structs = declared.structs.as_slice();

@@ -15,33 +15,35 @@ pub enum Scope<'a> {
     Within(&'a Name, Kind, &'a Scope<'a>),
 }
 
-/// What a name stands for.
-pub fn meaning(scope: &Scope<'_>, name: &Name) -> Option<Meaning>
-    ensures { result ≡ meaning_of name.now (visible scope.now) }
-{
-    let mut rest = scope;
-    loop {
-        match rest {
-            Scope::Within(own, kind, around) => {
-                if own.bytes() == name.bytes() {
-                    return Some(Meaning::Value(*kind));
+impl<'a> Scope<'a> {
+    /// What a name stands for.
+    pub fn meaning(&self, name: &Name) -> Option<Meaning>
+        ensures { result ≡ meaning_of name.now (visible self.now) }
+    {
+        let mut rest = self;
+        loop {
+            match rest {
+                Scope::Within(own, kind, around) => {
+                    if own.bytes() == name.bytes() {
+                        return Some(Meaning::Value(*kind));
+                    }
+                    rest = around;
                 }
-                rest = around;
+                Scope::Items(declared) => return declared.names.find(name),
             }
-            Scope::Items(declared) => return declared.names.find(name),
         }
     }
-}
 
-/// What the items before declare.
-pub fn declared_in<'a>(scope: &Scope<'a>) -> &'a Declarations
-    ensures { result.now ≡ (visible scope.now).declared }
-{
-    let mut rest = scope;
-    loop {
-        match rest {
-            Scope::Within(_, _, around) => rest = around,
-            Scope::Items(declared) => return declared,
+    /// What the items before declare.
+    pub fn declared(&self) -> &'a Declarations
+        ensures { result.now ≡ (visible self.now).declared }
+    {
+        let mut rest = self;
+        loop {
+            match rest {
+                Scope::Within(_, _, around) => rest = around,
+                Scope::Items(declared) => return declared,
+            }
         }
     }
 }

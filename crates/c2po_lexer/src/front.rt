@@ -19,25 +19,28 @@ pub enum Front {
     Stray,
 }
 
+/// Whether a byte is a space, a tab, a carriage return or a newline.
 fn is_blank(byte: u8) -> bool
     ensures { result ≡ is_blank byte }
 {
     matches!(byte, b' ' | b'\t' | b'\r' | b'\n')
 }
 
+/// Whether a word may begin with a byte.
 fn begins_word(byte: u8) -> bool
     ensures { result ≡ begins_word byte }
 {
     byte.is_ascii_alphabetic() || byte == b'_'
 }
 
+/// Whether a word may go on with a byte.
 fn is_in_word(byte: u8) -> bool
     ensures { result ≡ is_in_word byte }
 {
     byte.is_ascii_alphanumeric() || byte == b'_'
 }
 
-// how many bytes stand before the next newline
+/// How many bytes stand before the next newline.
 fn line_size(text: &[u8]) -> usize
     ensures longest { result ≡ prefix_len is_in_line text.now }
     ensures inside { result ≤ length text.now }
@@ -45,7 +48,7 @@ fn line_size(text: &[u8]) -> usize
     text.iter().take_while(|byte| **byte != b'\n').count()
 }
 
-// how many bytes at the front can stand in a word
+/// How many bytes at the front can stand in a word.
 fn word_size(text: &[u8]) -> usize
     ensures longest { result ≡ prefix_len is_in_word text.now }
     ensures inside { result ≤ length text.now }
@@ -53,7 +56,7 @@ fn word_size(text: &[u8]) -> usize
     text.iter().take_while(|byte| is_in_word(**byte)).count()
 }
 
-// how many digits stand at the front
+/// How many digits stand at the front.
 fn digits_size(text: &[u8]) -> usize
     ensures longest { result ≡ prefix_len is_ascii_digit text.now }
     ensures inside { result ≤ length text.now }

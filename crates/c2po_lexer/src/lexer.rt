@@ -14,7 +14,7 @@ use mltl_base::{List, Name};
 use std::alloc::Global;
 use std::str;
 
-// how many newlines these bytes have
+/// How many newlines these bytes have.
 fn newlines(bytes: &[u8]) -> u32
     requires { length bytes.now ≤ MAX_SPEC_BYTES }
     ensures { result ≡ count_by (λ b. b == 10) bytes.now }
@@ -22,30 +22,27 @@ fn newlines(bytes: &[u8]) -> u32
     bytes.iter().filter(|byte| **byte == b'\n').count() as u32
 }
 
-// the number that digits write, if it is small enough
+/// The number that digits write, if it is small enough.
 fn value_of(digits: &[u8]) -> Option<i64>
     requires some { 1 ≤ length digits.now }
     requires digits { IsTrue (all_ascii_digits digits.now) }
     ensures limit { IsSome result ↔ (digits_value 10 digits.now ≤ MAX_NUMBER) }
     ensures value { IfSome result (λ value. value ≡ pos (digits_value 10 digits.now)) }
 {
-    match str::from_utf8(digits) {
-        Ok(text) => text.parse::<i64>().ok(),
-        Err(_) => unreachable!(),
-    }
+    str::from_utf8(digits).unwrap().parse::<i64>().ok()
 }
 
+/// The token of a number.
 fn number(line: u32, digits: &[u8]) -> Result<What, LexFault>
     requires some { 1 ≤ length digits.now }
     requires digits { IsTrue (all_ascii_digits digits.now) }
     ensures { result ≡ number_of line digits.now }
 {
-    match value_of(digits) {
-        Some(value) => Ok(What::Number(value)),
-        None => Err(LexFault::Number(line)),
-    }
+    let value = value_of(digits).ok_or(LexFault::Number(line))?;
+    Ok(What::Number(value))
 }
 
+/// The token of a word, reserved or not.
 fn word(line: u32, word: &[u8]) -> Result<What, LexFault>
     requires { 1 ≤ length word.now }
     ensures { result ≡ word_of line word.now }
@@ -59,7 +56,7 @@ fn word(line: u32, word: &[u8]) -> Result<What, LexFault>
     }
 }
 
-// what a piece of the text is, if it is a token at all
+/// What a piece of the text is, if it is a token at all.
 fn read(line: u32, front: Front, bytes: &[u8]) -> Result<Option<What>, LexFault>
     requires some { 1 ≤ length bytes.now }
     requires digits { HasDigitsAlone front bytes.now }
@@ -74,41 +71,41 @@ fn read(line: u32, front: Front, bytes: &[u8]) -> Result<Option<What>, LexFault>
     }
 }
 
-/// A place in a text: its line, counted from 1, and the number of bytes before it.
+/// A position in a text: its line, counted from 1, and the number of bytes before it.
 #[derive(Clone, Copy)]
-struct Place {
+struct Position {
     line: u32,
     start: usize,
 }
 
-// the token at a place, if a token stands there, and the place after it
-fn piece(text: &[u8], place: Place) -> Result<(Option<Token>, Place), LexFault>
+/// The token at a position, if a token stands there, and the position after it.
+fn piece(text: &[u8], at: Position) -> Result<(Option<Token>, Position), LexFault>
     requires limit { length text.now ≤ MAX_SPEC_BYTES }
-    requires inside { place.start < length text.now }
-    requires line { place.line ≡ line_at text.now place.start }
-    ensures token { IfOk result (λ r. reading_at text.now place.start ≡ Ok r.0) }
-    ensures next { IfOk result (λ r. IsAfter text.now place.start r.1.start r.1.line) }
-    ensures some { 1 ≤ size_at text.now place.start }
-    ensures fault { IfErr result (λ fault. reading_at text.now place.start ≡ Err fault) }
+    requires inside { at.start < length text.now }
+    requires line { at.line ≡ line_at text.now at.start }
+    ensures token { IfOk result (λ r. reading_at text.now at.start ≡ Ok r.0) }
+    ensures next { IfOk result (λ r. IsAfter text.now at.start r.1.start r.1.line) }
+    ensures some { 1 ≤ size_at text.now at.start }
+    ensures fault { IfErr result (λ fault. reading_at text.now at.start ≡ Err fault) }
 {
-    let rest = &text[place.start..];
+    let rest = &text[at.start..];
     let front = Front::of(rest);
     let bytes = &rest[..front.size()];
-    let end = place.start + bytes.len();
-    let next = Place {
-        line: place.line + newlines(bytes),
+    let end = at.start + bytes.len();
+    let next = Position {
+        line: at.line + newlines(bytes),
         start: end,
     };
-    let token = read(place.line, front, bytes)?.map(|what| Token {
+    let token = read(at.line, front, bytes)?.map(|what| Token {
         what,
-        line: place.line,
-        start: place.start as u32,
+        line: at.line,
+        start: at.start as u32,
         end: end as u32,
     });
     Ok((token, next))
 }
 
-// puts a token after the others
+/// Puts a token after the others, if there is one.
 fn add(tokens: &mut Tokens, token: Option<Token>) -> Result<(), LexFault>
     ensures added { OnOk result (tokens.new ≡ tokens.old ++ option_to_list token) }
     ensures memory { IfErr result (λ fault. fault ≡ LexFault.Memory) }
@@ -138,11 +135,11 @@ pub fn lex(alloc: Global, text: &[u8]) -> Result<Tokens, LexFault>
     ensures names { IfOk result (All (λ token. HasPlainName token.what)) }
 {
     let mut tokens = List::new(alloc);
-    let mut place = Place { line: 1, start: 0 };
-    while place.start < text.len() {
-        let (token, next) = piece(text, place)?;
+    let mut at = Position { line: 1, start: 0 };
+    while at.start < text.len() {
+        let (token, next) = piece(text, at)?;
         add(&mut tokens, token)?;
-        place = next;
+        at = next;
     }
     Ok(tokens)
 }

@@ -10,8 +10,6 @@ use Rattle.c2po_kinds.specs.declared.fault.TypeFault.{TypeFault}
 use Rattle.c2po_kinds.specs.declared.fault.TypeFault.TheVariants.{Memory}
 use Rattle.c2po_kinds.specs.Checking.{Fails, in_turn}
 use Rattle.c2po_kinds.proofs.Turns.{drop-first, turn-map}
-use Rattle.c2po_kinds.specs.declared.declarations.Declarations.{Declarations}
-use Rattle.c2po_kinds.specs.Items.{Labels, nothing}
 use Rattle.c2po_tree.specs.declared.item.Item.{Item}
 use Rattle.c2po_types.specs.declared.progress.Progress.{Progress}
 use Rattle.c2po_types.specs.Reaching.{state_of}
@@ -49,14 +47,10 @@ pub signals-end : (ss : List Signal) (n : ℕ) (env : Env) → length ss ≤ n �
 signals-end ss n env h = ap (λ rest. with_signals n rest env) (drop_of_length-le ss h)
 
 -- nothing is checked before the first item
-pub checked-from : (items : List Item) (p : Progress) → p.declared ≡ nothing → p.labels ≡ [] → p.total ≡ 0
+pub checked-from : (items : List Item) (p : Progress) → state_of p no_names ≡ start
     → in_turn (λ i. item_step (item_shape i)) items (state_of p no_names) ≡ checked (map item_shape items)
 unfolding checked
-checked-from items p declared labels total =
-    ap (λ (d : Declarations). in_turn (λ i. item_step (item_shape i)) items (record { declared = d; labels = p.labels; values = no_names; total = p.total })) declared
-    ∙ ap (λ (ls : Labels). in_turn (λ i. item_step (item_shape i)) items (record { declared = nothing; labels = ls; values = no_names; total = p.total })) labels
-    ∙ ap (λ (n : ℕ). in_turn (λ i. item_step (item_shape i)) items (record { declared = nothing; labels = []; values = no_names; total = n })) total
-    ∙ turn-map item_step item_shape items start
+checked-from items p begins = ap (in_turn (λ i. item_step (item_shape i)) items) begins ∙ turn-map item_step item_shape items start
 
 -- what is made of all that is unfolded
 pub record Makes (p : Progress) (items : List ItemShape) (made : Expanded) : Type 0 where

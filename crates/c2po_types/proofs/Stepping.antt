@@ -116,20 +116,19 @@ stands-contract u n outs place told engine label e f left right name h named has
     ∙ ap (λ p. record { engine = engine; name = name_of place.outputs label; output = output.contract (formula_of (value_of e place.values)) p }) (formula_in_place (nodes_of u) right _ also)))
 
 -- nothing is unfolded before the first item
-pub leaves-all : (p : Progress) (all : List ItemShape) → length p.declared.signals ≡ 0 → p.outs ≡ [] → StandsFor p.values no_names → AreSound 0 (nodes_of p.values) → Leaves p all all
-unfolding outputs_of
-leaves-all p all none outs values sound = record {
-  place = before;
-  told = [];
-  stands = record {
-    values = values;
-    numbered = none;
-    counted = ap length outs;
-    sound = subst (λ n. AreSound n (nodes_of p.values)) (sym none) sound;
-    asked = subst (λ os. AskFor (nodes_of p.values) os []) (sym outs) (asks-none (nodes_of p.values));
-  };
-  outputs = refl;
+pub nothing-yet : (p : Progress) → length p.declared.signals ≡ 0 → p.outs ≡ [] → StandsFor p.values no_names → AreSound 0 (nodes_of p.values) → HasUnfolded p before []
+nothing-yet p none outs values sound = record {
+  values = values;
+  numbered = none;
+  counted = ap length outs;
+  sound = subst (λ n. AreSound n (nodes_of p.values)) (sym none) sound;
+  asked = subst (λ os. AskFor (nodes_of p.values) os []) (sym outs) (asks-none (nodes_of p.values));
 }
+
+-- all items are left then
+pub leaves-all : (p : Progress) (all : List ItemShape) → HasUnfolded p before [] → Leaves p all all
+unfolding outputs_of
+leaves-all p all stands = record { place = before; told = []; stands = stands; outputs = refl }
 
 -- one item less is left
 pub leaves-less : (p q : Progress) (i : ItemShape) (left all : List ItemShape) → (h : Leaves p (i ∷ left) all)

@@ -1,3 +1,5 @@
+-- Specifications without a fault.
+
 use Rattle.std.specs.Prelude.{◌≡◌, List, None, length}
 use Rattle.c2po_tree.specs.ItemShape.{ItemShape}
 use Rattle.c2po_tree.specs.Names.{ArePlainItems}

@@ -9,25 +9,17 @@ ghost use Rattle.c2po_types.specs.Unfolded.{Leaves};
 
 use crate::TypedSpec;
 use crate::progress::Progress;
-use c2po_kinds::{Declarations, NameTable, TypeFault};
+use c2po_kinds::TypeFault;
 use c2po_tree::{Item, SpecTree, copy_tree};
-use mltl_base::List;
 use plain_nodes::Expanded;
 use std::alloc::Global;
-use unfold::Unfolding;
 
 /// What is known after all items.
 fn run(alloc: Global, items: &[Item]) -> Result<Progress, TypeFault>
     ensures reached { Comes result (checked (map item_shape items.now)) }
     ensures unfolded { IfOk result (λ p. Leaves p [] (map item_shape items.now)) }
 {
-    let mut progress = Progress {
-        declared: Declarations::new(alloc),
-        labels: NameTable::new(alloc),
-        values: Unfolding::new(alloc),
-        total: 0,
-        outs: List::new(alloc),
-    };
+    let mut progress = Progress::new(alloc);
     for item in items {
         progress.step(alloc, item)?;
     }
@@ -54,9 +46,9 @@ pub fn check(alloc: Global, tree: &SpecTree) -> Result<TypedSpec, TypeFault>
         outs,
         ..
     } = run(alloc, tree.items.as_slice())?;
-    let Ok(_count) = u32::try_from(outs.len()) else {
+    if outs.len() > u32::MAX as usize {
         return Err(TypeFault::Memory);
-    };
+    }
     let nodes = values.into_nodes();
     let copy = copy_tree(alloc, tree)?;
     Ok(TypedSpec::of(copy, declared.signals, Expanded { nodes, outs }))

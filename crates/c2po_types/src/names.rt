@@ -12,10 +12,7 @@ fn numeral(number: usize) -> Name
     ensures { result ≡ decimal number }
 {
     let mut buffer = Buffer::new();
-    match Name::of(buffer.format(number).as_bytes()) {
-        Some(name) => name,
-        None => unreachable!(),
-    }
+    Name::of(buffer.format(number).as_bytes()).unwrap()
 }
 
 /// The name of the output with a number: its label, or the decimal text of the number.

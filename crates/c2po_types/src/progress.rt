@@ -1,8 +1,15 @@
 //! How far the check of a specification has come.
 
+ghost use Rattle.std.specs.Prelude.{◌≡◌, []};
+ghost use Rattle.unfold.specs.Environment.{no_names};
+ghost use Rattle.unfold.specs.Holding.{StandsFor};
+ghost use Rattle.c2po_types.specs.FirstFault.{start};
+ghost use Rattle.c2po_types.specs.Outputs.{before};
+
 use c2po_kinds::{Declarations, NameTable};
 use mltl_base::List;
 use plain_nodes::PlainOut;
+use std::alloc::Global;
 use unfold::Unfolding;
 
 /// What is known after some items.
@@ -16,4 +23,24 @@ pub struct Progress {
     /// The weight of the outputs together.
     pub total: u32,
     pub outs: List<PlainOut>,
+}
+
+impl Progress {
+    ghost use Rattle.c2po_types.specs.Reaching.{state_of};
+    ghost use Rattle.c2po_types.specs.Unfolded.{HasUnfolded};
+
+    /// What is known before the first item. It takes no memory.
+    pub fn new(alloc: Global) -> Self
+        ensures start { state_of result no_names ≡ start }
+        ensures stands { StandsFor result.values no_names }
+        ensures unfolded { HasUnfolded result before [] }
+    {
+        Progress {
+            declared: Declarations::new(alloc),
+            labels: NameTable::new(alloc),
+            values: Unfolding::new(alloc),
+            total: 0,
+            outs: List::new(alloc),
+        }
+    }
 }

@@ -228,7 +228,7 @@ impl Progress {
         ensures light { OnOk result (self.new.total ≤ MAX_WEIGHT) }
     {
         declare_label(alloc, &mut self.labels, line, label)?;
-        let _truth = check_formula(alloc, &self.declared, line, expr)?;
+        check_formula(alloc, &self.declared, line, expr)?;
         self.put_formula(alloc, line, engine, label, expr)
     }
 
@@ -313,7 +313,7 @@ impl Progress {
         ensures light { OnOk result (self.new.total ≤ MAX_WEIGHT) }
     {
         declare_label(alloc, &mut self.labels, line, label)?;
-        let _truth = check_contract(alloc, &self.declared, line, left, right)?;
+        check_contract(alloc, &self.declared, line, left, right)?;
         self.put_contract(alloc, line, engine, label, left, right)
     }
 

@@ -77,6 +77,7 @@ impl TypedSpec {
     {
         &self.signals
     }
+
     /// The nodes and the outputs that the specification is unfolded to.
     pub fn expanded(&self) -> &Expanded
         ensures unfolds { asked result.now ≡ outputs_of (spec_shape self.now) }

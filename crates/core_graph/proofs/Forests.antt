@@ -1,6 +1,6 @@
--- Forests: what items unfold to, that a tree has one item, and what an item more changes.
+-- Forests: what vertices unfold to, that a tree has one vertex, and what a vertex more changes.
 
-use Rattle.std.proofs.Common.{◌≡◌, ℕ, ◌+◌, ◌<◌, Bool, Some, List, [], ◌∷◌, ◌++◌, length, take, drop, fold, get_or, slice_get, true, false, if◌then◌else◌, refl, sym, subst, ap, ap₂, ◌∙◌, arith, inl, inr}
+use Rattle.std.proofs.Common.{◌≡◌, Result, Ok, Err, IfOk, OnOk, ℕ, ◌+◌, ◌<◌, Bool, Some, List, [], ◌∷◌, ◌++◌, length, take, drop, fold, get_or, slice_get, true, false, if◌then◌else◌, refl, sym, subst, ap, ap₂, ◌∙◌, arith, inl, inr}
 use Rattle.std.proofs.lemmas.List.{length_push, length-take-le, get_or_append_left, get_or_push, take-append-drop, take_more}
 use Rattle.std.specs.Cmp.{IsEquivalence}
 use Rattle.std.specs.List.{list_any}
@@ -11,17 +11,17 @@ use Rattle.std.proofs.lemmas.Option.{get_or_from_slice_get, slice_get_within, sl
 use Rattle.mltl_base.specs.declared.operators.ArithOp as arith_op
 use Rattle.plain_nodes.proofs.Places.{at_push}
 use Rattle.mltl_base.specs.Formula.{Core, ctrue, catom, cnot, cand, cuntil, csince, neg}
-use Rattle.core_graph.specs.declared.item.Item.{Item}
-use Rattle.core_graph.specs.declared.item.Item.TheVariants.{Column, Const, Neg, Arith, IsTrue, Eq, Lt, Le, True, Load, Not, And, Until, Since}
-use Rattle.core_graph.specs.declared.item.Operands.{Operands}
-use Rattle.core_graph.specs.declared.item.Operands.TheVariants.{Zero, One, Two}
+use Rattle.core_graph.specs.declared.vertex.Vertex.{Vertex}
+use Rattle.core_graph.specs.declared.vertex.Vertex.TheVariants.{Column, Const, Neg, Arith, IsTrue, Eq, Lt, Le, True, Load, Not, And, Until, Since}
+use Rattle.core_graph.specs.declared.vertex.Operands.{Operands}
+use Rattle.core_graph.specs.declared.vertex.Operands.TheVariants.{Zero, One, Two}
 use Rattle.core_graph.specs.Trees.{negative_sign, plus_sign, minus_sign, times_sign, quotient_sign, remainder_sign, equal_sign, less_sign, at_most_sign, true_sign, load_sign, not_sign, and_sign, Label, sign, in_column, truth_in, number, until_in, since_in, Tree, leaf, one, two}
-use Rattle.core_graph.specs.Items.{operands_of, label_of, tree_at, tree_over, tree_of, trees, Has, AreBelow, IsForest, Grows, IsAdded}
+use Rattle.core_graph.specs.Vertices.{operands_of, label_of, tree_at, tree_over, tree_of, trees, Has, AreBelow, IsForest, Grows, IsAdded}
 use Rattle.core_graph.specs.Images.{of_core}
 use Rattle.core_graph.specs.Reading.{IsCoreAt}
 
--- an item is what stands at its node and its operands
-abbrev remade : Label → Operands → Item
+-- a vertex is what stands at its node and its operands
+abbrev remade : Label → Operands → Vertex
 remade (in_column c) o = Column c
 remade (number n) o = Const n
 remade (truth_in c) o = IsTrue c
@@ -41,7 +41,7 @@ remade (until_in i) (Two a b) = Until i a b
 remade (since_in i) (Two a b) = Since i a b
 remade _ _ = True
 
-remade_is : (x : Item) → remade (label_of x) (operands_of x) ≡ x
+remade_is : (x : Vertex) → remade (label_of x) (operands_of x) ≡ x
 remade_is (Column c) = refl
 remade_is (Const n) = refl
 remade_is (Neg a) = refl
@@ -61,63 +61,63 @@ remade_is (And a b) = refl
 remade_is (Until i a b) = refl
 remade_is (Since i a b) = refl
 
-pub one_item : (x y : Item) → label_of x ≡ label_of y → operands_of x ≡ operands_of y → x ≡ y
-one_item x y e f = sym (remade_is x) ∙ (ap₂ remade e f ∙ remade_is y)
+pub one_vertex : (x y : Vertex) → label_of x ≡ label_of y → operands_of x ≡ operands_of y → x ≡ y
+one_vertex x y e f = sym (remade_is x) ∙ (ap₂ remade e f ∙ remade_is y)
 
--- one more item, and how many there are
-pub trees_push : (items : List Item) (item : Item) → trees (items ++ item ∷ []) ≡ trees items ++ tree_of (trees items) item ∷ []
+-- one more vertex, and how many there are
+pub trees_push : (vertices : List Vertex) (vertex : Vertex) → trees (vertices ++ vertex ∷ []) ≡ trees vertices ++ tree_of (trees vertices) vertex ∷ []
 unfolding trees
-trees_push items item = fold_push (λ earlier item. earlier ++ tree_of earlier item ∷ []) [] items item
+trees_push vertices vertex = fold_push (λ earlier vertex. earlier ++ tree_of earlier vertex ∷ []) [] vertices vertex
 
-length_after : (earlier : List Tree) (items : List Item) → length (fold (λ earlier item. earlier ++ tree_of earlier item ∷ []) earlier items) ≡ length earlier + length items
+length_after : (earlier : List Tree) (vertices : List Vertex) → length (fold (λ earlier vertex. earlier ++ tree_of earlier vertex ∷ []) earlier vertices) ≡ length earlier + length vertices
 length_after earlier [] = omega arith
-length_after earlier (item ∷ items) =
-    omega (arith, length_push earlier (tree_of earlier item), length_after (earlier ++ tree_of earlier item ∷ []) items)
+length_after earlier (vertex ∷ vertices) =
+    omega (arith, length_push earlier (tree_of earlier vertex), length_after (earlier ++ tree_of earlier vertex ∷ []) vertices)
 
-pub length-trees : (items : List Item) → length (trees items) ≡ length items
+pub length-trees : (vertices : List Vertex) → length (trees vertices) ≡ length vertices
 unfolding trees
-length-trees items = omega (arith, length_after [] items)
+length-trees vertices = omega (arith, length_after [] vertices)
 
--- an item keeps its tree when others come
-after_kept : (earlier : List Tree) (items : List Item) (n : ℕ) → n < length earlier →
-    tree_at (fold (λ earlier item. earlier ++ tree_of earlier item ∷ []) earlier items) n ≡ tree_at earlier n
+-- a vertex keeps its tree when others come
+after_kept : (earlier : List Tree) (vertices : List Vertex) (n : ℕ) → n < length earlier →
+    tree_at (fold (λ earlier vertex. earlier ++ tree_of earlier vertex ∷ []) earlier vertices) n ≡ tree_at earlier n
 after_kept earlier [] n l = refl
-after_kept earlier (item ∷ items) n l =
-    after_kept (earlier ++ tree_of earlier item ∷ []) items n (omega (arith, length_push earlier (tree_of earlier item)))
-    ∙ get_or_append_left earlier (tree_of earlier item ∷ []) (leaf (sign true_sign)) n l
+after_kept earlier (vertex ∷ vertices) n l =
+    after_kept (earlier ++ tree_of earlier vertex ∷ []) vertices n (omega (arith, length_push earlier (tree_of earlier vertex)))
+    ∙ get_or_append_left earlier (tree_of earlier vertex ∷ []) (leaf (sign true_sign)) n l
 
-pub tree_kept : (items more : List Item) (n : ℕ) → n < length items → tree_at (trees (items ++ more)) n ≡ tree_at (trees items) n
+pub tree_kept : (vertices more : List Vertex) (n : ℕ) → n < length vertices → tree_at (trees (vertices ++ more)) n ≡ tree_at (trees vertices) n
 unfolding trees
-tree_kept items more n l =
-    ap (λ ts. tree_at ts n) (fold-append (λ earlier item. earlier ++ tree_of earlier item ∷ []) [] items more)
-    ∙ after_kept (trees items) more n (omega (arith, length-trees items))
+tree_kept vertices more n l =
+    ap (λ ts. tree_at ts n) (fold-append (λ earlier vertex. earlier ++ tree_of earlier vertex ∷ []) [] vertices more)
+    ∙ after_kept (trees vertices) more n (omega (arith, length-trees vertices))
 
 joined_kept : (ts us : List Tree) (l : Label) (o : Operands) (n : ℕ) → AreBelow n o → ((a : ℕ) → a < n → tree_at ts a ≡ tree_at us a) → tree_over ts l o ≡ tree_over us l o
 joined_kept ts us l Zero n h e = refl
 joined_kept ts us l (One a) n h e = ap (one l) (e a h)
 joined_kept ts us l (Two a b) n h e = ap₂ (two l) (e a h.0) (e b h.1)
 
--- an item unfolds over the others
-pub tree_here : (items : List Item) (i : ℕ) (item : Item) → IsForest items → slice_get items i ≡ Some item → tree_at (trees items) i ≡ tree_of (trees items) item
-tree_here items i item f e =
-    let inside : i < length items = slice_get_within items i item e in
-    let before : List Item = take i items in
-    let size : length before ≡ i = length-take-le i items (omega arith) in
-    let first : List Item = before ++ item ∷ [] in
-    let whole : take i items ++ drop i items ≡ items = take-append-drop i items in
-    let further : take (i + 1) items ++ drop (i + 1) items ≡ items = take-append-drop (i + 1) items in
-    let next : take (i + 1) items ≡ first = take_more items i item inside ∙ ap (λ x. before ++ x ∷ []) (get_or_from_slice_get items i item item e) in
-    let split : first ++ drop (i + 1) items ≡ items = ap (λ xs. xs ++ drop (i + 1) items) (sym next) ∙ further in
-    let kept : tree_at (trees items) i ≡ tree_at (trees first) i
-    = ap (λ xs. tree_at (trees xs) i) (sym split) ∙ tree_kept first (drop (i + 1) items) i (omega (arith, length_push before item)) in
-    let made : tree_at (trees first) i ≡ tree_of (trees before) item
-    = ap (λ ts. tree_at ts i) (trees_push before item) ∙ get_or_push (trees before) (tree_of (trees before) item) (leaf (sign true_sign)) i (length-trees before ∙ size) in
-    let same : tree_of (trees before) item ≡ tree_of (trees items) item
-    = joined_kept (trees before) (trees items) (label_of item) (operands_of item) i (f.over i item e)
-    (λ a l. sym (ap (λ xs. tree_at (trees xs) a) (sym whole) ∙ tree_kept before (drop i items) a (omega arith))) in
+-- a vertex unfolds over the others
+pub tree_here : (vertices : List Vertex) (i : ℕ) (vertex : Vertex) → IsForest vertices → slice_get vertices i ≡ Some vertex → tree_at (trees vertices) i ≡ tree_of (trees vertices) vertex
+tree_here vertices i vertex f e =
+    let inside : i < length vertices = slice_get_within vertices i vertex e in
+    let before : List Vertex = take i vertices in
+    let size : length before ≡ i = length-take-le i vertices (omega arith) in
+    let first : List Vertex = before ++ vertex ∷ [] in
+    let whole : take i vertices ++ drop i vertices ≡ vertices = take-append-drop i vertices in
+    let further : take (i + 1) vertices ++ drop (i + 1) vertices ≡ vertices = take-append-drop (i + 1) vertices in
+    let next : take (i + 1) vertices ≡ first = take_more vertices i vertex inside ∙ ap (λ x. before ++ x ∷ []) (get_or_from_slice_get vertices i vertex vertex e) in
+    let split : first ++ drop (i + 1) vertices ≡ vertices = ap (λ xs. xs ++ drop (i + 1) vertices) (sym next) ∙ further in
+    let kept : tree_at (trees vertices) i ≡ tree_at (trees first) i
+    = ap (λ xs. tree_at (trees xs) i) (sym split) ∙ tree_kept first (drop (i + 1) vertices) i (omega (arith, length_push before vertex)) in
+    let made : tree_at (trees first) i ≡ tree_of (trees before) vertex
+    = ap (λ ts. tree_at ts i) (trees_push before vertex) ∙ get_or_push (trees before) (tree_of (trees before) vertex) (leaf (sign true_sign)) i (length-trees before ∙ size) in
+    let same : tree_of (trees before) vertex ≡ tree_of (trees vertices) vertex
+    = joined_kept (trees before) (trees vertices) (label_of vertex) (operands_of vertex) i (f.over i vertex e)
+    (λ a l. sym (ap (λ xs. tree_at (trees xs) a) (sym whole) ∙ tree_kept before (drop i vertices) a (omega arith))) in
     kept ∙ (made ∙ same)
 
--- what an item that unfolds to a tree is
+-- what a vertex that unfolds to a tree is
 leaf_parts : (ts : List Tree) (m l : Label) (o : Operands) → tree_over ts m o ≡ leaf l → (m ≡ l) × (o ≡ Zero)
 leaf_parts ts m l Zero e = (cc, refl)
 leaf_parts ts m l (One a) e = cc
@@ -133,48 +133,48 @@ two_parts ts m l Zero t u e = cc
 two_parts ts m l (One a) t u e = cc
 two_parts ts m l (Two a b) t u e = (a, b, cc, refl, cc, cc)
 
--- the item at a place
-pub item_there : (items : List Item) (n : ℕ) → n < length items → slice_get items n ≡ Some (get_or items n True)
-item_there items n l = slice_get-get_or items n True l
+-- the vertex at a place
+pub vertex_there : (vertices : List Vertex) (n : ℕ) → n < length vertices → slice_get vertices n ≡ Some (get_or vertices n True)
+vertex_there vertices n l = slice_get-get_or vertices n True l
 
-pub unfolds : (items : List Item) (n : ℕ) (t : Tree) → IsForest items → Has items n t →
-    tree_over (trees items) (label_of (get_or items n True)) (operands_of (get_or items n True)) ≡ t
-unfolds items n t f h = sym (tree_here items n (get_or items n True) f (item_there items n h.within)) ∙ h.is
+pub unfolds : (vertices : List Vertex) (n : ℕ) (t : Tree) → IsForest vertices → Has vertices n t →
+    tree_over (trees vertices) (label_of (get_or vertices n True)) (operands_of (get_or vertices n True)) ≡ t
+unfolds vertices n t f h = sym (tree_here vertices n (get_or vertices n True) f (vertex_there vertices n h.within)) ∙ h.is
 
--- an item of an operator with one operand, and with two
-pub record IsOne (items : List Item) (n : ℕ) (l : Label) (t : Tree) : Type 0 where
+-- a vertex of an operator with one operand, and with two
+pub record IsOne (vertices : List Vertex) (n : ℕ) (l : Label) (t : Tree) : Type 0 where
   pub operand : ℕ
-  pub label : label_of (get_or items n True) ≡ l
-  pub operands : operands_of (get_or items n True) ≡ One operand
+  pub label : label_of (get_or vertices n True) ≡ l
+  pub operands : operands_of (get_or vertices n True) ≡ One operand
   pub below : operand < n
-  pub has : Has items operand t
+  pub has : Has vertices operand t
 
-pub record IsTwo (items : List Item) (n : ℕ) (l : Label) (t u : Tree) : Type 0 where
+pub record IsTwo (vertices : List Vertex) (n : ℕ) (l : Label) (t u : Tree) : Type 0 where
   pub left : ℕ
   pub right : ℕ
-  pub label : label_of (get_or items n True) ≡ l
-  pub operands : operands_of (get_or items n True) ≡ Two left right
+  pub label : label_of (get_or vertices n True) ≡ l
+  pub operands : operands_of (get_or vertices n True) ≡ Two left right
   pub left_below : left < n
   pub right_below : right < n
-  pub has_left : Has items left t
-  pub has_right : Has items right u
+  pub has_left : Has vertices left t
+  pub has_right : Has vertices right u
 
-pub is_leaf : (items : List Item) (n : ℕ) (l : Label) → IsForest items → Has items n (leaf l) →
-    (label_of (get_or items n True) ≡ l) × (operands_of (get_or items n True) ≡ Zero)
-is_leaf items n l f h = leaf_parts (trees items) (label_of (get_or items n True)) l (operands_of (get_or items n True)) (unfolds items n (leaf l) f h)
+pub is_leaf : (vertices : List Vertex) (n : ℕ) (l : Label) → IsForest vertices → Has vertices n (leaf l) →
+    (label_of (get_or vertices n True) ≡ l) × (operands_of (get_or vertices n True) ≡ Zero)
+is_leaf vertices n l f h = leaf_parts (trees vertices) (label_of (get_or vertices n True)) l (operands_of (get_or vertices n True)) (unfolds vertices n (leaf l) f h)
 
-pub is_one : (items : List Item) (n : ℕ) (l : Label) (t : Tree) → IsForest items → Has items n (one l t) → IsOne items n l t
-is_one items n l t f h =
-    let p = one_parts (trees items) (label_of (get_or items n True)) l (operands_of (get_or items n True)) t (unfolds items n (one l t) f h) in
-    let below : p.0 < n = subst (AreBelow n) p.2 (f.over n (get_or items n True) (item_there items n h.within)) in
-    let inside : n < length items = h.within in
+pub is_one : (vertices : List Vertex) (n : ℕ) (l : Label) (t : Tree) → IsForest vertices → Has vertices n (one l t) → IsOne vertices n l t
+is_one vertices n l t f h =
+    let p = one_parts (trees vertices) (label_of (get_or vertices n True)) l (operands_of (get_or vertices n True)) t (unfolds vertices n (one l t) f h) in
+    let below : p.0 < n = subst (AreBelow n) p.2 (f.over n (get_or vertices n True) (vertex_there vertices n h.within)) in
+    let inside : n < length vertices = h.within in
     record { operand = p.0; label = p.1; operands = p.2; below = below; has = record { within = omega arith; is = p.3 } }
 
-pub is_two : (items : List Item) (n : ℕ) (l : Label) (t u : Tree) → IsForest items → Has items n (two l t u) → IsTwo items n l t u
-is_two items n l t u f h =
-    let p = two_parts (trees items) (label_of (get_or items n True)) l (operands_of (get_or items n True)) t u (unfolds items n (two l t u) f h) in
-    let below : (p.0 < n) × (p.1 < n) = subst (AreBelow n) p.3 (f.over n (get_or items n True) (item_there items n h.within)) in
-    let inside : n < length items = h.within in
+pub is_two : (vertices : List Vertex) (n : ℕ) (l : Label) (t u : Tree) → IsForest vertices → Has vertices n (two l t u) → IsTwo vertices n l t u
+is_two vertices n l t u f h =
+    let p = two_parts (trees vertices) (label_of (get_or vertices n True)) l (operands_of (get_or vertices n True)) t u (unfolds vertices n (two l t u) f h) in
+    let below : (p.0 < n) × (p.1 < n) = subst (AreBelow n) p.3 (f.over n (get_or vertices n True) (vertex_there vertices n h.within)) in
+    let inside : n < length vertices = h.within in
     let left : p.0 < n = below.0 in
     let right : p.1 < n = below.1 in
     record {
@@ -188,136 +188,142 @@ is_two items n l t u f h =
       has_right = record { within = omega arith; is = p.5 };
     }
 
--- a tree has one item
-same_place : (items : List Item) (i j : ℕ) → IsForest items → i < length items → j < length items →
-    label_of (get_or items i True) ≡ label_of (get_or items j True) → operands_of (get_or items i True) ≡ operands_of (get_or items j True) → i ≡ j
-same_place items i j f l m e o =
-    let same : get_or items i True ≡ get_or items j True = one_item (get_or items i True) (get_or items j True) e o in
-    f.once i j (get_or items j True) (item_there items i l ∙ ap Some same) (item_there items j m)
+-- a tree has one vertex
+same_place : (vertices : List Vertex) (i j : ℕ) → IsForest vertices → i < length vertices → j < length vertices →
+    label_of (get_or vertices i True) ≡ label_of (get_or vertices j True) → operands_of (get_or vertices i True) ≡ operands_of (get_or vertices j True) → i ≡ j
+same_place vertices i j f l m e o =
+    let same : get_or vertices i True ≡ get_or vertices j True = one_vertex (get_or vertices i True) (get_or vertices j True) e o in
+    f.once i j (get_or vertices j True) (vertex_there vertices i l ∙ ap Some same) (vertex_there vertices j m)
 
-pub one_place : (items : List Item) → IsForest items → (t : Tree) (i j : ℕ) → Has items i t → Has items j t → i ≡ j
-one_place items f (leaf l) i j h g =
-    let p = is_leaf items i l f h in
-    let q = is_leaf items j l f g in
-    same_place items i j f h.within g.within (p.0 ∙ sym q.0) (p.1 ∙ sym q.1)
-one_place items f (one l t) i j h g =
-    let p : IsOne items i l t = is_one items i l t f h in
-    let q : IsOne items j l t = is_one items j l t f g in
-    let e : p.operand ≡ q.operand = one_place items f t p.operand q.operand p.has q.has in
-    same_place items i j f h.within g.within (p.label ∙ sym q.label) (p.operands ∙ (ap One e ∙ sym q.operands))
-one_place items f (two l t u) i j h g =
-    let p : IsTwo items i l t u = is_two items i l t u f h in
-    let q : IsTwo items j l t u = is_two items j l t u f g in
-    let d : p.left ≡ q.left = one_place items f t p.left q.left p.has_left q.has_left in
-    let e : p.right ≡ q.right = one_place items f u p.right q.right p.has_right q.has_right in
-    same_place items i j f h.within g.within (p.label ∙ sym q.label) (p.operands ∙ (ap₂ Two d e ∙ sym q.operands))
+pub one_place : (vertices : List Vertex) → IsForest vertices → (t : Tree) (i j : ℕ) → Has vertices i t → Has vertices j t → i ≡ j
+one_place vertices f (leaf l) i j h g =
+    let p = is_leaf vertices i l f h in
+    let q = is_leaf vertices j l f g in
+    same_place vertices i j f h.within g.within (p.0 ∙ sym q.0) (p.1 ∙ sym q.1)
+one_place vertices f (one l t) i j h g =
+    let p : IsOne vertices i l t = is_one vertices i l t f h in
+    let q : IsOne vertices j l t = is_one vertices j l t f g in
+    let e : p.operand ≡ q.operand = one_place vertices f t p.operand q.operand p.has q.has in
+    same_place vertices i j f h.within g.within (p.label ∙ sym q.label) (p.operands ∙ (ap One e ∙ sym q.operands))
+one_place vertices f (two l t u) i j h g =
+    let p : IsTwo vertices i l t u = is_two vertices i l t u f h in
+    let q : IsTwo vertices j l t u = is_two vertices j l t u f g in
+    let d : p.left ≡ q.left = one_place vertices f t p.left q.left p.has_left q.has_left in
+    let e : p.right ≡ q.right = one_place vertices f u p.right q.right p.has_right q.has_right in
+    same_place vertices i j f h.within g.within (p.label ∙ sym q.label) (p.operands ∙ (ap₂ Two d e ∙ sym q.operands))
 
-pub grows_same : (items : List Item) → IsForest items → Grows items items
-grows_same items f = record { forest = f; kept = λ n tree h. h }
+pub grows_same : (vertices : List Vertex) → IsForest vertices → Grows vertices vertices
+grows_same vertices f = record { forest = f; kept = λ n tree h. h }
 
-pub grows_then : (old mid new : List Item) → Grows old mid → Grows mid new → Grows old new
+pub grows_then : (old mid new : List Vertex) → Grows old mid → Grows mid new → Grows old new
 grows_then old mid new g h = record { forest = h.forest; kept = λ n tree s. h.kept n tree (g.kept n tree s) }
 
-pub grows_push : (items : List Item) (item : Item) → IsForest items → AreBelow (length items) (operands_of item) → ((i : ℕ) → slice_get items i ≡ Some item → ⊥) →
-    Grows items (items ++ item ∷ [])
-grows_push items item f below new = record {
+pub grows_push : (vertices : List Vertex) (vertex : Vertex) → IsForest vertices → AreBelow (length vertices) (operands_of vertex) → ((i : ℕ) → slice_get vertices i ≡ Some vertex → ⊥) →
+    Grows vertices (vertices ++ vertex ∷ [])
+grows_push vertices vertex f below new = record {
   forest = record {
-    over = λ i x e. elim (at_push items item i x e) [
+    over = λ i x e. elim (at_push vertices vertex i x e) [
       | inl p ↦ f.over i x p.1
-      | inr p ↦ subst (λ y. AreBelow i (operands_of y)) p.1 (subst (λ n. AreBelow n (operands_of item)) (sym p.0) below)
+      | inr p ↦ subst (λ y. AreBelow i (operands_of y)) p.1 (subst (λ n. AreBelow n (operands_of vertex)) (sym p.0) below)
     ];
-    once = λ i j x e g. elim (at_push items item i x e) [
-      | inl p ↦ elim (at_push items item j x g) [
+    once = λ i j x e g. elim (at_push vertices vertex i x e) [
+      | inl p ↦ elim (at_push vertices vertex j x g) [
         | inl q ↦ f.once i j x p.1 q.1
-        | inr q ↦ absurd (new i (subst (λ y. slice_get items i ≡ Some y) (sym q.1) p.1))
+        | inr q ↦ absurd (new i (subst (λ y. slice_get vertices i ≡ Some y) (sym q.1) p.1))
       ]
-      | inr p ↦ elim (at_push items item j x g) [
-        | inl q ↦ absurd (new j (subst (λ y. slice_get items j ≡ Some y) (sym p.1) q.1))
+      | inr p ↦ elim (at_push vertices vertex j x g) [
+        | inl q ↦ absurd (new j (subst (λ y. slice_get vertices j ≡ Some y) (sym p.1) q.1))
         | inr q ↦ p.0 ∙ sym q.0
       ]
     ];
   };
   kept = λ n tree h.
-      let inside : n < length items = h.within in
+      let inside : n < length vertices = h.within in
       record {
-        within = omega (arith, length_push items item);
-        is = tree_kept items (item ∷ []) n inside ∙ h.is;
+        within = omega (arith, length_push vertices vertex);
+        is = tree_kept vertices (vertex ∷ []) n inside ∙ h.is;
       };
 }
 
-pub has_there : (items : List Item) (n : ℕ) (item : Item) → IsForest items → slice_get items n ≡ Some item → Has items n (tree_of (trees items) item)
-has_there items n item f e = record { within = slice_get_within items n item e; is = tree_here items n item f e }
+pub has_there : (vertices : List Vertex) (n : ℕ) (vertex : Vertex) → IsForest vertices → slice_get vertices n ≡ Some vertex → Has vertices n (tree_of (trees vertices) vertex)
+has_there vertices n vertex f e = record { within = slice_get_within vertices n vertex e; is = tree_here vertices n vertex f e }
 
--- an item that was inserted, by a test that tells an item to be itself
-pub inserted : {alike : Item → Item → Bool} → IsEquivalence alike → (old new : List Item) (item : Item) →
-    new ≡ (if list_any (alike item) old then old else old ++ item ∷ []) → IsAdded old new item
-inserted {alike} laws old new item e = go (list_any (alike item) old) refl e
+-- a vertex that was inserted, by a test that tells a vertex to be itself
+pub inserted : {alike : Vertex → Vertex → Bool} → IsEquivalence alike → (old new : List Vertex) (vertex : Vertex) →
+    new ≡ (if list_any (alike vertex) old then old else old ++ vertex ∷ []) → IsAdded old new vertex
+inserted {alike} laws old new vertex e = go (list_any (alike vertex) old) refl e
   where
-    go : (b : Bool) → list_any (alike item) old ≡ b → new ≡ (if b then old else old ++ item ∷ []) → IsAdded old new item
+    go : (b : Bool) → list_any (alike vertex) old ≡ b → new ≡ (if b then old else old ++ vertex ∷ []) → IsAdded old new vertex
     go true h e = inl e
     go false h e = inr (
       e,
       λ i g.
-          let inside : i < length old = slice_get_within old i item g in
-          let here : alike item (get_or old i item) ≡ true = ap (alike item) (get_or_from_slice_get old i item item g) ∙ laws.refl item in
-          let found : list_any (alike item) old ≡ true = list_any_at (alike item) old i item inside here in
+          let inside : i < length old = slice_get_within old i vertex g in
+          let here : alike vertex (get_or old i vertex) ≡ true = ap (alike vertex) (get_or_from_slice_get old i vertex vertex g) ∙ laws.refl vertex in
+          let found : list_any (alike vertex) old ≡ true = list_any_at (alike vertex) old i vertex inside here in
           true≢false (sym found ∙ h),
     )
 
-pub grows_added : (old new : List Item) (item : Item) → IsForest old → AreBelow (length old) (operands_of item) → IsAdded old new item → Grows old new
-grows_added old new item f below a = elim a [
-  | inl e ↦ subst (λ items. Grows old items) (sym e) (grows_same old f)
-  | inr p ↦ subst (λ items. Grows old items) (sym p.0) (grows_push old item f below p.1)
+pub grows_added : (old new : List Vertex) (vertex : Vertex) → IsForest old → AreBelow (length old) (operands_of vertex) → IsAdded old new vertex → Grows old new
+grows_added old new vertex f below a = elim a [
+  | inl e ↦ subst (λ vertices. Grows old vertices) (sym e) (grows_same old f)
+  | inr p ↦ subst (λ vertices. Grows old vertices) (sym p.0) (grows_push old vertex f below p.1)
 ]
 
-pub has_added : (old new : List Item) (item : Item) (n : ℕ) → IsForest old → AreBelow (length old) (operands_of item) → IsAdded old new item → slice_get new n ≡ Some item →
-    Has new n (tree_of (trees old) item)
-has_added old new item n f below a e =
-    let g : Grows old new = grows_added old new item f below a in
-    let h : Has new n (tree_of (trees new) item) = has_there new n item g.forest e in
-    let same : tree_of (trees new) item ≡ tree_of (trees old) item
-    = joined_kept (trees new) (trees old) (label_of item) (operands_of item) (length old) below
+pub has_added : (old new : List Vertex) (vertex : Vertex) (n : ℕ) → IsForest old → AreBelow (length old) (operands_of vertex) → IsAdded old new vertex → slice_get new n ≡ Some vertex →
+    Has new n (tree_of (trees old) vertex)
+has_added old new vertex n f below a e =
+    let g : Grows old new = grows_added old new vertex f below a in
+    let h : Has new n (tree_of (trees new) vertex) = has_there new n vertex g.forest e in
+    let same : tree_of (trees new) vertex ≡ tree_of (trees old) vertex
+    = joined_kept (trees new) (trees old) (label_of vertex) (operands_of vertex) (length old) below
     (λ b l. (g.kept b (tree_at (trees old) b) (record { within = l; is = refl })).is) in
     subst (λ t. Has new n t) same h
 
--- core formulas stay core formulas
-pub core_here : (items : List Item) (n : ℕ) (p : Core) → Has items n (of_core p) → IsCoreAt items n
-core_here items n p h = record { formula = p; has = h }
+-- the same of the number that was answered, if one was
+pub shared_has : {E : Type 0} (r : Result ℕ E) (old new : List Vertex) (vertex : Vertex) → IsForest old → AreBelow (length old) (operands_of vertex)
+    → OnOk r (IsAdded old new vertex) → IfOk r (λ n. slice_get new n ≡ Some vertex) → IfOk r (λ n. Has new n (tree_of (trees old) vertex))
+shared_has (Ok n) old new vertex f below a e = has_added old new vertex n f below a e
+shared_has (Err fault) old new vertex f below a e = tt
 
-pub core_kept : (old new : List Item) (n : ℕ) → Grows old new → IsCoreAt old n → IsCoreAt new n
+-- core formulas stay core formulas
+pub core_here : (vertices : List Vertex) (n : ℕ) (p : Core) → Has vertices n (of_core p) → IsCoreAt vertices n
+core_here vertices n p h = record { formula = p; has = h }
+
+pub core_kept : (old new : List Vertex) (n : ℕ) → Grows old new → IsCoreAt old n → IsCoreAt new n
 core_kept old new n g h = record { formula = h.formula; has = g.kept n (of_core h.formula) h.has }
 
-pub core_within : (items : List Item) (n : ℕ) → IsCoreAt items n → n < length items
-core_within items n h = h.has.within
+pub core_within : (vertices : List Vertex) (n : ℕ) → IsCoreAt vertices n → n < length vertices
+core_within vertices n h = h.has.within
 
--- the operand of a negation is the negation, and another formula is negated by one more item
-not_case : (items : List Item) (b : ℕ) (p : Core) → b < length items → one (sign not_sign) (tree_at (trees items) b) ≡ of_core p → Has items b (of_core (neg p))
+-- the operand of a negation is the negation, and another formula is negated by one more vertex
+not_case : (vertices : List Vertex) (b : ℕ) (p : Core) → b < length vertices → one (sign not_sign) (tree_at (trees vertices) b) ≡ of_core p → Has vertices b (of_core (neg p))
 unfolding neg
-not_case items b ctrue l e = cc
-not_case items b (catom a) l e = let two : sign not_sign ≡ sign load_sign = cc in cc
-not_case items b (cnot p) l e = record { within = l; is = cc }
-not_case items b (cand p q) l e = cc
-not_case items b (cuntil i p q) l e = cc
-not_case items b (csince i p q) l e = cc
+not_case vertices b ctrue l e = cc
+not_case vertices b (catom a) l e = let two : sign not_sign ≡ sign load_sign = cc in cc
+not_case vertices b (cnot p) l e = record { within = l; is = cc }
+not_case vertices b (cand p q) l e = cc
+not_case vertices b (cuntil i p q) l e = cc
+not_case vertices b (csince i p q) l e = cc
 
-pub not_operand : (items : List Item) (a b : ℕ) → IsForest items → slice_get items a ≡ Some (Not b) → (p : Core) → Has items a (of_core p) → Has items b (of_core (neg p))
-not_operand items a b f e p h =
+pub not_operand : (vertices : List Vertex) (a b : ℕ) → IsForest vertices → slice_get vertices a ≡ Some (Not b) → (p : Core) → Has vertices a (of_core p) → Has vertices b (of_core (neg p))
+not_operand vertices a b f e p h =
     let below : b < a = f.over a (Not b) e in
-    let inside : a < length items = h.within in
-    not_case items b p (omega arith) (sym (tree_here items a (Not b) f e) ∙ h.is)
+    let inside : a < length vertices = h.within in
+    not_case vertices b p (omega arith) (sym (tree_here vertices a (Not b) f e) ∙ h.is)
 
-neg_case : (items new : List Item) (a n : ℕ) (p : Core) → IsForest items → ((b : ℕ) → slice_get items a ≡ Some (Not b) → ⊥) → Has items a (of_core p) → Has new n (one (sign not_sign) (of_core p)) → Has new n (of_core (neg p))
+neg_case : (vertices new : List Vertex) (a n : ℕ) (p : Core) → IsForest vertices → ((b : ℕ) → slice_get vertices a ≡ Some (Not b) → ⊥) → Has vertices a (of_core p) → Has new n (one (sign not_sign) (of_core p)) → Has new n (of_core (neg p))
 unfolding neg
-neg_case items new a n (cnot p) f other h g =
-    let q : IsOne items a (sign not_sign) (of_core p) = is_one items a (sign not_sign) (of_core p) f h in
-    let same : get_or items a True ≡ Not q.operand = one_item (get_or items a True) (Not q.operand) q.label q.operands in
-    absurd (other q.operand (item_there items a h.within ∙ ap Some same))
-neg_case items new a n ctrue f other h g = g
-neg_case items new a n (catom b) f other h g = g
-neg_case items new a n (cand p q) f other h g = g
-neg_case items new a n (cuntil i p q) f other h g = g
-neg_case items new a n (csince i p q) f other h g = g
+neg_case vertices new a n (cnot p) f other h g =
+    let q : IsOne vertices a (sign not_sign) (of_core p) = is_one vertices a (sign not_sign) (of_core p) f h in
+    let same : get_or vertices a True ≡ Not q.operand = one_vertex (get_or vertices a True) (Not q.operand) q.label q.operands in
+    absurd (other q.operand (vertex_there vertices a h.within ∙ ap Some same))
+neg_case vertices new a n ctrue f other h g = g
+neg_case vertices new a n (catom b) f other h g = g
+neg_case vertices new a n (cand p q) f other h g = g
+neg_case vertices new a n (cuntil i p q) f other h g = g
+neg_case vertices new a n (csince i p q) f other h g = g
 
-pub not_added : (items new : List Item) (a n : ℕ) → IsForest items → ((b : ℕ) → slice_get items a ≡ Some (Not b) → ⊥) → Has new n (one (sign not_sign) (tree_at (trees items) a)) →
-    (p : Core) → Has items a (of_core p) → Has new n (of_core (neg p))
-not_added items new a n f other g p h = neg_case items new a n p f other h (subst (λ t. Has new n (one (sign not_sign) t)) h.is g)
+pub not_added : (vertices new : List Vertex) (a n : ℕ) → IsForest vertices → ((b : ℕ) → slice_get vertices a ≡ Some (Not b) → ⊥) → Has new n (one (sign not_sign) (tree_at (trees vertices) a)) →
+    (p : Core) → Has vertices a (of_core p) → Has new n (of_core (neg p))
+not_added vertices new a n f other g p h = neg_case vertices new a n p f other h (subst (λ t. Has new n (one (sign not_sign) t)) h.is g)

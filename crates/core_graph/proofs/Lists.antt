@@ -1,4 +1,4 @@
--- Lists of items: those of a part in order, and their places.
+-- Lists of vertices: those of a part in order, and their places.
 
 use Rattle.std.proofs.Common.{◌≡◌, ◌≢◌, ℕ, ◌+◌, ◌<◌, Bool, true, false, not, if◌then◌else◌, Some, List, [], ◌∷◌, ◌++◌, All, filter, length, map, take, drop, get_or, set, slice_get, slice_index, refl, sym, subst, ap, ◌∙◌, append-nil, arith, inl, inr}
 use Rattle.std.proofs.lemmas.List.{length-take-le, length-map, map-append, take_more, take-append-drop, get_or-set_same, get_or-set_other}
@@ -10,44 +10,44 @@ use Rattle.mltl_base.specs.declared.interval.Part.{Part}
 use Rattle.mltl_base.specs.declared.interval.Part.TheVariants.{Bz, Ft, Pt}
 use Rattle.mltl_base.proofs.Unfolding.{Each, each_from_all}
 use Rattle.plain_nodes.proofs.Places.{at_push, get_left}
-use Rattle.core_graph.specs.declared.item.Item.{Item}
-use Rattle.core_graph.specs.declared.item.Operands.{Operands}
-use Rattle.core_graph.specs.declared.item.Operands.TheVariants.{Zero, One, Two}
+use Rattle.core_graph.specs.declared.vertex.Vertex.{Vertex}
+use Rattle.core_graph.specs.declared.vertex.Operands.{Operands}
+use Rattle.core_graph.specs.declared.vertex.Operands.TheVariants.{Zero, One, Two}
 use Rattle.core_graph.specs.Trees.{Label, Tree, root, completed, is_core_label, is_core_tree}
-use Rattle.core_graph.specs.Items.{label_of, operands_of, tree_over, tree_at, trees, IsForest}
+use Rattle.core_graph.specs.Vertices.{label_of, operands_of, tree_over, tree_at, trees, IsForest}
 use Rattle.core_graph.specs.Walks.{trees_of}
-use Rattle.core_graph.specs.Listings.{is_in, is_item_in, count_in, AreOnce}
+use Rattle.core_graph.specs.Listings.{is_in, is_vertex_in, count_in, AreOnce}
 use Rattle.core_graph.proofs.Forests.{tree_here}
 use Rattle.core_graph.proofs.Orders.{AreDistinct, completed_distinct, count_push, distinct_place}
 use Rattle.core_graph.proofs.Walking.{trees_push}
 use Rattle.mltl_base.proofs.Members.{all_from_each}
 
--- an item is of the part of its tree
+-- a vertex is of the part of its tree
 label_root : (ts : List Tree) (l : Label) (o : Operands) → root (tree_over ts l o) ≡ l
 label_root ts l Zero = refl
 label_root ts l (One a) = refl
 label_root ts l (Two a b) = refl
 
-pub item_part : (part : Part) (items : List Item) (n : ℕ) (item : Item) → IsForest items → slice_get items n ≡ Some item → is_item_in part item ≡ is_in part (tree_at (trees items) n)
-item_part part items n item f e = go part
+pub vertex_part : (part : Part) (vertices : List Vertex) (n : ℕ) (vertex : Vertex) → IsForest vertices → slice_get vertices n ≡ Some vertex → is_vertex_in part vertex ≡ is_in part (tree_at (trees vertices) n)
+vertex_part part vertices n vertex f e = go part
   where
-    same : is_core_label (label_of item) ≡ is_core_tree (tree_at (trees items) n)
-    same = sym (ap is_core_tree (tree_here items n item f e) ∙ ap is_core_label (label_root (trees items) (label_of item) (operands_of item)))
+    same : is_core_label (label_of vertex) ≡ is_core_tree (tree_at (trees vertices) n)
+    same = sym (ap is_core_tree (tree_here vertices n vertex f e) ∙ ap is_core_label (label_root (trees vertices) (label_of vertex) (operands_of vertex)))
 
-    go : (part : Part) → is_item_in part item ≡ is_in part (tree_at (trees items) n)
+    go : (part : Part) → is_vertex_in part vertex ≡ is_in part (tree_at (trees vertices) n)
     go Bz = ap not same
     go Ft = same
     go Pt = same
 
--- one more item counts if it is of the part
-pub counted_push : (part : Part) (items : List Item) (order new : List ℕ) (top : ℕ) (item : Item) (count more : ℕ) → IsForest items → slice_get items top ≡ Some item → new ≡ order ++ top ∷ [] →
-    count ≡ count_in part (trees_of items order) → more ≡ bool_byte (is_item_in part item) → count + more ≡ count_in part (trees_of items new)
-counted_push part items order new top item count more f e p h g =
-    let one_more : count_in part (trees_of items order) + bool_byte (is_in part (tree_at (trees items) top)) ≡ count_in part (trees_of items order ++ tree_at (trees items) top ∷ [])
-    = count_push (is_in part) (tree_at (trees items) top) (trees_of items order) in
+-- one more vertex counts if it is of the part
+pub counted_push : (part : Part) (vertices : List Vertex) (order new : List ℕ) (top : ℕ) (vertex : Vertex) (count more : ℕ) → IsForest vertices → slice_get vertices top ≡ Some vertex → new ≡ order ++ top ∷ [] →
+    count ≡ count_in part (trees_of vertices order) → more ≡ bool_byte (is_vertex_in part vertex) → count + more ≡ count_in part (trees_of vertices new)
+counted_push part vertices order new top vertex count more f e p h g =
+    let one_more : count_in part (trees_of vertices order) + bool_byte (is_in part (tree_at (trees vertices) top)) ≡ count_in part (trees_of vertices order ++ tree_at (trees vertices) top ∷ [])
+    = count_push (is_in part) (tree_at (trees vertices) top) (trees_of vertices order) in
     ap (λ n. n + more) h
-    ∙ (ap (λ n. count_in part (trees_of items order) + n) (g ∙ ap bool_byte (item_part part items top item f e))
-    ∙ (one_more ∙ ap (count_in part) (sym (ap (trees_of items) p ∙ trees_push items order top))))
+    ∙ (ap (λ n. count_in part (trees_of vertices order) + n) (g ∙ ap bool_byte (vertex_part part vertices top vertex f e))
+    ∙ (one_more ∙ ap (count_in part) (sym (ap (trees_of vertices) p ∙ trees_push vertices order top))))
 
 -- one more member of a list
 pub map_more : {X Y : Type 0} (f : X → Y) (xs : List X) (i : ℕ) (x : X) → i < length xs → get_or xs i x ≡ x → map f (take (i + 1) xs) ≡ map f (take i xs) ++ f x ∷ []
@@ -88,29 +88,29 @@ each_filter P p (x ∷ xs) h = one_filter (p x) (each_filter P p xs h.1)
     one_filter true g = (h.0, g)
     one_filter false g = g
 
-pub part_within : (items : List Item) (p : ℕ → Bool) (order ids : List ℕ) → ids ≡ filter p order → All (λ n. n < length items) order → All (λ n. n < length items) ids
-part_within items p order ids e h =
-    subst (λ ns. All (λ n. n < length items) ns) (sym e)
-    (all_from_each (λ n. n < length items) (filter p order) (each_filter (λ n. n < length items) p order (each_from_all (λ n. n < length items) order h)))
+pub part_within : (vertices : List Vertex) (p : ℕ → Bool) (order ids : List ℕ) → ids ≡ filter p order → All (λ n. n < length vertices) order → All (λ n. n < length vertices) ids
+part_within vertices p order ids e h =
+    subst (λ ns. All (λ n. n < length vertices) ns) (sym e)
+    (all_from_each (λ n. n < length vertices) (filter p order) (each_filter (λ n. n < length vertices) p order (each_from_all (λ n. n < length vertices) order h)))
 
-pub part_trees : (items : List Item) (part : Part) (roots order ids : List ℕ) → trees_of items order ≡ completed (trees_of items roots) → ids ≡ filter (λ n. is_in part (tree_at (trees items) n)) order →
-    trees_of items ids ≡ filter (is_in part) (completed (trees_of items roots))
-part_trees items part roots order ids h e =
-    ap (trees_of items) e ∙ (map_filter (is_in part) (tree_at (trees items)) order ∙ ap (filter (is_in part)) h)
+pub part_trees : (vertices : List Vertex) (part : Part) (roots order ids : List ℕ) → trees_of vertices order ≡ completed (trees_of vertices roots) → ids ≡ filter (λ n. is_in part (tree_at (trees vertices) n)) order →
+    trees_of vertices ids ≡ filter (is_in part) (completed (trees_of vertices roots))
+part_trees vertices part roots order ids h e =
+    ap (trees_of vertices) e ∙ (map_filter (is_in part) (tree_at (trees vertices)) order ∙ ap (filter (is_in part)) h)
 
-pub part_size : (items : List Item) (part : Part) (order ids : List ℕ) → ids ≡ filter (λ n. is_in part (tree_at (trees items) n)) order → length ids ≡ count_in part (trees_of items order)
-part_size items part order ids e =
-    sym (length-map ids (tree_at (trees items))) ∙ ap length (ap (trees_of items) e ∙ map_filter (is_in part) (tree_at (trees items)) order)
+pub part_size : (vertices : List Vertex) (part : Part) (order ids : List ℕ) → ids ≡ filter (λ n. is_in part (tree_at (trees vertices) n)) order → length ids ≡ count_in part (trees_of vertices order)
+part_size vertices part order ids e =
+    sym (length-map ids (tree_at (trees vertices))) ∙ ap length (ap (trees_of vertices) e ∙ map_filter (is_in part) (tree_at (trees vertices)) order)
 
-tree_there : (items : List Item) (ids : List ℕ) (i n : ℕ) → slice_get ids i ≡ Some n → slice_get (trees_of items ids) i ≡ Some (tree_at (trees items) n)
-tree_there items ids i n e = slice_get-map (tree_at (trees items)) ids i ∙ ap (option_map (tree_at (trees items))) e
+tree_there : (vertices : List Vertex) (ids : List ℕ) (i n : ℕ) → slice_get ids i ≡ Some n → slice_get (trees_of vertices ids) i ≡ Some (tree_at (trees vertices) n)
+tree_there vertices ids i n e = slice_get-map (tree_at (trees vertices)) ids i ∙ ap (option_map (tree_at (trees vertices))) e
 
-pub part_once : (items : List Item) (part : Part) (roots ids : List ℕ) → trees_of items ids ≡ filter (is_in part) (completed (trees_of items roots)) → AreOnce ids
-part_once items part roots ids h = record {
+pub part_once : (vertices : List Vertex) (part : Part) (roots ids : List ℕ) → trees_of vertices ids ≡ filter (is_in part) (completed (trees_of vertices roots)) → AreOnce ids
+part_once vertices part roots ids h = record {
   once = λ i j n e g.
-      distinct_place (trees_of items ids) i j (tree_at (trees items) n)
-      (subst AreDistinct (sym h) (completed_distinct (is_in part) (trees_of items roots)))
-      (tree_there items ids i n e) (tree_there items ids j n g);
+      distinct_place (trees_of vertices ids) i j (tree_at (trees vertices) n)
+      (subst AreDistinct (sym h) (completed_distinct (is_in part) (trees_of vertices roots)))
+      (tree_there vertices ids i n e) (tree_there vertices ids j n g);
 }
 
 -- the place of one more member
@@ -137,11 +137,11 @@ place_more ids places i id l e o w h m n g =
           ap (slice_index (set places id i)) (sym p.1) ∙ (here ∙ sym same)
     ]
 
-pub get_within : (items : List Item) (ids : List ℕ) → All (λ n. n < length items) ids → (i n : ℕ) → slice_get ids i ≡ Some n → n < length items
-get_within items ids h i n e =
+pub get_within : (vertices : List Vertex) (ids : List ℕ) → All (λ n. n < length vertices) ids → (i n : ℕ) → slice_get ids i ≡ Some n → n < length vertices
+get_within vertices ids h i n e =
     let inside : i < length ids = slice_get_within ids i n e in
     let here : get_or ids i n ≡ n = get_or_from_slice_get ids i n n e in
-    subst (λ k. k < length items) here (h i n inside)
+    subst (λ k. k < length vertices) here (h i n inside)
 
-pub all_within : (items : List Item) (ids : List ℕ) → ((i n : ℕ) → slice_get ids i ≡ Some n → n < length items) → All (λ n. n < length items) ids
-all_within items ids h k d l = h k (get_or ids k d) (slice_get-get_or ids k d l)
+pub all_within : (vertices : List Vertex) (ids : List ℕ) → ((i n : ℕ) → slice_get ids i ≡ Some n → n < length vertices) → All (λ n. n < length vertices) ids
+all_within vertices ids h k d l = h k (get_or ids k d) (slice_get-get_or ids k d l)

@@ -5,9 +5,9 @@ use Rattle.std.proofs.lemmas.Bool.{false≢true}
 use Rattle.std.proofs.lemmas.List.{take_all, take-append-le}
 use Rattle.plain_nodes.specs.declared.nodes.Plain.{Plain}
 use Rattle.plain_nodes.specs.declared.nodes.Plain.TheVariants.{Truth}
-use Rattle.core_graph.specs.declared.item.Operands.{Operands}
-use Rattle.core_graph.specs.declared.item.Operands.TheVariants.{Zero, One, Two}
-use Rattle.core_graph.specs.Items.{AreBelow}
+use Rattle.core_graph.specs.declared.vertex.Operands.{Operands}
+use Rattle.core_graph.specs.declared.vertex.Operands.TheVariants.{Zero, One, Two}
+use Rattle.core_graph.specs.Vertices.{AreBelow}
 use Rattle.core_graph.specs.Reached.{IsMarked, IsOperand, marked_nodes}
 
 -- a marked node is there

@@ -1,4 +1,4 @@
--- Items of plain nodes: what is read of a node, given what is read of those before it.
+-- Vertices of plain nodes: what is read of a node, given what is read of those before it.
 
 use Rattle.std.proofs.Common.{◌≡◌, ℕ, ℤ, ◌+◌, ◌<◌, Bool, true, false, Some, List, [], ◌∷◌, ◌++◌, length, take, get_or, slice_get, slice_index, refl, sym, subst, ap, ap₂, ◌∙◌, arith, inl, inr}
 use Rattle.std.specs.Prelude.{Result, IfOk}
@@ -17,10 +17,10 @@ use Rattle.plain_nodes.specs.declared.nodes.Plain.TheVariants.{Truth, Flag, Numb
 use Rattle.plain_nodes.specs.Nodes as plain
 use Rattle.plain_nodes.proofs.Places.{at_push}
 use Rattle.plain_nodes.proofs.Pushing as pushing
-use Rattle.core_graph.specs.declared.item.Item.{Item}
-use Rattle.core_graph.specs.declared.item.Item.TheVariants as item
+use Rattle.core_graph.specs.declared.vertex.Vertex.{Vertex}
+use Rattle.core_graph.specs.declared.vertex.Vertex.TheVariants as vertex
 use Rattle.core_graph.specs.Trees.{negative_sign, load_sign, sign, one, two, leaf, truth_in}
-use Rattle.core_graph.specs.Items.{arith_sign, tree_at, tree_of, trees, Has, Grows}
+use Rattle.core_graph.specs.Vertices.{arith_sign, tree_at, tree_of, trees, Has, Grows}
 use Rattle.core_graph.specs.Images.{of_term, of_core}
 use Rattle.core_graph.specs.Reading.{Represents, AreRead}
 use Rattle.core_graph.proofs.Outputs.{number_there, formula_there}
@@ -75,32 +75,32 @@ unfolding formula_over
 constant_over columns true = refl
 constant_over columns false = refl
 
--- what the item of each node stands for
-module _ {E : Type 0} (columns : List ℕ) (old : List Item) (before : List Plain) (ids : List ℕ) (r : AreRead columns old before ids) (new : List Item) (result : Result ℕ E) where
+-- what the vertex of each node stands for
+module _ {E : Type 0} (columns : List ℕ) (old : List Vertex) (before : List Plain) (ids : List ℕ) (r : AreRead columns old before ids) (new : List Vertex) (result : Result ℕ E) where
   pub truth_stands : (v : Bool) → IfOk result (λ n. Has new n (of_core (core (plain.constant_formula v)))) →
       IfOk result (λ n. Represents columns new n (plain.tree_of (plain.trees before) (Truth v)))
   truth_stands v h = subst (λ p. IfOk result (λ n. Has new n (of_core (core p)))) (sym (constant_over columns v)) h
 
-  pub number_stands : (m : ℤ) → IfOk result (λ n. Has new n (tree_of (trees old) (item.Const m))) → IfOk result (λ n. Represents columns new n (plain.tree_of (plain.trees before) (Number m)))
+  pub number_stands : (m : ℤ) → IfOk result (λ n. Has new n (tree_of (trees old) (vertex.Const m))) → IfOk result (λ n. Represents columns new n (plain.tree_of (plain.trees before) (Number m)))
   unfolding term_over
   number_stands m h = h
 
-  pub signal_stands : (s : ℕ) → IfOk result (λ n. Has new n (tree_of (trees old) (item.Column (slice_index columns s)))) → IfOk result (λ n. Represents columns new n (plain.tree_of (plain.trees before) (Signal s)))
+  pub signal_stands : (s : ℕ) → IfOk result (λ n. Has new n (tree_of (trees old) (vertex.Column (slice_index columns s)))) → IfOk result (λ n. Represents columns new n (plain.tree_of (plain.trees before) (Signal s)))
   unfolding term_over
   signal_stands s h = h
 
-  pub flag_stands : (s atom : ℕ) (mid : List Item) → Has mid atom (leaf (truth_in (slice_index columns s))) → IfOk result (λ n. Has new n (tree_of (trees mid) (item.Load atom))) →
+  pub flag_stands : (s atom : ℕ) (mid : List Vertex) → Has mid atom (leaf (truth_in (slice_index columns s))) → IfOk result (λ n. Has new n (tree_of (trees mid) (vertex.Load atom))) →
       IfOk result (λ n. Represents columns new n (plain.tree_of (plain.trees before) (Flag s)))
   unfolding core formula_over atom_over
   flag_stands s atom mid g h = subst (λ t. IfOk result (λ n. Has new n (one (sign load_sign) t))) g.is h
 
-  pub minus_stands : (a : ℕ) → plain.IsNumber (slice_get (plain.trees before) a) → IfOk result (λ n. Has new n (tree_of (trees old) (item.Neg (slice_index ids a)))) →
+  pub minus_stands : (a : ℕ) → plain.IsNumber (slice_get (plain.trees before) a) → IfOk result (λ n. Has new n (tree_of (trees old) (vertex.Neg (slice_index ids a)))) →
       IfOk result (λ n. Represents columns new n (plain.tree_of (plain.trees before) (Minus a)))
   unfolding term_over
   minus_stands a k h = subst (λ t. IfOk result (λ n. Has new n (one (sign negative_sign) t))) (number_there columns old before ids r a k).is h
 
   pub arith_stands : (op : arith_op.ArithOp) (a b : ℕ) → plain.IsNumber (slice_get (plain.trees before) a) → plain.IsNumber (slice_get (plain.trees before) b) →
-      IfOk result (λ n. Has new n (tree_of (trees old) (item.Arith op (slice_index ids a) (slice_index ids b)))) →
+      IfOk result (λ n. Has new n (tree_of (trees old) (vertex.Arith op (slice_index ids a) (slice_index ids b)))) →
       IfOk result (λ n. Represents columns new n (plain.tree_of (plain.trees before) (Arith op a b)))
   arith_stands op a b k l h =
       let x : Term = plain.term_at (plain.trees before) a in
@@ -153,11 +153,11 @@ module _ {E : Type 0} (columns : List ℕ) (old : List Item) (before : List Plai
       (h (formula_over columns p) (formula_over columns q) (formula_there columns old before ids r a k) (formula_there columns old before ids r b l))
 
 -- what stands goes on to stand, and one more node is read
-stands_kept : (columns : List ℕ) (old new : List Item) (n : ℕ) (tree : plain.Tree) → Grows old new → Represents columns old n tree → Represents columns new n tree
+stands_kept : (columns : List ℕ) (old new : List Vertex) (n : ℕ) (tree : plain.Tree) → Grows old new → Represents columns old n tree → Represents columns new n tree
 stands_kept columns old new n (plain.number a) g h = g.kept n (of_term (term_over columns a)) h
 stands_kept columns old new n (plain.formula p) g h = g.kept n (of_core (core (formula_over columns p))) h
 
-pub one_read : (columns : List ℕ) (old new : List Item) (nodes : List Plain) (i : ℕ) (node : Plain) (ids more : List ℕ) (id : ℕ) → slice_get nodes i ≡ Some node → AreRead columns old (take i nodes) ids → Grows old new →
+pub one_read : (columns : List ℕ) (old new : List Vertex) (nodes : List Plain) (i : ℕ) (node : Plain) (ids more : List ℕ) (id : ℕ) → slice_get nodes i ≡ Some node → AreRead columns old (take i nodes) ids → Grows old new →
     Represents columns new id (plain.tree_of (plain.trees (take i nodes)) node) → more ≡ ids ++ id ∷ [] → AreRead columns new (take (i + 1) nodes) more
 one_read columns old new nodes i node ids more id there r g h e =
     let here : get_or nodes i node ≡ node = get_or_from_slice_get nodes i node node there in

@@ -22,38 +22,38 @@ use Rattle.plain_nodes.specs.declared.nodes.PlainOut.TheVariants.{Formula, Contr
 use Rattle.plain_nodes.specs.Nodes as plain
 use Rattle.plain_nodes.specs.Outputs.{asked_by, asked_over, NamesFormulas}
 use Rattle.plain_nodes.proofs.Pushing.{length-trees}
-use Rattle.core_graph.specs.declared.item.Item.{Item}
-use Rattle.core_graph.specs.Items.{tree_at, trees, Has}
+use Rattle.core_graph.specs.declared.vertex.Vertex.{Vertex}
+use Rattle.core_graph.specs.Vertices.{tree_at, trees, Has}
 use Rattle.core_graph.specs.Images.{of_term, of_core}
 use Rattle.core_graph.specs.Reading.{Represents, AreRead}
 use Rattle.core_graph.specs.Walks.{trees_of}
 use Rattle.core_graph.specs.Listings.{asks, NamesNodes, roots_by, roots_of, places_for, out_of}
 
--- the item of a formula, and of a whole number
-module _ (columns : List ℕ) (items : List Item) (nodes : List Plain) (ids : List ℕ) (r : AreRead columns items nodes ids) where
+-- the vertex of a formula, and of a whole number
+module _ (columns : List ℕ) (vertices : List Vertex) (nodes : List Plain) (ids : List ℕ) (r : AreRead columns vertices nodes ids) where
   pub node_within : (n : ℕ) (tree : plain.Tree) → slice_get (plain.trees nodes) n ≡ Some tree → n < length ids
   node_within n tree e =
       let inside : n < length (plain.trees nodes) = slice_get_within (plain.trees nodes) n tree e in
       omega (arith, length-trees nodes, r.count)
 
-  id_at : (n : ℕ) (tree : plain.Tree) → slice_get (plain.trees nodes) n ≡ Some tree → Represents columns items (slice_index ids n) tree
+  id_at : (n : ℕ) (tree : plain.Tree) → slice_get (plain.trees nodes) n ≡ Some tree → Represents columns vertices (slice_index ids n) tree
   id_at n tree e = r.stand n (slice_index ids n) tree (slice_get-get_or ids n 0 (node_within n tree e)) (record { found = e })
 
   formula_case : (n : ℕ) (o : Option plain.Tree) → slice_get (plain.trees nodes) n ≡ o → plain.IsFormula o →
-      Has items (slice_index ids n) (of_core (core (formula_over columns (plain.formula_in o))))
+      Has vertices (slice_index ids n) (of_core (core (formula_over columns (plain.formula_in o))))
   formula_case n None e h = absurd h
   formula_case n (Some (plain.number a)) e h = absurd h
   formula_case n (Some (plain.formula p)) e h = id_at n (plain.formula p) e
 
-  pub formula_there : (n : ℕ) → plain.IsFormula (slice_get (plain.trees nodes) n) → Has items (slice_index ids n) (of_core (core (formula_over columns (plain.formula_at (plain.trees nodes) n))))
+  pub formula_there : (n : ℕ) → plain.IsFormula (slice_get (plain.trees nodes) n) → Has vertices (slice_index ids n) (of_core (core (formula_over columns (plain.formula_at (plain.trees nodes) n))))
   formula_there n h = formula_case n (slice_get (plain.trees nodes) n) refl h
 
-  number_case : (n : ℕ) (o : Option plain.Tree) → slice_get (plain.trees nodes) n ≡ o → plain.IsNumber o → Has items (slice_index ids n) (of_term (term_over columns (plain.term_in o)))
+  number_case : (n : ℕ) (o : Option plain.Tree) → slice_get (plain.trees nodes) n ≡ o → plain.IsNumber o → Has vertices (slice_index ids n) (of_term (term_over columns (plain.term_in o)))
   number_case n None e h = absurd h
   number_case n (Some (plain.formula p)) e h = absurd h
   number_case n (Some (plain.number a)) e h = id_at n (plain.number a) e
 
-  pub number_there : (n : ℕ) → plain.IsNumber (slice_get (plain.trees nodes) n) → Has items (slice_index ids n) (of_term (term_over columns (plain.term_at (plain.trees nodes) n)))
+  pub number_there : (n : ℕ) → plain.IsNumber (slice_get (plain.trees nodes) n) → Has vertices (slice_index ids n) (of_term (term_over columns (plain.term_at (plain.trees nodes) n)))
   number_there n h = number_case n (slice_get (plain.trees nodes) n) refl h
 
   formula_within : (n : ℕ) (o : Option plain.Tree) → slice_get (plain.trees nodes) n ≡ o → plain.IsFormula o → n < length ids
@@ -72,12 +72,12 @@ module _ (columns : List ℕ) (items : List Item) (nodes : List Plain) (ids : Li
   pub number_named : (n : ℕ) → plain.IsNumber (slice_get (plain.trees nodes) n) → n < length ids
   number_named n h = number_within n (slice_get (plain.trees nodes) n) refl h
 
-  -- each node has an item
-  stands_within : (n : ℕ) (tree : plain.Tree) → Represents columns items n tree → n < length items
+  -- each node has a vertex
+  stands_within : (n : ℕ) (tree : plain.Tree) → Represents columns vertices n tree → n < length vertices
   stands_within n (plain.number a) h = h.within
   stands_within n (plain.formula p) h = h.within
 
-  pub ids_within : All (λ n. n < length items) ids
+  pub ids_within : All (λ n. n < length vertices) ids
   ids_within k d l =
       let inside : k < length (plain.trees nodes) = omega (arith, length-trees nodes, r.count) in
       let tree : plain.Tree = get_or (plain.trees nodes) k (plain.formula always) in
@@ -93,32 +93,32 @@ module _ (columns : List ℕ) (items : List Item) (nodes : List Plain) (ids : Li
 
   -- roots are core formulas
   roots_by_are : (p : Part) (o : PlainOut) → NamesFormulas (plain.trees nodes) o →
-      trees_of items (roots_by p ids o) ≡ map of_core (if asks p (asked_by (plain.trees nodes) o).engine then cores_of_output (asked_over columns (asked_by (plain.trees nodes) o)).output else [])
+      trees_of vertices (roots_by p ids o) ≡ map of_core (if asks p (asked_by (plain.trees nodes) o).engine then cores_of_output (asked_over columns (asked_by (plain.trees nodes) o)).output else [])
   roots_by_are p (Formula e n name) h = go (asks p e)
     where
-      go : (b : Bool) → trees_of items (if b then slice_index ids n ∷ [] else [])
+      go : (b : Bool) → trees_of vertices (if b then slice_index ids n ∷ [] else [])
           ≡ map of_core (if b then core (formula_over columns (plain.formula_at (plain.trees nodes) n)) ∷ [] else [])
       go true = ap (λ t. t ∷ []) (formula_there n h).is
       go false = refl
   roots_by_are p (Contract e n m name) h = go (asks p e)
     where
-      go : (b : Bool) → trees_of items (if b then slice_index ids n ∷ slice_index ids m ∷ [] else [])
+      go : (b : Bool) → trees_of vertices (if b then slice_index ids n ∷ slice_index ids m ∷ [] else [])
           ≡ map of_core (if b then core (formula_over columns (plain.formula_at (plain.trees nodes) n)) ∷ core (formula_over columns (plain.formula_at (plain.trees nodes) m)) ∷ [] else [])
       go true = ap₂ (λ t u. t ∷ u ∷ []) (formula_there n h.0).is (formula_there m h.1).is
       go false = refl
 
   pub roots_are : (p : Part) (outs : List PlainOut) → Each (NamesFormulas (plain.trees nodes)) outs →
-      trees_of items (roots_of p ids outs) ≡ map of_core (flat_map (λ a. if asks p a.engine then cores_of_output a.output else []) (map (asked_over columns) (map (asked_by (plain.trees nodes)) outs)))
+      trees_of vertices (roots_of p ids outs) ≡ map of_core (flat_map (λ a. if asks p a.engine then cores_of_output a.output else []) (map (asked_over columns) (map (asked_by (plain.trees nodes)) outs)))
   roots_are p [] h = refl
   roots_are p (o ∷ outs) h =
       let a : Asked = asked_over columns (asked_by (plain.trees nodes) o) in
       let rest : List Asked = map (asked_over columns) (map (asked_by (plain.trees nodes)) outs) in
-      map-append (tree_at (trees items)) (roots_by p ids o) (roots_of p ids outs)
+      map-append (tree_at (trees vertices)) (roots_by p ids o) (roots_of p ids outs)
       ∙ (ap₂ ◌++◌ (roots_by_are p o h.0) (roots_are p outs h.1)
       ∙ sym (map-append of_core (if asks p a.engine then cores_of_output a.output else []) (flat_map (λ a. if asks p a.engine then cores_of_output a.output else []) rest)))
 
   -- outputs by the places of their formulas
-  module _ (all : List Asked) (ft pt : List ℕ) (place : (e : Engine) (p : Core) (n : ℕ) → listed same p (subformulas e all) ≡ true → Has items n (of_core p) → slice_index (places_for e ft pt) n ≡ place_of same p (subformulas e all)) where
+  module _ (all : List Asked) (ft pt : List ℕ) (place : (e : Engine) (p : Core) (n : ℕ) → listed same p (subformulas e all) ≡ true → Has vertices n (of_core p) → slice_index (places_for e ft pt) n ≡ place_of same p (subformulas e all)) where
     out_is : (o : PlainOut) → NamesFormulas (plain.trees nodes) o →
         Each (λ p. listed same p (subformulas (asked_by (plain.trees nodes) o).engine all) ≡ true) (cores_of_output (asked_over columns (asked_by (plain.trees nodes) o)).output) →
         out_of ids ft pt o ≡ out_by (subformulas (asked_by (plain.trees nodes) o).engine all) (asked_by (plain.trees nodes) o).engine (asked_by (plain.trees nodes) o).name (asked_over columns (asked_by (plain.trees nodes) o)).output
@@ -153,7 +153,7 @@ loaded e outs a h =
 pub outputs_listed : (outs : List Asked) → Each (λ a. Each (λ p. listed same p (subformulas a.engine outs) ≡ true) (cores_of_output a.output)) outs
 outputs_listed outs = all_listed outs
 
--- roots are items that stand for nodes
+-- roots are vertices that stand for nodes
 root_inside : (size : ℕ) (ids : List ℕ) → All (λ k. k < size) ids → (n : ℕ) → n < length ids → slice_index ids n < size
 root_inside size ids h n l = h n 0 l
 

@@ -16,7 +16,7 @@ use Rattle.mltl_base.specs.Reports as report
 use Rattle.plain_nodes.specs.Outputs.{asked_by, asked_over, NamesFormulas}
 use Rattle.plain_nodes.proofs.Places.{get_left, get_last}
 use Rattle.plain_nodes.proofs.Pushing.{length-trees, trees_more}
-use Rattle.core_graph.specs.Items.{AreBelow}
+use Rattle.core_graph.specs.Vertices.{AreBelow}
 use Rattle.core_graph.specs.Listings.{asked_from}
 use Rattle.core_graph.specs.Reached.{AreOver, AreReached, IsMarked, IsOperand, NamesMarked, marked_nodes, named_by, node_operands}
 use Rattle.core_graph.proofs.Marking.{length-marked, marked_at, marked_within, operand_below}

@@ -1,6 +1,6 @@
 pub mod Limits
 pub mod Trees
-pub mod Items
+pub mod Vertices
 pub mod Images
 pub mod Walks
 pub mod Reading

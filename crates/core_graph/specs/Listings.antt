@@ -1,4 +1,4 @@
--- Lists of items that become instructions, and the instructions.
+-- Lists of vertices that become instructions, and the instructions.
 
 use Rattle.std.specs.Prelude.{◌≡◌, ℕ, ◌<◌, ◌≤◌, Bool, true, not, if◌then◌else◌, Some, List, [], ◌∷◌, length, map}
 use Rattle.std.specs.Prelude.{filter, flat_map, slice_get, slice_index, slice_index_or}
@@ -18,11 +18,11 @@ use Rattle.plain_nodes.specs.declared.nodes.PlainOut.{PlainOut}
 use Rattle.plain_nodes.specs.declared.nodes.PlainOut.TheVariants.{Formula, Contract}
 use Rattle.plain_nodes.specs.Nodes as plain
 use Rattle.plain_nodes.specs.Outputs.{asked_by, asked_over}
-use Rattle.core_graph.specs.declared.item.Item.{Item}
-use Rattle.core_graph.specs.declared.item.Item.TheVariants.{Column, Const, Neg, Arith, IsTrue, Eq, Lt, Le, True, Load}
-use Rattle.core_graph.specs.declared.item.Item.TheVariants.{Not, And, Until, Since}
+use Rattle.core_graph.specs.declared.vertex.Vertex.{Vertex}
+use Rattle.core_graph.specs.declared.vertex.Vertex.TheVariants.{Column, Const, Neg, Arith, IsTrue, Eq, Lt, Le, True}
+use Rattle.core_graph.specs.declared.vertex.Vertex.TheVariants.{Load, Not, And, Until, Since}
 use Rattle.core_graph.specs.Trees.{Tree, completed, is_core_tree}
-use Rattle.core_graph.specs.Items.{is_formula}
+use Rattle.core_graph.specs.Vertices.{is_formula}
 use Rattle.core_graph.specs.Walks.{trees_of}
 
 -- the part of a program is walked from the outputs of an engine
@@ -37,11 +37,11 @@ is_in Bz t = not (is_core_tree t)
 is_in Ft t = is_core_tree t
 is_in Pt t = is_core_tree t
 
--- the item becomes an instruction of the part
-abbrev pub is_item_in : Part → Item → Bool
-is_item_in Bz item = not (is_formula item)
-is_item_in Ft item = is_formula item
-is_item_in Pt item = is_formula item
+-- the vertex becomes an instruction of the part
+abbrev pub is_vertex_in : Part → Vertex → Bool
+is_vertex_in Bz vertex = not (is_formula vertex)
+is_vertex_in Ft vertex = is_formula vertex
+is_vertex_in Pt vertex = is_formula vertex
 
 -- how many of the trees become instructions of the part
 abbrev pub count_in : Part → List Tree → ℕ
@@ -52,18 +52,18 @@ abbrev pub NamesNodes : ℕ → PlainOut → Type 0
 NamesNodes n (Formula e a name) = a < n
 NamesNodes n (Contract e a b name) = (a < n) × (b < n)
 
--- the items that an output begins the walk of a part with
+-- the vertices that an output begins the walk of a part with
 abbrev pub roots_by : Part → List ℕ → PlainOut → List ℕ
 roots_by part ids (Formula e a name) = if asks part e then slice_index ids a ∷ [] else []
 roots_by part ids (Contract e a b name) = if asks part e then slice_index ids a ∷ slice_index ids b ∷ [] else []
 
--- the items that all outputs together begin the walk of a part with
+-- the vertices that all outputs together begin the walk of a part with
 abbrev pub roots_of : Part → List ℕ → List PlainOut → List ℕ
 roots_of part ids outs = flat_map (roots_by part ids) outs
 
 -- the trees of the instructions of a part, in order
-abbrev pub listed_trees : List Item → Part → List ℕ → List PlainOut → List Tree
-listed_trees items part ids outs = filter (is_in part) (completed (trees_of items (roots_of part ids outs)))
+abbrev pub listed_trees : List Vertex → Part → List ℕ → List PlainOut → List Tree
+listed_trees vertices part ids outs = filter (is_in part) (completed (trees_of vertices (roots_of part ids outs)))
 
 -- what the outputs over some nodes ask for, over columns
 abbrev pub asked_from : List ℕ → List Plain → List PlainOut → List Asked
@@ -73,12 +73,12 @@ asked_from columns nodes outs = map (asked_over columns) (map (asked_by (plain.t
 pub record AreOnce (ids : List ℕ) : Type 0 where
   pub once : (i j n : ℕ) → slice_get ids i ≡ Some n → slice_get ids j ≡ Some n → i ≡ j
 
--- the items of a part in order, and the place of each in that order
-pub record IsListing (items : List Item) (listed : List Tree) (ids places : List ℕ) : Type 0 where
+-- the vertices of a part in order, and the place of each in that order
+pub record IsListing (vertices : List Vertex) (listed : List Tree) (ids places : List ℕ) : Type 0 where
   pub few : length ids ≤ MAX_INSTRUCTIONS
-  pub count : length places ≡ length items
-  pub within : (i n : ℕ) → slice_get ids i ≡ Some n → n < length items
-  pub in_order : trees_of items ids ≡ listed
+  pub count : length places ≡ length vertices
+  pub within : (i n : ℕ) → slice_get ids i ≡ Some n → n < length vertices
+  pub in_order : trees_of vertices ids ≡ listed
   pub numbered : (i n : ℕ) → slice_get ids i ≡ Some n → slice_index places n ≡ i
 
 -- the Booleanizer instruction of an arithmetic operator over the places of its operands
@@ -89,8 +89,8 @@ arith_op arith.TheVariants.Mul a b = bz.TheVariants.Mul a b
 arith_op arith.TheVariants.Div a b = bz.TheVariants.Div a b
 arith_op arith.TheVariants.Rem a b = bz.TheVariants.Rem a b
 
--- the Booleanizer instruction of an item, whose operands are numbered by their places
-abbrev pub bz_op_of : List ℕ → Item → bz.BzOp
+-- the Booleanizer instruction of a vertex, whose operands are numbered by their places
+abbrev pub bz_op_of : List ℕ → Vertex → bz.BzOp
 bz_op_of places (Column c) = bz.TheVariants.Column c
 bz_op_of places (Const n) = bz.TheVariants.Const n
 bz_op_of places (Neg a) = bz.TheVariants.Neg (slice_index places a)
@@ -101,32 +101,32 @@ bz_op_of places (Lt a b) = bz.TheVariants.Lt (slice_index places a) (slice_index
 bz_op_of places (Le a b) = bz.TheVariants.Le (slice_index places a) (slice_index places b)
 bz_op_of places _ = bz.TheVariants.IsTrue 0
 
--- the future-time instruction of an item, whose operands are numbered by their places
-abbrev pub ft_op_of : List ℕ → List ℕ → Item → ft.FtOp
+-- the future-time instruction of a vertex, whose operands are numbered by their places
+abbrev pub ft_op_of : List ℕ → List ℕ → Vertex → ft.FtOp
 ft_op_of loads places (Load a) = ft.TheVariants.Load (slice_index loads a)
 ft_op_of loads places (Not a) = ft.TheVariants.Not (slice_index places a)
 ft_op_of loads places (And a b) = ft.TheVariants.And (slice_index places a) (slice_index places b)
 ft_op_of loads places (Until i a b) = ft.TheVariants.Until (slice_index places a) (slice_index places b) i
 ft_op_of loads places _ = ft.TheVariants.True
 
--- the past-time instruction of an item, whose operands are numbered by their places
-abbrev pub pt_op_of : List ℕ → List ℕ → Item → pt.PtOp
+-- the past-time instruction of a vertex, whose operands are numbered by their places
+abbrev pub pt_op_of : List ℕ → List ℕ → Vertex → pt.PtOp
 pt_op_of loads places (Load a) = pt.TheVariants.Load (slice_index loads a)
 pt_op_of loads places (Not a) = pt.TheVariants.Not (slice_index places a)
 pt_op_of loads places (And a b) = pt.TheVariants.And (slice_index places a) (slice_index places b)
 pt_op_of loads places (Since i a b) = pt.TheVariants.Since (slice_index places a) (slice_index places b) i
 pt_op_of loads places _ = pt.TheVariants.True
 
--- the item at a number
-abbrev pub item_at : List Item → ℕ → Item
-item_at items n = slice_index_or items n True
+-- the vertex at a number
+abbrev pub vertex_at : List Vertex → ℕ → Vertex
+vertex_at vertices n = slice_index_or vertices n True
 
--- the places of items in an engine's part, of those in future time and those in past time
+-- the places of vertices in an engine's part, of those in future time and those in past time
 abbrev pub places_for : Engine → List ℕ → List ℕ → List ℕ
 places_for engine.Ft ft pt = ft
 places_for engine.Pt ft pt = pt
 
--- an output by the places of its items
+-- an output by the places of its vertices
 abbrev pub out_of : List ℕ → List ℕ → List ℕ → PlainOut → out.Out
 out_of ids ft pt (Formula e a name) =
     out.TheVariants.Formula e (slice_index (places_for e ft pt) (slice_index ids a)) name

@@ -7,9 +7,9 @@ use Rattle.plain_nodes.specs.declared.nodes.Plain.TheVariants.{Truth, Flag, Numb
 use Rattle.plain_nodes.specs.declared.nodes.Plain.TheVariants.{Logic, Window, Between}
 use Rattle.plain_nodes.specs.declared.nodes.PlainOut.{PlainOut}
 use Rattle.plain_nodes.specs.declared.nodes.PlainOut.TheVariants.{Formula, Contract}
-use Rattle.core_graph.specs.declared.item.Operands.{Operands}
-use Rattle.core_graph.specs.declared.item.Operands.TheVariants.{Zero, One, Two}
-use Rattle.core_graph.specs.Items.{AreBelow}
+use Rattle.core_graph.specs.declared.vertex.Operands.{Operands}
+use Rattle.core_graph.specs.declared.vertex.Operands.TheVariants.{Zero, One, Two}
+use Rattle.core_graph.specs.Vertices.{AreBelow}
 
 -- the operands of a node, which are earlier nodes
 abbrev pub node_operands : Plain → Operands

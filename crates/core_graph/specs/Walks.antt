@@ -1,17 +1,17 @@
--- A walk over a forest that completes items, operands first.
+-- A walk over a forest that completes vertices, operands first.
 
 use Rattle.std.specs.Prelude.{◌≡◌, ◌⊎◌, ℕ, suc, ◌+◌, ◌*◌, ◌<◌, Bool, true, false, Some, List, [], ◌∷◌, length, map}
 use Rattle.std.specs.Prelude.{slice_get, ⊤}
 use Rattle.mltl_base.specs.Subformulas.{listed}
-use Rattle.core_graph.specs.declared.item.Item.{Item}
-use Rattle.core_graph.specs.declared.item.Operands.{Operands}
-use Rattle.core_graph.specs.declared.item.Operands.TheVariants.{Zero, One, Two}
+use Rattle.core_graph.specs.declared.vertex.Vertex.{Vertex}
+use Rattle.core_graph.specs.declared.vertex.Operands.{Operands}
+use Rattle.core_graph.specs.declared.vertex.Operands.TheVariants.{Zero, One, Two}
 use Rattle.core_graph.specs.Trees.{Tree, leaf, one, two, same_tree, add_tree}
-use Rattle.core_graph.specs.Items.{tree_at, trees, Has}
+use Rattle.core_graph.specs.Vertices.{tree_at, trees, Has}
 
--- the trees of numbered items
-abbrev pub trees_of : List Item → List ℕ → List Tree
-trees_of items ids = map (tree_at (trees items)) ids
+-- the trees of numbered vertices
+abbrev pub trees_of : List Vertex → List ℕ → List Tree
+trees_of vertices ids = map (tree_at (trees vertices)) ids
 
 -- the operands of a tree are listed
 abbrev pub HasOperands : List Tree → Tree → Type 0
@@ -23,12 +23,13 @@ HasOperands ts (two l t u) = (listed same_tree t ts ≡ true) × (listed same_tr
 pub record IsClosed (ts : List Tree) : Type 0 where
   pub operands : (t : Tree) → listed same_tree t ts ≡ true → HasOperands ts t
 
--- items that are complete, in order, and for each item whether it is
-pub record IsWalk (items : List Item) (order : List ℕ) (done : List Bool) : Type 0 where
-  pub count : length done ≡ length items
-  pub within : (i n : ℕ) → slice_get order i ≡ Some n → n < length items
-  pub told : (n : ℕ) (t : Tree) → Has items n t → slice_get done n ≡ Some (listed same_tree t (trees_of items order))
-  pub closed : IsClosed (trees_of items order)
+-- vertices that are complete, in order, and for each vertex whether it is
+pub record IsWalk (vertices : List Vertex) (order : List ℕ) (done : List Bool) : Type 0 where
+  pub count : length done ≡ length vertices
+  pub within : (i n : ℕ) → slice_get order i ≡ Some n → n < length vertices
+  pub told : (n : ℕ) (t : Tree) → Has vertices n t
+      → slice_get done n ≡ Some (listed same_tree t (trees_of vertices order))
+  pub closed : IsClosed (trees_of vertices order)
 
 -- all operands are complete
 abbrev pub AreDone : List Bool → Operands → Type 0
@@ -36,7 +37,7 @@ AreDone done Zero = ⊤
 AreDone done (One a) = slice_get done a ≡ Some true
 AreDone done (Two a b) = (slice_get done a ≡ Some true) × (slice_get done b ≡ Some true)
 
--- item n is the first operand that isn't complete
+-- vertex n is the first operand that isn't complete
 abbrev pub IsFirstOpen : List Bool → Operands → ℕ → Type 0
 IsFirstOpen done Zero n = ⊥
 IsFirstOpen done (One a) n = (n ≡ a) × (slice_get done a ≡ Some false)
@@ -49,9 +50,9 @@ abbrev pub Descends : ℕ → List ℕ → Type 0
 Descends n [] = ⊤
 Descends n (m ∷ ms) = (m < n) × Descends m ms
 
--- items that wait for operands, the latest last
-pub record IsStack (items : List Item) (done : List Bool) (stack : List ℕ) : Type 0 where
-  pub descends : Descends (length items) stack
+-- vertices that wait for operands, the latest last
+pub record IsStack (vertices : List Vertex) (done : List Bool) (stack : List ℕ) : Type 0 where
+  pub descends : Descends (length vertices) stack
   pub waits : (i n : ℕ) → slice_get stack i ≡ Some n → slice_get done n ≡ Some false
 
 -- what is complete once all that wait are
@@ -59,18 +60,18 @@ unfoldable pub finish : List Tree → List Tree → List Tree
 finish [] ts = ts
 finish (t ∷ above) ts = add_tree t (finish above ts)
 
--- how many items there are up to the latest that waits: 0 where none waits
+-- how many vertices there are up to the latest that waits: 0 where none waits
 unfoldable pub height : List ℕ → ℕ
 height [] = 0
 height (n ∷ []) = suc n
 height (n ∷ m ∷ ns) = height (m ∷ ns)
 
--- how many items aren't complete
+-- how many vertices aren't complete
 unfoldable pub open_count : List Bool → ℕ
 open_count [] = 0
 open_count (true ∷ done) = open_count done
 open_count (false ∷ done) = suc (open_count done)
 
--- what is still to be done: for each open item, and below the latest that waits
+-- what is still to be done: for each open vertex, and below the latest that waits
 abbrev pub work : List Bool → List ℕ → ℕ
 work done stack = open_count done * (length done + 1) + height stack

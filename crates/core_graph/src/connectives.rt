@@ -1,15 +1,15 @@
-//! Core formulas of formulas: the rewriting of each operator over items.
+//! Core formulas of formulas: the rewriting of each operator over vertices.
 
 ghost use Rattle.std.specs.Prelude.{◌≡◌, ◌<◌, Bool, length, OnOk, IfOk};
 ghost use Rattle.mltl_base.specs.Atoms.{Term};
 ghost use Rattle.mltl_base.specs.Formula.{Core, Formula as Plainly, cand, cuntil, csince, core, core_atom, neg};
 ghost use Rattle.plain_nodes.specs.Nodes.{comparison, connected, constant_formula, ranged, windowed};
 ghost use Rattle.core_graph.specs.Images.{of_core, of_term};
-ghost use Rattle.core_graph.specs.Items.{Grows, Has, IsForest};
+ghost use Rattle.core_graph.specs.Vertices.{Grows, Has, IsForest};
 ghost use Rattle.core_graph.specs.Reading.{IsCoreAt};
 
 use crate::forest::Forest;
-use crate::item::Item;
+use crate::vertex::Vertex;
 use mltl_base::{BetweenOp, CompareOp, Interval, LogicOp, WindowOp};
 use std::alloc::AllocError;
 
@@ -20,11 +20,11 @@ impl Forest {
         ensures grows { OnOk result (Grows self.old self.new) }
         ensures has { IfOk result (λ n. Has self.new n (of_core (core (constant_formula value)))) }
     {
-        let n = self.share(Item::True)?;
+        let n = self.share(Vertex::True)?;
         if value {
             Ok(n)
         } else {
-            self.share(Item::Not(n))
+            self.share(Vertex::Not(n))
         }
     }
 
@@ -37,8 +37,8 @@ impl Forest {
             → IfOk result (λ n. Has self.new n (of_core (neg p))) }
     {
         match self.get(a) {
-            Item::Not(b) => Ok(b),
-            _ => self.share(Item::Not(a)),
+            Vertex::Not(b) => Ok(b),
+            _ => self.share(Vertex::Not(a)),
         }
     }
 
@@ -51,7 +51,7 @@ impl Forest {
         ensures has { (p q : Core) → Has self.old a (of_core p) → Has self.old b (of_core q)
             → IfOk result (λ n. Has self.new n (of_core (cand p q))) }
     {
-        self.share(Item::And(a, b))
+        self.share(Vertex::And(a, b))
     }
 
     /// `a -> b` as `!(a && !b)`.
@@ -105,7 +105,7 @@ impl Forest {
         ensures has { (p q : Core) → Has self.old a (of_core p) → Has self.old b (of_core q)
             → IfOk result (λ n. Has self.new n (of_core (cuntil i p q))) }
     {
-        self.share(Item::Until(i, a, b))
+        self.share(Vertex::Until(i, a, b))
     }
 
     /// `a S[i] b`.
@@ -117,7 +117,7 @@ impl Forest {
         ensures has { (p q : Core) → Has self.old a (of_core p) → Has self.old b (of_core q)
             → IfOk result (λ n. Has self.new n (of_core (csince i p q))) }
     {
-        self.share(Item::Since(i, a, b))
+        self.share(Vertex::Since(i, a, b))
     }
 
     /// A comparison of whole numbers, by those that instructions have.
@@ -130,15 +130,15 @@ impl Forest {
             → IfOk result (λ n. Has self.new n (of_core (core_atom (comparison op x y)))) }
     {
         let atom = self.share(match op {
-            CompareOp::Eq | CompareOp::Ne => Item::Eq(a, b),
-            CompareOp::Lt => Item::Lt(a, b),
-            CompareOp::Le => Item::Le(a, b),
-            CompareOp::Gt => Item::Lt(b, a),
-            CompareOp::Ge => Item::Le(b, a),
+            CompareOp::Eq | CompareOp::Ne => Vertex::Eq(a, b),
+            CompareOp::Lt => Vertex::Lt(a, b),
+            CompareOp::Le => Vertex::Le(a, b),
+            CompareOp::Gt => Vertex::Lt(b, a),
+            CompareOp::Ge => Vertex::Le(b, a),
         })?;
-        let load = self.share(Item::Load(atom))?;
+        let load = self.share(Vertex::Load(atom))?;
         if op == CompareOp::Ne {
-            self.share(Item::Not(load))
+            self.share(Vertex::Not(load))
         } else {
             Ok(load)
         }
@@ -170,7 +170,7 @@ impl Forest {
         ensures has { (p : Plainly) → Has self.old a (of_core (core p))
             → IfOk result (λ n. Has self.new n (of_core (core (windowed op i p)))) }
     {
-        let always = self.share(Item::True)?;
+        let always = self.share(Vertex::True)?;
         match op {
             WindowOp::F => self.until(i, always, a),
             WindowOp::O => self.since(i, always, a),

@@ -1,4 +1,4 @@
-//! The hash by which items are found. Its key is a hash of the specification itself, so that whoever chooses numbers
+//! The hash by which vertices are found. Its key is a hash of the specification itself, so that whoever chooses numbers
 //! doesn't know it before all of them are chosen.
 
 use plain_nodes::Plain;
@@ -21,7 +21,7 @@ impl BuildHasher for Keyed {
 }
 
 impl Keyed {
-    /// The key of the marked nodes. Items are found by any key, so no clause says which this is.
+    /// The key of the marked nodes. Vertices are found by any key, so no clause says which this is.
     pub fn by(marks: &[bool], nodes: &[Plain]) -> Keyed {
         let mut key = DefaultHasher::new();
         for (node, mark) in nodes.iter().zip(marks) {

@@ -1,19 +1,19 @@
-//! The items that become the instructions of one part of a program.
+//! The vertices that become the instructions of one part of a program.
 
 ghost use Rattle.std.specs.Prelude.{◌≡◌, ℕ, ◌<◌, ◌≤◌, if◌then◌else◌, Some, Err, [], ◌∷◌, ◌++◌, length, filter, slice_get, slice_index, All, OnOk, IfOk};
 ghost use Rattle.mltl_base.specs.declared.limits.TheConstants.{MAX_INSTRUCTIONS};
-ghost use Rattle.core_graph.specs.Items.{IsForest, tree_at, trees};
-ghost use Rattle.core_graph.specs.Listings.{AreOnce, IsListing, NamesNodes, asks, is_in, is_item_in, listed_trees, roots_by, roots_of};
+ghost use Rattle.core_graph.specs.Vertices.{IsForest, tree_at, trees};
+ghost use Rattle.core_graph.specs.Listings.{AreOnce, IsListing, NamesNodes, asks, is_in, is_vertex_in, listed_trees, roots_by, roots_of};
 
 use crate::forest::Forest;
 use crate::graph::GraphFault;
-use crate::item::Item;
+use crate::vertex::Vertex;
 use crate::walk::completion;
 use mltl_base::{Engine, Part};
 use plain_nodes::PlainOut;
 use std::alloc::{AllocError, Global};
 
-/// The items of a part in order, and for each item of the forest its place in that order.
+/// The vertices of a part in order, and for each vertex of the forest its place in that order.
 #[derive(Drop)]
 pub struct Listing {
     pub ids: Vec<usize>,
@@ -31,17 +31,17 @@ fn asks(part: Part, engine: Engine) -> bool
     }
 }
 
-/// Whether an item becomes an instruction of a part.
-pub fn is_in(part: Part, item: Item) -> bool
-    ensures { result ≡ is_item_in part item }
+/// Whether a vertex becomes an instruction of a part.
+pub fn is_in(part: Part, vertex: Vertex) -> bool
+    ensures { result ≡ is_vertex_in part vertex }
 {
     match part {
-        Part::Bz => !item.is_formula(),
-        Part::Ft | Part::Pt => item.is_formula(),
+        Part::Bz => !vertex.is_formula(),
+        Part::Ft | Part::Pt => vertex.is_formula(),
     }
 }
 
-/// The items that the walk of a part begins with: outputs in order, in a contract the left formula first.
+/// The vertices that the walk of a part begins with: outputs in order, in a contract the left formula first.
 fn roots(
     alloc: Global,
     outs: &[PlainOut],
@@ -58,7 +58,7 @@ fn roots(
     Ok(roots)
 }
 
-/// Adds the items of an output.
+/// Adds the vertices of an output.
 fn add_roots(
     roots: &mut Vec<usize>,
     out: &PlainOut,
@@ -84,7 +84,7 @@ fn add_roots(
     Ok(())
 }
 
-/// The items of a part at and below those that the outputs name, in order of first completion.
+/// The vertices of a part at and below those that the outputs name, in order of first completion.
 pub fn list(
     alloc: Global,
     forest: &Forest,
@@ -110,7 +110,7 @@ pub fn list(
     })
 }
 
-/// The items of a part among others, in their order.
+/// The vertices of a part among others, in their order.
 fn select(
     alloc: Global,
     forest: &Forest,
@@ -129,7 +129,7 @@ fn select(
     Ok(ids)
 }
 
-/// Puts an item after the others if it is of the part.
+/// Puts a vertex after the others if it is of the part.
 fn keep(ids: &mut Vec<usize>, forest: &Forest, id: usize, part: Part) -> Result<(), AllocError>
     requires forest { IsForest forest.now }
     requires there { id < length forest.now }
@@ -143,7 +143,7 @@ fn keep(ids: &mut Vec<usize>, forest: &Forest, id: usize, part: Part) -> Result<
     Ok(())
 }
 
-/// For each of `count` items its place among `ids`.
+/// For each of `count` vertices its place among `ids`.
 fn places(alloc: Global, ids: &[usize], count: usize) -> Result<Vec<u32>, AllocError>
     requires there { All (λ n. n < count) ids.now }
     requires once { AreOnce ids.now }

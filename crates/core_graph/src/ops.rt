@@ -1,12 +1,12 @@
-//! Instructions and outputs from listed items.
+//! Instructions and outputs from listed vertices.
 
 ghost use Rattle.std.specs.Prelude.{◌≡◌, ℕ, ◌<◌, length, map, All, IfOk};
-ghost use Rattle.core_graph.specs.Items.{AreBelow, IsForest, operands_of};
-ghost use Rattle.core_graph.specs.Listings.{NamesNodes, arith_op, bz_op_of, ft_op_of, item_at, out_of, places_for, pt_op_of};
+ghost use Rattle.core_graph.specs.Vertices.{AreBelow, IsForest, operands_of};
+ghost use Rattle.core_graph.specs.Listings.{NamesNodes, arith_op, bz_op_of, ft_op_of, vertex_at, out_of, places_for, pt_op_of};
 
 use crate::forest::Forest;
-use crate::item::Item;
 use crate::listing::Listing;
+use crate::vertex::Vertex;
 use mltl_base::{ArithOp, BzOp, Engine, FtOp, List, Out, PtOp};
 use plain_nodes::PlainOut;
 use std::alloc::{AllocError, Global};
@@ -17,7 +17,7 @@ pub fn bz_ops(alloc: Global, forest: &Forest, bz: &Listing) -> Result<List<BzOp>
     requires placed { length bz.now.places.items ≡ length forest.now }
     requires there { All (λ n. n < length forest.now) bz.now.ids.items }
     ensures { IfOk result (λ ops. ops
-        ≡ map (λ n. bz_op_of bz.now.places.items (item_at forest.now n)) bz.now.ids.items) }
+        ≡ map (λ n. bz_op_of bz.now.places.items (vertex_at forest.now n)) bz.now.ids.items) }
 {
     let mut ops = List::new(alloc);
     for id in &bz.ids {
@@ -38,7 +38,7 @@ pub fn ft_ops(
     requires placed { length ft.now.places.items ≡ length forest.now }
     requires there { All (λ n. n < length forest.now) ft.now.ids.items }
     ensures { IfOk result (λ ops. ops
-        ≡ map (λ n. ft_op_of bz.now.places.items ft.now.places.items (item_at forest.now n))
+        ≡ map (λ n. ft_op_of bz.now.places.items ft.now.places.items (vertex_at forest.now n))
         ft.now.ids.items) }
 {
     let mut ops = List::new(alloc);
@@ -60,7 +60,7 @@ pub fn pt_ops(
     requires placed { length pt.now.places.items ≡ length forest.now }
     requires there { All (λ n. n < length forest.now) pt.now.ids.items }
     ensures { IfOk result (λ ops. ops
-        ≡ map (λ n. pt_op_of bz.now.places.items pt.now.places.items (item_at forest.now n))
+        ≡ map (λ n. pt_op_of bz.now.places.items pt.now.places.items (vertex_at forest.now n))
         pt.now.ids.items) }
 {
     let mut ops = List::new(alloc);
@@ -71,19 +71,19 @@ pub fn pt_ops(
 }
 
 /// The instruction of an expression. No core formula is listed for the Booleanizer.
-fn bz_op(item: Item, places: &[u32]) -> BzOp
-    requires { AreBelow (length places.now) (operands_of item) }
-    ensures { result ≡ bz_op_of places.now item }
+fn bz_op(vertex: Vertex, places: &[u32]) -> BzOp
+    requires { AreBelow (length places.now) (operands_of vertex) }
+    ensures { result ≡ bz_op_of places.now vertex }
 {
-    match item {
-        Item::Column(column) => BzOp::Column(column),
-        Item::Const(number) => BzOp::Const(number),
-        Item::Neg(a) => BzOp::Neg(places[a]),
-        Item::Arith(op, a, b) => arith_op(op, places[a], places[b]),
-        Item::IsTrue(column) => BzOp::IsTrue(column),
-        Item::Eq(a, b) => BzOp::Eq(places[a], places[b]),
-        Item::Lt(a, b) => BzOp::Lt(places[a], places[b]),
-        Item::Le(a, b) => BzOp::Le(places[a], places[b]),
+    match vertex {
+        Vertex::Column(column) => BzOp::Column(column),
+        Vertex::Const(number) => BzOp::Const(number),
+        Vertex::Neg(a) => BzOp::Neg(places[a]),
+        Vertex::Arith(op, a, b) => arith_op(op, places[a], places[b]),
+        Vertex::IsTrue(column) => BzOp::IsTrue(column),
+        Vertex::Eq(a, b) => BzOp::Eq(places[a], places[b]),
+        Vertex::Lt(a, b) => BzOp::Lt(places[a], places[b]),
+        Vertex::Le(a, b) => BzOp::Le(places[a], places[b]),
         _ => BzOp::IsTrue(0),
     }
 }
@@ -100,32 +100,32 @@ fn arith_op(op: ArithOp, a: u32, b: u32) -> BzOp
     }
 }
 
-/// The instruction of a core formula of the future. No other item is listed for the engine.
-fn ft_op(item: Item, loads: &[u32], places: &[u32]) -> FtOp
-    requires loads { AreBelow (length loads.now) (operands_of item) }
-    requires places { AreBelow (length places.now) (operands_of item) }
-    ensures { result ≡ ft_op_of loads.now places.now item }
+/// The instruction of a core formula of the future. No other vertex is listed for the engine.
+fn ft_op(vertex: Vertex, loads: &[u32], places: &[u32]) -> FtOp
+    requires loads { AreBelow (length loads.now) (operands_of vertex) }
+    requires places { AreBelow (length places.now) (operands_of vertex) }
+    ensures { result ≡ ft_op_of loads.now places.now vertex }
 {
-    match item {
-        Item::Load(a) => FtOp::Load(loads[a]),
-        Item::Not(a) => FtOp::Not(places[a]),
-        Item::And(a, b) => FtOp::And(places[a], places[b]),
-        Item::Until(i, a, b) => FtOp::Until(places[a], places[b], i),
+    match vertex {
+        Vertex::Load(a) => FtOp::Load(loads[a]),
+        Vertex::Not(a) => FtOp::Not(places[a]),
+        Vertex::And(a, b) => FtOp::And(places[a], places[b]),
+        Vertex::Until(i, a, b) => FtOp::Until(places[a], places[b], i),
         _ => FtOp::True,
     }
 }
 
-/// The instruction of a core formula of the past. No other item is listed for the engine.
-fn pt_op(item: Item, loads: &[u32], places: &[u32]) -> PtOp
-    requires loads { AreBelow (length loads.now) (operands_of item) }
-    requires places { AreBelow (length places.now) (operands_of item) }
-    ensures { result ≡ pt_op_of loads.now places.now item }
+/// The instruction of a core formula of the past. No other vertex is listed for the engine.
+fn pt_op(vertex: Vertex, loads: &[u32], places: &[u32]) -> PtOp
+    requires loads { AreBelow (length loads.now) (operands_of vertex) }
+    requires places { AreBelow (length places.now) (operands_of vertex) }
+    ensures { result ≡ pt_op_of loads.now places.now vertex }
 {
-    match item {
-        Item::Load(a) => PtOp::Load(loads[a]),
-        Item::Not(a) => PtOp::Not(places[a]),
-        Item::And(a, b) => PtOp::And(places[a], places[b]),
-        Item::Since(i, a, b) => PtOp::Since(places[a], places[b], i),
+    match vertex {
+        Vertex::Load(a) => PtOp::Load(loads[a]),
+        Vertex::Not(a) => PtOp::Not(places[a]),
+        Vertex::And(a, b) => PtOp::And(places[a], places[b]),
+        Vertex::Since(i, a, b) => PtOp::Since(places[a], places[b], i),
         _ => PtOp::True,
     }
 }

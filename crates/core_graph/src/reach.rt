@@ -2,10 +2,10 @@
 
 ghost use Rattle.std.specs.Prelude.{◌≡◌, ◌⊎◌, ℕ, ◌<◌, length, All, Some, slice_get, IfOk};
 ghost use Rattle.plain_nodes.specs.declared.nodes.Plain.{Plain as Node};
-ghost use Rattle.core_graph.specs.Items.{AreBelow};
+ghost use Rattle.core_graph.specs.Vertices.{AreBelow};
 ghost use Rattle.core_graph.specs.Reached.{AreOver, AreReached, IsBelow, IsMarked, IsNamed, IsOperand, Marks, MarksBelow, NamesMarked, marked_nodes, named_by, node_operands};
 
-use crate::item::Operands;
+use crate::vertex::Operands;
 use plain_nodes::{Plain, PlainOut};
 use std::alloc::{AllocError, Global};
 

@@ -1,19 +1,19 @@
-//! The items of the plain nodes that outputs reach: one pass over the nodes, operands first.
+//! The vertices of the plain nodes that outputs reach: one pass over the nodes, operands first.
 
 ghost use Rattle.std.specs.Prelude.{◌≡◌, [], List, length, OnOk, IfOk};
 ghost use Rattle.plain_nodes.specs.declared.nodes.Plain.{Plain as Node};
 ghost use Rattle.plain_nodes.specs.Nodes.{AreSound, IsFormed, tree_of, trees};
-ghost use Rattle.core_graph.specs.Items.{Grows};
+ghost use Rattle.core_graph.specs.Vertices.{Grows};
 ghost use Rattle.core_graph.specs.Reached.{marked_nodes};
 ghost use Rattle.core_graph.specs.Reading.{AreRead, IsNext, Represents};
 
 use crate::forest::Forest;
-use crate::item::Item;
 use crate::reach::marked_node;
+use crate::vertex::Vertex;
 use plain_nodes::Plain;
 use std::alloc::{AllocError, Global};
 
-/// The items of all nodes, in order. For each that isn't marked it is true.
+/// The vertices of all nodes, in order. For each that isn't marked it is true.
 pub fn read(
     alloc: Global,
     forest: &mut Forest,
@@ -36,7 +36,7 @@ pub fn read(
     Ok(ids)
 }
 
-/// The item of a node, given those of the nodes before it.
+/// The vertex of a node, given those of the nodes before it.
 fn read_node(
     forest: &mut Forest,
     ids: &[usize],
@@ -53,13 +53,13 @@ fn read_node(
     match node {
         Plain::Truth(value) => forest.truth(value),
         Plain::Flag(signal) => {
-            let atom = forest.share(Item::IsTrue(columns[signal as usize]))?;
-            forest.share(Item::Load(atom))
+            let atom = forest.share(Vertex::IsTrue(columns[signal as usize]))?;
+            forest.share(Vertex::Load(atom))
         }
-        Plain::Number(number) => forest.share(Item::Const(number)),
-        Plain::Signal(signal) => forest.share(Item::Column(columns[signal as usize])),
-        Plain::Minus(a) => forest.share(Item::Neg(ids[a as usize])),
-        Plain::Arith(op, a, b) => forest.share(Item::Arith(op, ids[a as usize], ids[b as usize])),
+        Plain::Number(number) => forest.share(Vertex::Const(number)),
+        Plain::Signal(signal) => forest.share(Vertex::Column(columns[signal as usize])),
+        Plain::Minus(a) => forest.share(Vertex::Neg(ids[a as usize])),
+        Plain::Arith(op, a, b) => forest.share(Vertex::Arith(op, ids[a as usize], ids[b as usize])),
         Plain::Compare(op, a, b) => forest.comparison(op, ids[a as usize], ids[b as usize]),
         Plain::Not(a) => forest.negation(ids[a as usize]),
         Plain::Logic(op, a, b) => forest.connective(op, ids[a as usize], ids[b as usize]),

@@ -1,24 +1,24 @@
-//! A walk over a forest that completes each item once, operands first, from left to right.
+//! A walk over a forest that completes each vertex once, operands first, from left to right.
 //!
-//! It stops where a part would have more items than the limit.
+//! It stops where a part would have more vertices than the limit.
 
 ghost use Rattle.std.specs.Prelude.{◌≡◌, ℕ, ◌<◌, ◌≤◌, Err, [], ◌∷◌, ◌++◌, List, length, All, MatchOption, OnOk, IfOk};
 ghost use Rattle.mltl_base.specs.declared.limits.TheConstants.{MAX_INSTRUCTIONS};
 ghost use Rattle.core_graph.specs.CountedWalks.{IsCountedWalk};
-ghost use Rattle.core_graph.specs.Items.{AreBelow, IsForest, operands_of, tree_at, trees};
+ghost use Rattle.core_graph.specs.Vertices.{AreBelow, IsForest, operands_of, tree_at, trees};
 ghost use Rattle.core_graph.specs.Listings.{count_in};
 ghost use Rattle.core_graph.specs.Trees.{add_tree, completed};
 ghost use Rattle.core_graph.specs.Walks.{AreDone, IsFirstOpen, IsStack, finish, trees_of, work};
 
 use crate::forest::Forest;
 use crate::graph::GraphFault;
-use crate::item::Operands;
 use crate::listing::is_in;
+use crate::vertex::Operands;
 use mltl_base::Part;
 use mltl_base::limits::MAX_INSTRUCTIONS;
 use std::alloc::{AllocError, Global};
 
-/// The items that are complete, in order, for each item of the forest whether it is, and how many are of the part.
+/// The vertices that are complete, in order, for each vertex of the forest whether it is, and how many are of the part.
 #[derive(Drop)]
 pub struct Walk {
     pub order: Vec<usize>,
@@ -26,9 +26,9 @@ pub struct Walk {
     pub count: usize,
 }
 
-/// The items at and below the roots, in order of first completion.
+/// The vertices at and below the roots, in order of first completion.
 ///
-/// `TooManyNodes` comes as soon as more items of the part are complete than the limit.
+/// `TooManyNodes` comes as soon as more vertices of the part are complete than the limit.
 pub fn completion(
     alloc: Global,
     forest: &Forest,
@@ -53,12 +53,7 @@ pub fn completion(
     for root in roots {
         walk.visit(alloc, forest, *root, part)?;
     }
-    let Walk {
-        order,
-        done: _,
-        count: _,
-    } = walk;
-    Ok(order)
+    Ok(walk.order)
 }
 
 /// The first operand that isn't complete.
@@ -80,7 +75,7 @@ fn first_open(operands: Operands, done: &[bool]) -> Option<usize>
 }
 
 impl Walk {
-    /// Completes a root and what is open below it, up to the first item of the part past the limit.
+    /// Completes a root and what is open below it, up to the first vertex of the part past the limit.
     fn visit(
         &mut self,
         alloc: Global,
@@ -113,7 +108,7 @@ impl Walk {
         Ok(())
     }
 
-    /// Goes on with the latest item that waits: to an operand, or over it where all are complete.
+    /// Goes on with the latest vertex that waits: to an operand, or over it where all are complete.
     fn step(
         &mut self,
         forest: &Forest,
@@ -134,8 +129,8 @@ impl Walk {
         ensures less { OnOk result
             (work self.new.done.items stack.new.items < work self.old.done.items stack.old.items) }
     {
-        let item = forest.get(top);
-        match first_open(item.operands(), &self.done) {
+        let vertex = forest.get(top);
+        match first_open(vertex.operands(), &self.done) {
             Some(operand) => {
                 stack.push(operand)?;
                 Ok(())
@@ -143,8 +138,8 @@ impl Walk {
             None => {
                 self.order.push(top)?;
                 self.done[top] = true;
-                self.count += usize::from(is_in(part, item));
-                let _top = stack.pop();
+                self.count += usize::from(is_in(part, vertex));
+                stack.pop();
                 Ok(())
             }
         }

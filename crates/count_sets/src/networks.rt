@@ -46,18 +46,15 @@ fn at_least(alloc: Global, n: u32, m: u32) -> Result<List<Gate>, AllocError>
 {
     if m == 0 || m > n {
         let mut gates = List::new(alloc);
-        let _number = add(&mut gates, Gate::Truth(m == 0))?;
+        add(&mut gates, Gate::Truth(m == 0))?;
         return Ok(gates);
     }
-    let table = Table::of(
-        alloc,
-        Plan {
-            bodies: n,
-            lowest: m,
-            highest: m,
-        },
-    )?;
-    let Table { gates, row: _ } = table;
+    let plan = Plan {
+        bodies: n,
+        lowest: m,
+        highest: m,
+    };
+    let Table { gates, .. } = Table::of(alloc, plan)?;
     Ok(gates)
 }
 
@@ -74,19 +71,16 @@ fn at_most(alloc: Global, n: u32, m: u32) -> Result<List<Gate>, AllocError>
     if m >= n {
         let mut gates = List::new(alloc);
         let no = add(&mut gates, Gate::Truth(false))?;
-        let _number = add(&mut gates, Gate::Not(no))?;
+        add(&mut gates, Gate::Not(no))?;
         return Ok(gates);
     }
-    let table = Table::of(
-        alloc,
-        Plan {
-            bodies: n,
-            lowest: m + 1,
-            highest: m + 1,
-        },
-    )?;
-    let Table { mut gates, row } = table;
-    let _number = add(&mut gates, Gate::Not(row[m as usize + 1]))?;
+    let plan = Plan {
+        bodies: n,
+        lowest: m + 1,
+        highest: m + 1,
+    };
+    let Table { mut gates, row } = Table::of(alloc, plan)?;
+    add(&mut gates, Gate::Not(row[m as usize + 1]))?;
     Ok(gates)
 }
 
@@ -104,19 +98,16 @@ fn exactly(alloc: Global, n: u32, m: u32) -> Result<List<Gate>, AllocError>
         let mut gates = List::new(alloc);
         let no = add(&mut gates, Gate::Truth(false))?;
         let within = add(&mut gates, Gate::Not(no))?;
-        let _number = add(&mut gates, Gate::Both(no, within))?;
+        add(&mut gates, Gate::Both(no, within))?;
         return Ok(gates);
     }
-    let table = Table::of(
-        alloc,
-        Plan {
-            bodies: n,
-            lowest: m,
-            highest: m + 1,
-        },
-    )?;
-    let Table { mut gates, row } = table;
+    let plan = Plan {
+        bodies: n,
+        lowest: m,
+        highest: m + 1,
+    };
+    let Table { mut gates, row } = Table::of(alloc, plan)?;
     let within = add(&mut gates, Gate::Not(row[m as usize + 1]))?;
-    let _number = add(&mut gates, Gate::Both(row[m as usize], within))?;
+    add(&mut gates, Gate::Both(row[m as usize], within))?;
     Ok(gates)
 }

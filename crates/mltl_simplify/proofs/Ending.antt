@@ -17,7 +17,7 @@ use Rattle.plain_nodes.specs.Faults.{HasRanges, formula_fault}
 use Rattle.plain_nodes.specs.Nodes.{formula_at, trees, AreSound}
 use Rattle.plain_nodes.specs.Outputs.{IsSound, NamesFormulas, asked, asked_by}
 use Rattle.plain_nodes.proofs.NoFaults.{neither}
-use Rattle.mltl_simplify.specs.declared.parts.Part.{Part}
+use Rattle.mltl_simplify.specs.declared.proxies.Proxy.{Proxy}
 use Rattle.mltl_simplify.specs.Nodes.{AreSimplified, NamesNodes, out_over}
 use Rattle.mltl_simplify.specs.Outputs.{simple_asked, simple_output, simple_outputs}
 use Rattle.mltl_simplify.specs.Simplify.{simp, as_truth}
@@ -89,47 +89,47 @@ simple_ranged outs h = All-map HasRanges simple_asked outs (All-weaker HasRanges
 
 -- ---- outputs over the places of nodes
 
-module _ (older simple : List Plain) (parts : List Part) (done : AreSimplified older (length older) simple parts) where
-  out_asked : (o : PlainOut) → NamesFormulas (trees older) o → HasRanges (asked_by (trees older) o) → asked_by (trees simple) (out_over parts o) ≡ simple_asked (asked_by (trees older) o)
+module _ (older simple : List Plain) (proxies : List Proxy) (done : AreSimplified older (length older) simple proxies) where
+  out_asked : (o : PlainOut) → NamesFormulas (trees older) o → HasRanges (asked_by (trees older) o) → asked_by (trees simple) (out_over proxies o) ≡ simple_asked (asked_by (trees older) o)
   out_asked (out.Formula e n name) h k =
-      ap (λ p. record { engine = e; name = name; output = formula p }) (place_of_formula older simple parts done n h (All-head NoFault (formula_at (trees older) n) [] k))
+      ap (λ p. record { engine = e; name = name; output = formula p }) (place_of_formula older simple proxies done n h (All-head NoFault (formula_at (trees older) n) [] k))
   out_asked (out.Contract e n m name) h k =
       let rest = All-tail NoFault (formula_at (trees older) n) (formula_at (trees older) m ∷ []) k in
       ap₂ (λ p q. record { engine = e; name = name; output = contract p q })
-      (place_of_formula older simple parts done n h.0 (All-head NoFault (formula_at (trees older) n) (formula_at (trees older) m ∷ []) k))
-      (place_of_formula older simple parts done m h.1 (All-head NoFault (formula_at (trees older) m) [] rest))
+      (place_of_formula older simple proxies done n h.0 (All-head NoFault (formula_at (trees older) n) (formula_at (trees older) m ∷ []) k))
+      (place_of_formula older simple proxies done m h.1 (All-head NoFault (formula_at (trees older) m) [] rest))
 
-  out_names : (o : PlainOut) → NamesFormulas (trees older) o → NamesFormulas (trees simple) (out_over parts o)
-  out_names (out.Formula e n name) h = (formula_names older simple parts done n h).0
-  out_names (out.Contract e n m name) h = ((formula_names older simple parts done n h.0).0, (formula_names older simple parts done m h.1).0)
+  out_names : (o : PlainOut) → NamesFormulas (trees older) o → NamesFormulas (trees simple) (out_over proxies o)
+  out_names (out.Formula e n name) h = (formula_names older simple proxies done n h).0
+  out_names (out.Contract e n m name) h = ((formula_names older simple proxies done n h.0).0, (formula_names older simple proxies done m h.1).0)
 
-  out_below : (o : PlainOut) → NamesFormulas (trees older) o → NamesNodes (length parts) o
-  out_below (out.Formula e n name) h = (formula_names older simple parts done n h).1
-  out_below (out.Contract e n m name) h = ((formula_names older simple parts done n h.0).1, (formula_names older simple parts done m h.1).1)
+  out_below : (o : PlainOut) → NamesFormulas (trees older) o → NamesNodes (length proxies) o
+  out_below (out.Formula e n name) h = (formula_names older simple proxies done n h).1
+  out_below (out.Contract e n m name) h = ((formula_names older simple proxies done n h.0).1, (formula_names older simple proxies done m h.1).1)
 
-  pub outs_below : (outs : List PlainOut) → All (NamesFormulas (trees older)) outs → All (NamesNodes (length parts)) outs
-  outs_below outs h = All-weaker (NamesFormulas (trees older)) (NamesNodes (length parts)) out_below outs h
+  pub outs_below : (outs : List PlainOut) → All (NamesFormulas (trees older)) outs → All (NamesNodes (length proxies)) outs
+  outs_below outs h = All-weaker (NamesFormulas (trees older)) (NamesNodes (length proxies)) out_below outs h
 
   outs_asked : (outs : List PlainOut) → All (NamesFormulas (trees older)) outs → All HasRanges (map (asked_by (trees older)) outs) →
-      map (asked_by (trees simple)) (map (out_over parts) outs) ≡ simple_outputs (map (asked_by (trees older)) outs)
+      map (asked_by (trees simple)) (map (out_over proxies) outs) ≡ simple_outputs (map (asked_by (trees older)) outs)
   outs_asked [] h k = refl
   outs_asked (o ∷ outs) h k =
       let os = map (asked_by (trees older)) outs in
       ap₂ (λ x xs. x ∷ xs) (out_asked o (All-head (NamesFormulas (trees older)) o outs h) (All-head HasRanges (asked_by (trees older) o) os k)) (outs_asked outs (All-tail (NamesFormulas (trees older)) o outs h) (All-tail HasRanges (asked_by (trees older) o) os k))
 
-  outs_name : (outs : List PlainOut) → All (NamesFormulas (trees older)) outs → All (NamesFormulas (trees simple)) (map (out_over parts) outs)
-  outs_name outs h = All-map (NamesFormulas (trees simple)) (out_over parts) outs (All-weaker (NamesFormulas (trees older)) (λ o. NamesFormulas (trees simple) (out_over parts o)) out_names outs h)
+  outs_name : (outs : List PlainOut) → All (NamesFormulas (trees older)) outs → All (NamesFormulas (trees simple)) (map (out_over proxies) outs)
+  outs_name outs h = All-map (NamesFormulas (trees simple)) (out_over proxies) outs (All-weaker (NamesFormulas (trees older)) (λ o. NamesFormulas (trees simple) (out_over proxies o)) out_names outs h)
 
-  pub simple_asks : (outs : List PlainOut) (all : Expanded) → all.nodes ≡ simple → all.outs ≡ map (out_over parts) outs → All (NamesFormulas (trees older)) outs → All HasRanges (map (asked_by (trees older)) outs) →
+  pub simple_asks : (outs : List PlainOut) (all : Expanded) → all.nodes ≡ simple → all.outs ≡ map (out_over proxies) outs → All (NamesFormulas (trees older)) outs → All HasRanges (map (asked_by (trees older)) outs) →
       asked all ≡ simple_outputs (map (asked_by (trees older)) outs)
   simple_asks outs all e f h k = ap₂ (λ ns os. map (asked_by (trees ns)) os) e f ∙ outs_asked outs h k
 
-  pub simple_sound : (outs : List PlainOut) (all : Expanded) (signals : ℕ) → all.nodes ≡ simple → all.outs ≡ map (out_over parts) outs → length simple < 2 ^ 32 → IsSound (record { nodes = older; outs = outs }) signals →
+  pub simple_sound : (outs : List PlainOut) (all : Expanded) (signals : ℕ) → all.nodes ≡ simple → all.outs ≡ map (out_over proxies) outs → length simple < 2 ^ 32 → IsSound (record { nodes = older; outs = outs }) signals →
       All HasRanges (map (asked_by (trees older)) outs) → IsSound all signals
   simple_sound outs all signals e f few s k = record {
     few_nodes = subst (λ ns. length ns < 2 ^ 32) (sym e) few;
-    few_outs = let same : length all.outs ≡ length outs = ap length f ∙ length-map outs (out_over parts) in omega (arith, s.few_outs);
+    few_outs = let same : length all.outs ≡ length outs = ap length f ∙ length-map outs (out_over proxies) in omega (arith, s.few_outs);
     nodes = subst (λ ns. AreSound signals ns) (sym e) (done.sound signals s.nodes);
-    outs = subst (λ os. All (NamesFormulas (trees all.nodes)) os) (sym f) (subst (λ ns. All (NamesFormulas (trees ns)) (map (out_over parts) outs)) (sym e) (outs_name outs s.outs));
+    outs = subst (λ os. All (NamesFormulas (trees all.nodes)) os) (sym f) (subst (λ ns. All (NamesFormulas (trees ns)) (map (out_over proxies) outs)) (sym e) (outs_name outs s.outs));
     tensed = subst (λ xs. All IsTensed xs) (sym (simple_asks outs all e f s.outs k)) (simple_tensed (map (asked_by (trees older)) outs) s.tensed);
   }

@@ -146,10 +146,6 @@ not_other ts n p e h k = other_not p ((tells ts n p e).truth ∙ no_truth n h) (
 
 -- ---- operators that look at one time
 
--- a truth that is found, by its value
-pub known : (v w : Bool) (p : Formula) → Some v ≡ as_truth p → v ≡ w → Some w ≡ as_truth p
-known v w p h e = subst (λ b. Some b ≡ as_truth p) e h
-
 module _ (p q : Formula) where
   pub true_and : Some true ≡ as_truth p → q ≡ simple_and p q
   true_and h = rw (← h) refl

@@ -1,17 +1,14 @@
 -- Numbers of whole numbers without signals and without a fault.
 
-use Rattle.std.proofs.Common.{◌≡◌, ◌≢◌, ℕ, ℤ, pos, neg_ℤ, ◌≤ℤ◌, Bool, true, false, not, ◌||◌, Option, Some, None, [], refl, sym, subst, ap₂, ◌∙◌, arith}
+use Rattle.std.proofs.Common.{◌≡◌, ◌≢◌, ℕ, ℤ, pos, neg_ℤ, Bool, true, false, ◌||◌, Option, Some, None, [], refl, sym, subst, ap₂, ◌∙◌, arith}
 use Rattle.std.specs.Prelude.{Ok, Err, if◌then◌else◌, FitsSigned}
 use Rattle.std.specs.Int.{w64}
-use Rattle.std.specs.Ordering.{int_eq}
 use Rattle.std.proofs.lemmas.Int.{ints}
-use Rattle.std.proofs.lemmas.Bool.{and_parts}
-use Rattle.std.proofs.lemmas.Bool.Decides.{Decides-int_eq}
 use Rattle.mltl_base.specs.declared.operators.ArithOp as arith
 use Rattle.mltl_base.specs.declared.operators.CompareOp as compare
 use Rattle.mltl_base.specs.Atoms.{Term, column, constant, negative, plus, minus, times, quotient, remainder, value, holds}
 use Rattle.mltl_base.specs.Formula.{Formula, atom}
-use Rattle.mltl_base.specs.Ranges.{Range, Ranged, divisor, range, negated, summed, lessened, multiplied, divided, left_over, over, over_both, over_divisor, in_word, divides, IsIn, FitsTerm}
+use Rattle.mltl_base.specs.Ranges.{Range, Ranged, range, negated, summed, lessened, multiplied, divided, left_over, over_divisor, FitsTerm}
 use Rattle.mltl_base.proofs.Ranging.{HasRange, value_fits_word, divisor_not_zero}
 use Rattle.plain_nodes.specs.Faults.{why_none, term_fault, formula_fault}
 use Rattle.plain_nodes.specs.Nodes.{arithmetic, comparison, constant_formula}

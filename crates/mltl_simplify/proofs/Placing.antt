@@ -21,7 +21,7 @@ use Rattle.plain_nodes.specs.Nodes.{Tree, number, formula, term_at, formula_at, 
 use Rattle.plain_nodes.proofs.NoFaults.{neither}
 use Rattle.plain_nodes.proofs.Places.{at_push}
 use Rattle.plain_nodes.proofs.Pushing.{has_new, grows_append, sound_push, number_at, is_number, formula_in_place, is_formula}
-use Rattle.mltl_simplify.specs.declared.parts.Part.{Part}
+use Rattle.mltl_simplify.specs.declared.proxies.Proxy.{Proxy}
 use Rattle.mltl_simplify.specs.Numbers.{compared}
 use Rattle.mltl_simplify.specs.Nodes as simplified
 use Rattle.mltl_simplify.specs.Nodes.{AreFormed, AreNumbered, AreSimplified, IsNumbered, IsPlaced, IsSimplified, Places, Puts, simple_between, simple_logic, simple_window}
@@ -30,22 +30,22 @@ use Rattle.mltl_simplify.proofs.Reading.{formula_below, formula_operand, has_pla
 use Rattle.mltl_simplify.proofs.Putting.{put}
 use Rattle.mltl_simplify.proofs.Numbering.{IsKnown, by_found, compared_simple, computed_known, constant_is, constant_known, negated_known}
 
--- ---- parts of operands
+-- ---- proxies of operands
 
-record HasPart (parts : List Part) (a : ℕ) : Type 0 where
-  the : Part
-  is : slice_get parts a ≡ Some the
+record HasPart (proxies : List Proxy) (a : ℕ) : Type 0 where
+  the : Proxy
+  is : slice_get proxies a ≡ Some the
 
-has_part : (parts : List Part) (a : ℕ) → a < length parts → HasPart parts a
-has_part parts a l = let d : Part = record { place = 0; number = None } in record { the = get_or parts a d; is = slice_get-get_or parts a d l }
+has_part : (proxies : List Proxy) (a : ℕ) → a < length proxies → HasPart proxies a
+has_part proxies a l = let d : Proxy = record { place = 0; number = None } in record { the = get_or proxies a d; is = slice_get-get_or proxies a d l }
 
 -- the number of an operand, and of a node, is known
-pub known_operand : (nodes : List Plain) (parts : List Part) (i a : ℕ) → length parts ≡ i → i < length nodes → AreNumbered nodes parts → IsNumber (slice_get (trees (take i nodes)) a) →
-    IsKnown (simplified.number_at parts a) (term_at (trees (take i nodes)) a)
-known_operand nodes parts i a each l numbered h =
+pub known_operand : (nodes : List Plain) (proxies : List Proxy) (i a : ℕ) → length proxies ≡ i → i < length nodes → AreNumbered nodes proxies → IsNumber (slice_get (trees (take i nodes)) a) →
+    IsKnown (simplified.number_at proxies a) (term_at (trees (take i nodes)) a)
+known_operand nodes proxies i a each l numbered h =
     let below : a < i = number_below nodes i a l h in
-    let part = has_part parts a (omega arith) in
-    subst (λ x. IsKnown x (term_at (trees (take i nodes)) a)) (sym (ap simplified.number_in part.is)) (numbered.known a part.the _ part.is (number_operand nodes i a h))
+    let proxy = has_part proxies a (omega arith) in
+    subst (λ x. IsKnown x (term_at (trees (take i nodes)) a)) (sym (ap simplified.number_in proxy.is)) (numbered.known a proxy.the _ proxy.is (number_operand nodes i a h))
 
 pub numbered_as : (found : Option ℤ) (a : Term) (tree : Tree) → number a ≡ tree → IsKnown found a → IsNumbered found tree
 numbered_as found a tree e h = subst (λ t. IsNumbered found t) e h
@@ -70,18 +70,18 @@ pub other_numbered : (ts : List Tree) (n : Plain) (tree : Tree) → tree_of ts n
 other_numbered ts n tree e x y z = subst (λ t. IsNumbered None t) e (numbered_none ts n x y z)
 
 -- the node that stands for an operand
-module _ (nodes simple : List Plain) (parts : List Part) (i : ℕ) (l : i < length nodes) (before : AreSimplified nodes i simple parts) where
-  pub formula_there : (a : ℕ) → IsFormula (slice_get (trees (take i nodes)) a) → IsSimplified simple (simplified.place_at parts a) (formula_at (trees (take i nodes)) a)
+module _ (nodes simple : List Plain) (proxies : List Proxy) (i : ℕ) (l : i < length nodes) (before : AreSimplified nodes i simple proxies) where
+  pub formula_there : (a : ℕ) → IsFormula (slice_get (trees (take i nodes)) a) → IsSimplified simple (simplified.place_at proxies a) (formula_at (trees (take i nodes)) a)
   formula_there a h =
       let below : a < i = formula_below nodes i a l h in
-      let part = has_part parts a (omega (arith, before.each)) in
-      subst (λ n. IsSimplified simple n (formula_at (trees (take i nodes)) a)) (sym (ap simplified.place_in part.is)) (before.placed a part.the _ part.is (formula_operand nodes i a h))
+      let proxy = has_part proxies a (omega (arith, before.each)) in
+      subst (λ n. IsSimplified simple n (formula_at (trees (take i nodes)) a)) (sym (ap simplified.place_in proxy.is)) (before.placed a proxy.the _ proxy.is (formula_operand nodes i a h))
 
-  pub number_there : (a : ℕ) → IsNumber (slice_get (trees (take i nodes)) a) → Has simple (simplified.place_at parts a) (number (term_at (trees (take i nodes)) a))
+  pub number_there : (a : ℕ) → IsNumber (slice_get (trees (take i nodes)) a) → Has simple (simplified.place_at proxies a) (number (term_at (trees (take i nodes)) a))
   number_there a h =
       let below : a < i = number_below nodes i a l h in
-      let part = has_part parts a (omega (arith, before.each)) in
-      subst (λ n. Has simple n (number (term_at (trees (take i nodes)) a))) (sym (ap simplified.place_in part.is)) (before.placed a part.the _ part.is (number_operand nodes i a h))
+      let proxy = has_part proxies a (omega (arith, before.each)) in
+      subst (λ n. Has simple n (number (term_at (trees (take i nodes)) a))) (sym (ap simplified.place_in proxy.is)) (before.placed a proxy.the _ proxy.is (number_operand nodes i a h))
 
 -- ---- one more node
 
@@ -242,23 +242,23 @@ placed_kept : (old new : List Plain) (n : ℕ) (tree : Tree) → Grows old new �
 placed_kept old new n (number a) g h = g.kept n (number a) h
 placed_kept old new n (formula p) g h = record { the = h.the; has = g.kept n (formula h.the) h.has; simple = h.simple }
 
--- one more part
-pub one_more : (nodes old new : List Plain) (i : ℕ) (parts more : List Part) (part : Part) → i < length nodes → AreSimplified nodes i old parts →
-    ((tree : Tree) → Has nodes i tree → Places nodes old new part.place tree) → ((tree : Tree) → Has nodes i tree → IsNumbered part.number tree) → more ≡ parts ++ part ∷ [] → AreSimplified nodes (i + 1) new more
-one_more nodes old new i parts more part l before here told e =
+-- one more proxy
+pub one_more : (nodes old new : List Plain) (i : ℕ) (proxies more : List Proxy) (proxy : Proxy) → i < length nodes → AreSimplified nodes i old proxies →
+    ((tree : Tree) → Has nodes i tree → Places nodes old new proxy.place tree) → ((tree : Tree) → Has nodes i tree → IsNumbered proxy.number tree) → more ≡ proxies ++ proxy ∷ [] → AreSimplified nodes (i + 1) new more
+one_more nodes old new i proxies more proxy l before here told e =
     let n : Plain = get_or nodes i (node.Truth false) in
     let there : Has nodes i (tree_of (trees (take i nodes)) n) = node_has nodes i n (slice_get-get_or nodes i (node.Truth false) l) in
     let placed = here _ there in
-    let whole : AreSimplified nodes (i + 1) new (parts ++ part ∷ []) = record {
-      each = length_push parts part ∙ ap (λ k. k + 1) before.each;
-      placed = λ k one tree a b. elim (at_push parts part k one a) [
+    let whole : AreSimplified nodes (i + 1) new (proxies ++ proxy ∷ []) = record {
+      each = length_push proxies proxy ∙ ap (λ k. k + 1) before.each;
+      placed = λ k one tree a b. elim (at_push proxies proxy k one a) [
         | inl p ↦ placed_kept old new one.place tree placed.grows (before.placed k one tree p.1 b)
-        | inr p ↦ subst (λ (x : Part). IsPlaced new x.place tree) p.1 (here tree (subst (λ m. Has nodes m tree) (p.0 ∙ before.each) b)).placed
+        | inr p ↦ subst (λ (x : Proxy). IsPlaced new x.place tree) p.1 (here tree (subst (λ m. Has nodes m tree) (p.0 ∙ before.each) b)).placed
       ];
       numbered = record {
-        known = λ k one tree a b. elim (at_push parts part k one a) [
+        known = λ k one tree a b. elim (at_push proxies proxy k one a) [
           | inl p ↦ before.numbered.known k one tree p.1 b
-          | inr p ↦ subst (λ (x : Part). IsNumbered x.number tree) p.1 (told tree (subst (λ m. Has nodes m tree) (p.0 ∙ before.each) b))
+          | inr p ↦ subst (λ (x : Proxy). IsNumbered x.number tree) p.1 (told tree (subst (λ m. Has nodes m tree) (p.0 ∙ before.each) b))
         ];
       };
       sound = λ signals s. placed.sound signals s (before.sound signals s);
@@ -267,35 +267,35 @@ one_more nodes old new i parts more part l before here told e =
 
 -- ---- outputs
 
-record Named (nodes simple : List Plain) (parts : List Part) (n : ℕ) : Type 0 where
-  below : n < length parts
-  stands : IsSimplified simple (simplified.place_at parts n) (formula_at (trees nodes) n)
+record Named (nodes simple : List Plain) (proxies : List Proxy) (n : ℕ) : Type 0 where
+  below : n < length proxies
+  stands : IsSimplified simple (simplified.place_at proxies n) (formula_at (trees nodes) n)
 
-named : (nodes simple : List Plain) (parts : List Part) → AreSimplified nodes (length nodes) simple parts → (n : ℕ) → IsFormula (slice_get (trees nodes) n) → Named nodes simple parts n
-named nodes simple parts done n h =
+named : (nodes simple : List Plain) (proxies : List Proxy) → AreSimplified nodes (length nodes) simple proxies → (n : ℕ) → IsFormula (slice_get (trees nodes) n) → Named nodes simple proxies n
+named nodes simple proxies done n h =
     let all : take (length nodes) nodes ≡ nodes = take-length nodes in
     let there : Has nodes n (formula (formula_at (trees nodes) n)) = subst (λ ns. Has nodes n (formula (formula_at (trees ns) n))) all
     (formula_operand nodes (length nodes) n (subst (λ ns. IsFormula (slice_get (trees ns) n)) (sym all) h)) in
     let inside : n < length nodes = has_place nodes n _ there in
-    let part = has_part parts n (omega (arith, done.each)) in
+    let proxy = has_part proxies n (omega (arith, done.each)) in
     record {
       below = omega (arith, done.each);
-      stands = subst (λ m. IsSimplified simple m (formula_at (trees nodes) n)) (sym (ap simplified.place_in part.is)) (done.placed n part.the _ part.is there);
+      stands = subst (λ m. IsSimplified simple m (formula_at (trees nodes) n)) (sym (ap simplified.place_in proxy.is)) (done.placed n proxy.the _ proxy.is there);
     }
 
-pub place_of_formula : (nodes simple : List Plain) (parts : List Part) → AreSimplified nodes (length nodes) simple parts → (n : ℕ) → IsFormula (slice_get (trees nodes) n) → formula_fault (formula_at (trees nodes) n) ≡ None →
-    formula_at (trees simple) (simplified.place_at parts n) ≡ simp (formula_at (trees nodes) n)
-place_of_formula nodes simple parts done n h k =
-    let s = (named nodes simple parts done n h).stands in
-    formula_in_place simple (simplified.place_at parts n) s.the s.has ∙ s.simple k
+pub place_of_formula : (nodes simple : List Plain) (proxies : List Proxy) → AreSimplified nodes (length nodes) simple proxies → (n : ℕ) → IsFormula (slice_get (trees nodes) n) → formula_fault (formula_at (trees nodes) n) ≡ None →
+    formula_at (trees simple) (simplified.place_at proxies n) ≡ simp (formula_at (trees nodes) n)
+place_of_formula nodes simple proxies done n h k =
+    let s = (named nodes simple proxies done n h).stands in
+    formula_in_place simple (simplified.place_at proxies n) s.the s.has ∙ s.simple k
 
-pub formula_names : (nodes simple : List Plain) (parts : List Part) → AreSimplified nodes (length nodes) simple parts → (n : ℕ) → IsFormula (slice_get (trees nodes) n) →
-    IsFormula (slice_get (trees simple) (simplified.place_at parts n)) × (n < length parts)
-formula_names nodes simple parts done n h =
-    let w = named nodes simple parts done n h in
-    (is_formula simple (simplified.place_at parts n) w.stands.the w.stands.has, w.below)
+pub formula_names : (nodes simple : List Plain) (proxies : List Proxy) → AreSimplified nodes (length nodes) simple proxies → (n : ℕ) → IsFormula (slice_get (trees nodes) n) →
+    IsFormula (slice_get (trees simple) (simplified.place_at proxies n)) × (n < length proxies)
+formula_names nodes simple proxies done n h =
+    let w = named nodes simple proxies done n h in
+    (is_formula simple (simplified.place_at proxies n) w.stands.the w.stands.has, w.below)
 
 -- the node that stands for an operand is a formula
-pub is_there : (nodes simple : List Plain) (parts : List Part) (i : ℕ) → i < length nodes → AreSimplified nodes i simple parts → (a : ℕ) → IsFormula (slice_get (trees (take i nodes)) a) →
-    simplified.IsFormulaAt simple (simplified.place_at parts a)
-is_there nodes simple parts i l before a h = let w = formula_there nodes simple parts i l before a h in record { the = w.the; has = w.has }
+pub is_there : (nodes simple : List Plain) (proxies : List Proxy) (i : ℕ) → i < length nodes → AreSimplified nodes i simple proxies → (a : ℕ) → IsFormula (slice_get (trees (take i nodes)) a) →
+    simplified.IsFormulaAt simple (simplified.place_at proxies a)
+is_there nodes simple proxies i l before a h = let w = formula_there nodes simple proxies i l before a h in record { the = w.the; has = w.has }

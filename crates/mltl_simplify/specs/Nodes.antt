@@ -13,7 +13,7 @@ use Rattle.plain_nodes.specs.declared.nodes.PlainOut.{PlainOut}
 use Rattle.plain_nodes.specs.declared.nodes.PlainOut.TheVariants.{Formula, Contract}
 use Rattle.plain_nodes.specs.Faults.{formula_fault, term_fault}
 use Rattle.plain_nodes.specs.Nodes.{Tree, number, formula, Has, Grows, AreSound}
-use Rattle.mltl_simplify.specs.declared.parts.Part.{Part}
+use Rattle.mltl_simplify.specs.declared.proxies.Proxy.{Proxy}
 use Rattle.mltl_simplify.specs.Numbers.{number_of}
 use Rattle.mltl_simplify.specs.Simplify.{simp, simple_and, simple_or, simple_implies, simple_equals, simple_finally}
 use Rattle.mltl_simplify.specs.Simplify.{simple_globally, simple_once, simple_historically, as_truth, unless_truth}
@@ -96,41 +96,41 @@ abbrev pub IsNumbered : Option ℤ → Tree → Type 0
 IsNumbered known (number a) = term_fault a ≡ None → known ≡ number_of a
 IsNumbered known (formula p) = ⊤
 
--- the parts of the first nodes have the numbers of these
-pub record AreNumbered (nodes : List Plain) (parts : List Part) : Type 0 where
-  pub known : (n : ℕ) (part : Part) (tree : Tree) → slice_get parts n ≡ Some part → Has nodes n tree
-      → IsNumbered part.number tree
+-- the proxies of the first nodes have the numbers of these
+pub record AreNumbered (nodes : List Plain) (proxies : List Proxy) : Type 0 where
+  pub known : (n : ℕ) (proxy : Proxy) (tree : Tree) → slice_get proxies n ≡ Some proxy → Has nodes n tree
+      → IsNumbered proxy.number tree
 
--- there is a part for each of so many first nodes, which stands for what the node unfolds to
-pub record AreSimplified (nodes : List Plain) (count : ℕ) (simple : List Plain) (parts : List Part) : Type 0 where
-  pub each : length parts ≡ count
-  pub placed : (n : ℕ) (part : Part) (tree : Tree) → slice_get parts n ≡ Some part → Has nodes n tree
-      → IsPlaced simple part.place tree
-  pub numbered : AreNumbered nodes parts
+-- there is a proxy for each of so many first nodes, which stands for what the node unfolds to
+pub record AreSimplified (nodes : List Plain) (count : ℕ) (simple : List Plain) (proxies : List Proxy) : Type 0 where
+  pub each : length proxies ≡ count
+  pub placed : (n : ℕ) (proxy : Proxy) (tree : Tree) → slice_get proxies n ≡ Some proxy → Has nodes n tree
+      → IsPlaced simple proxy.place tree
+  pub numbered : AreNumbered nodes proxies
   pub sound : (signals : ℕ) → AreSound signals nodes → AreSound signals simple
 
--- the number of a part, where there is one
-abbrev pub number_in : Option Part → Option ℤ
-number_in (Some part) = part.number
+-- the number of a proxy, where there is one
+abbrev pub number_in : Option Proxy → Option ℤ
+number_in (Some proxy) = proxy.number
 number_in None = None
 
--- the place of a part, where there is one
-abbrev pub place_in : Option Part → ℕ
-place_in (Some part) = part.place
+-- the place of a proxy, where there is one
+abbrev pub place_in : Option Proxy → ℕ
+place_in (Some proxy) = proxy.place
 place_in None = 0
 
 -- the place that stands for node n
-abbrev pub place_at : List Part → ℕ → ℕ
-place_at parts n = place_in (slice_get parts n)
+abbrev pub place_at : List Proxy → ℕ → ℕ
+place_at proxies n = place_in (slice_get proxies n)
 
 -- the number of node n, if it is known
-abbrev pub number_at : List Part → ℕ → Option ℤ
-number_at parts n = number_in (slice_get parts n)
+abbrev pub number_at : List Proxy → ℕ → Option ℤ
+number_at proxies n = number_in (slice_get proxies n)
 
 -- an output over the places that stand for its nodes
-abbrev pub out_over : List Part → PlainOut → PlainOut
-out_over parts (Formula engine n name) = Formula engine (place_at parts n) name
-out_over parts (Contract engine n m name) = Contract engine (place_at parts n) (place_at parts m) name
+abbrev pub out_over : List Proxy → PlainOut → PlainOut
+out_over proxies (Formula engine n name) = Formula engine (place_at proxies n) name
+out_over proxies (Contract engine n m name) = Contract engine (place_at proxies n) (place_at proxies m) name
 
 -- the output names nodes among so many
 abbrev pub NamesNodes : ℕ → PlainOut → Type 0

@@ -16,6 +16,7 @@ ghost use Rattle.mltl_simplify.specs.Simplify.{simp};
 
 /// A simplified formula has the meaning of its formula at each time, on any rows. It is decided no later, and what is
 /// settled for it is settled for its formula.
+#[tactic(auto, using(crate::proofs::Meaning::simp_sat, crate::proofs::Delays::simp_wpd, crate::proofs::Delays::simp_settled))]
 pub fn simplified_formulas_mean_the_same()
     ensures meaning { (rows : List Row) (p : Formula) (t : ℕ) →
         IsOrdered p → sat rows (simp p) t ≡ sat rows p t }
@@ -52,6 +53,7 @@ pub fn simplified_formulas_keep_their_form()
 
 /// A verdict that is known of a simplified formula is settled for its formula, and comes no later than that formula's
 /// worst delay asks, with that formula's meaning.
+#[tactic(auto, using(crate::proofs::Delays::simp_told, crate::proofs::Delays::simp_known))]
 pub fn simplified_verdicts_are_settled()
     ensures settled { (rows : List Row) (p : Formula) (t : ℕ) (v : Bool) →
         IsOrdered p → slice_get (verdicts rows (simp p)) t ≡ Some v → Settled rows p t v }

@@ -4,9 +4,8 @@
 #![tactic(auto)]
 
 mod laws;
-mod node_list;
 mod numbers;
-mod parts;
+mod proxies;
 mod rules;
 mod simplifying;
 

@@ -31,23 +31,14 @@ fn applied(op: ArithOp, x: i64, y: i64) -> Option<i64>
 pub fn negated(x: Option<i64>) -> Option<i64>
     ensures { IsNegated x result }
 {
-    match x {
-        Some(x) => x.checked_neg(),
-        None => None,
-    }
+    x?.checked_neg()
 }
 
 /// The number of two operands under an operator, where both are known.
 pub fn computed(op: ArithOp, x: Option<i64>, y: Option<i64>) -> Option<i64>
     ensures { IsComputed op x y result }
 {
-    match x {
-        Some(x) => match y {
-            Some(y) => applied(op, x, y),
-            None => None,
-        },
-        None => None,
-    }
+    applied(op, x?, y?)
 }
 
 /// Whether two numbers compare so.
@@ -68,11 +59,5 @@ fn compare(op: CompareOp, x: i64, y: i64) -> bool
 pub fn compared(op: CompareOp, x: Option<i64>, y: Option<i64>) -> Option<bool>
     ensures { result ≡ compared_as op x y }
 {
-    match x {
-        Some(x) => match y {
-            Some(y) => Some(compare(op, x, y)),
-            None => None,
-        },
-        None => None,
-    }
+    Some(compare(op, x?, y?))
 }

@@ -7,10 +7,9 @@ ghost use Rattle.plain_nodes.specs.Nodes.{Has, IsBounded, formula};
 ghost use Rattle.mltl_simplify.specs.Nodes.{AreFormed, IsFormulaAt, KeepsNone, Puts, gives_truth, keeps_truth, simple_between, simple_logic, simple_window};
 ghost use Rattle.mltl_simplify.specs.Simplify.{joined as summed, simple_and, simple_equals, simple_implies, simple_not, simple_or, as_truth};
 
-use crate::node_list::NodeList;
 use mltl_base::limits::MAX_BOUND;
 use mltl_base::{BetweenOp, Interval, LogicOp, WindowOp};
-use plain_nodes::Plain;
+use plain_nodes::{NodeList, Plain};
 use std::alloc::AllocError;
 
 /// The truth that formula `n` is, if it is one.
@@ -46,12 +45,12 @@ fn conjunction(nodes: &mut NodeList, a: u32, b: u32) -> Result<u32, AllocError>
     ensures { (p q : Formula) → Has nodes.old a (formula p) → Has nodes.old b (formula q)
         → IfOk result (λ n. Puts nodes.old nodes.new n (simple_and p q)) }
 {
-    match truth_at(nodes, a) {
-        Some(value) => { if value { Ok(b) } else { Ok(a) } }
-        None => match truth_at(nodes, b) {
-            Some(value) => { if value { Ok(a) } else { Ok(b) } }
-            None => nodes.push(Plain::Logic(LogicOp::And, a, b)),
-        },
+    match (truth_at(nodes, a), truth_at(nodes, b)) {
+        (Some(true), _) => Ok(b),
+        (Some(false), _) => Ok(a),
+        (None, Some(true)) => Ok(a),
+        (None, Some(false)) => Ok(b),
+        (None, None) => nodes.push(Plain::Logic(LogicOp::And, a, b)),
     }
 }
 
@@ -63,12 +62,12 @@ fn disjunction(nodes: &mut NodeList, a: u32, b: u32) -> Result<u32, AllocError>
     ensures { (p q : Formula) → Has nodes.old a (formula p) → Has nodes.old b (formula q)
         → IfOk result (λ n. Puts nodes.old nodes.new n (simple_or p q)) }
 {
-    match truth_at(nodes, a) {
-        Some(value) => { if value { Ok(a) } else { Ok(b) } }
-        None => match truth_at(nodes, b) {
-            Some(value) => { if value { Ok(b) } else { Ok(a) } }
-            None => nodes.push(Plain::Logic(LogicOp::Or, a, b)),
-        },
+    match (truth_at(nodes, a), truth_at(nodes, b)) {
+        (Some(true), _) => Ok(a),
+        (Some(false), _) => Ok(b),
+        (None, Some(true)) => Ok(b),
+        (None, Some(false)) => Ok(a),
+        (None, None) => nodes.push(Plain::Logic(LogicOp::Or, a, b)),
     }
 }
 
@@ -80,18 +79,12 @@ fn implication(nodes: &mut NodeList, a: u32, b: u32) -> Result<u32, AllocError>
     ensures { (p q : Formula) → Has nodes.old a (formula p) → Has nodes.old b (formula q)
         → IfOk result (λ n. Puts nodes.old nodes.new n (simple_implies p q)) }
 {
-    match truth_at(nodes, a) {
-        Some(value) => {
-            if value {
-                Ok(b)
-            } else {
-                nodes.push(Plain::Truth(true))
-            }
-        }
-        None => match truth_at(nodes, b) {
-            Some(value) => { if value { Ok(b) } else { negation(nodes, a) } }
-            None => nodes.push(Plain::Logic(LogicOp::Implies, a, b)),
-        },
+    match (truth_at(nodes, a), truth_at(nodes, b)) {
+        (Some(true), _) => Ok(b),
+        (Some(false), _) => nodes.push(Plain::Truth(true)),
+        (None, Some(true)) => Ok(b),
+        (None, Some(false)) => negation(nodes, a),
+        (None, None) => nodes.push(Plain::Logic(LogicOp::Implies, a, b)),
     }
 }
 
@@ -103,12 +96,12 @@ fn equivalence(nodes: &mut NodeList, a: u32, b: u32) -> Result<u32, AllocError>
     ensures { (p q : Formula) → Has nodes.old a (formula p) → Has nodes.old b (formula q)
         → IfOk result (λ n. Puts nodes.old nodes.new n (simple_equals p q)) }
 {
-    match truth_at(nodes, a) {
-        Some(value) => { if value { Ok(b) } else { negation(nodes, b) } }
-        None => match truth_at(nodes, b) {
-            Some(value) => { if value { Ok(a) } else { negation(nodes, a) } }
-            None => nodes.push(Plain::Logic(LogicOp::Iff, a, b)),
-        },
+    match (truth_at(nodes, a), truth_at(nodes, b)) {
+        (Some(true), _) => Ok(b),
+        (Some(false), _) => negation(nodes, b),
+        (None, Some(true)) => Ok(a),
+        (None, Some(false)) => negation(nodes, a),
+        (None, None) => nodes.push(Plain::Logic(LogicOp::Iff, a, b)),
     }
 }
 

@@ -11,39 +11,41 @@ ghost use Rattle.mltl_simplify.specs.Nodes.{NamesNodes, out_over};
 ghost use Rattle.mltl_simplify.specs.Outputs.{simple_outputs};
 ghost use Rattle.mltl_simplify.specs.Simplify.{simp};
 
-use crate::laws::simplified_formulas_mean_the_same;
-use crate::node_list::NodeList;
-use crate::parts::{Part, place_at, read};
+use crate::proxies::{Proxy, place_at, read};
 use mltl_base::List;
-use plain_nodes::{Expanded, PlainOut};
+use plain_nodes::{Expanded, NodeList, PlainOut};
 use std::alloc::{AllocError, Global};
 
 /// An output over the places of the nodes that stand for its nodes.
-fn out_of(parts: &[Part], out: &PlainOut) -> PlainOut
-    requires { NamesNodes (length parts.now) out.now }
-    ensures { result ≡ out_over parts.now out.now }
+fn out_of(proxies: &[Proxy], out: &PlainOut) -> PlainOut
+    requires { NamesNodes (length proxies.now) out.now }
+    ensures { result ≡ out_over proxies.now out.now }
 {
     match out {
         PlainOut::Formula(engine, n, name) => {
-            PlainOut::Formula(*engine, place_at(parts, *n), name.copy())
+            PlainOut::Formula(*engine, place_at(proxies, *n), name.copy())
         }
         PlainOut::Contract(engine, n, m, name) => PlainOut::Contract(
             *engine,
-            place_at(parts, *n),
-            place_at(parts, *m),
+            place_at(proxies, *n),
+            place_at(proxies, *m),
             name.copy(),
         ),
     }
 }
 
 /// All outputs over the places of the nodes that stand for their nodes.
-fn outs_of(alloc: Global, parts: &[Part], outs: &[PlainOut]) -> Result<List<PlainOut>, AllocError>
-    requires { All (NamesNodes (length parts.now)) outs.now }
-    ensures { IfOk result (λ list. list ≡ map (out_over parts.now) outs.now) }
+fn outs_of(
+    alloc: Global,
+    proxies: &[Proxy],
+    outs: &[PlainOut],
+) -> Result<List<PlainOut>, AllocError>
+    requires { All (NamesNodes (length proxies.now)) outs.now }
+    ensures { IfOk result (λ list. list ≡ map (out_over proxies.now) outs.now) }
 {
     let mut list = List::new(alloc);
     for out in outs {
-        list.push(out_of(parts, out))?;
+        list.push(out_of(proxies, out))?;
     }
     Ok(list)
 }
@@ -52,6 +54,7 @@ fn outs_of(alloc: Global, parts: &[Part], outs: &[PlainOut]) -> Result<List<Plai
 /// goes over each node once, shared ones too; no clause bounds the nodes that it makes.
 ///
 /// Errors: out of memory.
+#[tactic(auto, using(crate::proofs::Meaning::simp_sat, crate::proofs::Delays::simp_wpd, crate::proofs::Delays::simp_settled))]
 pub fn simplify(alloc: Global, spec: &Expanded) -> Result<Expanded, AllocError>
     requires sound { (signals : ℕ) × IsSound spec.now signals }
     requires ranged { All HasRanges (asked spec.now) }
@@ -67,10 +70,9 @@ pub fn simplify(alloc: Global, spec: &Expanded) -> Result<Expanded, AllocError>
     ensures settled { (rows : Seq Row) (p : Formula) (t : ℕ) (v : Bool) →
         IsOrdered p → Settled rows (simp p) t v → Settled rows p t v }
 {
-    simplified_formulas_mean_the_same();
     let mut simple = NodeList::new(alloc);
-    let parts = read(alloc, &mut simple, spec.nodes.as_slice())?;
-    let outs = outs_of(alloc, &parts, spec.outs.as_slice())?;
+    let proxies = read(alloc, &mut simple, spec.nodes.as_slice())?;
+    let outs = outs_of(alloc, &proxies, spec.outs.as_slice())?;
     Ok(Expanded {
         nodes: simple.into_list(),
         outs,

@@ -1,6 +1,6 @@
 //! What is known of a node.
 
-ghost use Rattle.std.specs.Prelude.{◌≡◌, false, map, slice_get};
+ghost use Rattle.std.specs.Prelude.{◌≡◌, ◌||◌, true, false, map, slice_get};
 ghost use Rattle.mltl_base.specs.Ranges.{negated, over};
 ghost use Rattle.plain_nodes.specs.Faults.{or_later, why_none};
 ghost use Rattle.plain_nodes.specs.Facts.{any_fault, between_fact, fact_view, fault_in, future_in, joined_fact, node_fact, past_in, range_by, range_in, told, told_fault, truth, windowed_fact};
@@ -14,6 +14,47 @@ use mltl_ranges::{NoRange, Range};
 pub struct Tenses {
     pub past: bool,
     pub future: bool,
+}
+
+impl Tenses {
+    /// Those of no operator.
+    const NONE: Tenses = Tenses {
+        past: false,
+        future: false,
+    };
+
+    /// Those of either of two formulas.
+    fn or(self, other: Tenses) -> Tenses
+        ensures past { result.past ≡ (self.past || other.past) }
+        ensures future { result.future ≡ (self.future || other.future) }
+    {
+        Tenses {
+            past: self.past || other.past,
+            future: self.future || other.future,
+        }
+    }
+
+    /// The same, with an operator of the past.
+    fn and_past(self) -> Tenses
+        ensures past { result.past ≡ true }
+        ensures future { result.future ≡ self.future }
+    {
+        Tenses {
+            past: true,
+            future: self.future,
+        }
+    }
+
+    /// The same, with an operator of the future.
+    fn and_future(self) -> Tenses
+        ensures past { result.past ≡ self.past }
+        ensures future { result.future ≡ true }
+    {
+        Tenses {
+            past: self.past,
+            future: true,
+        }
+    }
 }
 
 /// What is known of a node: the range of a whole number, or the first fault and the tenses of a formula.
@@ -50,10 +91,7 @@ pub(crate) fn tenses_at(facts: &[Fact], n: u32) -> Tenses
 {
     match facts.get(n as usize) {
         Some(Fact::Formula(_, tenses)) => *tenses,
-        _ => Tenses {
-            past: false,
-            future: false,
-        },
+        _ => Tenses::NONE,
     }
 }
 
@@ -87,20 +125,14 @@ fn computed_range(
 fn why_none_of(range: Result<Range, NoRange>) -> Option<NoRange>
     ensures { told_fault result ≡ why_none (told range) }
 {
-    match range {
-        Ok(_) => None,
-        Err(why) => Some(why),
-    }
+    range.err()
 }
 
 /// The first of two faults, the left one first.
 pub fn first_fault(left: Option<NoRange>, right: Option<NoRange>) -> Option<NoRange>
     ensures { told_fault result ≡ or_later (told_fault left) (told_fault right) }
 {
-    match left {
-        Some(why) => Some(why),
-        None => right,
-    }
+    left.or(right)
 }
 
 /// What is known of two formulas under an operator that looks at one time.
@@ -109,11 +141,7 @@ fn joined(facts: &[Fact], a: u32, b: u32) -> Fact
         ≡ joined_fact (slice_get (map fact_view facts.now) a)
         (slice_get (map fact_view facts.now) b) }
 {
-    let (left, right) = (tenses_at(facts, a), tenses_at(facts, b));
-    let tenses = Tenses {
-        past: left.past || right.past,
-        future: left.future || right.future,
-    };
+    let tenses = tenses_at(facts, a).or(tenses_at(facts, b));
     Fact::Formula(first_fault(fault_at(facts, a), fault_at(facts, b)), tenses)
 }
 
@@ -124,20 +152,8 @@ fn windowed(op: WindowOp, facts: &[Fact], a: u32) -> Fact
     let tenses = tenses_at(facts, a);
     let fault = fault_at(facts, a);
     match op {
-        WindowOp::F | WindowOp::G => Fact::Formula(
-            fault,
-            Tenses {
-                past: tenses.past,
-                future: true,
-            },
-        ),
-        WindowOp::O | WindowOp::H => Fact::Formula(
-            fault,
-            Tenses {
-                past: true,
-                future: tenses.future,
-            },
-        ),
+        WindowOp::F | WindowOp::G => Fact::Formula(fault, tenses.and_future()),
+        WindowOp::O | WindowOp::H => Fact::Formula(fault, tenses.and_past()),
     }
 }
 
@@ -147,23 +163,11 @@ fn between(op: BetweenOp, facts: &[Fact], a: u32, b: u32) -> Fact
         ≡ between_fact op (slice_get (map fact_view facts.now) a)
         (slice_get (map fact_view facts.now) b) }
 {
-    let (left, right) = (tenses_at(facts, a), tenses_at(facts, b));
+    let tenses = tenses_at(facts, a).or(tenses_at(facts, b));
     let fault = first_fault(fault_at(facts, a), fault_at(facts, b));
     match op {
-        BetweenOp::U | BetweenOp::R => Fact::Formula(
-            fault,
-            Tenses {
-                past: left.past || right.past,
-                future: true,
-            },
-        ),
-        BetweenOp::S => Fact::Formula(
-            fault,
-            Tenses {
-                past: true,
-                future: left.future || right.future,
-            },
-        ),
+        BetweenOp::U | BetweenOp::R => Fact::Formula(fault, tenses.and_future()),
+        BetweenOp::S => Fact::Formula(fault, tenses.and_past()),
     }
 }
 
@@ -171,11 +175,7 @@ fn between(op: BetweenOp, facts: &[Fact], a: u32, b: u32) -> Fact
 fn plain_formula(fault: Option<NoRange>) -> Fact
     ensures { fact_view result ≡ truth (told_fault fault) false false }
 {
-    let tenses = Tenses {
-        past: false,
-        future: false,
-    };
-    Fact::Formula(fault, tenses)
+    Fact::Formula(fault, Tenses::NONE)
 }
 
 /// What is known of a node, by what is known of the nodes before it.

@@ -9,6 +9,7 @@ ghost use Rattle.plain_nodes.specs.Facts.{told_fault};
 
 use crate::Plain;
 use crate::fact::{Fact, Tenses, any_fault_at, fact_of, tenses_at};
+use crate::node_list::NodeList;
 use mltl_base::List;
 use mltl_ranges::NoRange;
 use std::alloc::{AllocError, Global};
@@ -17,12 +18,12 @@ use std::marker::Model;
 /// A list of nodes, which contracts see as that list. It knows the range, the first fault and the tenses of each.
 #[derive(Drop)]
 pub struct Nodes {
-    list: List<Plain>,
+    list: NodeList,
     facts: Vec<Fact>,
 }
 
 impl Model for Nodes {
-    ghost use Rattle.std.specs.Prelude.{List as Members, map, length, ◌≡◌, ◌<◌, ◌^◌};
+    ghost use Rattle.std.specs.Prelude.{List as Members, map, ◌≡◌};
     ghost use Rattle.plain_nodes.specs.declared.nodes.Plain.{Plain as Node};
     ghost use Rattle.plain_nodes.specs.Nodes.{trees};
     ghost use Rattle.plain_nodes.specs.Facts.{fact_view, tree_fact};
@@ -31,8 +32,8 @@ impl Model for Nodes {
 
     ghost view = { λ nodes. nodes.list };
 
-    ghost invariant = { λ nodes. (map fact_view nodes.facts.items ≡ map tree_fact (trees nodes.list))
-        × (length nodes.list < 2 ^ 32) };
+    ghost invariant = { λ nodes.
+        map fact_view nodes.facts.items ≡ map tree_fact (trees nodes.list) };
 }
 
 impl Nodes {
@@ -41,7 +42,7 @@ impl Nodes {
         ensures { result ≡ [] }
     {
         Nodes {
-            list: List::new(alloc),
+            list: NodeList::new(alloc),
             facts: Vec::new(alloc),
         }
     }
@@ -52,17 +53,13 @@ impl Nodes {
         ensures place { IfOk result (λ n. n ≡ length self.old) }
         ensures kept { OnErr result (self.new ≡ self.old) }
     {
-        let place = match u32::try_from(self.list.len()) {
-            Ok(place) if place < u32::MAX => place,
-            _ => return Err(AllocError),
-        };
         let fact = fact_of(&self.facts, &node);
         self.facts.push(fact)?;
         match self.list.push(node) {
-            Ok(()) => Ok(place),
-            Err(_refused) => {
+            Ok(place) => Ok(place),
+            Err(refused) => {
                 self.facts.pop();
-                Err(AllocError)
+                Err(refused)
             }
         }
     }
@@ -94,7 +91,7 @@ impl Nodes {
         ensures nodes { result ≡ self }
         ensures few { length self < 2 ^ 32 }
     {
-        let Nodes { list, facts: _ } = self;
-        list
+        let Nodes { list, .. } = self;
+        list.into_list()
     }
 }

@@ -11,8 +11,10 @@
 pub mod fact;
 pub mod known_nodes;
 pub mod laws;
+pub mod node_list;
 pub mod nodes;
 
 pub use fact::{Fact, Tenses, first_fault};
 pub use known_nodes::Nodes;
+pub use node_list::NodeList;
 pub use nodes::{Expanded, Plain, PlainOut};

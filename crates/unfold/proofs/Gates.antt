@@ -23,7 +23,7 @@ use Rattle.c2po_tree.specs.Shape.{shape}
 use Rattle.unfold.specs.declared.values.Stored.{Stored}
 use Rattle.unfold.specs.declared.scope.Scope.{Scope}
 use Rattle.unfold.specs.declared.scope.Head.{Head}
-use Rattle.unfold.specs.declared.scope.Quantifier.{Quantifier}
+use Rattle.unfold.specs.declared.operators.Bodies.{Bodies}
 use Rattle.unfold.specs.declared.unfolding.Unfolding.{Unfolding}
 use Rattle.unfold.specs.Values.{Value, weight, formula_of, members, truth_value, counted_formula}
 use Rattle.unfold.specs.Environment.{Env, bind, value_of}
@@ -84,7 +84,7 @@ pub are_none : (nodes : List Plain) → AreFormulas nodes []
 are_none nodes = record { each = λ i n e. cc }
 
 -- the bodies so far of a counting quantifier
-pub record CountedSoFar (old now : Unfolding) (scope : Scope) (set : Head) (q : Quantifier) (room i : ℕ) (nodes : List ℕ) (left : ℕ) : Type 0 where
+pub record CountedSoFar (old now : Unfolding) (scope : Scope) (set : Head) (q : Bodies) (room i : ℕ) (nodes : List ℕ) (left : ℕ) : Type 0 where
   pub later : IsLater old now
   pub inside : left ≤ room
   pub count : length nodes ≡ i
@@ -103,7 +103,7 @@ have_next nodes ns vs i n v e h k =
     (have_push nodes ns (map formula_of (take i vs)) n (formula_of v) h k)
 
 -- and one more
-pub counted_more : (old now mid new : Unfolding) (scope : Scope) (set : Head) (q : Quantifier) (room i : ℕ) (nodes : List ℕ) (left : ℕ) (next : Stored) (node : ℕ) →
+pub counted_more : (old now mid new : Unfolding) (scope : Scope) (set : Head) (q : Bodies) (room i : ℕ) (nodes : List ℕ) (left : ℕ) (next : Stored) (node : ℕ) →
     CountedSoFar old now scope set q room i nodes left → IsLater now mid → IsLater now new → next.weight ≤ left →
     IsFormula (slice_get (trees new.nodes) node) → ((s : Value) → Heads old set s → i < length (members s)) →
     ((env : Env) (s v : Value) → Fits now scope env → Heads now set s → slice_get (members s) i ≡ Some v →

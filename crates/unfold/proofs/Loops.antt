@@ -12,7 +12,7 @@ use Rattle.c2po_tree.specs.Shape.{shape, shapes}
 use Rattle.unfold.specs.declared.values.Stored.{Stored}
 use Rattle.unfold.specs.declared.scope.Scope.{Scope}
 use Rattle.unfold.specs.declared.scope.Head.{Head}
-use Rattle.unfold.specs.declared.scope.Quantifier.{Quantifier}
+use Rattle.unfold.specs.declared.operators.Bodies.{Bodies}
 use Rattle.unfold.specs.declared.operators.BinaryOp.{BinaryOp}
 use Rattle.unfold.specs.declared.operators.BinaryOp.TheVariants as binary
 use Rattle.unfold.specs.declared.unfolding.Unfolding.{Unfolding}
@@ -121,7 +121,7 @@ abbrev pub values_over : Expr → List ℕ → Env → Value → List Value
 values_over body name env s = map (λ v. value_of (shape body) (bind name v env)) (members s)
 
 -- the bodies of a quantifier that are joined so far
-pub record JoinedSoFar (old now : Unfolding) (scope : Scope) (set : Head) (q : Quantifier) (op : LogicOp) (room i : ℕ) (all : Stored) : Type 0 where
+pub record JoinedSoFar (old now : Unfolding) (scope : Scope) (set : Head) (q : Bodies) (op : LogicOp) (room i : ℕ) (all : Stored) : Type 0 where
   pub later : IsLater old now
   pub light : all.weight ≤ room
   pub holds : (env : Env) (s : Value) → Fits old scope env → Heads old set s → Holds now all (connected_all op (take i (bodies_over q env s)))
@@ -130,7 +130,7 @@ pub record JoinedSoFar (old now : Unfolding) (scope : Scope) (set : Head) (q : Q
 pub member_at : (ms : List Value) (i n : ℕ) → n ≡ length ms → i < n → slice_get ms i ≡ Some (get_or ms i (truth_value false))
 member_at ms i n count inside = slice_get-get_or ms i (truth_value false) (omega arith)
 
-pub body_at : (q : Quantifier) (env : Env) (s v : Value) (i : ℕ) → slice_get (members s) i ≡ Some v →
+pub body_at : (q : Bodies) (env : Env) (s v : Value) (i : ℕ) → slice_get (members s) i ≡ Some v →
     slice_get (bodies_over q env s) i ≡ Some (value_of (shape q.body.now) (bind q.name.now v env))
 body_at q env s v i h =
     slice_get-map (λ x. value_of (shape q.body.now) (bind q.name.now x env)) (members s) i
@@ -151,7 +151,7 @@ joined_next op vs i v h some =
     let count : length (take i vs) ≡ i = length-take-le i vs (omega arith) in
     sym (ap (connected_all op) (take_next vs i v h) ∙ joined_push op (take i vs) v (omega arith))
 
-pub bodies_count : (q : Quantifier) (env : Env) (s : Value) → length (bodies_over q env s) ≡ length (members s)
+pub bodies_count : (q : Bodies) (env : Env) (s : Value) → length (bodies_over q env s) ≡ length (members s)
 bodies_count q env s = length-map (members s) (λ v. value_of (shape q.body.now) (bind q.name.now v env))
 
 pub sum_next : (vs : List Value) (i : ℕ) (v : Value) → slice_get vs i ≡ Some v → sum_by weight (take (i + 1) vs) ≡ sum_by weight (take i vs) + weight v

@@ -18,7 +18,7 @@ use Rattle.plain_nodes.specs.declared.nodes.Plain.TheVariants as plain
 use Rattle.unfold.specs.declared.leaves.Sort.TheVariants.{Nothing}
 use Rattle.unfold.specs.Leaves.{sort_of, node_sort, signal_node}
 use Rattle.unfold.specs.declared.unfolding.Unfolding.{Unfolding}
-use Rattle.unfold.specs.declared.values.Place.TheVariants.{Node}
+use Rattle.unfold.specs.declared.values.Location.TheVariants.{Node}
 use Rattle.unfold.specs.declared.values.Stored.{Stored}
 use Rattle.plain_nodes.specs.Faults.{tree_fault}
 use Rattle.plain_nodes.specs.Facts.{told_fault}
@@ -125,7 +125,7 @@ stands_push u node env h =
     (record { structs = λ i xs k. k; nodes = grows_push u.nodes node; parts = λ i p k. k }) h
 
 pub signal_holds : (u new : Unfolding) (node : Plain) (s : Stored) (place : ℕ) (b : Bool) (n : ℕ) → new ≡ record u { nodes = u.nodes ++ node ∷ [] } →
-    place ≡ length u.nodes → node ≡ signal_node b n → s.weight ≡ 1 → s.place ≡ Node place →
+    place ≡ length u.nodes → node ≡ signal_node b n → s.weight ≡ 1 → s.location ≡ Node place →
     ((t : Tree) → Has new.nodes place t → told_fault s.fault ≡ tree_fault t) → Holds new s (signal_value b n)
 signal_holds u new node s place b n same at is one there fault =
     let own : Has (u.nodes ++ node ∷ []) place (tree_of (trees u.nodes) node) =

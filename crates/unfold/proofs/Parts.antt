@@ -8,7 +8,7 @@ use Rattle.plain_nodes.proofs.Pushing.{grows_same}
 use Rattle.plain_nodes.proofs.Places.{get_left}
 use Rattle.c2po_tree.specs.declared.tree.Expr.{Expr}
 use Rattle.c2po_tree.specs.Shape.{Shape, shape, shapes}
-use Rattle.unfold.specs.declared.values.Place.TheVariants.{Parts as PartsAt}
+use Rattle.unfold.specs.declared.values.Location.TheVariants.{Parts as PartsAt}
 use Rattle.unfold.specs.declared.values.Stored.{Stored}
 use Rattle.unfold.specs.declared.values.Whole.TheVariants as whole
 use Rattle.unfold.specs.declared.values.Parts.{Parts}
@@ -24,7 +24,7 @@ use Rattle.unfold.proofs.Members.{values_count, value_at, hold_count, hold_at, o
 
 -- the part that a field names
 pub held_part_some : (v : Value) (u : Unfolding) (s part : Stored) (i : ℕ) (p : Parts) (x : List ℕ) (k : ℕ) (fields : List ℕ → List (List ℕ)) (f : List ℕ) →
-    Holds u s v → s.place ≡ PartsAt i → slice_get u.parts i ≡ Some p → p.whole ≡ whole.Struct x →
+    Holds u s v → s.location ≡ PartsAt i → slice_get u.parts i ≡ Some p → p.whole ≡ whole.Struct x →
     position (bytes_eq f) (fields x) ≡ Some k → slice_get p.members k ≡ Some part → Holds u part (picked fields f v)
 held_part_some (leaf t w) u s part i p x k fields f h e a n q b = cc
 held_part_some (set vs w) u s part i p x k fields f h e a n q b =
@@ -52,7 +52,7 @@ held_part_some (structure y vs w) u s part i p x k fields f h e a n q b =
 
 -- a field that has no part there
 pub held_part_past : (v : Value) (u : Unfolding) (s : Stored) (i : ℕ) (p : Parts) (x : List ℕ) (k : ℕ) (fields : List ℕ → List (List ℕ)) (f : List ℕ) →
-    Holds u s v → s.place ≡ PartsAt i → slice_get u.parts i ≡ Some p → p.whole ≡ whole.Struct x →
+    Holds u s v → s.location ≡ PartsAt i → slice_get u.parts i ≡ Some p → p.whole ≡ whole.Struct x →
     position (bytes_eq f) (fields x) ≡ Some k → length p.members ≤ k → Holds u s (picked fields f v)
 held_part_past (leaf t w) u s i p x k fields f h e a n q b = h
 held_part_past (set vs w) u s i p x k fields f h e a n q b = h

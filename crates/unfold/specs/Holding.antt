@@ -5,7 +5,7 @@ use Rattle.plain_nodes.specs.declared.nodes.Plain.{Plain}
 use Rattle.plain_nodes.specs.Nodes.{Has, Grows, AreSound}
 use Rattle.name_table.specs.Tables.{entry_of}
 use Rattle.c2po_tree.specs.Shape.{shape}
-use Rattle.unfold.specs.declared.values.Place.TheVariants.{Node, Parts as PartsAt}
+use Rattle.unfold.specs.declared.values.Location.TheVariants.{Node, Parts as PartsAt}
 use Rattle.unfold.specs.declared.values.Stored.{Stored}
 use Rattle.unfold.specs.declared.values.Whole.TheVariants as whole
 use Rattle.unfold.specs.declared.values.Parts.{Parts}
@@ -29,13 +29,13 @@ nodes_of u = u.nodes
 abbrev mutual
   pub Stores : List Plain → List Parts → Stored → Value → Type 0
   Stores nodes parts s (leaf t w) = (s.weight ≡ w)
-      × ((n : ℕ) × (s.place ≡ Node n) × Has nodes n t × (told_fault s.fault ≡ tree_fault t))
+      × ((n : ℕ) × (s.location ≡ Node n) × Has nodes n t × (told_fault s.fault ≡ tree_fault t))
   Stores nodes parts s (structure x vs w) =
-      (s.weight ≡ w) × ((i : ℕ) × (ss : List Stored) × (s.place ≡ PartsAt i)
+      (s.weight ≡ w) × ((i : ℕ) × (ss : List Stored) × (s.location ≡ PartsAt i)
       × (slice_get parts i ≡ Some (record { whole = whole.Struct x; members = ss })) × StoreAll nodes parts ss vs
       × (told_fault s.fault ≡ values_fault vs))
   Stores nodes parts s (set vs w) =
-      (s.weight ≡ w) × ((i : ℕ) × (ss : List Stored) × (s.place ≡ PartsAt i)
+      (s.weight ≡ w) × ((i : ℕ) × (ss : List Stored) × (s.location ≡ PartsAt i)
       × (slice_get parts i ≡ Some (record { whole = whole.Set; members = ss })) × StoreAll nodes parts ss vs
       × (told_fault s.fault ≡ values_fault vs))
 

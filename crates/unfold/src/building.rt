@@ -13,12 +13,12 @@ ghost use Rattle.unfold.specs.Values.{Value, counted, formula_of, connected_all,
 
 use crate::counting::gates_weight;
 use crate::fault::{deeper, less};
-use crate::operators::{BinaryOp, UnaryOp};
-use crate::scope::{Head, Quantifier, Site};
-use crate::values::{Place, Stored, Whole};
+use crate::operators::{BinaryOp, Bodies, Operation, UnaryOp};
+use crate::scope::{Head, Site};
+use crate::values::{Location, Stored, Whole};
 use crate::visits::Visits;
 use crate::{UnfoldFault, Unfolding};
-use c2po_tree::{Expr, Node};
+use c2po_tree::Expr;
 use mltl_base::{CountOp, List, LogicOp};
 use plain_nodes::Plain;
 
@@ -44,7 +44,7 @@ impl Unfolding {
         match self.head(visits, depth, at.scope, e)? {
             Head::Nothing => self.token(Plain::Truth(false), room),
             Head::Held(stored) => {
-                let _left = less(room, stored.weight)?;
+                less(room, stored.weight)?;
                 Ok(stored)
             }
             Head::Struct(scope, name, parts) => {
@@ -110,50 +110,14 @@ impl Unfolding {
             → is_operator (shape e.now) ≡ true
             → IfErr result (λ why. why ≡ Heavy → room < weight (value_of (shape e.now) env)) }
     {
-        match &e.node {
-            Node::Number(n) => self.token(Plain::Number(*n), room),
-            Node::Truth(truth) => self.token(Plain::Truth(*truth), room),
-            Node::Minus(a) => self.unary(visits, at, UnaryOp::Minus, a, room),
-            Node::Not(a) => self.unary(visits, at, UnaryOp::Not, a, room),
-            Node::Window(op, low, high, a) => {
-                self.unary(visits, at, UnaryOp::Window(*op, *low, *high), a, room)
-            }
-            Node::Arith(op, a, b) => self.binary(visits, at, BinaryOp::Arith(*op), a, b, room),
-            Node::Compare(op, a, b) => self.binary(visits, at, BinaryOp::Compare(*op), a, b, room),
-            Node::Logic(op, a, b) => self.binary(visits, at, BinaryOp::Logic(*op), a, b, room),
-            Node::Between(op, low, high, a, b) => {
-                self.binary(visits, at, BinaryOp::Between(*op, *low, *high), a, b, room)
-            }
-            Node::Each(name, set, body) => {
-                self.joined_bodies(
-                    visits,
-                    at,
-                    LogicOp::And,
-                    Quantifier { name, set, body },
-                    room,
-                )
-            }
-            Node::Exists(name, set, body) => {
-                self.joined_bodies(
-                    visits,
-                    at,
-                    LogicOp::Or,
-                    Quantifier { name, set, body },
-                    room,
-                )
-            }
-            Node::Count(op, name, set, number, body) => {
-                self.counted_bodies(
-                    visits,
-                    at,
-                    *op,
-                    *number,
-                    Quantifier { name, set, body },
-                    room,
-                )
-            }
-            Node::Ref(_) | Node::Build(..) | Node::Group(_) | Node::Pick(..) => {
-                self.token(Plain::Truth(false), room)
+        match Operation::of(e) {
+            Operation::Number(n) => self.token(Plain::Number(n), room),
+            Operation::Truth(truth) => self.token(Plain::Truth(truth), room),
+            Operation::Unary(op, a) => self.unary(visits, at, op, a, room),
+            Operation::Binary(op, a, b) => self.binary(visits, at, op, a, b, room),
+            Operation::Joined(op, bodies) => self.joined_bodies(visits, at, op, bodies, room),
+            Operation::Counted(op, number, bodies) => {
+                self.counted_bodies(visits, at, op, number, bodies, room)
             }
         }
     }
@@ -216,7 +180,7 @@ impl Unfolding {
         visits: &mut Visits,
         at: Site<'_>,
         op: LogicOp,
-        bodies: Quantifier<'_>,
+        bodies: Bodies<'_>,
         room: u32,
     ) -> Result<Stored, UnfoldFault>
         requires { room ≤ MAX_WEIGHT }
@@ -250,7 +214,7 @@ impl Unfolding {
         &mut self,
         visits: &mut Visits,
         at: Site<'_>,
-        bodies: Quantifier<'_>,
+        bodies: Bodies<'_>,
         set: &Head<'_>,
         i: usize,
         room: u32,
@@ -279,7 +243,7 @@ impl Unfolding {
         at: Site<'_>,
         op: CountOp,
         number: u64,
-        bodies: Quantifier<'_>,
+        bodies: Bodies<'_>,
         room: u32,
     ) -> Result<Stored, UnfoldFault>
         requires { room ≤ MAX_WEIGHT }
@@ -298,7 +262,7 @@ impl Unfolding {
         let gates = gates_weight(nodes.len(), number, left)?;
         let node = self.gates(at.alloc, op, number, &nodes)?;
         Ok(Stored {
-            place: Place::Node(node),
+            location: Location::Node(node),
             weight: room - left + gates,
             fault: self.nodes.fault(node),
         })
@@ -310,7 +274,7 @@ impl Unfolding {
         &mut self,
         visits: &mut Visits,
         at: Site<'_>,
-        bodies: Quantifier<'_>,
+        bodies: Bodies<'_>,
         room: u32,
     ) -> Result<(Vec<u32>, u32), UnfoldFault>
         requires { room ≤ MAX_WEIGHT }

@@ -35,10 +35,7 @@ pub(crate) fn less(room: u32, weight: u32) -> Result<u32, UnfoldFault>
     ensures left { IfOk result (λ left. left + weight ≡ room) }
     ensures heavy { IfErr result (λ why. room < weight) }
 {
-    match room.checked_sub(weight) {
-        Some(left) => Ok(left),
-        None => Err(UnfoldFault::Heavy),
-    }
+    room.checked_sub(weight).ok_or(UnfoldFault::Heavy)
 }
 
 /// The number of levels that may be nested within one more level. The program's stack ends long before this number.
@@ -46,8 +43,5 @@ pub(crate) fn deeper(levels: u32) -> Result<u32, UnfoldFault>
     ensures left { IfOk result (λ left. left + 1 ≡ levels) }
     ensures none { IfErr result (λ why. why ≡ Memory) }
 {
-    match levels.checked_sub(1) {
-        Some(left) => Ok(left),
-        None => Err(UnfoldFault::Memory),
-    }
+    levels.checked_sub(1).ok_or(UnfoldFault::Memory)
 }

@@ -11,7 +11,7 @@ ghost use Rattle.unfold.specs.Values.{Value, members, picked};
 
 use crate::fault::deeper;
 use crate::scope::{Head, Named, Scope};
-use crate::values::{Entry, Place, Stored, Whole};
+use crate::values::{Entry, Location, Stored, Whole};
 use crate::visits::Visits;
 use crate::{UnfoldFault, Unfolding};
 use c2po_tree::{Expr, Node};
@@ -94,7 +94,7 @@ impl Unfolding {
         ensures { (env : Env) (v : Value) → Fits self.now scope.now env → Holds self.now stored v
             → Holds self.now result (picked (λ y. fields_in (env y)) field.now v) }
     {
-        let Place::Parts(i) = stored.place else {
+        let Location::Parts(i) = stored.location else {
             return stored;
         };
         let Some(parts) = self.parts.as_slice().get(i as usize) else {
@@ -166,10 +166,7 @@ impl Unfolding {
                     return Ok(whole);
                 };
                 match parts.get(place) {
-                    Some(part) => {
-                        let part = self.head(visits, levels, within, part)?;
-                        Ok(part)
-                    }
+                    Some(part) => self.head(visits, levels, within, part),
                     None => Ok(whole),
                 }
             }
@@ -193,7 +190,7 @@ impl Unfolding {
     fn held_members(&self, stored: Stored) -> &[Stored]
         ensures { (v : Value) → Holds self.now stored v → HoldMembers self.now result.now v }
     {
-        let Place::Parts(i) = stored.place else {
+        let Location::Parts(i) = stored.location else {
             return &[];
         };
         let Some(parts) = self.parts.as_slice().get(i as usize) else {

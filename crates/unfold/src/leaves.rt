@@ -4,7 +4,7 @@ ghost use Rattle.std.specs.Prelude.{◌≡◌, ◌+◌, ◌^◌, ◌<◌, ◌≤
 ghost use Rattle.mltl_base.specs.declared.limits.TheConstants.{MAX_BOUND};
 ghost use Rattle.plain_nodes.specs.Nodes.{Has, IsBounded, IsFormed, IsFormula, IsNumber, constant_formula, formula, number, tree_of, trees};
 ghost use Rattle.unfold.specs.declared.fault.UnfoldFault.TheVariants.{Heavy};
-ghost use Rattle.unfold.specs.declared.values.Place.TheVariants.{Node};
+ghost use Rattle.unfold.specs.declared.values.Location.TheVariants.{Node};
 ghost use Rattle.unfold.specs.Leaves.{node_sort, sort_of};
 ghost use Rattle.unfold.specs.Operators.{binary_value, unary_value};
 ghost use Rattle.unfold.specs.Holding.{Holds, IsLater};
@@ -12,7 +12,7 @@ ghost use Rattle.unfold.specs.Values.{Value, compared, computed, formula_of, int
 
 use crate::fault::less;
 use crate::operators::{BinaryOp, UnaryOp};
-use crate::values::{Place, Stored};
+use crate::values::{Location, Stored};
 use crate::{UnfoldFault, Unfolding};
 use mltl_base::limits::MAX_BOUND;
 use mltl_base::{ArithOp, BetweenOp, CompareOp, Interval, LogicOp, WindowOp};
@@ -95,7 +95,7 @@ impl Unfolding {
     {
         let place = self.place(node)?;
         Ok(Stored {
-            place: Place::Node(place),
+            location: Location::Node(place),
             weight,
             fault: self.nodes.fault(place),
         })
@@ -108,7 +108,7 @@ impl Unfolding {
         ensures has { (v : Value) → Holds self.old stored v
             → IfOk result (λ n. Has self.new.nodes n (number (term_of v))) }
     {
-        if let Place::Node(n) = stored.place {
+        if let Location::Node(n) = stored.location {
             if sort_at(&self.nodes, n) == Sort::Number {
                 return Ok(n);
             }
@@ -123,7 +123,7 @@ impl Unfolding {
         ensures has { (v : Value) → Holds self.old stored v
             → IfOk result (λ n. Has self.new.nodes n (formula (formula_of v))) }
     {
-        if let Place::Node(n) = stored.place {
+        if let Location::Node(n) = stored.location {
             if sort_at(&self.nodes, n) == Sort::Formula {
                 return Ok(n);
             }
@@ -140,9 +140,8 @@ impl Unfolding {
             (λ s. Holds self.new s (leaf (tree_of (trees self.old.nodes) node) 1)) }
         ensures heavy { IfErr result (λ why. why ≡ Heavy → room < 1) }
     {
-        let _left = less(room, 1)?;
-        let value = self.leaf(node, 1)?;
-        Ok(value)
+        less(room, 1)?;
+        Ok(self.leaf(node, 1)?)
     }
 
     /// A truth with a weight.
@@ -164,7 +163,7 @@ impl Unfolding {
     {
         let place = self.formula(a)?;
         Ok(Stored {
-            place: Place::Node(place),
+            location: Location::Node(place),
             weight: a.weight,
             fault: self.nodes.fault(place),
         })

@@ -32,14 +32,6 @@ pub struct Site<'a> {
     pub scope: &'a Scope<'a>,
 }
 
-/// The bodies of a quantifier: one for each member of a set, which a variable stands for.
-#[derive(Clone, Copy)]
-pub struct Quantifier<'a> {
-    pub name: &'a Name,
-    pub set: &'a Expr,
-    pub body: &'a Expr,
-}
-
 /// What a name stands for.
 #[derive(Clone, Copy)]
 pub enum Named<'a> {

@@ -5,7 +5,7 @@ ghost use Rattle.mltl_base.specs.declared.limits.TheConstants.{MAX_WEIGHT};
 ghost use Rattle.plain_nodes.specs.Nodes.{AreSound, Grows, Has, formula};
 ghost use Rattle.c2po_tree.specs.Shape.{shape};
 ghost use Rattle.unfold.specs.declared.fault.UnfoldFault.TheVariants.{Heavy};
-ghost use Rattle.unfold.specs.declared.values.Place.TheVariants.{Parts as PartsAt};
+ghost use Rattle.unfold.specs.declared.values.Location.TheVariants.{Parts as PartsAt};
 ghost use Rattle.unfold.specs.declared.values.Whole.TheVariants.{Struct, Set};
 ghost use Rattle.unfold.specs.Environment.{Env, Known, declare, fields, no_names, signal_value, value, value_of};
 ghost use Rattle.plain_nodes.specs.Facts.{told_fault};
@@ -18,7 +18,7 @@ ghost use Rattle.unfold.specs.Values.{Value, Values, formula_of, set, structure,
 use crate::UnfoldFault;
 use crate::fields::Fields;
 use crate::scope::{Scope, Site};
-use crate::values::{Entry, Parts, Place, Stored, Whole};
+use crate::values::{Entry, Location, Parts, Stored, Whole};
 use crate::visits::Visits;
 use c2po_tree::Expr;
 use mltl_base::{List, Name};
@@ -101,7 +101,7 @@ impl Unfolding {
         let place = self.add_node(signal_of(number, truth))?;
         let fault = self.nodes.fault(place);
         let stored = Stored {
-            place: Place::Node(place),
+            location: Location::Node(place),
             weight: 1,
             fault,
         };
@@ -219,7 +219,7 @@ impl Unfolding {
         let fault = first_of(members.as_slice());
         self.parts.push(Parts { whole, members })?;
         Ok(Stored {
-            place: Place::Parts(place),
+            location: Location::Parts(place),
             weight,
             fault,
         })

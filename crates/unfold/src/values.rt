@@ -5,7 +5,7 @@ use mltl_ranges::NoRange;
 
 /// Where a value is stored: as a node of plain formulas, or as parts of a struct or a set.
 #[derive(Clone, Copy)]
-pub enum Place {
+pub enum Location {
     Node(u32),
     Parts(u32),
 }
@@ -13,7 +13,7 @@ pub enum Place {
 /// A stored value with its weight, and with the first of its whole numbers' faults.
 #[derive(Clone, Copy)]
 pub struct Stored {
-    pub place: Place,
+    pub location: Location,
     pub weight: u32,
     pub fault: Option<NoRange>,
 }

@@ -26,13 +26,8 @@ impl Visits {
     pub(crate) fn visit(&mut self) -> Result<(), UnfoldFault>
         ensures { IfErr result (λ why. why ≡ Memory) }
     {
-        match self.left.checked_sub(1) {
-            Some(left) => {
-                self.left = left;
-                Ok(())
-            }
-            None => Err(UnfoldFault::Memory),
-        }
+        self.left = self.left.checked_sub(1).ok_or(UnfoldFault::Memory)?;
+        Ok(())
     }
 
     /// Passes over a variable.

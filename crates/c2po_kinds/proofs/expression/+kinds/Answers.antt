@@ -24,7 +24,7 @@ kind_of-returns-in_err-kinds-in-Group t c =
 pub kind_of-returns-in_ok-kinds-in-Build : goal.kind_of-returns-in_ok-kinds-in-Build
 kind_of-returns-in_ok-kinds-in-Build t c = record {
   kind =
-      subst (Gives (λ k. k) c.built.result) (build-kind c.args.expr.now c.in-Build.arguments c.as_slice.result.now (visible c.args.scope.now) c.as_slice.ensures.value
+      subst (Gives c.built.result) (build-kind c.args.expr.now c.in-Build.arguments c.as_slice.result.now (visible c.args.scope.now) c.as_slice.ensures.value
       c.in-Build.name c.as_slice-in-Build.result.now _
       c.in-Build.is c.in_ok-kinds-in-Build.ensures c.as_slice-in-Build.ensures.value) c.built.ensures;
 }
@@ -32,7 +32,7 @@ kind_of-returns-in_ok-kinds-in-Build t c = record {
 pub kind_of-returns-in_ok-kinds-in-Group : goal.kind_of-returns-in_ok-kinds-in-Group
 kind_of-returns-in_ok-kinds-in-Group t c = record {
   kind =
-      subst (Gives (λ k. k) c.gather.result) (group-kind c.args.expr.now c.in-Group.elements c.as_slice-in-Group.result.now (visible c.args.scope.now) c.as_slice-in-Group.ensures.value
+      subst (Gives c.gather.result) (group-kind c.args.expr.now c.in-Group.elements c.as_slice-in-Group.result.now (visible c.args.scope.now) c.as_slice-in-Group.ensures.value
       c.as_slice-in-Group-2.result.now _ c.in-Group.is c.in_ok-kinds-in-Group.ensures c.as_slice-in-Group-2.ensures.value) c.gather.ensures;
 }
 

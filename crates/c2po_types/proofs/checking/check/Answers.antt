@@ -28,7 +28,7 @@ of-requires-clause-sound c =
     let items = map item_shape c.as_slice.result.now in
     let found = checked-signals items (state_of q p.0) p.2 in
     let nodes : length c.into_nodes-nodes.result < 2 ^ 32 = omega (arith, ap length c.into_nodes-nodes.ensures.nodes, c.into_nodes-nodes.ensures.few) in
-    let outs : length q.outs < 2 ^ 32 = omega (arith, c.len.ensures, c.in-Ok.ensures) in
+    let outs : length q.outs < 2 ^ 32 = omega (arith, c.len.ensures) in
     let made : Expanded = record { nodes = c.into_nodes-nodes.result; outs = q.outs } in
     subst (λ is. IsSound made (length (signals_of is))) (ap (map item_shape) c.as_slice.ensures ∙ sym c.in_ok-copy.ensures)
     (made-sound q items made (record { all = c.in_ok-declared.ensures.unfolded; nodes = c.into_nodes-nodes.ensures.nodes; outs = refl })

@@ -1,11 +1,10 @@
-use Rattle.std.proofs.Common.{◌∙◌, ◌+◌, refl, sym, ap, subst, arith, length, map, drop}
+use Rattle.std.proofs.Common.{◌∙◌, ◌+◌, sym, ap, subst, arith, map, drop}
 use Rattle.std.proofs.lemmas.Result.{err_from_is_err_and}
 use Rattle.c2po_tree.specs.ItemShape.{item_shape}
-use Rattle.c2po_kinds.specs.declared.declarations.Declarations.{Declarations}
 use Rattle.c2po_kinds.specs.Checking.{Fails}
 use Rattle.c2po_kinds.proofs.Turns.{turn-more, turn-fails, turn-end}
 use Rattle.unfold.specs.Environment.{no_names}
-use Rattle.c2po_types.specs.FirstFault.{item_step}
+use Rattle.c2po_types.specs.FirstFault.{State, item_step}
 use Rattle.c2po_types.specs.Reaching.{state_of}
 use Rattle.c2po_types.specs.Unfolded.{Leaves}
 use Rattle.c2po_types.proofs.Outcome.{checked-from}
@@ -15,13 +14,9 @@ use Rattle.c2po_types.proofs.checking.run.Goals as goal
 pub loop-item-init : goal.loop-item-init
 loop-item-init c =
     let items = c.args.items.now in record {
-      light = omega arith;
-      reached = (
-        no_names,
-        c.new-3.ensures.stands,
-        checked-from items (record { declared = c.new.result; labels = c.new-2.result; values = c.new-3.result; total = 0; outs = c.new-4.result }) c.new.ensures c.new-2.ensures refl,
-      );
-      unfolded = leaves-all _ (map item_shape items) (ap (λ (d : Declarations). length d.signals) c.new.ensures) c.new-4.ensures c.new-3.ensures.stands c.new-3.ensures.sound;
+      light = omega (arith, ap (λ (s : State). s.total) c.new-progress.ensures.start);
+      reached = (no_names, c.new-progress.ensures.stands, checked-from items c.new-progress.result c.new-progress.ensures.start);
+      unfolded = leaves-all _ (map item_shape items) c.new-progress.ensures.unfolded;
     }
 
 pub loop-item-preserved : goal.loop-item-preserved

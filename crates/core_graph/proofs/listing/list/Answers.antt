@@ -1,10 +1,10 @@
--- The items of the part, in the order of completion.
+-- The vertices of the part, in the order of completion.
 use Rattle.std.proofs.Common.{◌≡◌, ◌<◌, ◌≤◌, Err, All, List, ℕ, length, filter, slice_get, subst, sym, ap, ◌∙◌, arith}
 use Rattle.std.proofs.lemmas.Result.{err_from_is_err_and}
 use Rattle.mltl_base.specs.declared.limits.TheConstants.{MAX_INSTRUCTIONS}
 use Rattle.core_graph.specs.declared.graph.GraphFault.TheVariants.{TooManyNodes}
-use Rattle.core_graph.specs.declared.item.Item.{Item}
-use Rattle.core_graph.specs.Items.{tree_at, trees}
+use Rattle.core_graph.specs.declared.vertex.Vertex.{Vertex}
+use Rattle.core_graph.specs.Vertices.{tree_at, trees}
 use Rattle.core_graph.specs.Trees.{completed}
 use Rattle.core_graph.specs.Walks.{trees_of}
 use Rattle.core_graph.specs.Listings.{AreOnce, count_in, is_in, listed_trees, roots_of}
@@ -19,7 +19,7 @@ completion-requires-clause-there c =
 
 pub places-requires-clause-there : goal.places-requires-clause-there
 places-requires-clause-there c =
-    let forest : List Item = c.args.forest.now in
+    let forest : List Vertex = c.args.forest.now in
     let roots : List ℕ = roots_of c.args.part c.args.ids.now c.args.outs.now in
     let order : List ℕ = c.in_ok-order.order.items in
     let listed : List ℕ = c.in_ok-listed.listed.items in
@@ -32,7 +32,7 @@ places-requires-clause-there c =
 
 pub places-requires-clause-once : goal.places-requires-clause-once
 places-requires-clause-once c =
-    let forest : List Item = c.args.forest.now in
+    let forest : List Vertex = c.args.forest.now in
     let roots : List ℕ = roots_of c.args.part c.args.ids.now c.args.outs.now in
     let order : List ℕ = c.in_ok-order.order.items in
     let listed : List ℕ = c.in_ok-listed.listed.items in
@@ -45,7 +45,7 @@ places-requires-clause-once c =
 
 pub places-requires-clause-few : goal.places-requires-clause-few
 places-requires-clause-few c =
-    let forest : List Item = c.args.forest.now in
+    let forest : List Vertex = c.args.forest.now in
     let order : List ℕ = c.in_ok-order.order.items in
     let listed : List ℕ = c.in_ok-listed.listed.items in
     let made : listed ≡ filter (λ n. is_in c.args.part (tree_at (trees forest) n)) order
@@ -57,7 +57,7 @@ places-requires-clause-few c =
 
 pub returns-clause-listing : goal.returns-clause-listing
 returns-clause-listing c =
-    let forest : List Item = c.args.forest.now in
+    let forest : List Vertex = c.args.forest.now in
     let roots : List ℕ = roots_of c.args.part c.args.ids.now c.args.outs.now in
     let order : List ℕ = c.in_ok-order.order.items in
     let listed : List ℕ = c.in_ok-listed.listed.items in

@@ -1,7 +1,7 @@
--- One more item.
+-- One more vertex.
 use Rattle.std.proofs.Common.{◌≡◌, ℕ, get_or}
 use Rattle.std.proofs.lemmas.List.{get_or_default}
-use Rattle.core_graph.specs.Items.{tree_at, trees}
+use Rattle.core_graph.specs.Vertices.{tree_at, trees}
 use Rattle.core_graph.specs.Listings.{is_in}
 use Rattle.core_graph.proofs.Lists.{filter_kept}
 use Rattle.core_graph.proofs.listing.select.Goals as goal

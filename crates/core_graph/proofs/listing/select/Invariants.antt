@@ -1,5 +1,5 @@
 use Rattle.std.proofs.Common.{◌≡◌, filter, take}
-use Rattle.core_graph.specs.Items.{tree_at, trees}
+use Rattle.core_graph.specs.Vertices.{tree_at, trees}
 use Rattle.core_graph.specs.Listings.{is_in}
 use Rattle.core_graph.proofs.listing.select.Given as goal
 

@@ -7,7 +7,7 @@ use Rattle.std.proofs.lemmas.Result.{on_ok_weaker}
 use Rattle.plain_nodes.specs.declared.nodes.Plain.{Plain}
 use Rattle.plain_nodes.specs.Nodes as plain
 use Rattle.core_graph.specs.Trees.{leaf, number}
-use Rattle.core_graph.specs.Items.{Has}
+use Rattle.core_graph.specs.Vertices.{Has}
 use Rattle.core_graph.specs.Reading.{Represents}
 use Rattle.core_graph.proofs.Forests.{core_here, grows_then}
 use Rattle.core_graph.proofs.Outputs.{number_there, formula_there, number_named, formula_named}

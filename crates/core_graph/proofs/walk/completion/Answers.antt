@@ -4,8 +4,8 @@ use Rattle.std.proofs.lemmas.Option.{slice_get-get_or}
 use Rattle.std.proofs.lemmas.Result.{err_from_is_err_and}
 use Rattle.mltl_base.specs.declared.limits.TheConstants.{MAX_INSTRUCTIONS}
 use Rattle.core_graph.specs.declared.graph.GraphFault.TheVariants.{TooManyNodes}
-use Rattle.core_graph.specs.declared.item.Item.{Item}
-use Rattle.core_graph.specs.Items.{tree_at, trees}
+use Rattle.core_graph.specs.declared.vertex.Vertex.{Vertex}
+use Rattle.core_graph.specs.Vertices.{tree_at, trees}
 use Rattle.core_graph.specs.Trees.{Tree, add_tree, completed}
 use Rattle.core_graph.specs.Listings.{count_in, is_in}
 use Rattle.core_graph.specs.Walks.{trees_of}
@@ -31,16 +31,16 @@ returns-clause-within c = λ k d l.
 
 pub returns-in_err-visit-clause-too_many : goal.returns-in_err-visit-clause-too_many
 returns-in_err-visit-clause-too_many c = λ e.
-    let items : List Item = c.args.forest.now in
+    let vertices : List Vertex = c.args.forest.now in
     let roots : List ℕ = c.args.roots.now in
     let root : ℕ = get_or roots c.loop-root.root-index 0 in
     let p = err_from_is_err_and c.from_residual-in_err-visit.result c.from_residual-in_err-visit.ensures.1 in
     let fault : c.in_err-visit.field-0.0 ≡ TooManyNodes = cc (p.1, p.2, e) in
-    let past : MAX_INSTRUCTIONS < count_in c.args.part (add_tree (tree_at (trees items) root) (trees_of items c.loop-root.walk.order.items))
+    let past : MAX_INSTRUCTIONS < count_in c.args.part (add_tree (tree_at (trees vertices) root) (trees_of vertices c.loop-root.walk.order.items))
     = c.in_err-visit.ensures.too_many (ap (λ f. Err f) fault) in
-    let sofar : count_in c.args.part (add_tree (tree_at (trees items) root) (trees_of items c.loop-root.walk.order.items))
-    ≡ count_in c.args.part (add_tree (tree_at (trees items) root) (completed (trees_of items (take c.loop-root.root-index roots))))
-    = ap (λ (ts : List Tree). count_in c.args.part (add_tree (tree_at (trees items) root) ts)) c.loop-root.invariant.visited in
-    let more : count_in c.args.part (add_tree (tree_at (trees items) root) (completed (trees_of items (take c.loop-root.root-index roots)))) ≤ count_in c.args.part (completed (trees_of items roots))
-    = root_grows (is_in c.args.part) (tree_at (trees items)) roots [] c.loop-root.root-index root (slice_get-get_or roots c.loop-root.root-index 0 c.loop-root-test.true) in
+    let sofar : count_in c.args.part (add_tree (tree_at (trees vertices) root) (trees_of vertices c.loop-root.walk.order.items))
+    ≡ count_in c.args.part (add_tree (tree_at (trees vertices) root) (completed (trees_of vertices (take c.loop-root.root-index roots))))
+    = ap (λ (ts : List Tree). count_in c.args.part (add_tree (tree_at (trees vertices) root) ts)) c.loop-root.invariant.visited in
+    let more : count_in c.args.part (add_tree (tree_at (trees vertices) root) (completed (trees_of vertices (take c.loop-root.root-index roots)))) ≤ count_in c.args.part (completed (trees_of vertices roots))
+    = root_grows (is_in c.args.part) (tree_at (trees vertices)) roots [] c.loop-root.root-index root (slice_get-get_or roots c.loop-root.root-index 0 c.loop-root-test.true) in
     omega arith

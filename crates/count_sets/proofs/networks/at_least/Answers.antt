@@ -17,7 +17,7 @@ none_of_few m n h = let e : nat_eq m 0 ≡ false = grind (arith, nat_tests) in r
 
 pub returns-then-m-eq0-clause-formula : goal.returns-then-m-eq0-clause-formula
 returns-then-m-eq0-clause-formula c =
-    truth_last c.new-gates.result c.add.new.gates (nat_eq c.args.m 0) c.args.m c.args.n c.new-gates.ensures c.in_ok-_number.ensures.added
+    truth_last c.new-gates.result c.add.new.gates (nat_eq c.args.m 0) c.args.m c.args.n c.new-gates.ensures c.in_ok-add.ensures.added
     (elim c.then-m-eq0.branch [
       | then-m-eq0-via-then-m-eq0 w ↦ all_of_none c.args.m c.args.n (omega arith)
       | then-m-eq0-via-else-m-eq0+then-m-n w ↦ none_of_few c.args.m c.args.n (omega arith)
@@ -26,11 +26,11 @@ returns-then-m-eq0-clause-formula c =
 pub returns-clause-formula : goal.returns-clause-formula
 returns-clause-formula c =
     row_last (record { bodies = c.args.n; lowest = c.args.m; highest = c.args.m }) c.args.n c.args.m
-    c.in_ok-table.table.gates c.in_ok-table.table.row.items c.in_ok-table.ensures.table refl refl (omega arith) (omega arith) (omega arith)
+    c.in_ok-gates.field-0.gates c.in_ok-gates.field-0.row.items c.in_ok-gates.ensures.table refl refl (omega arith) (omega arith) (omega arith)
 
 pub returns-then-m-eq0-clause-shared : goal.returns-then-m-eq0-clause-shared
 returns-then-m-eq0-clause-shared c =
-    alone_shared c.new-gates.result c.add.new.gates (nat_eq c.args.m 0) c.new-gates.ensures c.in_ok-_number.ensures.added
+    alone_shared c.new-gates.result c.add.new.gates (nat_eq c.args.m 0) c.new-gates.ensures c.in_ok-add.ensures.added
 
 pub returns-clause-shared : goal.returns-clause-shared
-returns-clause-shared c = c.in_ok-table.ensures.rising.shared
+returns-clause-shared c = c.in_ok-gates.ensures.rising.shared

@@ -3,4 +3,4 @@ use Rattle.mltl_simplify.specs.Nodes.{out_over}
 use Rattle.mltl_simplify.proofs.simplifying.outs_of.Given as goal
 
 abbrev pub invariant-loop-out : goal.invariant-loop-out
-invariant-loop-out l = l.list ≡ map (out_over l.parts) (take l.out-index l.outs)
+invariant-loop-out l = l.list ≡ map (out_over l.proxies) (take l.out-index l.outs)

@@ -1,4 +1,4 @@
--- Two items more, or three.
+-- Two vertices more, or three.
 use Rattle.std.proofs.lemmas.Result.{on_ok_weaker}
 use Rattle.core_graph.proofs.Forests.{grows_then}
 use Rattle.core_graph.proofs.forest.Forest.comparison.Goals as goal

@@ -1,4 +1,4 @@
--- Operands stay core formulas while items are added.
+-- Operands stay core formulas while vertices are added.
 use Rattle.std.proofs.lemmas.Result.{on_ok_weaker}
 use Rattle.mltl_base.specs.Formula.{cand, neg}
 use Rattle.core_graph.specs.Reading.{IsCoreAt}

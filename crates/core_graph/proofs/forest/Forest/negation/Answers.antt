@@ -1,4 +1,4 @@
--- The operand of a negation, or one more item.
+-- The operand of a negation, or one more vertex.
 use Rattle.std.proofs.Common.{sym, ◌∙◌}
 use Rattle.std.proofs.lemmas.Option.{same_Some}
 use Rattle.std.proofs.lemmas.Result.{IfOk-weaker}

@@ -2,8 +2,8 @@
 use Rattle.std.proofs.Common.{◌≡◌, ◌<◌, ◌≤◌, ◌-◌, ◌∷◌, [], ℕ, List, Bool, Some, None, length, slice_get, refl, sym, ap, ◌∙◌, arith}
 use Rattle.std.proofs.lemmas.Option.{slice_get_read}
 use Rattle.mltl_base.specs.declared.limits.TheConstants.{MAX_INSTRUCTIONS}
-use Rattle.core_graph.specs.declared.item.Item.{Item}
-use Rattle.core_graph.specs.Items.{tree_at, trees}
+use Rattle.core_graph.specs.declared.vertex.Vertex.{Vertex}
+use Rattle.core_graph.specs.Vertices.{tree_at, trees}
 use Rattle.core_graph.specs.Trees.{Tree, add_tree}
 use Rattle.core_graph.specs.Listings.{count_in, is_in}
 use Rattle.core_graph.specs.Walks.{finish, trees_of}
@@ -40,12 +40,12 @@ returns-clause-visited c =
 
 pub returns-then-self-clause-too_many : goal.returns-then-self-clause-too_many
 returns-then-self-clause-too_many c = λ e.
-    let items : List Item = c.args.forest.now in
-    let sofar : List Tree = trees_of items c.step.new.self.order.items in
-    let more : count_in c.args.part sofar ≤ count_in c.args.part (finish (trees_of items c.step.new.stack.items) sofar)
-    = finish_grows (is_in c.args.part) (trees_of items c.step.new.stack.items) sofar in
-    let end : count_in c.args.part (finish (trees_of items c.step.new.stack.items) sofar)
-    ≡ count_in c.args.part (add_tree (tree_at (trees items) c.args.root) (trees_of items c.args.self.now.order.items))
+    let vertices : List Vertex = c.args.forest.now in
+    let sofar : List Tree = trees_of vertices c.step.new.self.order.items in
+    let more : count_in c.args.part sofar ≤ count_in c.args.part (finish (trees_of vertices c.step.new.stack.items) sofar)
+    = finish_grows (is_in c.args.part) (trees_of vertices c.step.new.stack.items) sofar in
+    let end : count_in c.args.part (finish (trees_of vertices c.step.new.stack.items) sofar)
+    ≡ count_in c.args.part (add_tree (tree_at (trees vertices) c.args.root) (trees_of vertices c.args.self.now.order.items))
     = ap (count_in c.args.part) (c.in_ok-step.ensures.goal ∙ c.loop-top.invariant.goal) in
     let counted : c.step.new.self.count ≡ count_in c.args.part sofar = c.in_ok-step.ensures.walk.counted in
     let past : MAX_INSTRUCTIONS < c.step.new.self.count = c.if-self.true in

@@ -1,6 +1,6 @@
 use Rattle.std.proofs.Common.{◌≡◌, ◌≤◌}
 use Rattle.mltl_base.specs.declared.limits.TheConstants.{MAX_INSTRUCTIONS}
-use Rattle.core_graph.specs.Items.{tree_at, trees}
+use Rattle.core_graph.specs.Vertices.{tree_at, trees}
 use Rattle.core_graph.specs.Trees.{add_tree}
 use Rattle.core_graph.specs.CountedWalks.{IsCountedWalk}
 use Rattle.core_graph.specs.Walks.{IsStack, finish, trees_of, work}

@@ -1,13 +1,10 @@
-use Rattle.std.proofs.Common.{ap, map, ◌∙◌, length, arith}
-use Rattle.std.proofs.lemmas.List.{length_push}
+use Rattle.std.proofs.Common.{ap, map, ◌∙◌}
 use Rattle.plain_nodes.specs.Facts.{fact_view, node_fact}
 use Rattle.plain_nodes.proofs.Knowing.{known_push}
 use Rattle.plain_nodes.proofs.known_nodes.Nodes.push.Goals as goal
 
-pub invariant_of-self-in-Ok-push : goal.invariant_of-self-in-Ok-push
-invariant_of-self-in-Ok-push c = (
-  known_push c.self.inside.facts.items c.push.new.self.items c.self.inside.list c.push-2.new.self c.fact_of-fact.result c.args.node
-      c.in_ok-push.ensures.items c.in-Ok-push.ensures.pushed c.self.invariant.0
-      (c.fact_of-fact.ensures ∙ ap (λ fs. node_fact (map fact_view fs) c.args.node) c.deref.ensures.value),
-  omega (arith, ap length c.in-Ok-push.ensures.pushed, length_push c.self.inside.list c.args.node),
-)
+pub invariant_of-self-in-Ok : goal.invariant_of-self-in-Ok
+invariant_of-self-in-Ok c =
+    known_push c.self.inside.facts.items c.push.new.self.items c.self.inside.list c.push-2.new.self c.fact_of-fact.result c.args.node
+    c.in_ok-push.ensures.items c.in-Ok.ensures.pushed c.self.invariant
+    (c.fact_of-fact.ensures ∙ ap (λ fs. node_fact (map fact_view fs) c.args.node) c.deref.ensures.value)

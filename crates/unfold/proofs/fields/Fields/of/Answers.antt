@@ -1,7 +1,6 @@
-use Rattle.std.proofs.Common.{◌≡◌, ◌++◌, ◌∷◌, [], List, ℕ, Some, slice_get, take, length, true, false, sym, subst, ap, ◌∙◌, arith}
+use Rattle.std.proofs.Common.{◌≡◌, ◌++◌, ◌∷◌, [], List, ℕ, Some, slice_get, take, length, sym, subst, ap, ◌∙◌, arith}
 use Rattle.std.proofs.lemmas.List.{length-take-le}
 use Rattle.std.proofs.lemmas.Option.{slice_get_within}
-use Rattle.name_table.specs.Tables.{is_named}
 use Rattle.unfold.specs.Fields.{ArePlaces}
 use Rattle.unfold.proofs.Members.{found_at}
 use Rattle.unfold.proofs.Placing.{places_new, places_known, first_names}

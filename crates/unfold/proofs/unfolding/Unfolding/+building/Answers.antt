@@ -2,21 +2,20 @@ use Rattle.std.proofs.Common.{◌≡◌, ◌+◌, ◌-◌, ◌<◌, ℕ, false, 
 use Rattle.std.specs.Vec.{vec_len}
 use Rattle.std.proofs.lemmas.List.{take_all, length-map}
 use Rattle.std.proofs.lemmas.Result.{err_from_is_err_and}
-use Rattle.mltl_base.specs.declared.operators.LogicOp.TheVariants.{And, Or}
 use Rattle.count_sets.specs.Counting.{counting}
 use Rattle.plain_nodes.specs.Nodes.{Has, formula}
-use Rattle.c2po_tree.specs.Shape.{shape, node_shape}
+use Rattle.c2po_tree.specs.Shape.{shape}
 use Rattle.unfold.specs.declared.fault.UnfoldFault.TheVariants.{Heavy}
-use Rattle.unfold.specs.declared.values.Place.TheVariants.{Node}
+use Rattle.unfold.specs.declared.values.Location.TheVariants.{Node}
 use Rattle.unfold.specs.declared.values.Stored.{Stored}
-use Rattle.unfold.specs.Values.{weight, members, formula_of, truth_value, connected_all, counted, counted_formula, counting_weight}
+use Rattle.unfold.specs.Values.{weight, members, formula_of, truth_value, connected_all, counted_formula, counting_weight}
 use Rattle.unfold.specs.Environment.{value_of, bind}
-use Rattle.unfold.specs.Operators.{bodies_over, bodies_of}
+use Rattle.unfold.specs.Operators.{bodies_over, bodies_of, operation_value}
 use Rattle.unfold.specs.Holding.{Holds, IsLater}
 use Rattle.unfold.specs.Bodies.{HaveFormulas}
 use Rattle.unfold.proofs.Later.{holds_later, fits_later, heads_later, later_then}
 use Rattle.unfold.proofs.Members.{holds_weight, found_at}
-use Rattle.unfold.proofs.Loops.{BuiltSoFar, built_more, weight_within, values_over, bodies_count, body_at, member_at, joined_first, joined_one, joined_next, joined_within, sum_within, counted_is_some, some_left, binary_weight}
+use Rattle.unfold.proofs.Loops.{BuiltSoFar, built_more, weight_within, bodies_count, body_at, member_at, joined_first, joined_one, joined_next, joined_within, sum_within, counted_is_some, some_left, binary_weight}
 use Rattle.unfold.proofs.Gates.{CountedSoFar, counted_more}
 use Rattle.unfold.proofs.unfolding.Unfolding.+building.Goals as goal
 
@@ -41,53 +40,17 @@ binary-returns-clause-holds t c = λ env h.
     (holds_later v c.build.new.self c.build-2.new.self c.in_ok-a.a c.in_ok-b.ensures.later (c.in_ok-a.ensures.holds env h))
     (c.in_ok-b.ensures.holds env (fits_later c.args.at.scope.now c.args.self.now c.build.new.self env c.in_ok-a.ensures.later h))
 
-pub operator-returns-in-Each-clause-holds : goal.operator-returns-in-Each-clause-holds
-operator-returns-in-Each-clause-holds t c = λ env h o.
-    let same : value_of (shape c.args.e.now) env ≡ connected_all And (values_over c.deref-in-Each-2.result.now c.in-Each.name env (value_of (shape c.deref-in-Each.result.now) env)) =
-    ap (λ n. value_of (node_shape c.args.e.now.line n) env) c.in-Each.is
-    ∙ (ap (λ d. connected_all And (values_over c.in-Each.body.value c.in-Each.name env (value_of (shape d) env))) (sym c.deref-in-Each.ensures)
-    ∙ ap (λ d. connected_all And (values_over d c.in-Each.name env (value_of (shape c.deref-in-Each.result.now) env))) (sym c.deref-in-Each-2.ensures)) in
-    subst (λ w. IfOk c.joined_bodies.result (λ s. Holds c.joined_bodies.new.self s w)) (sym same) (c.joined_bodies.ensures.holds env h)
+pub operator-returns-in-Joined-clause-holds : goal.operator-returns-in-Joined-clause-holds
+operator-returns-in-Joined-clause-holds t c = λ env h o.
+    let same : connected_all c.in-Joined.op (bodies_of c.in-Joined.bodies env) ≡ value_of (shape c.args.e.now) env =
+    ap (λ r. operation_value r env) (sym c.in-Joined.is) ∙ c.of.ensures env o in
+    subst (λ w. IfOk c.joined_bodies.result (λ s. Holds c.joined_bodies.new.self s w)) same (c.joined_bodies.ensures.holds env h)
 
-pub operator-returns-in-Each-clause-heavy : goal.operator-returns-in-Each-clause-heavy
-operator-returns-in-Each-clause-heavy t c = λ env h o.
-    let same : value_of (shape c.args.e.now) env ≡ connected_all And (values_over c.deref-in-Each-2.result.now c.in-Each.name env (value_of (shape c.deref-in-Each.result.now) env)) =
-    ap (λ n. value_of (node_shape c.args.e.now.line n) env) c.in-Each.is
-    ∙ (ap (λ d. connected_all And (values_over c.in-Each.body.value c.in-Each.name env (value_of (shape d) env))) (sym c.deref-in-Each.ensures)
-    ∙ ap (λ d. connected_all And (values_over d c.in-Each.name env (value_of (shape c.deref-in-Each.result.now) env))) (sym c.deref-in-Each-2.ensures)) in
-    subst (λ w. IfErr c.joined_bodies.result (λ why. why ≡ Heavy → c.args.room < weight w)) (sym same) (c.joined_bodies.ensures.heavy env h)
-
-pub operator-returns-in-Exists-clause-holds : goal.operator-returns-in-Exists-clause-holds
-operator-returns-in-Exists-clause-holds t c = λ env h o.
-    let same : value_of (shape c.args.e.now) env ≡ connected_all Or (values_over c.deref-in-Exists-2.result.now c.in-Exists.name env (value_of (shape c.deref-in-Exists.result.now) env)) =
-    ap (λ n. value_of (node_shape c.args.e.now.line n) env) c.in-Exists.is
-    ∙ (ap (λ d. connected_all Or (values_over c.in-Exists.body.value c.in-Exists.name env (value_of (shape d) env))) (sym c.deref-in-Exists.ensures)
-    ∙ ap (λ d. connected_all Or (values_over d c.in-Exists.name env (value_of (shape c.deref-in-Exists.result.now) env))) (sym c.deref-in-Exists-2.ensures)) in
-    subst (λ w. IfOk c.joined_bodies-in-Exists.result (λ s. Holds c.joined_bodies-in-Exists.new.self s w)) (sym same) (c.joined_bodies-in-Exists.ensures.holds env h)
-
-pub operator-returns-in-Exists-clause-heavy : goal.operator-returns-in-Exists-clause-heavy
-operator-returns-in-Exists-clause-heavy t c = λ env h o.
-    let same : value_of (shape c.args.e.now) env ≡ connected_all Or (values_over c.deref-in-Exists-2.result.now c.in-Exists.name env (value_of (shape c.deref-in-Exists.result.now) env)) =
-    ap (λ n. value_of (node_shape c.args.e.now.line n) env) c.in-Exists.is
-    ∙ (ap (λ d. connected_all Or (values_over c.in-Exists.body.value c.in-Exists.name env (value_of (shape d) env))) (sym c.deref-in-Exists.ensures)
-    ∙ ap (λ d. connected_all Or (values_over d c.in-Exists.name env (value_of (shape c.deref-in-Exists.result.now) env))) (sym c.deref-in-Exists-2.ensures)) in
-    subst (λ w. IfErr c.joined_bodies-in-Exists.result (λ why. why ≡ Heavy → c.args.room < weight w)) (sym same) (c.joined_bodies-in-Exists.ensures.heavy env h)
-
-pub operator-returns-in-Count-clause-holds : goal.operator-returns-in-Count-clause-holds
-operator-returns-in-Count-clause-holds t c = λ env h o.
-    let same : value_of (shape c.args.e.now) env ≡ counted c.in-Count.op c.in-Count.number (values_over c.deref-in-Count-2.result.now c.in-Count.name env (value_of (shape c.deref-in-Count.result.now) env)) =
-    ap (λ n. value_of (node_shape c.args.e.now.line n) env) c.in-Count.is
-    ∙ (ap (λ d. counted c.in-Count.op c.in-Count.number (values_over c.in-Count.body.value c.in-Count.name env (value_of (shape d) env))) (sym c.deref-in-Count.ensures)
-    ∙ ap (λ d. counted c.in-Count.op c.in-Count.number (values_over d c.in-Count.name env (value_of (shape c.deref-in-Count.result.now) env))) (sym c.deref-in-Count-2.ensures)) in
-    subst (λ w. IfOk c.counted_bodies.result (λ s. Holds c.counted_bodies.new.self s w)) (sym same) (c.counted_bodies.ensures.holds env h)
-
-pub operator-returns-in-Count-clause-heavy : goal.operator-returns-in-Count-clause-heavy
-operator-returns-in-Count-clause-heavy t c = λ env h o.
-    let same : value_of (shape c.args.e.now) env ≡ counted c.in-Count.op c.in-Count.number (values_over c.deref-in-Count-2.result.now c.in-Count.name env (value_of (shape c.deref-in-Count.result.now) env)) =
-    ap (λ n. value_of (node_shape c.args.e.now.line n) env) c.in-Count.is
-    ∙ (ap (λ d. counted c.in-Count.op c.in-Count.number (values_over c.in-Count.body.value c.in-Count.name env (value_of (shape d) env))) (sym c.deref-in-Count.ensures)
-    ∙ ap (λ d. counted c.in-Count.op c.in-Count.number (values_over d c.in-Count.name env (value_of (shape c.deref-in-Count.result.now) env))) (sym c.deref-in-Count-2.ensures)) in
-    subst (λ w. IfErr c.counted_bodies.result (λ why. why ≡ Heavy → c.args.room < weight w)) (sym same) (c.counted_bodies.ensures.heavy env h)
+pub operator-returns-in-Joined-clause-heavy : goal.operator-returns-in-Joined-clause-heavy
+operator-returns-in-Joined-clause-heavy t c = λ env h o.
+    let same : connected_all c.in-Joined.op (bodies_of c.in-Joined.bodies env) ≡ value_of (shape c.args.e.now) env =
+    ap (λ r. operation_value r env) (sym c.in-Joined.is) ∙ c.of.ensures env o in
+    subst (λ w. IfErr c.joined_bodies.result (λ why. why ≡ Heavy → c.args.room < weight w)) same (c.joined_bodies.ensures.heavy env h)
 
 pub build_all-returns-in_err-member-clause-heavy : goal.build_all-returns-in_err-member-clause-heavy
 build_all-returns-in_err-member-clause-heavy t c = λ env h.
@@ -274,6 +237,6 @@ counted_bodies-returns-clause-holds t c = λ env h.
     subst (λ ns. HaveFormulas c.body_nodes.new.self.nodes ns (map formula_of bodies)) (sym c.deref.ensures.value) have in
     let has = subst (λ n. Has c.gates.new.self.nodes c.in_ok-node.node (formula (counted_formula (map formula_of bodies) (counting c.args.op n c.args.number))))
     (length-map bodies formula_of) (c.in_ok-node.ensures.has (map formula_of bodies) have_all) in
-    subst (λ x. Holds c.gates.new.self (record { place = Node c.in_ok-node.node; weight = (c.args.room - c.in_ok-nodes.left) + c.in_ok-gates.gates; fault = c.fault.result }) x)
+    subst (λ x. Holds c.gates.new.self (record { location = Node c.in_ok-node.node; weight = (c.args.room - c.in_ok-nodes.left) + c.in_ok-gates.gates; fault = c.fault.result }) x)
     (sym (counted_is_some c.args.op c.args.number bodies some))
     (omega (arith, c.in_ok-nodes.ensures.weight env h, beside, c.in_ok-gates.ensures.weight), (c.in_ok-node.node, refl, has, c.fault.ensures (formula (counted_formula (map formula_of bodies) (counting c.args.op (length bodies) c.args.number))) has))

@@ -1,4 +1,4 @@
-use Rattle.std.proofs.Common.{ap, sym, subst, refl, ◌∙◌}
+use Rattle.std.proofs.Common.{ap, sym, subst, refl, ◌∙◌, IfOk}
 use Rattle.c2po_tree.specs.Shape.{shapes}
 use Rattle.c2po_tree.proofs.Rows.{shape_of-Build, shape_of-Group}
 use Rattle.unfold.specs.Values.{built, grouped}
@@ -24,13 +24,13 @@ head-returns-in-Group-clause-head t c = λ env h. (
       ∙ ap (λ es. grouped (values_of (shapes es) env)) (sym c.as_slice-in-Group.ensures.value),
 )
 
-pub part-returns-in_ok-part-in-Some-get-clause-head : goal.part-returns-in_ok-part-in-Some-get-clause-head
-part-returns-in_ok-part-in-Some-get-clause-head t c = λ env v f k.
+pub part-returns-in-Some-get-clause-head : goal.part-returns-in-Some-get-clause-head
+part-returns-in-Some-get-clause-head t c = λ env v f k.
     let g = subst (λ h. Heads c.args.self.now h v) c.in-Struct.is k in
-    subst (λ w. Heads c.args.self.now c.in_ok-part-in-Some-get.part w)
+    subst (λ w. IfOk c.head.result (λ h. Heads c.args.self.now h w))
     (picked_open c.in-Struct.parts.now g.0 c.in-Struct.name.now c.in-Some.place c.in-Some-get.part.now (λ y. fields_in (env y)) c.args.field.now v g.2
     (sym (c.in-Some.ensures env f)) (found_at _ _ _ _ refl c.in-Some-get.ensures.lookup.3.0 c.in-Some-get.ensures.lookup.1))
-    (c.in_ok-part-in-Some-get.ensures.head g.0 g.1)
+    (c.head.ensures.head g.0 g.1)
 
 pub part-returns-in-None-clause-head : goal.part-returns-in-None-clause-head
 part-returns-in-None-clause-head t c = λ env v f k.

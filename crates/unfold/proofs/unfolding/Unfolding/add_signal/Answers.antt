@@ -2,7 +2,7 @@ use Rattle.std.proofs.Common.{refl, sym, subst}
 use Rattle.plain_nodes.specs.Nodes.{AreSound, Grows, IsFormed, trees}
 use Rattle.plain_nodes.proofs.Pushing.{grows_push, sound_push}
 use Rattle.unfold.specs.Environment.{value, signal_value}
-use Rattle.unfold.specs.declared.values.Place.TheVariants.{Node}
+use Rattle.unfold.specs.declared.values.Location.TheVariants.{Node}
 use Rattle.unfold.specs.Holding.{StandsFor}
 use Rattle.unfold.proofs.Nodes.{signal_formed, signal_holds, stands_push}
 use Rattle.unfold.proofs.unfolding.Unfolding.add_signal.Goals as goal
@@ -12,7 +12,7 @@ returns-clause-stands c = λ env h.
     c.in_ok-declare.ensures.stands env (value (signal_value c.args.truth c.args.number))
     (subst (λ u. StandsFor u env) (sym c.in_ok-place.ensures.pushed) (stands_push c.args.self.now c.signal_of.result env h)) (
       signal_value c.args.truth c.args.number,
-      signal_holds c.args.self.now c.add_node.new.self c.signal_of.result (record { place = Node c.in_ok-place.place; weight = 1; fault = c.fault-fault.result }) c.in_ok-place.place c.args.truth c.args.number
+      signal_holds c.args.self.now c.add_node.new.self c.signal_of.result (record { location = Node c.in_ok-place.place; weight = 1; fault = c.fault-fault.result }) c.in_ok-place.place c.args.truth c.args.number
           c.in_ok-place.ensures.pushed c.in_ok-place.ensures.place c.signal_of.ensures refl refl c.fault-fault.ensures,
       refl,
     )

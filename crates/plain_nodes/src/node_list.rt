@@ -1,13 +1,13 @@
-//! The nodes that stand for those of a specification.
+//! Nodes, each at its place.
 
 ghost use Rattle.std.specs.Prelude.{◌≡◌, ◌∷◌, ◌++◌, [], ◌<◌, ◌^◌, length, IfOk, OnErr, OnOk};
 
+use crate::Plain;
 use mltl_base::List;
-use plain_nodes::Plain;
 use std::alloc::{AllocError, Global};
 use std::marker::Model;
 
-/// A list of nodes, which contracts see as that list. Nothing else is kept of them, unlike of `plain_nodes::Nodes`.
+/// A list of nodes, which contracts see as that list. Nothing else is kept of them, unlike of `Nodes`.
 #[derive(Drop)]
 pub struct NodeList {
     list: List<Plain>,

@@ -1,20 +1,20 @@
--- Items over numbered ones: the trees that they unfold to, and forests of them.
+-- Vertices over numbered ones: the trees that they unfold to, and forests of them.
 
 use Rattle.std.specs.Prelude.{◌≡◌, ◌⊎◌, ℕ, ◌<◌, Bool, Some, List, [], ◌∷◌, ◌++◌, fold, length, slice_get}
 use Rattle.std.specs.Prelude.{slice_index_or, ⊤}
 use Rattle.mltl_base.specs.declared.operators.ArithOp as arith
-use Rattle.core_graph.specs.declared.item.Item.{Item}
-use Rattle.core_graph.specs.declared.item.Item.TheVariants.{Column, Const, Neg, Arith, IsTrue, Eq, Lt, Le, True, Load}
-use Rattle.core_graph.specs.declared.item.Item.TheVariants.{Not, And, Until, Since}
-use Rattle.core_graph.specs.declared.item.Operands.{Operands}
-use Rattle.core_graph.specs.declared.item.Operands.TheVariants.{Zero, One, Two}
+use Rattle.core_graph.specs.declared.vertex.Vertex.{Vertex}
+use Rattle.core_graph.specs.declared.vertex.Vertex.TheVariants.{Column, Const, Neg, Arith, IsTrue, Eq, Lt, Le, True}
+use Rattle.core_graph.specs.declared.vertex.Vertex.TheVariants.{Load, Not, And, Until, Since}
+use Rattle.core_graph.specs.declared.vertex.Operands.{Operands}
+use Rattle.core_graph.specs.declared.vertex.Operands.TheVariants.{Zero, One, Two}
 use Rattle.core_graph.specs.Trees.{Sign, negative_sign, plus_sign, minus_sign, times_sign, quotient_sign}
 use Rattle.core_graph.specs.Trees.{remainder_sign, equal_sign, less_sign, at_most_sign, true_sign, load_sign, not_sign}
 use Rattle.core_graph.specs.Trees.{and_sign, Label, sign, in_column, truth_in, number, until_in, since_in, Tree, leaf}
 use Rattle.core_graph.specs.Trees.{one, two, is_core_label}
 
--- the operands of an item
-abbrev pub operands_of : Item → Operands
+-- the operands of a vertex
+abbrev pub operands_of : Vertex → Operands
 operands_of (Column c) = Zero
 operands_of (Const n) = Zero
 operands_of (Neg a) = One a
@@ -38,8 +38,8 @@ arith_sign arith.TheVariants.Mul = times_sign
 arith_sign arith.TheVariants.Div = quotient_sign
 arith_sign arith.TheVariants.Rem = remainder_sign
 
--- what stands at the node of an item
-abbrev pub label_of : Item → Label
+-- what stands at the node of a vertex
+abbrev pub label_of : Vertex → Label
 label_of (Column c) = in_column c
 label_of (Const n) = number n
 label_of (Neg a) = sign negative_sign
@@ -55,11 +55,11 @@ label_of (And a b) = sign and_sign
 label_of (Until i a b) = until_in i
 label_of (Since i a b) = since_in i
 
--- the item is a core formula, not an expression
-abbrev pub is_formula : Item → Bool
-is_formula item = is_core_label (label_of item)
+-- the vertex is a core formula, not an expression
+abbrev pub is_formula : Vertex → Bool
+is_formula vertex = is_core_label (label_of vertex)
 
--- the tree of item n: of an item that isn't there nothing is asked
+-- the tree of vertex n: of a vertex that isn't there nothing is asked
 abbrev pub tree_at : List Tree → ℕ → Tree
 tree_at earlier n = slice_index_or earlier n (leaf (sign true_sign))
 
@@ -69,18 +69,18 @@ tree_over earlier l Zero = leaf l
 tree_over earlier l (One a) = one l (tree_at earlier a)
 tree_over earlier l (Two a b) = two l (tree_at earlier a) (tree_at earlier b)
 
--- the tree that an item unfolds to, over those of the items before it
-abbrev pub tree_of : List Tree → Item → Tree
-tree_of earlier item = tree_over earlier (label_of item) (operands_of item)
+-- the tree that a vertex unfolds to, over those of the vertices before it
+abbrev pub tree_of : List Tree → Vertex → Tree
+tree_of earlier vertex = tree_over earlier (label_of vertex) (operands_of vertex)
 
--- the trees that the items unfold to, in order
-unfoldable pub trees : List Item → List Tree
-trees items = fold (λ earlier item. earlier ++ tree_of earlier item ∷ []) [] items
+-- the trees that the vertices unfold to, in order
+unfoldable pub trees : List Vertex → List Tree
+trees vertices = fold (λ earlier vertex. earlier ++ tree_of earlier vertex ∷ []) [] vertices
 
--- item n is there, and unfolds to a tree
-pub record Has (items : List Item) (n : ℕ) (tree : Tree) : Type 0 where
-  pub within : n < length items
-  pub is : tree_at (trees items) n ≡ tree
+-- vertex n is there, and unfolds to a tree
+pub record Has (vertices : List Vertex) (n : ℕ) (tree : Tree) : Type 0 where
+  pub within : n < length vertices
+  pub is : tree_at (trees vertices) n ≡ tree
 
 -- the operands stand before place n
 abbrev pub AreBelow : ℕ → Operands → Type 0
@@ -88,17 +88,18 @@ AreBelow n Zero = ⊤
 AreBelow n (One a) = a < n
 AreBelow n (Two a b) = (a < n) × (b < n)
 
--- operands stand before the items that use them, and no item stands twice
-pub record IsForest (items : List Item) : Type 0 where
-  pub over : (i : ℕ) (item : Item) → slice_get items i ≡ Some item → AreBelow i (operands_of item)
-  pub once : (i j : ℕ) (item : Item) → slice_get items i ≡ Some item → slice_get items j ≡ Some item → i ≡ j
+-- operands stand before the vertices that use them, and no vertex stands twice
+pub record IsForest (vertices : List Vertex) : Type 0 where
+  pub over : (i : ℕ) (vertex : Vertex) → slice_get vertices i ≡ Some vertex → AreBelow i (operands_of vertex)
+  pub once : (i j : ℕ) (vertex : Vertex) → slice_get vertices i ≡ Some vertex → slice_get vertices j ≡ Some vertex
+      → i ≡ j
 
 -- the new list is a forest, and has what the old one has
-pub record Grows (old new : List Item) : Type 0 where
+pub record Grows (old new : List Vertex) : Type 0 where
   pub forest : IsForest new
   pub kept : (n : ℕ) (tree : Tree) → Has old n tree → Has new n tree
 
--- the new list is the old one, or has a new item last
-abbrev pub IsAdded : List Item → List Item → Item → Type 0
-IsAdded old new item =
-    (new ≡ old) ⊎ ((new ≡ old ++ item ∷ []) × ((i : ℕ) → ¬ (slice_get old i ≡ Some item)))
+-- the new list is the old one, or has a new vertex last
+abbrev pub IsAdded : List Vertex → List Vertex → Vertex → Type 0
+IsAdded old new vertex =
+    (new ≡ old) ⊎ ((new ≡ old ++ vertex ∷ []) × ((i : ℕ) → ¬ (slice_get old i ≡ Some vertex)))
