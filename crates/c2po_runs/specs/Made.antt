@@ -8,7 +8,7 @@ use Rattle.mltl_base.specs.declared.signal.Signal.{Signal}
 use Rattle.mltl_base.specs.Subformulas.{Asked}
 use Rattle.tool_io.specs.declared.host.Place.TheVariants.{Header, Out}
 use Rattle.tool_io.specs.Cutting.{line_text}
-use Rattle.obs_binary.specs.Layout.{spelling}
+use Rattle.obs_files.specs.Layout.{spelling}
 use Rattle.obs_verify.specs.Upgrade.{up, clash_of}
 use Rattle.obs_files.specs.declared.fault.FileFault.{FileFault}
 use Rattle.obs_files.specs.declared.fault.ProgramFault.TheVariants.{Operand}

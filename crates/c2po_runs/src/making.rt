@@ -4,10 +4,10 @@ ghost use Rattle.std.specs.Prelude.{◌≡◌, ◌≢◌, ◌<◌, Err, IfErr, I
 ghost use Rattle.std.specs.Option.{ForSome, option_copied};
 ghost use Rattle.mltl_base.specs.declared.limits.TheConstants.{MAX_LINE_BYTES};
 ghost use Rattle.c2po_tree.specs.ItemShape.{spec_shape};
-ghost use Rattle.obs_binary.specs.Layout.{Fits};
+ghost use Rattle.obs_files.specs.Layout.{Fits};
 ghost use Rattle.obs_files.specs.Names.{NamesFit};
 ghost use Rattle.c2po_types.specs.Signals.{signals_of};
-ghost use Rattle.set_expand.specs.Outputs.{outputs_of};
+ghost use Rattle.c2po_types.specs.Outputs.{outputs_of};
 ghost use Rattle.spec_compile.specs.Front.{first_refusal, items_in};
 ghost use Rattle.spec_compile.specs.Image.{AreColumnsFor, over_columns};
 ghost use Rattle.spec_compile.specs.Limits.{limit_refusal};

@@ -5,7 +5,7 @@ use Rattle.mltl_base.specs.declared.program.Columns.{Columns}
 use Rattle.mltl_base.specs.declared.program.Program.{Program}
 use Rattle.c2po_tree.specs.ItemShape.{ItemShape}
 use Rattle.c2po_types.specs.Signals.{signals_of}
-use Rattle.set_expand.specs.Outputs.{outputs_of}
+use Rattle.c2po_types.specs.Outputs.{outputs_of}
 use Rattle.obs_verify.specs.Bound.{bound}
 use Rattle.obs_files.specs.declared.fault.FileFault.{FileFault}
 use Rattle.obs_files.specs.declared.fault.FileFault.TheVariants as file

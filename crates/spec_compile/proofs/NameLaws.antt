@@ -12,7 +12,7 @@ use Rattle.c2po_tree.specs.ItemShape.{TypeShape, BodyShape, ItemShape, structure
 use Rattle.c2po_tree.specs.Names.{IsPlainName, ArePlain, IsPlainBody, ArePlainItems}
 use Rattle.mltl_base.specs.declared.signal.Signal.{Signal}
 use Rattle.c2po_types.specs.Signals.{is_bool, body_signals, signals_of}
-use Rattle.obs_binary.specs.Layout.{is_letter, signal_name}
+use Rattle.obs_files.specs.Layout.{is_letter, signal_name}
 use Rattle.obs_build.specs.Image.{stored_signals}
 
 -- a plain name has letters alone

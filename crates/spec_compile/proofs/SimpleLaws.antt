@@ -13,7 +13,7 @@ use Rattle.plain_nodes.specs.declared.nodes.Expanded.{Expanded}
 use Rattle.plain_nodes.specs.Outputs.{asked}
 use Rattle.mltl_simplify.specs.Outputs.{simple_asked, simple_outputs}
 use Rattle.mltl_simplify.proofs.Signals.{simple_kinds}
-use Rattle.set_expand.specs.Outputs.{HasPlainName}
+use Rattle.c2po_types.specs.Outputs.{HasPlainName}
 use Rattle.obs_build.specs.declared.fault.BuildFault.{BuildFault}
 use Rattle.obs_build.specs.declared.fault.BuildFault.TheVariants as build
 use Rattle.obs_build.specs.Limits.{IsReason, slots_of}

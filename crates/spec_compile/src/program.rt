@@ -6,7 +6,7 @@ ghost use Rattle.c2po_types.specs.Signals.{signals_of as declared};
 ghost use Rattle.obs_build.specs.Limits.{IsReason, IsWithinLimits};
 ghost use Rattle.obs_files.specs.Names.{NamesFit};
 ghost use Rattle.plain_nodes.specs.Outputs.{asked};
-ghost use Rattle.set_expand.specs.Outputs.{outputs_of};
+ghost use Rattle.c2po_types.specs.Outputs.{outputs_of};
 ghost use Rattle.spec_compile.specs.Refusals.{IsFirstRefusal};
 ghost use Rattle.spec_compile.specs.Limits.{limit_refusal};
 ghost use Rattle.spec_compile.specs.Image.{AreColumnsFor, image, over_columns};

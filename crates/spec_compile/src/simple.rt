@@ -4,7 +4,7 @@ ghost use Rattle.std.specs.Prelude.{◌≡◌, ◌<◌, ◌^◌, None, length, i
 ghost use Rattle.c2po_tree.specs.ItemShape.{spec_shape};
 ghost use Rattle.c2po_types.specs.Signals.{signals_of as declared};
 ghost use Rattle.obs_files.specs.Names.{NamesFit};
-ghost use Rattle.set_expand.specs.Outputs.{outputs_of};
+ghost use Rattle.c2po_types.specs.Outputs.{outputs_of};
 ghost use Rattle.spec_compile.specs.Refusals.{IsFirstRefusal};
 ghost use Rattle.spec_compile.specs.Limits.{limit_refusal};
 ghost use Rattle.spec_compile.specs.Image.{AreColumnsFor, over_columns};

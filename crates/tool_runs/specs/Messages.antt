@@ -8,7 +8,7 @@ use Rattle.obs_files.specs.declared.fault.FileFault.TheVariants.{Program}
 use Rattle.obs_files.specs.Texts.{file_fault_text}
 use Rattle.spec_compile.specs.declared.fault.CompileFault as compile
 use Rattle.spec_compile.specs.FaultTexts.{compile_fault_text}
-use Rattle.trace_feed.specs.HeaderTexts.{missing_text, twice_text}
+use Rattle.spec_compile.specs.HeaderTexts.{missing_text, twice_text}
 use Rattle.trace_watch.specs.declared.status.TraceWhy as trace
 
 -- the name of a program

@@ -6,7 +6,7 @@ use Rattle.mltl_simplify.specs.Outputs.{simple_outputs}
 use Rattle.c2po_tree.specs.ItemShape.{spec_shape}
 use Rattle.c2po_types.specs.Signals.{signals_of}
 use Rattle.plain_nodes.specs.Outputs.{asked}
-use Rattle.set_expand.specs.Outputs.{outputs_of}
+use Rattle.c2po_types.specs.Outputs.{outputs_of}
 use Rattle.set_expand.proofs.Signalling.{outputs-read}
 use Rattle.obs_build.specs.Limits.{IsReason}
 use Rattle.obs_files.specs.Names.{NamesFit}
