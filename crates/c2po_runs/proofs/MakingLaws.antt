@@ -1,16 +1,17 @@
 -- What a text gives, from the answers of the calls that compile it.
 
 use Rattle.std.proofs.Common.{◌≡◌, ◌≢◌, ◌∙◌, ℕ, Bool, true, false, Option, Some, None, Result, Ok, Err, List, [], Vec, IfOk, refl, sym, ap}
+use Rattle.std.specs.Prelude.{option_map}
 use Rattle.std.specs.declared.alloc.Global.{Global}
 use Rattle.mltl_base.specs.declared.program.Columns.{Columns}
 use Rattle.mltl_base.specs.declared.program.Program.{Program}
 use Rattle.mltl_base.specs.declared.signal.Signal.{Signal}
 use Rattle.c2po_tree.specs.ItemShape.{ItemShape}
 use Rattle.c2po_types.specs.Signals.{signals_of}
-use Rattle.set_expand.specs.Outputs.{outputs_of}
+use Rattle.c2po_types.specs.Outputs.{outputs_of}
 use Rattle.spec_compile.specs.declared.fault.CompileFault.{CompileFault}
 use Rattle.spec_compile.specs.declared.fault.CompileFault.TheVariants as compile
-use Rattle.spec_compile.specs.Refusals.{header_refusal, IsFirstRefusal}
+use Rattle.spec_compile.specs.Refusals.{header_refusal, unless_refused, IsFirstRefusal}
 use Rattle.spec_compile.specs.Front.{items_in, refusal_in, first_refusal}
 use Rattle.spec_compile.specs.Limits.{limit_refusal}
 use Rattle.spec_compile.specs.Image.{over_columns}
@@ -22,7 +23,7 @@ use Rattle.tool_runs.specs.declared.status.Status.{Status}
 use Rattle.tool_runs.specs.declared.status.Status.TheVariants.{Memory}
 use Rattle.c2po_runs.specs.declared.make.Form.{Form}
 use Rattle.tool_runs.specs.FirstLine.{begins_long}
-use Rattle.c2po_runs.specs.Made.{compile_status, compiled_bytes, image_by, program_by, text_bytes, written_as, unless_long, unless_refused, first_line, made_of_text}
+use Rattle.c2po_runs.specs.Made.{compile_status, compiled_bytes, image_by, program_by, text_bytes, written_as, unless_long, first_line, made_of_text}
 use Rattle.c2po_runs.specs.Phases.{RefusesAlone}
 
 -- a text is refused alike in both forms
@@ -76,12 +77,12 @@ text_written form header items columns program (Err answer) found made within is
 
 -- under a header a text without a fault gives what its first line gives
 pub headed : (form : Form) (name text : List ℕ) (lines : List (List ℕ)) → first_refusal text ≡ None → made_of_text form (Some name) text lines ≡ unless_long (begins_long lines) (text_bytes form text (Some (first_line lines)))
-headed form name text lines none = ap (λ r. unless_refused r (unless_long (begins_long lines) (text_bytes form text (Some (first_line lines))))) none
+headed form name text lines none = ap (λ r. unless_refused (option_map compile_status r) (unless_long (begins_long lines) (text_bytes form text (Some (first_line lines))))) none
 
 -- a text that is refused gives no bytes, under a header too
 pub refused_so : (form : Form) (header : Option (List ℕ)) (text : List ℕ) (fault : CompileFault) → IsFirstRefusal (first_refusal text) fault → compile_status fault ≢ Memory → made_of_text form header text [] ≡ Err (compile_status fault)
 refused_so form None text fault is some = ap (compiled_bytes form.table) (refused_by form.simplify text None fault (text_refused text None fault is (λ memory. some (ap compile_status memory))))
 refused_so form (Some name) text (compile.Refused line why) is some =
-    ap (λ r. unless_refused r (unless_long (begins_long []) (text_bytes form text (Some (first_line []))))) is
+    ap (λ r. unless_refused (option_map compile_status r) (unless_long (begins_long []) (text_bytes form text (Some (first_line []))))) is
 refused_so form (Some name) text (compile.BadHeader why) is some = absurd is
 refused_so form (Some name) text compile.Memory is some = absurd (some refl)

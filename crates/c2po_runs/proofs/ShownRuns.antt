@@ -9,7 +9,7 @@ use Rattle.tool_io.specs.declared.host.Put as put
 use Rattle.tool_io.specs.Log.{Event}
 use Rattle.tool_io.specs.Host.{WriteCause}
 use Rattle.tool_io.specs.Whole.{PutAllLog}
-use Rattle.obs_binary.specs.Layout.{Fits, spelling}
+use Rattle.obs_files.specs.Layout.{Fits, spelling}
 use Rattle.obs_files.specs.declared.fault.FileFault.{FileFault}
 use Rattle.obs_files.specs.Faults.{opened}
 use Rattle.obs_files.proofs.Spelled.{opened_spelled}

@@ -6,8 +6,8 @@ use Rattle.mltl_base.specs.declared.program.Columns.{Columns}
 use Rattle.mltl_base.specs.declared.program.Program.{Program}
 use Rattle.c2po_tree.specs.ItemShape.{ItemShape}
 use Rattle.c2po_types.specs.Signals.{signals_of}
-use Rattle.set_expand.specs.Outputs.{outputs_of}
-use Rattle.obs_binary.specs.Layout.{Fits, spelling}
+use Rattle.c2po_types.specs.Outputs.{outputs_of}
+use Rattle.obs_files.specs.Layout.{Fits, spelling}
 use Rattle.spec_compile.specs.Front.{items_in, first_refusal}
 use Rattle.spec_compile.specs.Image.{AreColumnsFor}
 use Rattle.spec_compile.specs.Compiled.{columns_by, outputs_in, signals_in}

@@ -1,6 +1,6 @@
 -- The bytes that are made of a file, or the first that refuses them.
 
-use Rattle.std.specs.Prelude.{ℕ, Bool, true, false, Option, Some, None, Result, Ok, Err, List, [], ◌∷◌}
+use Rattle.std.specs.Prelude.{ℕ, Bool, true, false, Option, Some, None, option_map, Result, Ok, Err, List, [], ◌∷◌}
 use Rattle.mltl_base.specs.declared.interval.Part.TheVariants.{Bz}
 use Rattle.mltl_base.specs.declared.program.Columns.{Columns}
 use Rattle.mltl_base.specs.declared.program.Program.{Program}
@@ -8,7 +8,7 @@ use Rattle.mltl_base.specs.declared.signal.Signal.{Signal}
 use Rattle.mltl_base.specs.Subformulas.{Asked}
 use Rattle.tool_io.specs.declared.host.Place.TheVariants.{Header, Out}
 use Rattle.tool_io.specs.Cutting.{line_text}
-use Rattle.obs_binary.specs.Layout.{spelling}
+use Rattle.obs_files.specs.Layout.{spelling}
 use Rattle.obs_verify.specs.Upgrade.{up, clash_of}
 use Rattle.obs_files.specs.declared.fault.FileFault.{FileFault}
 use Rattle.obs_files.specs.declared.fault.ProgramFault.TheVariants.{Operand}
@@ -23,6 +23,7 @@ use Rattle.spec_compile.specs.declared.fault.CompileFault.TheVariants as compile
 use Rattle.spec_compile.specs.declared.fault.Refusal.TheVariants.{Wide}
 use Rattle.spec_compile.specs.Front.{first_refusal}
 use Rattle.spec_compile.specs.Compiled.{image_of_text}
+use Rattle.spec_compile.specs.Refusals.{unless_refused}
 use Rattle.spec_compile.specs.Image.{image}
 use Rattle.spec_compile.specs.Simplified.{simple_image, simple_image_of_text}
 use Rattle.tool_runs.specs.declared.status.Status.{Status}
@@ -107,17 +108,12 @@ abbrev pub unless_long : Bool → Result (List ℕ) Status → Result (List ℕ)
 unless_long true made = Err (TextTooLong Header)
 unless_long false made = made
 
--- what was made, unless the text is refused before
-abbrev pub unless_refused : Option CompileFault → Result (List ℕ) Status → Result (List ℕ) Status
-unless_refused None made = made
-unless_refused (Some fault) made = Err (compile_status fault)
-
 -- What a text gives: without a header over the columns in order of declaration; with one over the columns that its
 -- first line names, and the text is refused first, then a line that is too long, then the header, then a limit.
 abbrev pub made_of_text : Form → Option (List ℕ) → List ℕ → List (List ℕ) → Result (List ℕ) Status
 made_of_text form None text lines = text_bytes form text None
 made_of_text form (Some name) text lines =
-    unless_refused (first_refusal text)
+    unless_refused (option_map compile_status (first_refusal text))
     (unless_long (begins_long lines) (text_bytes form text (Some (first_line lines))))
 
 -- what a file gives, with the lines of the header file that were read

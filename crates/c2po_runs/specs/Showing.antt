@@ -5,7 +5,7 @@ use Rattle.mltl_base.specs.declared.program.Columns.{Columns}
 use Rattle.mltl_base.specs.declared.program.Program.{Program}
 use Rattle.tool_io.specs.declared.host.Place.TheVariants.{Out}
 use Rattle.tool_io.specs.Log.{Event, given}
-use Rattle.obs_binary.specs.Layout.{spelling}
+use Rattle.obs_files.specs.Layout.{spelling}
 use Rattle.obs_files.specs.Faults.{opened}
 use Rattle.obs_show.specs.Text.{text as text_of}
 use Rattle.obs_verify.specs.Upgrade.{up}

@@ -77,6 +77,6 @@ pub fn c2po_main<H: Host>(alloc: Global, words: &Words, host: &mut H) -> Status
         (ShowsProgram (ask words.now) result) }
 {
     let status = run(alloc, words, host);
-    let _ = tell_user(Tool::C2po, &status, host);
+    tell_user(Tool::C2po, &status, host);
     status
 }

@@ -4,13 +4,13 @@ ghost use Rattle.std.specs.Prelude.{◌≡◌, ◌≢◌, ◌<◌, Err, IfErr, I
 ghost use Rattle.std.specs.Option.{ForSome, option_copied};
 ghost use Rattle.mltl_base.specs.declared.limits.TheConstants.{MAX_LINE_BYTES};
 ghost use Rattle.c2po_tree.specs.ItemShape.{spec_shape};
-ghost use Rattle.obs_binary.specs.Layout.{Fits};
+ghost use Rattle.obs_files.specs.Layout.{Fits};
 ghost use Rattle.obs_files.specs.Names.{NamesFit};
 ghost use Rattle.c2po_types.specs.Signals.{signals_of};
-ghost use Rattle.set_expand.specs.Outputs.{outputs_of};
+ghost use Rattle.c2po_types.specs.Outputs.{outputs_of};
 ghost use Rattle.spec_compile.specs.Front.{first_refusal, items_in};
-ghost use Rattle.spec_compile.specs.Image.{AreColumnsFor, over_columns};
-ghost use Rattle.spec_compile.specs.Limits.{limit_refusal};
+ghost use Rattle.spec_compile.specs.Image.{AreColumnsFor};
+ghost use Rattle.spec_compile.specs.Compiled.{limit_over};
 ghost use Rattle.spec_compile.specs.Refusals.{IsFirstRefusal};
 ghost use Rattle.c2po_runs.specs.Phases.{Refuses, RefusesAlone};
 ghost use Rattle.c2po_runs.specs.Images.{WritesImage};
@@ -52,11 +52,9 @@ fn program_of(
     ensures image { IfOk result (λ checked. checked
         ≡ image_by simplify columns.now
         (signals_of (spec_shape spec.now)) (outputs_of (spec_shape spec.now))) }
-    ensures within { OnOk result
-        (limit_refusal (over_columns columns.now (outputs_of (spec_shape spec.now))) ≡ None) }
-    ensures refused { IfErr result (λ fault.
-        IsFirstRefusal
-        (limit_refusal (over_columns columns.now (outputs_of (spec_shape spec.now)))) fault) }
+    ensures within { OnOk result (limit_over columns.now (spec_shape spec.now) ≡ None) }
+    ensures refused { IfErr result
+        (IsFirstRefusal (limit_over columns.now (spec_shape spec.now))) }
     ensures names { IfOk result NamesFit }
 {
     if simplify {

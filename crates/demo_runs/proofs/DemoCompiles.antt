@@ -11,8 +11,8 @@ use Rattle.c2po_tree.specs.ItemShape.{ItemShape}
 use Rattle.c2po_parse.specs.Specification.{spec_of}
 use Rattle.c2po_types.specs.FirstFault.{first_fault}
 use Rattle.c2po_types.specs.Signals.{signals_of}
-use Rattle.set_expand.specs.Outputs.{outputs_of}
-use Rattle.trace_feed.specs.Header.{columns_in_order}
+use Rattle.c2po_types.specs.Outputs.{outputs_of}
+use Rattle.mltl_monitor.specs.Header.{columns_in_order}
 use Rattle.spec_compile.specs.declared.fault.CompileFault.{CompileFault}
 use Rattle.spec_compile.specs.declared.fault.CompileFault.TheVariants.{Memory}
 use Rattle.spec_compile.specs.Compiled.{columns_by, image_of_text, outputs_in, signals_in}

@@ -13,7 +13,7 @@ use Rattle.mltl_base.specs.Lines.{word_text}
 use Rattle.mltl_base.specs.Programs.{name_of}
 use Rattle.mltl_base.specs.Reports.{Output, formula, contract, reports}
 use Rattle.mltl_base.specs.Subformulas.{Asked}
-use Rattle.trace_feed.specs.Header.{columns_in_order}
+use Rattle.mltl_monitor.specs.Header.{columns_in_order}
 use Rattle.spec_compile.specs.Compiled.{outputs_in}
 use Rattle.spec_compile.specs.Image.{plain_outputs}
 use Rattle.demo_runs.specs.DemoRow.{demo_row}

@@ -1,15 +1,18 @@
 -- The text of the demo, and what it says.
 
-use Rattle.std.specs.Prelude.{ℕ, List, [], ◌∷◌, codes, pos}
+use Rattle.std.specs.Prelude.{ℕ, List, [], ◌∷◌, ◌++◌, codes, pos}
 use Rattle.mltl_base.specs.declared.interval.Engine.TheVariants.{Ft, Pt}
 use Rattle.mltl_base.specs.Atoms.{is_true, column, constant, less}
 use Rattle.mltl_base.specs.Formula.{Formula, atom, implication, finally, globally, once}
 use Rattle.mltl_base.specs.Reports.{formula, contract}
 use Rattle.mltl_base.specs.Subformulas.{Asked}
 
--- a future formula, one over whole numbers, a contract and a past formula
+-- its signals; a future formula, one over whole numbers and a contract; and a past formula
 abbrev pub demo_text : List ℕ
-demo_text = codes "INPUT a, b: bool; x: int;\nFTSPEC resp: a -> F[0,3] b; low: G[0,2] (x < 0); agc: a => F[0,1] b;\nPTSPEC once: O[0,4] a;\n"
+demo_text =
+    codes "INPUT a, b: bool; x: int;\n"
+    ++ codes "FTSPEC resp: a -> F[0,3] b; low: G[0,2] (x < 0); agc: a => F[0,1] b;\n"
+    ++ codes "PTSPEC once: O[0,4] a;\n"
 
 -- the formula a: the first signal is true
 abbrev pub a : Formula

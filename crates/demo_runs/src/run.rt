@@ -33,7 +33,7 @@ pub fn run_demo(alloc: Global, seed: u32, rows: u32) -> Result<Demo, AllocError>
     ensures drained { IfOk result (λ demo. IsDrained demo.monitor) }
 {
     let mut monitor = demo_monitor(alloc)?;
-    let mut tallies = vec![in alloc; Tally::none(); monitor.checked().program().outs.len()]?;
+    let mut tallies = vec![in alloc; Tally::new(); monitor.checked().program().outs.len()]?;
     play(&mut monitor, &mut tallies, seed, rows);
     let outs = monitor.checked().program().outs.as_slice();
     let summary = summary_of(alloc, rows, outs, &tallies)?;
@@ -95,7 +95,6 @@ fn drain(monitor: &mut Monitor, tallies: &mut [Tally])
         → AreCounted tallies.new monitor.new rows }
 {
     while let Some(report) = monitor.next_report() {
-        let out = report.out as usize;
-        tallies[out] = tallies[out].with(report.word);
+        tallies[report.out as usize].add(report.word);
     }
 }

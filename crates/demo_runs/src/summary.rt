@@ -1,12 +1,10 @@
 //! The text of a summary.
 
-ghost use Rattle.std.specs.Prelude.{◌≡◌, ◌++◌, length, map, IfOk, OnOk};
+ghost use Rattle.std.specs.Prelude.{◌≡◌, ◌++◌, List as Seq, decimal, length, map, IfOk, OnOk};
 ghost use Rattle.std.specs.List.{concat};
 ghost use Rattle.mltl_base.specs.declared.report.Report.{Report};
-ghost use Rattle.std.specs.Prelude.{List as Seq};
 ghost use Rattle.demo_runs.specs.Summary.{count_text, line_text, listed_out, summary_of};
 ghost use Rattle.demo_runs.specs.Tallies.{AreTallies, count_in};
-ghost use Rattle.std.specs.Prelude.{decimal};
 
 use crate::tally::Tally;
 use itoa::Buffer;
@@ -51,8 +49,7 @@ fn add_line(text: &mut Vec<u8>, out: &Out, tally: &Tally) -> Result<(), AllocErr
             add_count(text, Word::Verified, tally)?;
         }
     }
-    text.extend_from_slice(b"\n")?;
-    Ok(())
+    text.extend_from_slice(b"\n")
 }
 
 /// Adds how often a word was told.
@@ -70,6 +67,5 @@ fn add_number(text: &mut Vec<u8>, n: u64) -> Result<(), AllocError>
     ensures { OnOk result (text.new.items ≡ text.old.items ++ decimal n) }
 {
     let mut buffer = Buffer::new();
-    text.extend_from_slice(buffer.format(n).as_bytes())?;
-    Ok(())
+    text.extend_from_slice(buffer.format(n).as_bytes())
 }

@@ -19,7 +19,7 @@ pub(crate) struct Tally {
 
 impl Tally {
     /// No word was told.
-    pub(crate) fn none() -> Tally
+    pub(crate) fn new() -> Tally
         ensures { result ≡ no_words }
     {
         Tally {
@@ -31,21 +31,19 @@ impl Tally {
         }
     }
 
-    /// The tally with a word once more.
-    pub(crate) fn with(self, word: Word) -> Tally
-        requires room { count_in self word < 2 ^ 63 }
+    /// Counts a word once more.
+    pub(crate) fn add(&mut self, word: Word)
+        requires room { count_in self.old word < 2 ^ 63 }
         ensures { (w : Told)
-            → count_in result w ≡ count_in self w + (if same_word word w then 1 else 0) }
+            → count_in self.new w ≡ count_in self.old w + (if same_word word w then 1 else 0) }
     {
-        let mut tally = self;
         match word {
-            Word::T => tally.holds += 1,
-            Word::F => tally.fails += 1,
-            Word::Inactive => tally.inactive += 1,
-            Word::Invalid => tally.invalid += 1,
-            Word::Verified => tally.verified += 1,
+            Word::T => self.holds += 1,
+            Word::F => self.fails += 1,
+            Word::Inactive => self.inactive += 1,
+            Word::Invalid => self.invalid += 1,
+            Word::Verified => self.verified += 1,
         }
-        tally
     }
 
     /// How often a word was told.

@@ -134,9 +134,9 @@ regroup-header : (h : Header) (rest : List ℕ) → header_bytes h ++ rest ≡ c
 unfolding header_bytes
 regroup-header h rest =
     let numbers = flat_map u32_bytes (h.width ∷ h.bz ∷ h.ft ∷ h.pt ∷ h.outs ∷ h.name_bytes ∷ []) in
-    let behind : (u16_bytes h.version ++ (0 ∷ 0 ∷ (numbers ++ signal_counts h))) ++ rest ≡ u16_bytes h.version ++ (0 ∷ 0 ∷ (numbers ++ (signal_counts h ++ rest))) =
+    let after : (u16_bytes h.version ++ (0 ∷ 0 ∷ (numbers ++ signal_counts h))) ++ rest ≡ u16_bytes h.version ++ (0 ∷ 0 ∷ (numbers ++ (signal_counts h ++ rest))) =
     append_assoc (u16_bytes h.version) (0 ∷ 0 ∷ (numbers ++ signal_counts h)) rest ∙ ap (λ x. u16_bytes h.version ++ (0 ∷ 0 ∷ x)) (append_assoc numbers (signal_counts h) rest) in
-    ap (λ x. codes "MLTL" ++ x) behind
+    ap (λ x. codes "MLTL" ++ x) after
 
 numbers-first : (bytes : List ℕ) → IsBytes bytes → 32 ≤ length bytes → drop 8 bytes ≡ flat_map u32_bytes (number_at bytes 8 ∷ number_at bytes 12 ∷ number_at bytes 16 ∷ number_at bytes 20 ∷ number_at bytes 24 ∷ number_at bytes 28 ∷ []) ++ drop 32 bytes
 unfolding numbers_from

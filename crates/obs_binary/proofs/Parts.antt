@@ -76,8 +76,8 @@ module _ {X : Type 0} (len : ℕ) (spelled : X → List ℕ) (content : List ℕ
   entry-again x rest h =
       let n = entries.len_is x in
       let front : take len (spelled x ++ rest) ≡ spelled x = take_at (spelled x) rest len n in
-      let behind : drop len (spelled x ++ rest) ≡ rest = drop_at (spelled x) rest len n in
-      rw (front, entries.again x h, front, first_other-none (size - length (spelled x ++ rest)) (spelled x), behind) refl
+      let after : drop len (spelled x ++ rest) ≡ rest = drop_at (spelled x) rest len n in
+      rw (front, entries.again x h, front, first_other-none (size - length (spelled x ++ rest)) (spelled x), after) refl
 
   -- ---- entries one after the other
 
@@ -177,5 +177,5 @@ module _ {H X : Type 0} (len_of : H → ℕ) (with_name : H → List ℕ → X) 
       let both = and_parts (list_all is_letter name) (list_all is_letter rest) (sym (list_all-append is_letter name rest) ∙ letters) in
       let front = in_front-again name rest (laws.named x fits.0) both.0 in
       let taken : take (length name) (name ++ rest) ≡ name = take_at name rest (length name) refl in
-      let behind : drop (length name) (name ++ rest) ≡ rest = drop_at name rest (length name) refl in
-      rw (laws.len_is x, front, taken, behind, named-again (suc k) xs fits.1 both.1, laws.again x) refl
+      let after : drop (length name) (name ++ rest) ≡ rest = drop_at name rest (length name) refl in
+      rw (laws.len_is x, front, taken, after, named-again (suc k) xs fits.1 both.1, laws.again x) refl

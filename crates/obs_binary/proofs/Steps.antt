@@ -42,12 +42,12 @@ regroup front x (Ok y) = ap (λ xs. Ok (xs, y.1)) (simp append_assoc)
 regroup front x (Err f) = refl
 
 module _ {X : Type 0} (read : List ℕ → Result (X × List ℕ) ReadFault) (count : ℕ) (total : Result (List X × List ℕ) ReadFault) where
-  pub each_at-more : (front : List X) (i : ℕ) (bytes : List ℕ) (x : X) (behind : List ℕ) → i < count → read bytes ≡ Ok (x, behind)
-      → with_front front (each_at read (count - i) bytes) ≡ total → with_front (front ++ x ∷ []) (each_at read (count - (i + 1)) behind) ≡ total
+  pub each_at-more : (front : List X) (i : ℕ) (bytes : List ℕ) (x : X) (after : List ℕ) → i < count → read bytes ≡ Ok (x, after)
+      → with_front front (each_at read (count - i) bytes) ≡ total → with_front (front ++ x ∷ []) (each_at read (count - (i + 1)) after) ≡ total
   unfolding each_at
-  each_at-more front i bytes x behind lt h so_far =
+  each_at-more front i bytes x after lt h so_far =
       let k : count - i ≡ suc (count - (i + 1)) = omega arith in
-      let one : with_front front (each_at read (count - i) bytes) ≡ with_front (front ++ x ∷ []) (each_at read (count - (i + 1)) behind) = rw (k, h) (regroup front x (each_at read (count - (i + 1)) behind)) in
+      let one : with_front front (each_at read (count - i) bytes) ≡ with_front (front ++ x ∷ []) (each_at read (count - (i + 1)) after) = rw (k, h) (regroup front x (each_at read (count - (i + 1)) after)) in
       sym one ∙ so_far
 
   pub each_at-fails : (front : List X) (i : ℕ) (bytes : List ℕ) (fault : ReadFault) → i < count → Fails fault (read bytes)

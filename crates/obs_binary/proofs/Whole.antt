@@ -314,9 +314,9 @@ program-again p f =
     let rest = body_of p in
     let said : said_len h ≡ length (front ++ rest) = omega (arith, length-append front rest, length-header h, length-body p f) in
     let header = header-again h rest (holds-header p f) said in
-    let behind : drop (header_len h.version) (front ++ rest) ≡ rest = drop_at front rest (header_len h.version) (length-header h) in
+    let after : drop (header_len h.version) (front ++ rest) ≡ rest = drop_at front rest (header_len h.version) (length-header h) in
     bind-is (header_at (front ++ rest)) (λ header. body_at header (length (front ++ rest)) (drop (header_len header.version) (front ++ rest))) h header
-    ∙ ap (λ bytes. body_at h (length (front ++ rest)) bytes) behind
+    ∙ ap (λ bytes. body_at h (length (front ++ rest)) bytes) after
     ∙ body-again p (length (front ++ rest)) f
 
 -- bytes are those of one program alone

@@ -82,13 +82,13 @@ fn read_entry<X: Entry>(size: usize, rest: &[u8]) -> Result<(X, &[u8]), ReadFaul
     ensures left { IfOk result (λ x. length x.1.now + X.LEN ≡ length rest.now) }
 {
     let offset = (size - rest.len()) as u64;
-    let (front, behind) = rest.split_at(X::LEN);
+    let (front, after) = rest.split_at(X::LEN);
     let Some(held) = X::content(front) else {
         return Err(ReadFault::Opcode(offset));
     };
     match held.first_other(offset, front) {
         Some(at) => Err(ReadFault::Reserved(at)),
-        None => Ok((held, behind)),
+        None => Ok((held, after)),
     }
 }
 
@@ -109,9 +109,9 @@ pub(crate) fn entries<X: Entry>(
     let mut found = List::room_for(alloc, count as usize)?;
     let mut rest = bytes;
     for _ in 0..count {
-        let (entry, behind) = read_entry(size, rest)?;
+        let (entry, after) = read_entry(size, rest)?;
         found.push_reserved(entry);
-        rest = behind;
+        rest = after;
     }
     Ok((List::of(found), rest))
 }

@@ -58,12 +58,12 @@ fn name_in_front(len: usize, bytes: &[u8]) -> Option<(Name, &[u8])>
     if bytes.len() < len {
         return None;
     }
-    let (front, behind) = bytes.split_at(len);
+    let (front, after) = bytes.split_at(len);
     if !all_letters(front) {
         return None;
     }
     let name = Name::of(front)?;
-    Some((name, behind))
+    Some((name, after))
 }
 
 /// The wholes of the heads, whose names take all bytes.
@@ -79,11 +79,11 @@ pub(crate) fn named<H: Head>(
     let mut wholes = List::room_for(alloc, heads.len())?;
     let mut rest = names;
     for (k, head) in heads.iter().enumerate() {
-        let Some((name, behind)) = name_in_front(head.name_len(), rest) else {
+        let Some((name, after)) = name_in_front(head.name_len(), rest) else {
             return Err(H::fault(k as u32));
         };
         wholes.push_reserved(head.with_name(name));
-        rest = behind;
+        rest = after;
     }
     if !rest.is_empty() {
         return Err(H::fault(heads.len() as u32));

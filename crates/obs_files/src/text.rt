@@ -100,5 +100,5 @@ fn add(text: &mut Text, piece: &[u8])
     ensures items { text.new.items ≡ text.old.items ++ piece.now }
     ensures len { array_vec_len text.new ≡ array_vec_len text.old + length piece.now }
 {
-    let _ = text.try_extend_from_slice(piece);
+    text.try_extend_from_slice(piece).unwrap();
 }

@@ -23,7 +23,8 @@ use Rattle.tool_runs.proofs.AttachLaws.{ReadsAttached-append, file_attached, fil
 use Rattle.tool_runs.proofs.UseLaws.{reads_unused, unused-append}
 use Rattle.tool_runs.specs.FirstLine.{begins_long}
 use Rattle.tool_runs.specs.Telling.{is_used}
-use Rattle.r2u2_runs.specs.ProgramBy.{file_refusal, unless_long, unless_refused, header_in, program_by, program_over}
+use Rattle.spec_compile.specs.Refusals.{unless_refused}
+use Rattle.r2u2_runs.specs.ProgramBy.{file_refusal, unless_long, header_in, program_by, program_over}
 use Rattle.r2u2_runs.specs.Outcome.{due_by, Silent}
 use Rattle.r2u2_runs.specs.Run.{file_ended, trace_of, trace_ended, lines_in, found_in, IsReadable, ReadsFirstLine, FileOutcome, BegunFor, RefusesAfter, Ran}
 use Rattle.r2u2_runs.specs.Phases.{IsOpened, RanFile, TraceOutcome}

@@ -13,7 +13,7 @@ use Rattle.mltl_base.specs.Reports.{Output, reports}
 use Rattle.mltl_base.specs.Subformulas.{Asked}
 use Rattle.mltl_base.proofs.Telling.{told_words, reports_rise}
 use Rattle.mltl_base.proofs.Words.{word_settled, word_known}
-use Rattle.obs_binary.specs.Layout.{Fits, spelling}
+use Rattle.obs_files.specs.Layout.{Fits, spelling}
 use Rattle.obs_verify.specs.Bound.{bound}
 use Rattle.obs_verify.specs.WellFormed.{IsWellFormed}
 use Rattle.obs_files.specs.declared.fault.FileFault.{FileFault}

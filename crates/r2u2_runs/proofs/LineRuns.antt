@@ -24,7 +24,8 @@ use Rattle.trace_watch.specs.Watch.{OnlyRun, IsTold, Outcome}
 use Rattle.trace_watch.proofs.LineLaws.{reads_prompt, OnlyRun-append, OnlyRun-reads, row_line}
 use Rattle.tool_runs.specs.declared.status.Status as status
 use Rattle.tool_runs.specs.FirstLine.{begins_long, HasBegun}
-use Rattle.r2u2_runs.specs.ProgramBy.{file_refusal, program_by, header_in, unless_long, unless_refused, program_over}
+use Rattle.spec_compile.specs.Refusals.{unless_refused}
+use Rattle.r2u2_runs.specs.ProgramBy.{file_refusal, program_by, header_in, unless_long, program_over}
 use Rattle.r2u2_runs.specs.Outcome.{due_by, rows_by, AllTold, LinesOutcome}
 use Rattle.r2u2_runs.specs.Run.{trace_of, trace_ended, lines_in, BegunFor, ReadsFirstLine}
 use Rattle.r2u2_runs.specs.Phases.{FirstRead, StandsFirst, IsFirst, header_of_row, header_at, FirstLog, RanLoop, RanRows, RanLines, status_of}

@@ -5,7 +5,7 @@ use Rattle.mltl_base.specs.declared.program.Columns.{Columns}
 use Rattle.mltl_base.specs.declared.program.Program.{Program}
 use Rattle.c2po_tree.specs.ItemShape.{ItemShape}
 use Rattle.c2po_types.specs.Signals.{signals_of}
-use Rattle.set_expand.specs.Outputs.{outputs_of}
+use Rattle.c2po_types.specs.Outputs.{outputs_of}
 use Rattle.obs_verify.specs.Bound.{bound}
 use Rattle.obs_files.specs.declared.fault.FileFault.{FileFault}
 use Rattle.obs_files.specs.declared.fault.FileFault.TheVariants as file
@@ -26,8 +26,8 @@ use Rattle.r2u2_runs.specs.declared.opening.Opened.TheVariants as made
 use Rattle.tool_runs.specs.declared.status.Status.{Status}
 use Rattle.tool_runs.specs.declared.status.Status.TheVariants.{Memory}
 use Rattle.tool_runs.specs.Files.{file_status}
-use Rattle.tool_runs.proofs.StatusLaws.{told_as}
-use Rattle.r2u2_runs.specs.ProgramBy.{compile_status, with_status, refusal_of, file_refusal, bound_over, bound_under, opened_under, program_by}
+use Rattle.tool_runs.specs.Statuses.{with_status}
+use Rattle.r2u2_runs.specs.ProgramBy.{compile_status, refusal_of, file_refusal, bound_over, bound_under, opened_under, program_by}
 use Rattle.r2u2_runs.specs.Phases.{Opens}
 use Rattle.std.specs.Prelude.{option_map}
 
@@ -69,7 +69,7 @@ spec_program kind text header items columns program is none same found made with
     (ap (with_status compile_status) (back_answers text header items columns (Ok program) none same found made within))
 
 -- the program that a compilation gave is that of each specification with these items
-pub spec_programs : (found : Result Program CompileFault) (now : Result Program Status) (header : Option (List ℕ)) (items : List ItemShape) (columns : Columns) → now ≡ told_as compile_status found → columns_by (signals_of items) header ≡ Ok columns
+pub spec_programs : (found : Result Program CompileFault) (now : Result Program Status) (header : Option (List ℕ)) (items : List ItemShape) (columns : Columns) → now ≡ with_status compile_status found → columns_by (signals_of items) header ≡ Ok columns
     → IfOk found (λ program. program ≡ image columns (signals_of items) (outputs_of items)) → IfOk found (λ _. limit_refusal (over_columns columns (outputs_of items)) ≡ None)
     → IfOk now (λ program. (kind : FileKind) (text : List ℕ) → (kind ≡ kinds.Spec) × (first_refusal text ≡ None) × (items ≡ items_in text) → program_by kind text header ≡ Ok program)
 spec_programs found now header items columns same named made within = subst (λ r. IfOk r Runs) (sym same) (by_case found made within)
@@ -77,7 +77,7 @@ spec_programs found now header items columns same named made within = subst (λ 
     Runs : Program → Type 0
     Runs program = (kind : FileKind) (text : List ℕ) → (kind ≡ kinds.Spec) × (first_refusal text ≡ None) × (items ≡ items_in text) → program_by kind text header ≡ Ok program
 
-    by_case : (found : Result Program CompileFault) → IfOk found (λ program. program ≡ image columns (signals_of items) (outputs_of items)) → IfOk found (λ _. limit_refusal (over_columns columns (outputs_of items)) ≡ None) → IfOk (told_as compile_status found) Runs
+    by_case : (found : Result Program CompileFault) → IfOk found (λ program. program ≡ image columns (signals_of items) (outputs_of items)) → IfOk found (λ _. limit_refusal (over_columns columns (outputs_of items)) ≡ None) → IfOk (with_status compile_status found) Runs
     by_case (Ok program) made within = λ kind text opens. spec_program kind text header items columns program opens.0 opens.1 opens.2 named made within
     by_case (Err fault) made within = tt
 

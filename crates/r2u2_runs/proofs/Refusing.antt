@@ -2,20 +2,10 @@
 
 use Rattle.std.proofs.Common.{◌≡◌, ℕ, ◌==◌, true, false, if◌then◌else◌, Option, Some, None, Result, Ok, Err, List, [], ◌∷◌, length, map, sym, subst}
 use Rattle.std.specs.Prelude.{option_map, ⊤}
-use Rattle.std.specs.Option.{option_or}
 use Rattle.mltl_base.specs.declared.program.Columns.{Columns}
 use Rattle.mltl_base.specs.declared.program.Program.{Program}
 use Rattle.mltl_base.specs.Subformulas.{Asked}
-use Rattle.c2po_lexer.specs.declared.fault.LexFault.{LexFault}
-use Rattle.c2po_lexer.specs.declared.fault.LexFault.TheVariants as lexed
-use Rattle.c2po_lexer.specs.Tokens.{tokens_of}
-use Rattle.c2po_parse.specs.declared.fault.ParseFault.{ParseFault}
-use Rattle.c2po_parse.specs.declared.fault.ParseFault.TheVariants as parsed
-use Rattle.c2po_parse.specs.Specification.{spec_of}
-use Rattle.c2po_kinds.specs.declared.fault.TypeFault.{TypeFault}
-use Rattle.c2po_kinds.specs.declared.fault.TypeFault.TheVariants as checked
 use Rattle.mltl_base.specs.declared.signal.Signal.{Signal}
-use Rattle.c2po_types.specs.FirstFault.{first_fault}
 use Rattle.obs_files.specs.declared.fault.FileFault.{FileFault}
 use Rattle.obs_files.specs.declared.fault.FileFault.TheVariants as file
 use Rattle.obs_files.specs.Faults.{opened}
@@ -24,19 +14,20 @@ use Rattle.trace_feed.specs.declared.header_fault.HeaderFault.TheVariants as hea
 use Rattle.trace_feed.specs.Header.{begins_header, times, first_place, column_of, columns_of, in_front, of_width, names_of, header_meaning}
 use Rattle.spec_compile.specs.declared.fault.CompileFault.{CompileFault}
 use Rattle.spec_compile.specs.declared.fault.CompileFault.TheVariants as compile
-use Rattle.spec_compile.specs.declared.fault.Refusal.TheVariants as limits
-use Rattle.spec_compile.specs.Refusals.{token_refusal, tree_refusal, check_refusal}
-use Rattle.spec_compile.specs.Front.{items_in, tokens_in, refusal_in, first_refusal}
-use Rattle.spec_compile.specs.Limits.{has_many_nodes, is_late, has_many_slots, limit_refusal}
+use Rattle.spec_compile.specs.Refusals.{unless_refused}
+use Rattle.spec_compile.specs.Front.{first_refusal}
+use Rattle.spec_compile.specs.Limits.{limit_refusal}
 use Rattle.spec_compile.specs.Image.{over_columns, image}
 use Rattle.spec_compile.specs.Compiled.{columns_by, signals_in, outputs_in, image_under, image_of_text}
-use Rattle.spec_compile.specs.Compiled as text
+use Rattle.spec_compile.proofs.RefusalLaws as text
+use Rattle.spec_compile.proofs.RefusalLaws.{IsHeaderless, first_headerless, limit_headerless}
 use Rattle.tool_words.specs.declared.file_kind.FileKind.{FileKind}
 use Rattle.tool_words.specs.declared.file_kind.FileKind.TheVariants as kinds
 use Rattle.tool_runs.specs.declared.status.Status.{Status}
 use Rattle.tool_runs.specs.declared.status.Status.TheVariants.{Refused, BadProgram, BadTrace, Memory}
 use Rattle.tool_runs.specs.Files.{file_status}
-use Rattle.r2u2_runs.specs.ProgramBy.{compile_status, with_status, refusal_of, file_refusal, bound_over, bound_under, opened_under, program_by}
+use Rattle.tool_runs.specs.Statuses.{with_status}
+use Rattle.r2u2_runs.specs.ProgramBy.{compile_status, refusal_of, file_refusal, bound_over, bound_under, opened_under, program_by}
 
 -- a status by which there is no program
 abbrev pub Refuses : Status → Type 0
@@ -104,77 +95,22 @@ by_names : (signals : List Signal) (header : Option (List ℕ)) → IsMarked hea
 by_names signals None marked = tt
 by_names signals (Some line) marked = line_names (map (λ s. s.name) signals) line marked
 
--- a refusal of a specification that doesn't speak of a missing header
-abbrev Speaks : CompileFault → Type 0
-Speaks fault = Refuses (compile_status fault)
-
-abbrev MaySpeak : Option CompileFault → Type 0
-MaySpeak None = ⊤
-MaySpeak (Some fault) = Speaks fault
-
-token_speaks : (fault : LexFault) → Speaks (token_refusal fault)
-token_speaks (lexed.Letter line) = tt
-token_speaks (lexed.LongWord line) = tt
-token_speaks (lexed.Number line) = tt
-token_speaks lexed.Memory = tt
-
-tree_speaks : (fault : ParseFault) → Speaks (tree_refusal fault)
-tree_speaks (parsed.TooManyTokens line) = tt
-tree_speaks (parsed.Grammar line) = tt
-tree_speaks parsed.Memory = tt
-
-check_speaks : (fault : TypeFault) → Speaks (check_refusal fault)
-check_speaks (checked.Unknown line) = tt
-check_speaks (checked.Twice line) = tt
-check_speaks (checked.Kind line) = tt
-check_speaks (checked.Count line) = tt
-check_speaks (checked.Field line) = tt
-check_speaks (checked.Bounds line) = tt
-check_speaks (checked.Signals line) = tt
-check_speaks (checked.Wide line) = tt
-check_speaks (checked.Divisor line) = tt
-check_speaks (checked.Range line) = tt
-check_speaks (checked.Tense line) = tt
-check_speaks checked.Memory = tt
-
-refusal_speaks : {A E : Type 0} (refusal : E → CompileFault) (found : Result A E) → ((fault : E) → Speaks (refusal fault)) → MaySpeak (refusal_in refusal found)
-refusal_speaks refusal (Ok value) each = tt
-refusal_speaks refusal (Err fault) each = each fault
-
-map_speaks : (found : Option TypeFault) → MaySpeak (option_map check_refusal found)
-map_speaks None = tt
-map_speaks (Some fault) = check_speaks fault
-
-or_speaks : (first second : Option CompileFault) → MaySpeak first → MaySpeak second → MaySpeak (option_or first second)
-or_speaks None second a b = b
-or_speaks (Some fault) second a b = a
-
-first_speaks : (bytes : List ℕ) → MaySpeak (first_refusal bytes)
-first_speaks bytes =
-    or_speaks (refusal_in token_refusal (tokens_of bytes)) (option_or (refusal_in tree_refusal (spec_of (tokens_in bytes))) (option_map check_refusal (first_fault (items_in bytes)))) (refusal_speaks token_refusal (tokens_of bytes) token_speaks)
-    (or_speaks (refusal_in tree_refusal (spec_of (tokens_in bytes))) (option_map check_refusal (first_fault (items_in bytes))) (refusal_speaks tree_refusal (spec_of (tokens_in bytes)) tree_speaks) (map_speaks (first_fault (items_in bytes))))
-
-limit_speaks : (outs : List Asked) → MaySpeak (limit_refusal outs)
-unfolding limit_refusal
-limit_speaks outs =
-    elim (has_many_nodes outs) as (λ b. MaySpeak (if b then Some (compile.Refused 0 limits.TooManyNodes) else if is_late outs then Some (compile.Refused 0 limits.TooLate) else if has_many_slots outs then Some (compile.Refused 0 limits.TooManySlots) else None)) [
-      | true ↦ tt
-      | false ↦ elim (is_late outs) as (λ b. MaySpeak (if b then Some (compile.Refused 0 limits.TooLate) else if has_many_slots outs then Some (compile.Refused 0 limits.TooManySlots) else None)) [
-        | true ↦ tt
-        | false ↦ elim (has_many_slots outs) as (λ b. MaySpeak (if b then Some (compile.Refused 0 limits.TooManySlots) else None)) [ true ↦ tt | false ↦ tt ]
-      ]
-    ]
+-- a refusal of a specification that speaks of no header
+text_status : (fault : CompileFault) → IsHeaderless fault → Refuses (compile_status fault)
+text_status (compile.Refused line why) is = tt
+text_status (compile.BadHeader why) is = absurd is
+text_status compile.Memory is = tt
 
 -- what was found of a text, with its statuses
 abbrev HasStatus : Result Program CompileFault → Type 0
 HasStatus found = IsFound (with_status compile_status found)
 
-unless_speaks : (refusal : Option CompileFault) (found : Result Program CompileFault) → MaySpeak refusal → HasStatus found → HasStatus (text.unless_refused refusal found)
+unless_speaks : (refusal : Option CompileFault) (found : Result Program CompileFault) → text.MayRefuse refusal → HasStatus found → HasStatus (unless_refused refusal found)
 unless_speaks None found a b = b
-unless_speaks (Some fault) found a b = a
+unless_speaks (Some fault) found a b = text_status fault a
 
 under_speaks : (signals : List Signal) (outs : List Asked) (found : Result Columns HeaderFault) → Names found → HasStatus (image_under signals outs found)
-under_speaks signals outs (Ok columns) names = unless_speaks (limit_refusal (over_columns columns outs)) (Ok (image columns signals outs)) (limit_speaks (over_columns columns outs)) tt
+under_speaks signals outs (Ok columns) names = unless_speaks (limit_refusal (over_columns columns outs)) (Ok (image columns signals outs)) (limit_headerless (over_columns columns outs)) tt
 under_speaks signals outs (Err header_fault.NoHeader) names = absurd names
 under_speaks signals outs (Err (header_fault.Missing name)) names = tt
 under_speaks signals outs (Err (header_fault.Twice name)) names = tt
@@ -183,7 +119,7 @@ under_speaks signals outs (Err header_fault.Memory) names = tt
 text_speaks : (bytes : List ℕ) (header : Option (List ℕ)) → IsMarked header → HasStatus (image_of_text bytes header)
 unfolding image_of_text
 text_speaks bytes header marked =
-    unless_speaks (first_refusal bytes) (image_under (signals_in bytes) (outputs_in bytes) (columns_by (signals_in bytes) header)) (first_speaks bytes)
+    unless_speaks (first_refusal bytes) (image_under (signals_in bytes) (outputs_in bytes) (columns_by (signals_in bytes) header)) (first_headerless bytes)
     (under_speaks (signals_in bytes) (outputs_in bytes) (columns_by (signals_in bytes) header) (by_names (signals_in bytes) header marked))
 
 -- a program under a header
@@ -220,9 +156,9 @@ pub program_refuses : (kind : FileKind) (bytes : List ℕ) (header : Option (Lis
 program_refuses kind bytes header answer marked is = subst IsFound is (program_speaks kind bytes header marked)
 
 -- so does a file by itself
-map_refuses : (found : Option CompileFault) → MaySpeak found → MayRefuse (option_map compile_status found)
+map_refuses : (found : Option CompileFault) → text.MayRefuse found → MayRefuse (option_map compile_status found)
 map_refuses None is = tt
-map_refuses (Some fault) is = is
+map_refuses (Some fault) is = text_status fault is
 
 of_refuses : (found : Result Program FileFault) → MayRefuse (refusal_of found)
 of_refuses (Ok program) = tt
@@ -230,7 +166,7 @@ of_refuses (Err fault) = fault_speaks fault
 
 file_speaks : (kind : FileKind) (bytes : List ℕ) → MayRefuse (file_refusal kind bytes)
 unfolding file_refusal
-file_speaks kinds.Spec bytes = map_refuses (first_refusal bytes) (first_speaks bytes)
+file_speaks kinds.Spec bytes = map_refuses (first_refusal bytes) (first_headerless bytes)
 file_speaks kinds.Program bytes = of_refuses (opened bytes)
 
 pub file_refuses : (kind : FileKind) (bytes : List ℕ) (answer : Status) → file_refusal kind bytes ≡ Some answer → Refuses answer

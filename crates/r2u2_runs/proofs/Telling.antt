@@ -14,26 +14,18 @@ use Rattle.tool_words.specs.R2u2Words.{RunAsked}
 use Rattle.spec_compile.specs.declared.fault.CompileFault.{CompileFault}
 use Rattle.spec_compile.specs.Front.{first_refusal}
 use Rattle.spec_compile.specs.Compiled.{columns_by, signals_in, outputs_in, image_under, image_of_text}
-use Rattle.spec_compile.specs.Compiled as text
-use Rattle.spec_compile.proofs.TellingLaws.{text_reports, text_names}
+use Rattle.spec_compile.proofs.TellingLaws.{not_refused, text_reports, text_names}
 use Rattle.tool_runs.specs.declared.status.Status.{Status}
 use Rattle.tool_runs.specs.FirstLine.{begins_long}
-use Rattle.r2u2_runs.specs.ProgramBy.{compile_status, with_status, file_refusal, program_by, header_in, unless_long, unless_refused, program_over}
+use Rattle.tool_runs.specs.Statuses.{with_status}
+use Rattle.r2u2_runs.specs.ProgramBy.{compile_status, file_refusal, program_by, header_in, unless_long, program_over}
 use Rattle.r2u2_runs.specs.Formulas.{TellsSource, TellsFile, IsSettledBy}
 use Rattle.r2u2_runs.proofs.ImageFiles.{program_told, tells_text}
 
--- a program that was found was found without its statuses, in spite of refusals, and of a long line
+-- a program that was found was found without its statuses, and in spite of a long line
 status_found : (found : Result Program CompileFault) (program : Program) → with_status compile_status found ≡ Ok program → found ≡ Ok program
 status_found (Ok other) program is = let same : other ≡ program = cc in ap Ok same
 status_found (Err fault) program is = absurd (cc)
-
-text_found : (refusal : Option CompileFault) (found : Result Program CompileFault) (program : Program) → text.unless_refused refusal found ≡ Ok program → found ≡ Ok program
-text_found None found program is = is
-text_found (Some fault) found program is = absurd (cc)
-
-refusal_found : (refusal : Option Status) (found : Result Program Status) (program : Program) → unless_refused refusal found ≡ Ok program → found ≡ Ok program
-refusal_found None found program is = is
-refusal_found (Some answer) found program is = absurd (cc)
 
 long_found : (long : Bool) (found : Result Program Status) (program : Program) → unless_long long found ≡ Ok program → found ≡ Ok program
 long_found false found program is = is
@@ -43,7 +35,7 @@ pub over_found : (kind : FileKind) (bytes : List ℕ) (raws : List (List ℕ)) (
 unfolding program_over
 over_found kind bytes raws program is =
     long_found (begins_long raws) (program_by kind bytes (header_in raws)) program
-    (refusal_found (file_refusal kind bytes) (unless_long (begins_long raws) (program_by kind bytes (header_in raws))) program is)
+    (not_refused (file_refusal kind bytes) (unless_long (begins_long raws) (program_by kind bytes (header_in raws))) program is).1
 
 -- a text has a program only where its signals have columns
 columns_under : (signals : List Signal) (outs : List Asked) (found : Result Columns HeaderFault) (program : Program) → image_under signals outs found ≡ Ok program → (columns : Columns) × (found ≡ Ok columns)
@@ -54,7 +46,7 @@ columns_found : (bytes : List ℕ) (header : Option (List ℕ)) (program : Progr
 unfolding image_of_text
 columns_found bytes header program is =
     columns_under (signals_in bytes) (outputs_in bytes) (columns_by (signals_in bytes) header) program
-    (text_found (first_refusal bytes) (image_under (signals_in bytes) (outputs_in bytes) (columns_by (signals_in bytes) header)) program is)
+    (not_refused (first_refusal bytes) (image_under (signals_in bytes) (outputs_in bytes) (columns_by (signals_in bytes) header)) program is).1
 
 tells_source : (style : Style) (bytes : List ℕ) (header : Option (List ℕ)) (program : Program) (rows : List Row) → image_of_text bytes header ≡ Ok program → TellsSource style bytes header program rows
 tells_source style bytes header program rows is =

@@ -18,12 +18,14 @@ use Rattle.spec_compile.specs.declared.fault.CompileFault.TheVariants as compile
 use Rattle.spec_compile.specs.declared.fault.HeaderWhy.TheVariants as why
 use Rattle.spec_compile.specs.Front.{first_refusal}
 use Rattle.spec_compile.specs.Compiled.{image_of_text}
+use Rattle.spec_compile.specs.Refusals.{unless_refused}
 use Rattle.tool_words.specs.declared.file_kind.FileKind.{FileKind}
 use Rattle.tool_words.specs.declared.file_kind.FileKind.TheVariants as kinds
 use Rattle.tool_runs.specs.declared.status.Status.{Status}
 use Rattle.tool_runs.specs.declared.status.Status.TheVariants.{Refused, BadHeader, BadTrace, Memory}
 use Rattle.tool_runs.specs.Files.{file_status}
 use Rattle.tool_runs.specs.FirstLine.{begins_long}
+use Rattle.tool_runs.specs.Statuses.{with_status}
 
 -- the status of a run whose specification isn't compiled; the header is the first line of its trace
 abbrev pub compile_status : CompileFault → Status
@@ -39,11 +41,6 @@ header_status header_fault.NoHeader = BadHeader why.NoHeader
 header_status (header_fault.Missing name) = BadTrace 1 (trace.Missing name)
 header_status (header_fault.Twice name) = BadTrace 1 (trace.Twice name)
 header_status header_fault.Memory = Memory
-
--- what was found, with the status in place of a fault
-abbrev pub with_status : {E : Type 0} → (E → Status) → Result Program E → Result Program Status
-with_status status (Ok program) = Ok program
-with_status status (Err fault) = Err (status fault)
 
 -- the status of a fault, where there is one
 abbrev pub refusal_of : Result Program FileFault → Option Status
@@ -86,11 +83,6 @@ header_in (raw ∷ raws) = if begins_header (line_text raw) then Some (line_text
 abbrev pub unless_long : Bool → Result Program Status → Result Program Status
 unless_long true found = Err (BadTrace 1 trace.LongLine)
 unless_long false found = found
-
--- what was found, unless something is refused before
-abbrev pub unless_refused : Option Status → Result Program Status → Result Program Status
-unless_refused None found = found
-unless_refused (Some status) found = Err status
 
 -- The program that runs over the lines of a trace, or the first that refuses it: the file by itself, then a first line
 -- that is too long, then the header, then the limits of a program.

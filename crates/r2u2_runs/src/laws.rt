@@ -4,7 +4,7 @@ ghost use Rattle.std.specs.Prelude.{◌≡◌, List as Seq, Ok, Option as Maybe,
 ghost use Rattle.mltl_base.specs.Atoms.{Row};
 ghost use Rattle.mltl_base.specs.declared.program.Columns.{Columns as Places};
 ghost use Rattle.mltl_base.specs.declared.program.Program.{Program as Observer};
-ghost use Rattle.mltl_base.specs.declared.report.Style.{Style as Form};
+ghost use Rattle.mltl_base.specs.declared.report.Style.{Style};
 ghost use Rattle.spec_compile.specs.ImageFiles.{IsFirstImageFile, IsImageFile};
 ghost use Rattle.spec_compile.specs.Simplified.{IsSimpleImageFile};
 ghost use Rattle.tool_words.specs.declared.file_kind.FileKind.TheVariants.{Program};
@@ -18,15 +18,15 @@ ghost use Rattle.r2u2_runs.specs.Settled.{TellsText};
 /// they are in simplified form, where each word is settled for the plain formula and comes within its delay. In version
 /// 1, which stores no signals, they are over those of the image under any header.
 pub fn images_tell_their_texts()
-    ensures image { (style : Form) (text file : Seq ℕ) (own : Places) (header : Maybe (Seq ℕ))
+    ensures image { (style : Style) (text file : Seq ℕ) (own : Places) (header : Maybe (Seq ℕ))
         (program : Observer) (rows : Seq Row) → IsImageFile text own file →
         program_by Program file header ≡ Ok program →
         TellsImage style text own header program rows }
-    ensures simple_image { (style : Form) (text file : Seq ℕ) (own : Places)
+    ensures simple_image { (style : Style) (text file : Seq ℕ) (own : Places)
         (header : Maybe (Seq ℕ)) (program : Observer) (rows : Seq Row) →
         IsSimpleImageFile text own file → program_by Program file header ≡ Ok program →
         TellsSimple style text own header program rows }
-    ensures first_image { (style : Form) (text file : Seq ℕ) (own : Places) (header : Maybe (Seq ℕ))
-        (program : Observer) (rows : Seq Row) → IsFirstImageFile text own file →
+    ensures first_image { (style : Style) (text file : Seq ℕ) (own : Places)
+        (header : Maybe (Seq ℕ)) (program : Observer) (rows : Seq Row) → IsFirstImageFile text own file →
         program_by Program file header ≡ Ok program → TellsText style text own program rows }
 {}

@@ -116,6 +116,6 @@ pub fn r2u2_main<H: Host>(
         (IsRun (ask words.now) result kept.new (H.faults host.old) (H.faults host.new)) }
 {
     let status = run(alloc, words, host, kept);
-    let _ = tell_user(Tool::R2u2, &status, host);
+    tell_user(Tool::R2u2, &status, host);
     status
 }

@@ -20,7 +20,7 @@ use Rattle.mltl_base.specs.Programs.{Expression, whole, truth, atom_of, atoms, e
 use Rattle.obs_verify.specs.WellFormed.{is_truth, is_window, has_future_operands, has_future_window, has_past_operands, has_past_window}
 use Rattle.unfold.specs.Values.{truth_value, interval}
 use Rattle.unfold.specs.Environment.{Env, value_of}
-use Rattle.set_expand.specs.Outputs.{Place, behind}
+use Rattle.c2po_types.specs.Outputs.{Place, behind}
 use Rattle.obs_show.specs.Lines.{Reference, always, named, Form, Line, define}
 use Rattle.obs_show.specs.Naming.{ft_name, pt_name, bz_reference, ft_called, ft_reference, pt_called, pt_reference}
 use Rattle.obs_show.specs.Text.{ft_form, pt_form, ft_line, pt_line}

@@ -23,7 +23,7 @@ use Rattle.plain_nodes.specs.Faults.{formula_fault, or_later}
 use Rattle.unfold.specs.Values as values
 use Rattle.unfold.specs.Faults.{value_fault}
 use Rattle.unfold.specs.Environment.{Env, Known, nothing, value, declare, or_else, signal_value, value_of}
-use Rattle.set_expand.specs.Outputs.{Place, before, behind}
+use Rattle.c2po_types.specs.Outputs.{Place, before, behind}
 use Rattle.obs_show.specs.Lines.{Reference, Form, Line, input, define, formula, contract}
 use Rattle.show_trips.specs.Said.{reference_shape, form_shape, kind_name, line_body, line_item, line_items}
 use Rattle.show_trips.specs.Unfolded.{IsNew, AreNew}

@@ -27,7 +27,7 @@ use Rattle.unfold.specs.Environment.{value_of}
 use Rattle.unfold.specs.Faults.{value_fault}
 use Rattle.c2po_types.specs.FirstFault.{State, start, with_out, body_step, item_step, checked, fault_of, first_fault}
 use Rattle.c2po_types.proofs.Parts.{bind-ok, unless-ok, when-ok, when_ranged-ok, ok-inj}
-use Rattle.set_expand.specs.Outputs.{Place, before, behind, name_of, asked_at, asked_from, outputs_of}
+use Rattle.c2po_types.specs.Outputs.{Place, before, behind, name_of, asked_at, asked_from, outputs_of}
 use Rattle.spec_compile.specs.Front.{items_in, first_refusal}
 use Rattle.spec_compile.specs.Compiled.{signals_in, outputs_in}
 use Rattle.spec_compile.specs.Image.{over_columns}

@@ -21,8 +21,8 @@ use Rattle.c2po_tree.specs.ItemShape as item
 use Rattle.c2po_tree.specs.ItemShape.{TypeShape, BodyShape, ItemShape}
 use Rattle.c2po_parse.specs.Specification.{spec_of}
 use Rattle.c2po_types.specs.Signals.{is_bool, body_signals, signals_of}
-use Rattle.set_expand.specs.Outputs as expanding
-use Rattle.set_expand.specs.Outputs.{Place, before, behind, asked_at, asked_from, outputs_of}
+use Rattle.c2po_types.specs.Outputs as expanding
+use Rattle.c2po_types.specs.Outputs.{Place, before, behind, asked_at, asked_from, outputs_of}
 use Rattle.mltl_simplify.specs.Outputs.{simple_outputs}
 use Rattle.spec_compile.specs.declared.fault.CompileFault.{CompileFault}
 use Rattle.spec_compile.specs.Refusals.{token_refusal, tree_refusal}

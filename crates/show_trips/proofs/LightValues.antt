@@ -23,7 +23,7 @@ use Rattle.plain_nodes.specs.Tenses.{has_past, has_future}
 use Rattle.unfold.specs.Values as values
 use Rattle.unfold.specs.Values.{Value, weight}
 use Rattle.unfold.specs.Environment.{Env, value_of}
-use Rattle.set_expand.specs.Outputs.{Place, before, behind}
+use Rattle.c2po_types.specs.Outputs.{Place, before, behind}
 use Rattle.c2po_types.specs.FirstFault.{is_mixed}
 use Rattle.obs_verify.specs.WellFormed.{IsWellFormed, bz_fault, range_fault}
 use Rattle.obs_verify.proofs.RuleLaws.{or_none}

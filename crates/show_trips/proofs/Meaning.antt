@@ -6,7 +6,7 @@ use Rattle.mltl_base.specs.Subformulas.{unfolded_outputs}
 use Rattle.plain_nodes.specs.Outputs.{asked_over}
 use Rattle.obs_verify.specs.WellFormed.{IsWellFormed}
 use Rattle.c2po_types.specs.FirstFault.{first_fault}
-use Rattle.set_expand.specs.Outputs.{outputs_of}
+use Rattle.c2po_types.specs.Outputs.{outputs_of}
 use Rattle.obs_show.specs.Text.{lines}
 use Rattle.show_trips.specs.Said.{line_items}
 use Rattle.show_trips.proofs.Fresh.{lines_are_new}

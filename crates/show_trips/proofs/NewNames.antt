@@ -10,7 +10,7 @@ use Rattle.c2po_kinds.specs.Expressions.{kind_of}
 use Rattle.c2po_kinds.specs.Items.{nothing, new, signal_kind}
 use Rattle.c2po_kinds.specs.Scopes.{outside}
 use Rattle.unfold.specs.Environment.{Env, value, declare, signal_value, value_of}
-use Rattle.set_expand.specs.Outputs.{Place, before, behind}
+use Rattle.c2po_types.specs.Outputs.{Place, before, behind}
 use Rattle.obs_show.specs.Lines.{Form, Line, input, define, formula, contract}
 use Rattle.show_trips.specs.Said.{form_shape, line_body}
 use Rattle.show_trips.specs.Unfolded.{IsNew, AreNew}

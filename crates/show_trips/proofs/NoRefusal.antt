@@ -20,7 +20,7 @@ use Rattle.unfold.specs.Values as values
 use Rattle.unfold.specs.Values.{Value, formula_of}
 use Rattle.unfold.specs.Faults.{value_fault}
 use Rattle.unfold.specs.Environment.{Env, value, declare, signal_value}
-use Rattle.set_expand.specs.Outputs.{Place, before, behind}
+use Rattle.c2po_types.specs.Outputs.{Place, before, behind}
 use Rattle.obs_show.specs.Lines.{Reference, Form, Line, input, define, formula, contract}
 use Rattle.show_trips.specs.Said.{reference_shape, line_body, line_item, line_items}
 use Rattle.show_trips.proofs.Fresh.{signal_added, signal_ok}

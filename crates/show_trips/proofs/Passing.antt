@@ -16,7 +16,7 @@ use Rattle.plain_nodes.specs.Faults.{formula_fault, or_later}
 use Rattle.unfold.specs.Values.{Value, weight, formula_of}
 use Rattle.unfold.specs.Faults.{value_fault}
 use Rattle.unfold.specs.Environment.{value_of}
-use Rattle.set_expand.specs.Outputs.{Place, behind}
+use Rattle.c2po_types.specs.Outputs.{Place, behind}
 use Rattle.obs_show.specs.Lines.{Reference, Form, Line, input, define, formula, contract}
 use Rattle.obs_show.specs.Weight as shown
 use Rattle.obs_show.specs.Weighing.{expression_weight}

@@ -14,7 +14,7 @@ use Rattle.c2po_tree.specs.ItemShape.{ItemShape}
 use Rattle.c2po_parse.specs.Specification.{spec_of}
 use Rattle.c2po_types.specs.FirstFault.{first_fault}
 use Rattle.c2po_types.specs.Signals.{signals_of}
-use Rattle.set_expand.specs.Outputs.{outputs_of}
+use Rattle.c2po_types.specs.Outputs.{outputs_of}
 use Rattle.spec_compile.specs.Front.{items_in, first_refusal}
 use Rattle.spec_compile.specs.Compiled.{signals_in, outputs_in}
 use Rattle.spec_compile.specs.ImageFiles.{image_in, stored_columns}

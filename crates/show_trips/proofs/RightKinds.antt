@@ -1,14 +1,13 @@
 -- The lines of a well-formed program of version 2 have right names and kinds.
 
 use Rattle.std.proofs.Common.{◌≡◌, ◌∙◌, ℕ, ◌+◌, ◌<◌, ◌≤◌, zero, suc, Bool, true, false, not, List, [], ◌∷◌, ◌++◌, length, take, map, Option, Some, None, refl, ap, sym, subst, arith, append_assoc, append-nil, inl, inr, nat_lt}
-use Rattle.std.specs.Prelude.{slice_get, if◌then◌else◌, nat_le, ◌⊎◌, ◌==◌, ◌&&◌, ◌||◌}
+use Rattle.std.specs.Prelude.{slice_get, if◌then◌else◌, ◌⊎◌, ◌==◌, ◌&&◌, ◌||◌}
 use Rattle.std.specs.List.{enumerate_from, list_any}
 use Rattle.std.specs.Str.{bytes_eq}
 use Rattle.std.proofs.Math.Seq.{take-append_seam}
 use Rattle.std.proofs.lemmas.Option.{same_Some, slice_get_within}
 use Rattle.std.proofs.lemmas.List.{length-append, length-take}
-use Rattle.std.proofs.lemmas.Bool.{and_parts}
-use Rattle.std.proofs.lemmas.Bool.Decides.{nat_tests}
+use Rattle.std.proofs.lemmas.Bool.{and_parts, lt-leb}
 use Rattle.mltl_base.specs.declared.interval.Engine.TheVariants.{Ft, Pt}
 use Rattle.mltl_base.specs.declared.limits.TheConstants.{MAX_SIGNALS}
 use Rattle.mltl_base.specs.declared.operators.ArithOp as arith_op
@@ -87,9 +86,6 @@ name_is_new program front s ss k all len none =
     let here : is_new_signal program.width front s ≡ true = ap (λ (xs : List StoredSignal). is_new_signal program.width xs s) (sym cut) ∙ passed (is_new_signal program.width (take k program.signals) s) _ none in
     not_passes (is_signal_name front s.name) (and_parts (nat_lt s.column program.width && not (list_any (λ t. t.column == s.column) front)) (not (is_signal_name front s.name)) here).1
 
-above : (a b : ℕ) → b < a → nat_le a b ≡ false
-above a b h = grind (arith, nat_tests)
-
 walk_signals : (program : Program) (front ss : List StoredSignal) (k n : ℕ) (more : List Line) (d : Declarations)
     → length program.signals ≤ MAX_SIGNALS → program.signals ≡ front ++ ss → length front ≡ k → first_in (signal_fault program) k ss ≡ None → AreDeclared front d
     → ((m : ℕ) (later : Declarations) → AreDeclared program.signals later → KindsPass m more later) → KindsPass n (map signal_line ss ++ more) d
@@ -106,7 +102,7 @@ walk_signals program front (s ∷ ss) k n more d few all len none h go =
       count = omega (arith, h.count, length-append d.signals (record { name = s.name; truth = s.truth } ∷ []), length-append front (s ∷ []));
     } in (
       later,
-      input_passes n s.name s.truth d free (above MAX_SIGNALS (length d.signals) room),
+      input_passes n s.name s.truth d free (lt-leb MAX_SIGNALS (length d.signals) room),
       walk_signals program (front ++ s ∷ []) ss (k + 1) (n + 1) more later few (all ∙ sym (append_assoc front (s ∷ []) ss)) (omega (arith, length-append front (s ∷ []))) (others_none (signal_fault program) k s ss none) next go,
     )
 

@@ -24,7 +24,7 @@ use Rattle.obs_verify.specs.Soundness.{IsWhole, IsWholeExpression, AreWhole, IsS
 use Rattle.plain_nodes.specs.Nodes.{arithmetic, comparison}
 use Rattle.unfold.specs.Values.{number_value}
 use Rattle.unfold.specs.Environment.{Env, nothing, value, signal_value, value_of}
-use Rattle.set_expand.specs.Outputs.{Place, behind, asked_from}
+use Rattle.c2po_types.specs.Outputs.{Place, behind, asked_from}
 use Rattle.obs_show.specs.Lines.{Reference, named, Form, arith as computes, compare, Line, define}
 use Rattle.obs_show.specs.Naming.{name_in, bz_name, bz_called, bz_reference}
 use Rattle.obs_show.specs.Text.{bz_form, bz_line}

@@ -27,7 +27,7 @@ use Rattle.obs_verify.specs.Soundness.{AreSound}
 use Rattle.obs_verify.specs.WellFormed.{reports_within}
 use Rattle.unfold.specs.Values as values
 use Rattle.unfold.specs.Environment.{Env, nothing, value, declare, signal_value, value_of}
-use Rattle.set_expand.specs.Outputs.{Place, before, behind, name_of, asked_at, asked_from, outputs_of}
+use Rattle.c2po_types.specs.Outputs.{Place, before, behind, name_of, asked_at, asked_from, outputs_of}
 use Rattle.obs_show.specs.Lines.{Reference, Line, input}
 use Rattle.obs_show.specs.Naming.{ft_reference, pt_reference}
 use Rattle.obs_show.specs.Text.{signal_line, bz_line, ft_line, pt_line, label_of, output_line, lines_by, output_lines, lines}

@@ -4,7 +4,7 @@ use Rattle.std.specs.Prelude.{◌≡◌, ◌+◌, ℕ, List, [], ◌∷◌, ⊤}
 use Rattle.mltl_base.specs.declared.program.StoredSignal.{StoredSignal}
 use Rattle.mltl_base.specs.declared.signal.Signal.{Signal}
 use Rattle.unfold.specs.Environment.{Env, nothing}
-use Rattle.set_expand.specs.Outputs.{Place, behind}
+use Rattle.c2po_types.specs.Outputs.{Place, behind}
 use Rattle.obs_show.specs.Lines.{Line, input, define, formula, contract}
 use Rattle.show_trips.specs.Said.{line_body}
 

@@ -16,7 +16,7 @@ ghost use Rattle.obs_show.specs.Limits.{show_fault};
 ghost use Rattle.obs_verify.specs.WellFormed.{IsWellFormed};
 ghost use Rattle.c2po_types.specs.FirstFault.{first_fault};
 ghost use Rattle.c2po_types.specs.Signals.{signals_of};
-ghost use Rattle.set_expand.specs.Outputs.{outputs_of};
+ghost use Rattle.c2po_types.specs.Outputs.{outputs_of};
 ghost use Rattle.c2po_lexer.specs.Tokens.{tokens_of};
 ghost use Rattle.c2po_parse.specs.Specification.{spec_of};
 ghost use Rattle.obs_show.specs.Lines.{Line};

@@ -7,15 +7,15 @@ use Rattle.mltl_base.specs.Subformulas.{Asked}
 use Rattle.mltl_base.specs.declared.signal.Signal.{Signal}
 use Rattle.c2po_tree.specs.ItemShape.{ItemShape}
 use Rattle.c2po_types.specs.Signals.{signals_of}
-use Rattle.set_expand.specs.Outputs.{outputs_of}
+use Rattle.c2po_types.specs.Outputs.{outputs_of}
 use Rattle.trace_feed.specs.declared.header_fault.HeaderFault.{HeaderFault}
 use Rattle.spec_compile.specs.declared.fault.CompileFault.{CompileFault}
 use Rattle.spec_compile.specs.declared.fault.CompileFault.TheVariants.{Refused, BadHeader, Memory}
-use Rattle.spec_compile.specs.Refusals.{header_refusal, IsFirstRefusal}
+use Rattle.spec_compile.specs.Refusals.{header_refusal, unless_refused, IsFirstRefusal}
 use Rattle.spec_compile.specs.Front.{items_in, refusal_in, first_refusal}
 use Rattle.spec_compile.specs.Limits.{limit_refusal}
 use Rattle.spec_compile.specs.Image.{over_columns, image}
-use Rattle.spec_compile.specs.Compiled.{signals_in, outputs_in, columns_by, unless_refused, image_within, image_under, image_of_text}
+use Rattle.spec_compile.specs.Compiled.{signals_in, outputs_in, columns_by, image_within, image_under, image_of_text}
 
 refused_first : (first : Option CompileFault) (found : Result Program CompileFault) (fault : CompileFault) → fault ≢ Memory → IsFirstRefusal first fault
     → unless_refused first found ≡ Err fault

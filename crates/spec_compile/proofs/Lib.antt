@@ -3,6 +3,7 @@ pub mod ImageLaws
 pub mod ColumnLaws
 pub mod NameLaws
 pub mod CompiledLaws
+pub mod RefusalLaws
 pub mod TellingLaws
 pub mod MovedImages
 pub mod SimpleLaws

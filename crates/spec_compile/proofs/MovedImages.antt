@@ -16,7 +16,7 @@ use Rattle.mltl_base.specs.Reports.{Output, formula, contract, reports}
 use Rattle.mltl_base.specs.Subformulas.{Asked, IsTensed, core_output, formulas_of}
 use Rattle.mltl_base.proofs.Unfolding.{Each, each_from_all}
 use Rattle.plain_nodes.specs.Outputs.{asked_over, output_over}
-use Rattle.obs_binary.specs.Layout as binary
+use Rattle.obs_files.specs.Layout as binary
 use Rattle.obs_verify.specs.Bound.{AreDifferent, bound, bound_signals, moved}
 use Rattle.obs_verify.specs.Layout.{HasLayout}
 use Rattle.obs_verify.specs.WellFormed.{IsWellFormed}

@@ -1,6 +1,6 @@
 -- Programs in simplified form.
 
-use Rattle.std.proofs.Common.{◌≡◌, ◌∙◌, ◌≤◌, ◌<◌, ◌^◌, ℕ, Bool, true, false, None, Some, List, Result, Ok, Err, All, refl, sym, ap, ap₂, subst, arith}
+use Rattle.std.proofs.Common.{◌≡◌, ◌≢◌, ◌∙◌, ◌≤◌, ◌<◌, ◌^◌, ℕ, Bool, true, false, None, Some, List, Result, Ok, Err, All, refl, sym, ap, ap₂, subst, arith}
 use Rattle.std.specs.Prelude.{◌&&◌, if◌then◌else◌, is_none, nat_le, Option}
 use Rattle.std.proofs.lemmas.Bool.{and_parts, leb-true}
 use Rattle.std.proofs.lemmas.List.Elements.{All-map}
@@ -13,7 +13,7 @@ use Rattle.plain_nodes.specs.declared.nodes.Expanded.{Expanded}
 use Rattle.plain_nodes.specs.Outputs.{asked}
 use Rattle.mltl_simplify.specs.Outputs.{simple_asked, simple_outputs}
 use Rattle.mltl_simplify.proofs.Signals.{simple_kinds}
-use Rattle.set_expand.specs.Outputs.{HasPlainName}
+use Rattle.c2po_types.specs.Outputs.{HasPlainName}
 use Rattle.obs_build.specs.declared.fault.BuildFault.{BuildFault}
 use Rattle.obs_build.specs.declared.fault.BuildFault.TheVariants as build
 use Rattle.obs_build.specs.Limits.{IsReason, slots_of}
@@ -24,7 +24,7 @@ use Rattle.spec_compile.specs.Compiled.{columns_by, image_of_text, outputs_in, s
 use Rattle.spec_compile.specs.Front.{first_refusal}
 use Rattle.spec_compile.specs.Image.{image, over_columns}
 use Rattle.spec_compile.specs.Limits.{limit_refusal}
-use Rattle.spec_compile.specs.Simplified.{are_smaller, is_limit, simple_image, simple_image_of_text, simplified, slots_in, smaller_outputs}
+use Rattle.spec_compile.specs.Simplified.{are_smaller, simple_image, simple_image_of_text, simplified, slots_in, smaller_outputs}
 use Rattle.spec_compile.proofs.CompiledLaws.{compiled}
 use Rattle.spec_compile.proofs.LimitLaws.{first_exceeded, none_fits}
 use Rattle.spec_compile.proofs.TellingLaws.{image_found, image_under_header}
@@ -74,11 +74,11 @@ plain_taken columns signals outs refusal exceeded =
     ap (λ found. image columns signals (if is_none found && nat_le (slots_of (over_columns columns (simple_outputs outs))) (slots_of (over_columns columns outs)) then simple_outputs outs else outs)) (sym exceeded)
 
 pub plain_is : (columns : Columns) (signals : List Signal) (outs : List Asked) (fault : BuildFault) (plain : Program) → IsReason (over_columns columns (simple_outputs outs)) fault
-    → is_limit fault ≡ true → plain ≡ image columns signals outs → plain ≡ simple_image columns signals outs
+    → fault ≢ build.Memory → plain ≡ image columns signals outs → plain ≡ simple_image columns signals outs
 plain_is columns signals outs build.TooManyNodes plain why some is = is ∙ plain_taken columns signals outs _ (first_exceeded (over_columns columns (simple_outputs outs)) build.TooManyNodes why)
 plain_is columns signals outs build.TooLate plain why some is = is ∙ plain_taken columns signals outs _ (first_exceeded (over_columns columns (simple_outputs outs)) build.TooLate why)
 plain_is columns signals outs build.TooManySlots plain why some is = is ∙ plain_taken columns signals outs _ (first_exceeded (over_columns columns (simple_outputs outs)) build.TooManySlots why)
-plain_is columns signals outs build.Memory plain why some is = absurd (cc)
+plain_is columns signals outs build.Memory plain why some is = absurd (some refl)
 
 -- ---- of a text
 

@@ -20,11 +20,11 @@ use Rattle.trace_feed.specs.declared.header_fault.HeaderFault.{HeaderFault}
 use Rattle.c2po_types.proofs.Faultless.{faultless-tensed}
 use Rattle.obs_build.proofs.Tenses.{image_unfolds, image_names, image_tells}
 use Rattle.spec_compile.specs.declared.fault.CompileFault.{CompileFault}
-use Rattle.spec_compile.specs.Refusals.{token_refusal, tree_refusal, check_refusal}
+use Rattle.spec_compile.specs.Refusals.{token_refusal, tree_refusal, check_refusal, unless_refused}
 use Rattle.spec_compile.specs.Front.{tokens_in, items_in, refusal_in, first_refusal}
 use Rattle.spec_compile.specs.Limits.{limit_refusal}
 use Rattle.spec_compile.specs.Image.{over_columns, plain_outputs, image}
-use Rattle.spec_compile.specs.Compiled.{signals_in, outputs_in, columns_by, unless_refused, image_within, image_under, image_of_text, IsImageUnder}
+use Rattle.spec_compile.specs.Compiled.{signals_in, outputs_in, columns_by, image_within, image_under, image_of_text, IsImageUnder}
 use Rattle.spec_compile.proofs.ImageLaws.{image_of}
 
 -- nothing first, and nothing then
@@ -45,9 +45,10 @@ no_fault text h = map_none (first_fault (items_in text))
 pub tensed : (text : List ℕ) → first_refusal text ≡ None → All IsTensed (outputs_in text)
 tensed text h = faultless-tensed (items_in text) (no_fault text h)
 
-not_refused : (first : Option CompileFault) (found : Result Program CompileFault) (p : Program) → unless_refused first found ≡ Ok p → (first ≡ None) × (found ≡ Ok p)
-not_refused None found p h = (refl, h)
-not_refused (Some refusal) found p h = absurd (cc)
+-- what was found in spite of refusals: there was none
+pub not_refused : {T F : Type 0} (first : Option F) (found : Result T F) (value : T) → unless_refused first found ≡ Ok value → (first ≡ None) × (found ≡ Ok value)
+not_refused None found value h = (refl, h)
+not_refused (Some refusal) found value h = absurd (cc)
 
 -- a program that a text and a header line stand for is the image over their columns
 pub image_found : (text : List ℕ) (header : Option (List ℕ)) (columns : Columns) (p : Program) → image_of_text text header ≡ Ok p

@@ -5,12 +5,13 @@ use Rattle.mltl_base.specs.declared.program.Columns.{Columns}
 use Rattle.mltl_base.specs.declared.program.Program.{Program}
 use Rattle.mltl_base.specs.Subformulas.{Asked}
 use Rattle.mltl_base.specs.declared.signal.Signal.{Signal}
+use Rattle.c2po_tree.specs.ItemShape.{ItemShape}
 use Rattle.c2po_types.specs.Signals.{signals_of}
-use Rattle.set_expand.specs.Outputs.{outputs_of}
+use Rattle.c2po_types.specs.Outputs.{outputs_of}
 use Rattle.trace_feed.specs.declared.header_fault.HeaderFault.{HeaderFault}
 use Rattle.trace_feed.specs.Header.{header_meaning, columns_in_order}
 use Rattle.spec_compile.specs.declared.fault.CompileFault.{CompileFault}
-use Rattle.spec_compile.specs.Refusals.{header_refusal}
+use Rattle.spec_compile.specs.Refusals.{header_refusal, unless_refused}
 use Rattle.spec_compile.specs.Front.{items_in, first_refusal}
 use Rattle.spec_compile.specs.Limits.{limit_refusal}
 use Rattle.spec_compile.specs.Image.{over_columns, image}
@@ -28,10 +29,9 @@ abbrev pub columns_by : List Signal → Option (List ℕ) → Result Columns Hea
 columns_by signals None = Ok (columns_in_order (length signals))
 columns_by signals (Some line) = header_meaning (map (λ s. s.name) signals) line
 
--- the program, unless something is refused
-abbrev pub unless_refused : Option CompileFault → Result Program CompileFault → Result Program CompileFault
-unless_refused None found = found
-unless_refused (Some refusal) found = Err refusal
+-- the refusal of what items say over columns, by the first limit that it exceeds
+abbrev pub limit_over : Columns → List ItemShape → Option CompileFault
+limit_over columns items = limit_refusal (over_columns columns (outputs_of items))
 
 -- the image over columns, unless a limit is exceeded
 abbrev pub image_within : List Signal → List Asked → Columns → Result Program CompileFault

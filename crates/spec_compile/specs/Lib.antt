@@ -7,3 +7,4 @@ pub mod ImageFiles
 pub mod Simplified
 pub mod Unfolded
 pub mod FaultTexts
+pub use Rattle.trace_feed.specs.HeaderTexts

@@ -1,6 +1,6 @@
 -- Refusals of a specification, and the answers that tell them.
 
-use Rattle.std.specs.Prelude.{◌≡◌, Option, Some, ⊤}
+use Rattle.std.specs.Prelude.{◌≡◌, Option, None, Some, Result, Err, ⊤}
 use Rattle.c2po_lexer.specs.declared.fault.LexFault.{LexFault}
 use Rattle.c2po_lexer.specs.declared.fault.LexFault.TheVariants as lexed
 use Rattle.c2po_parse.specs.declared.fault.ParseFault.{ParseFault}
@@ -60,6 +60,11 @@ header_refusal header.NoHeader = BadHeader why.NoHeader
 header_refusal (header.Missing name) = BadHeader (why.Missing name)
 header_refusal (header.Twice name) = BadHeader (why.Twice name)
 header_refusal header.Memory = Memory
+
+-- what was found, unless something is refused before
+abbrev pub unless_refused : {T F : Type 0} → Option F → Result T F → Result T F
+unless_refused None found = found
+unless_refused (Some refusal) found = Err refusal
 
 -- an answer tells the first refusal that there is; none speaks of a header, and memory may be wanting at any time
 abbrev pub IsFirstRefusal : Option CompileFault → CompileFault → Type 0

@@ -1,6 +1,6 @@
 -- The program that is compiled where simplified forms are asked for.
 
-use Rattle.std.specs.Prelude.{◌≡◌, ◌+◌, ◌<◌, ℕ, nat_le, Bool, true, false, ◌&&◌, if◌then◌else◌, is_none, List, length}
+use Rattle.std.specs.Prelude.{◌≡◌, ◌+◌, ◌<◌, ℕ, nat_le, Bool, ◌&&◌, if◌then◌else◌, is_none, List, length}
 use Rattle.std.specs.Prelude.{slice_get, Option, Some, None, Result, Ok, sum}
 use Rattle.mltl_base.specs.declared.program.Columns.{Columns}
 use Rattle.mltl_base.specs.declared.program.Program.{Program}
@@ -14,8 +14,6 @@ use Rattle.mltl_base.specs.Reports.{Output, delay, meaning, reports, told, IsRis
 use Rattle.mltl_base.specs.Subformulas.{Asked}
 use Rattle.mltl_simplify.specs.Outputs.{simple_outputs}
 use Rattle.obs_build.specs.Limits.{slots_of}
-use Rattle.obs_build.specs.declared.fault.BuildFault.{BuildFault}
-use Rattle.obs_build.specs.declared.fault.BuildFault.TheVariants.{TooManyNodes, TooLate, TooManySlots, Memory}
 use Rattle.obs_verify.specs.Bound.{bound}
 use Rattle.obs_verify.specs.Layout.{HasLayout}
 use Rattle.obs_verify.specs.WellFormed.{IsWellFormed}
@@ -26,13 +24,6 @@ use Rattle.spec_compile.specs.Front.{first_refusal}
 use Rattle.spec_compile.specs.Image.{AreColumnsFor, image, over_columns}
 use Rattle.spec_compile.specs.ImageFiles.{IsFileOf}
 use Rattle.spec_compile.specs.Limits.{limit_refusal}
-
--- the fault is a limit that is exceeded, and not want of memory
-abbrev pub is_limit : BuildFault → Bool
-is_limit TooManyNodes = true
-is_limit TooLate = true
-is_limit TooManySlots = true
-is_limit Memory = false
 
 -- the slots of all queues of a program and all its boxes together
 abbrev pub slots_in : Program → ℕ

@@ -6,7 +6,7 @@ use Rattle.mltl_base.specs.Kinds.{ReadsSignals, kinds_of}
 use Rattle.plain_nodes.specs.declared.nodes.Expanded.{Expanded}
 use Rattle.plain_nodes.specs.Faults.{HasRanges}
 use Rattle.plain_nodes.specs.Outputs.{IsSound, asked}
-use Rattle.set_expand.specs.Outputs.{HasPlainName}
+use Rattle.c2po_types.specs.Outputs.{HasPlainName}
 
 -- outputs over signals: each reads signals that exist by their kinds, has ranges, and a name that can be written
 pub record IsUnfolded (signals : List Signal) (spec : Expanded) : Type 0 where

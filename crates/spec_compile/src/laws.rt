@@ -6,7 +6,7 @@ ghost use Rattle.mltl_base.specs.Programs.{output_names, outputs};
 ghost use Rattle.mltl_base.specs.Reports.{Output as Told, delay, reports};
 ghost use Rattle.mltl_base.specs.declared.program.Columns.{Columns as Places};
 ghost use Rattle.mltl_base.specs.declared.program.Program.{Program as Observer};
-ghost use Rattle.mltl_base.specs.declared.report.Style.{Style as Form};
+ghost use Rattle.mltl_base.specs.declared.report.Style.{Style};
 ghost use Rattle.spec_compile.specs.Image.{plain_outputs};
 ghost use Rattle.spec_compile.specs.ImageFiles.{CanMove, moved_image};
 ghost use Rattle.spec_compile.specs.Compiled.{IsImageUnder, columns_by, image_of_text, outputs_in, signals_in};
@@ -20,7 +20,7 @@ ghost use Rattle.spec_compile.specs.declared.fault.CompileFault.{CompileFault as
 pub fn programs_tell_their_texts()
     ensures image { (text : Seq ℕ) (header : Maybe (Seq ℕ)) (program : Observer) →
         image_of_text text header ≡ Ok program → IsImageUnder text header program }
-    ensures reports { (style : Form) (text : Seq ℕ) (header : Maybe (Seq ℕ)) (columns : Places)
+    ensures reports { (style : Style) (text : Seq ℕ) (header : Maybe (Seq ℕ)) (columns : Places)
         (program : Observer) (rows : Seq Row) →
         image_of_text text header ≡ Ok program → columns_by (signals_in text) header ≡ Ok columns →
         reports style (outputs program) rows ≡
@@ -38,7 +38,7 @@ pub fn programs_tell_their_texts()
 /// An image whose signals are moved to other columns tells what the plain outputs of its text tell over those columns,
 /// under the same names.
 pub fn moved_images_tell_their_texts()
-    ensures reports { (style : Form) (text : Seq ℕ) (old new : Places) (rows : Seq Row) →
+    ensures reports { (style : Style) (text : Seq ℕ) (old new : Places) (rows : Seq Row) →
         CanMove text old new →
         reports style (outputs (moved_image text old new)) rows ≡
         reports style (plain_outputs new (outputs_in text)) rows }
@@ -59,13 +59,13 @@ pub fn simple_programs_need_no_more()
 /// A program in simplified form tells of each output what is settled for the plain output of its text, no later than that
 /// output's worst-case delay. So does its image whose signals are moved to other columns.
 pub fn simple_programs_tell_plain_outputs()
-    ensures told { (style : Form) (text : Seq ℕ) (header : Maybe (Seq ℕ)) (columns : Places)
+    ensures told { (style : Style) (text : Seq ℕ) (header : Maybe (Seq ℕ)) (columns : Places)
         (program : Observer) (rows : Seq Row) (k : ℕ) (o : Told) →
         simple_image_of_text text header ≡ Ok program →
         columns_by (signals_in text) header ≡ Ok columns →
         slice_get (plain_outputs columns (outputs_in text)) k ≡ Some o →
         TellsSettled style program k o rows }
-    ensures moved { (style : Form) (text : Seq ℕ) (old new : Places) (rows : Seq Row) (k : ℕ)
+    ensures moved { (style : Style) (text : Seq ℕ) (old new : Places) (rows : Seq Row) (k : ℕ)
         (o : Told) → CanMoveSimple text old new →
         slice_get (plain_outputs new (outputs_in text)) k ≡ Some o →
         TellsSettled style (moved_simple_image text old new) k o rows }

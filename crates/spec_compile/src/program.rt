@@ -6,9 +6,9 @@ ghost use Rattle.c2po_types.specs.Signals.{signals_of as declared};
 ghost use Rattle.obs_build.specs.Limits.{IsReason, IsWithinLimits};
 ghost use Rattle.obs_files.specs.Names.{NamesFit};
 ghost use Rattle.plain_nodes.specs.Outputs.{asked};
-ghost use Rattle.set_expand.specs.Outputs.{outputs_of};
+ghost use Rattle.c2po_types.specs.Outputs.{outputs_of};
 ghost use Rattle.spec_compile.specs.Refusals.{IsFirstRefusal};
-ghost use Rattle.spec_compile.specs.Limits.{limit_refusal};
+ghost use Rattle.spec_compile.specs.Compiled.{limit_over};
 ghost use Rattle.spec_compile.specs.Image.{AreColumnsFor, image, over_columns};
 ghost use Rattle.spec_compile.specs.Unfolded.{IsUnfolded};
 
@@ -31,11 +31,9 @@ pub fn back(alloc: Global, spec: &TypedSpec, columns: &Columns) -> Result<Checke
     requires columns { AreColumnsFor (length (declared (spec_shape spec.now))) columns.now }
     ensures image { IfOk result (λ checked. checked
         ≡ image columns.now (declared (spec_shape spec.now)) (outputs_of (spec_shape spec.now))) }
-    ensures within { OnOk result
-        (limit_refusal (over_columns columns.now (outputs_of (spec_shape spec.now))) ≡ None) }
-    ensures refused { IfErr result (λ fault.
-        IsFirstRefusal
-        (limit_refusal (over_columns columns.now (outputs_of (spec_shape spec.now)))) fault) }
+    ensures within { OnOk result (limit_over columns.now (spec_shape spec.now) ≡ None) }
+    ensures refused { IfErr result
+        (IsFirstRefusal (limit_over columns.now (spec_shape spec.now))) }
     ensures names { IfOk result NamesFit }
 {
     let expanded = expand(alloc, spec)?;

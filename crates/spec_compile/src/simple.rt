@@ -4,11 +4,11 @@ ghost use Rattle.std.specs.Prelude.{◌≡◌, ◌<◌, ◌^◌, None, length, i
 ghost use Rattle.c2po_tree.specs.ItemShape.{spec_shape};
 ghost use Rattle.c2po_types.specs.Signals.{signals_of as declared};
 ghost use Rattle.obs_files.specs.Names.{NamesFit};
-ghost use Rattle.set_expand.specs.Outputs.{outputs_of};
+ghost use Rattle.c2po_types.specs.Outputs.{outputs_of};
 ghost use Rattle.spec_compile.specs.Refusals.{IsFirstRefusal};
-ghost use Rattle.spec_compile.specs.Limits.{limit_refusal};
-ghost use Rattle.spec_compile.specs.Image.{AreColumnsFor, over_columns};
-ghost use Rattle.spec_compile.specs.Simplified.{is_limit as limits, simple_image, slots_in};
+ghost use Rattle.spec_compile.specs.Compiled.{limit_over};
+ghost use Rattle.spec_compile.specs.Image.{AreColumnsFor};
+ghost use Rattle.spec_compile.specs.Simplified.{simple_image, slots_in};
 
 use crate::CompileFault;
 use crate::program::{back, built};
@@ -19,13 +19,6 @@ use mltl_simplify::simplify;
 use obs_build::BuildFault;
 use obs_verify::Checked;
 use std::alloc::Global;
-
-/// Whether a limit is exceeded; else out of memory.
-fn is_limit(fault: BuildFault) -> bool
-    ensures { result ≡ limits fault }
-{
-    fault != BuildFault::Memory
-}
 
 /// The first program where it has no more slots and boxes than the second, else the second.
 fn smaller(simple: Checked, plain: Checked) -> Checked
@@ -50,18 +43,19 @@ pub fn back_simple(
     ensures image { IfOk result (λ checked. checked
         ≡ simple_image columns.now
         (declared (spec_shape spec.now)) (outputs_of (spec_shape spec.now))) }
-    ensures within { OnOk result
-        (limit_refusal (over_columns columns.now (outputs_of (spec_shape spec.now))) ≡ None) }
-    ensures refused { IfErr result (λ fault.
-        IsFirstRefusal
-        (limit_refusal (over_columns columns.now (outputs_of (spec_shape spec.now)))) fault) }
+    ensures within { OnOk result (limit_over columns.now (spec_shape spec.now) ≡ None) }
+    ensures refused { IfErr result
+        (IsFirstRefusal (limit_over columns.now (spec_shape spec.now))) }
     ensures names { IfOk result NamesFit }
 {
     let plain = back(alloc, spec, columns)?;
     let simple = simplify(alloc, spec.expanded())?;
     match built(alloc, &simple, spec, columns) {
         Ok(simple) => Ok(smaller(simple, plain)),
-        Err(fault) if is_limit(fault) => Ok(plain),
-        Err(_) => Err(CompileFault::Memory),
+        Err(fault) => match fault {
+            BuildFault::Memory => Err(CompileFault::Memory),
+            // the simplified form is past a limit
+            _ => Ok(plain),
+        },
     }
 }

@@ -10,7 +10,7 @@ use Rattle.tool_runs.specs.Causes.{RunCause, TellsNoCall}
 use Rattle.tool_runs.specs.declared.status.Status as status
 use Rattle.tool_runs.specs.Reading.{FileLog, unread}
 use Rattle.tool_io.proofs.LogLaws.{Appends-then}
-use Rattle.tool_runs.proofs.StatusLaws.{told_as}
+use Rattle.tool_runs.specs.Statuses.{with_status}
 
 -- an attach, and then what follows
 pub OnLog-attached : (before between now : Option (List Event)) (p : place.Place) (name : List ℕ) (P : List Event → Type 0) → Appends before between (Attached p name ∷ []) → OnLog between now P → OnLog before now (λ events. (log : List Event) × (events ≡ Attached p name ∷ log) × P log)
@@ -27,7 +27,7 @@ not_whole fault.ReadFault p limit name events has = (refl, has.0, has.2.0, has.1
 not_whole fault.Memory p limit name events has = (has.0, has.2.0, has.1, has.2.1, has.2.2)
 
 -- one that was, or wasn't
-pub whole_log : (found : Result (Vec ℕ Global) WholeFault) (p : place.Place) (limit : ℕ) (name : List ℕ) (events : List Event) → (log : List Event) × (events ≡ Attached p name ∷ log) × WholeLog found p limit log → FileLog (told_as (unread p) found) p limit name events
+pub whole_log : (found : Result (Vec ℕ Global) WholeFault) (p : place.Place) (limit : ℕ) (name : List ℕ) (events : List Event) → (log : List Event) × (events ≡ Attached p name ∷ log) × WholeLog found p limit log → FileLog (with_status (unread p) found) p limit name events
 whole_log (Ok bytes) p limit name events has = (has.0, has.1, has.2.0, has.2.1)
 whole_log (Err why) p limit name events has = not_whole why p limit name events has
 

@@ -1,4 +1,5 @@
 pub mod Codes
+pub mod Statuses
 pub mod Messages
 pub mod Causes
 pub mod Attaching

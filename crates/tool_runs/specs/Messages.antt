@@ -8,7 +8,7 @@ use Rattle.obs_files.specs.declared.fault.FileFault.TheVariants.{Program}
 use Rattle.obs_files.specs.Texts.{file_fault_text}
 use Rattle.spec_compile.specs.declared.fault.CompileFault as compile
 use Rattle.spec_compile.specs.FaultTexts.{compile_fault_text}
-use Rattle.trace_feed.specs.HeaderTexts.{missing_text, twice_text}
+use Rattle.spec_compile.specs.HeaderTexts.{missing_text, twice_text}
 use Rattle.trace_watch.specs.declared.status.TraceWhy as trace
 
 -- the name of a program
@@ -18,7 +18,9 @@ tool_name tool.TheVariants.R2u2 = codes "r2u2"
 
 -- what a program's words may be
 abbrev pub usage : tool.Tool → List ℕ
-usage tool.TheVariants.C2po = codes "usage: c2po [--header FILE] [-o FILE] [--table] [--simplify] SPEC | c2po --upgrade [-o FILE] PROGRAM | c2po --show [-o FILE] PROGRAM\n"
+usage tool.TheVariants.C2po =
+    codes "usage: c2po [--header FILE] [-o FILE] [--table] [--simplify] SPEC"
+    ++ codes " | c2po --upgrade [-o FILE] PROGRAM | c2po --show [-o FILE] PROGRAM\n"
 usage tool.TheVariants.R2u2 =
     codes "usage: r2u2 [--source] [--runs] [--timed] [--mission-time N] FILE [TRACE] | r2u2 --demo SEED,ROWS\n"
 

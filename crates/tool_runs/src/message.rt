@@ -3,7 +3,7 @@
 ghost use Rattle.std.specs.Prelude.{◌≡◌, ◌+◌, ◌≤◌, ◌++◌, length, decimal};
 ghost use Rattle.arrayvec.specs.ArrayVec.{array_vec_len};
 ghost use Rattle.spec_compile.specs.FaultTexts.{header_fault_of, line_text, refusal_text};
-ghost use Rattle.trace_feed.specs.HeaderTexts.{header_fault_text, missing_text, twice_text};
+ghost use Rattle.spec_compile.specs.HeaderTexts.{header_fault_text, missing_text, twice_text};
 ghost use Rattle.tool_runs.specs.Messages.{message, usage, tool_name, trace_text, place_name, status_text};
 
 use crate::Status;

@@ -11,5 +11,5 @@ pub(crate) fn add<const CAP: usize>(text: &mut ArrayVec<u8, CAP>, piece: &[u8])
     ensures items { text.new.items ≡ text.old.items ++ piece.now }
     ensures len { array_vec_len text.new ≡ array_vec_len text.old + length piece.now }
 {
-    let _ = text.try_extend_from_slice(piece);
+    text.try_extend_from_slice(piece).unwrap();
 }

@@ -14,7 +14,7 @@ use Rattle.tool_io.specs.Log.{Event}
 use Rattle.tool_io.specs.Cutting.{Cutting, line_text, next_number, CutsLine}
 use Rattle.tool_io.specs.Cutting as cutting
 use Rattle.mltl_monitor.specs.declared.state.State.{State}
-use Rattle.mltl_monitor.specs.Monitoring.{program_of, taken_by, last_of, read_of}
+use Rattle.mltl_monitor.specs.Monitoring.{IsDrained, program_of, taken_by, last_of, read_of}
 use Rattle.trace_feed.specs.Rows.{LineMeaning, row, blank, too_few, not_whole, out_of_range}
 use Rattle.trace_watch.specs.declared.status.LineFault.{LineFault}
 use Rattle.trace_watch.specs.declared.status.LineFault.TheVariants.{Width, NotWhole, OutOfRange}
@@ -59,6 +59,12 @@ begins_at (reader.TheVariants.Stamped last) = Stamped None
 pub record IsAtStart (course : Course) : Type 0 where
   pub no_lines : course.lines ≡ 0
   pub no_rows : StandsAt (begins_at course.reader) course.reader 0 []
+
+-- Between lines all reports are given, the rows that were taken are counted, and the mission time isn't too long.
+pub record IsUnderWay (course : Course) (monitor : State) : Type 0 where
+  pub drained : IsDrained monitor
+  pub counted : IsCounted course.reader course.lines (taken_by monitor)
+  pub mission : course.mission ≤ MAX_MISSION
 
 -- a fact of a row that was found, by how many copies of the last one come before it
 abbrev pub IfRow : found.Found → (ℕ → Type 0) → Type 0

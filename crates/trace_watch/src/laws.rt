@@ -2,7 +2,7 @@
 
 ghost use Rattle.std.specs.Prelude.{◌≡◌, ℕ, List, ◌++◌};
 ghost use Rattle.mltl_base.specs.declared.program.Program.{Program as Observer};
-ghost use Rattle.mltl_base.specs.declared.report.Style.{Style as Form};
+ghost use Rattle.mltl_base.specs.declared.report.Style.{Style};
 ghost use Rattle.tool_io.specs.declared.host.Place.{Place as Stream};
 ghost use Rattle.tool_io.specs.declared.host.Place.TheVariants.{Trace};
 ghost use Rattle.tool_io.specs.Cutting.{Cutting, lines_of};
@@ -15,7 +15,7 @@ ghost use Rattle.trace_watch.specs.Watch.{IsWatch, NoneRose, WatchCause};
 
 /// Where no fault was counted, and the trace has no faulty line and stays within the mission time, all is done.
 pub fn watch_takes_none()
-    ensures { (answer : Watched) (program : Observer) (style : Form)
+    ensures { (answer : Watched) (program : Observer) (style : Style)
         (rows_in : List (List ℕ) → TraceRows) (start cut : Cutting) (monitor : State)
         (events : List Event) (before now : Stream → ℕ) → WatchCause answer before now
         → IsWatch program style rows_in start cut monitor answer events → NoneRose before now

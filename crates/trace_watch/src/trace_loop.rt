@@ -1,16 +1,15 @@
 //! The loop over a trace.
 
 ghost use Rattle.std.specs.Prelude.{◌≡◌, ◌≤◌, ◌<◌, ◌^◌, IsSome, List};
-ghost use Rattle.mltl_base.specs.declared.limits.TheConstants.{MAX_MISSION};
 ghost use Rattle.mltl_base.specs.Atoms.{Row};
 ghost use Rattle.tool_io.specs.Log.{OnLog};
-ghost use Rattle.mltl_monitor.specs.Monitoring.{program_of, taken_by, IsDrained, IsSame, Stands};
+ghost use Rattle.mltl_monitor.specs.Monitoring.{program_of, IsDrained, IsSame, Stands};
 ghost use Rattle.trace_watch.specs.Feed.{Feed, text_meaning};
 ghost use Rattle.trace_watch.specs.Trace.{is_marked, fed_rows, trace_rows, stamped_rows};
 ghost use Rattle.trace_watch.specs.Watch.{CanWatch, IsWatch, WatchCause, first_of};
 ghost use Rattle.trace_watch.specs.Endings.{told_as};
 ghost use Rattle.trace_watch.specs.Telling.{StepCause};
-ghost use Rattle.trace_watch.specs.Turns.{CanTake, Finds, IfRow, IsAtStart, IsCounted, LineSteps, MovesReader, StandsAt, TakesLine, Turns, begins_at, text_of};
+ghost use Rattle.trace_watch.specs.Turns.{CanTake, Finds, IfRow, IsAtStart, IsUnderWay, LineSteps, MovesReader, StandsAt, TakesLine, Turns, begins_at, text_of};
 
 use crate::Watched;
 use crate::reader::{Found, Reader, read_fields, read_stamped};
@@ -63,10 +62,8 @@ impl Course {
     /// Reads a line, and keeps its row aside. Nothing else of the monitor changes.
     #[inline(always)]
     fn read(&self, monitor: &mut Monitor, line: &[u8]) -> Found
-        requires drained { IsDrained monitor.old }
-        requires counted { IsCounted self.now.reader self.now.lines (taken_by monitor.old) }
+        requires under_way { IsUnderWay self.now monitor.old }
         requires within { self.now.lines < self.now.mission }
-        requires mission { self.now.mission ≤ MAX_MISSION }
         ensures told { (rows : List Row) (feed : Feed) → Stands monitor.old rows
             → StandsAt feed self.now.reader self.now.lines rows
             → Finds result feed
@@ -92,10 +89,8 @@ impl Course {
         steps: &mut Steps<L>,
     ) -> ControlFlow<Ending, ()>
         requires row { IsSome cut.now.row }
-        requires drained { IsDrained monitor.old }
-        requires counted { IsCounted self.old.reader self.old.lines (taken_by monitor.old) }
+        requires under_way { IsUnderWay self.old monitor.old }
         requires within { self.old.lines < self.old.mission }
-        requires mission { self.old.mission ≤ MAX_MISSION }
         ensures cause { StepCause (told_as result) (H.faults host.old) (H.faults host.new) }
         ensures log { (rows : List Row) (feed : Feed) → Stands monitor.old rows
             → StandsAt feed self.old.reader self.old.lines rows
@@ -130,10 +125,8 @@ impl Course {
         steps: &mut Steps<L>,
     ) -> ControlFlow<Ending, ()>
         requires row { IsSome cut.now.row }
-        requires drained { IsDrained monitor.old }
-        requires counted { IsCounted self.old.reader self.old.lines (taken_by monitor.old) }
+        requires under_way { IsUnderWay self.old monitor.old }
         requires within { self.old.lines ≤ self.old.mission }
-        requires mission { self.old.mission ≤ MAX_MISSION }
         ensures cause { StepCause (told_as result) (H.faults host.old) (H.faults host.new) }
         ensures log { (rows : List Row) (feed : Feed) → Stands monitor.old rows
             → StandsAt feed self.old.reader self.old.lines rows
@@ -162,10 +155,8 @@ impl Course {
         host: &mut H,
         steps: &mut Steps<L>,
     ) -> ControlFlow<Ending, ()>
-        requires drained { IsDrained monitor.old }
-        requires counted { IsCounted self.old.reader self.old.lines (taken_by monitor.old) }
+        requires under_way { IsUnderWay self.old monitor.old }
         requires within { self.old.lines ≤ self.old.mission }
-        requires mission { self.old.mission ≤ MAX_MISSION }
         ensures cause { StepCause (told_as result) (H.faults host.old) (H.faults host.new) }
         ensures log { (rows : List Row) (feed : Feed) → Stands monitor.old rows
             → StandsAt feed self.old.reader self.old.lines rows

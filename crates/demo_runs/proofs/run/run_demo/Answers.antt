@@ -19,11 +19,11 @@ play-requires c =
     let tallies : List Tally = c.deref_mut.result.now in
     let program : c.program.result.now ≡ program_of monitor = c.program.ensures.program ∙ c.checked.ensures.program in
     let count : c.len.result ≡ length (program_of monitor).outs = c.len.ensures ∙ ap (λ (p : Program). length p.outs) program in
-    let items : tallies ≡ replicate c.len.result c.none.result = c.deref_mut.ensures.value ∙ c.in_ok-tallies.ensures.items_if_clones_equal (λ y e. e) in
-    let enough : length tallies ≡ length (program_of monitor).outs = ap length items ∙ length-replicate c.len.result c.none.result ∙ count in
+    let items : tallies ≡ replicate c.len.result c.new.result = c.deref_mut.ensures.value ∙ c.in_ok-tallies.ensures.items_if_clones_equal (λ y e. e) in
+    let enough : length tallies ≡ length (program_of monitor).outs = ap length items ∙ length-replicate c.len.result c.new.result ∙ count in
     record {
       before = played_none tallies monitor c.args.seed c.in_ok-monitor.ensures.program c.in_ok-monitor.ensures.taken c.in_ok-monitor.ensures.stands c.in_ok-monitor.ensures.drained
-          enough (all_none tallies c.len.result c.none.result items c.none.ensures);
+          enough (all_none tallies c.len.result c.new.result items c.new.ensures);
     }
 
 pub returns : goal.returns

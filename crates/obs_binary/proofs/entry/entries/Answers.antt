@@ -14,7 +14,7 @@ pub loop-preserved : goal.loop-preserved
 loop-preserved g c =
     let read = entry_at g.X.Entry.LEN g.X.Entry.spelled g.X.Entry.content c.args.size in
     record {
-      read = rw c.push_reserved.ensures.items (each_at-more read c.args.count (each_at read c.args.count c.args.bytes.now) c.loop.found.items c.loop.counter c.loop.rest.now c.in_ok-entry.entry c.in_ok-entry.behind.now c.loop-test.true c.in_ok-entry.ensures.read c.loop.invariant.read);
+      read = rw c.push_reserved.ensures.items (each_at-more read c.args.count (each_at read c.args.count c.args.bytes.now) c.loop.found.items c.loop.counter c.loop.rest.now c.in_ok-entry.entry c.in_ok-entry.after.now c.loop-test.true c.in_ok-entry.ensures.read c.loop.invariant.read);
       count = rw c.push_reserved.ensures.items (simp length-append (omega (arith, c.loop.invariant.count)));
       len = omega (arith, c.push_reserved.ensures.len, c.loop.invariant.len);
       room = rw (c.push_reserved.ensures.capacity, c.loop.invariant.room) refl;

@@ -2,7 +2,8 @@ use Rattle.std.proofs.Common.{rules, ◌≡◌}
 use Rattle.std.proofs.lemmas.Result.{err_from_is_err_and}
 use Rattle.std.specs.Option.{option_copied}
 use Rattle.c2po_tree.specs.ItemShape.{spec_shape}
-use Rattle.tool_runs.proofs.StatusLaws.{told_as, told_fault, told_value}
+use Rattle.tool_runs.specs.Statuses.{with_status}
+use Rattle.tool_runs.proofs.StatusLaws.{told_fault, told_value}
 use Rattle.r2u2_runs.specs.ProgramBy.{compile_status}
 use Rattle.r2u2_runs.proofs.OpenLaws.{header_refuses, spec_programs, limit_refuses}
 use Rattle.r2u2_runs.proofs.opening.compiled.Goals as goal
@@ -17,7 +18,7 @@ returns-in_err-columns-clause-refused c =
 pub returns-clause-program : goal.returns-clause-program
 returns-clause-program c =
     let named = told_value c.columns_of.result c.map_err.result _ c.in_ok-columns.columns _ c.map_err.ensures.cases c.in_ok-columns.was c.columns_of.ensures.columns in
-    let told : c.map_err-2.result ≡ told_as compile_status c.back.result = search rules in
+    let told : c.map_err-2.result ≡ with_status compile_status c.back.result = search rules in
     spec_programs c.back.result c.map_err-2.result (option_copied c.args.header) (spec_shape c.args.spec.now) c.in_ok-columns.columns told named c.back.ensures.image c.back.ensures.within
 
 pub returns-clause-refused : goal.returns-clause-refused

@@ -4,7 +4,7 @@ use Rattle.std.proofs.lemmas.List.Elements.{All-map}
 use Rattle.c2po_tree.specs.ItemShape.{spec_shape}
 use Rattle.c2po_tree.specs.Names.{IsPlainName}
 use Rattle.plain_nodes.specs.Outputs.{asked}
-use Rattle.obs_binary.specs.Layout.{is_letter, out_names, signal_name, signal_names}
+use Rattle.obs_files.specs.Layout.{is_letter, out_names, signal_name, signal_names}
 use Rattle.obs_build.specs.Image.{stored_signals}
 use Rattle.obs_build.proofs.Tenses.{image_names}
 use Rattle.spec_compile.specs.Image.{image}

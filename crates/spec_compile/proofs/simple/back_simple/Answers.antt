@@ -6,7 +6,7 @@ use Rattle.mltl_simplify.specs.Outputs.{simple_outputs}
 use Rattle.c2po_tree.specs.ItemShape.{spec_shape}
 use Rattle.c2po_types.specs.Signals.{signals_of}
 use Rattle.plain_nodes.specs.Outputs.{asked}
-use Rattle.set_expand.specs.Outputs.{outputs_of}
+use Rattle.c2po_types.specs.Outputs.{outputs_of}
 use Rattle.set_expand.proofs.Signalling.{outputs-read}
 use Rattle.obs_build.specs.Limits.{IsReason}
 use Rattle.obs_files.specs.Names.{NamesFit}
@@ -58,13 +58,13 @@ returns-in-Ok-clause-names c =
     subst NamesFit (sym c.smaller.ensures)
     (fits_either (nat_le (slots_in c.in-Ok.simple) (slots_in c.in_ok-plain.plain)) c.in-Ok.simple c.in_ok-plain.plain c.in-Ok.ensures.names c.in_ok-plain.ensures.names)
 
-pub returns-in-Err-clause-image : goal.returns-in-Err-clause-image
-returns-in-Err-clause-image c =
+pub returns-in_default-clause-image : goal.returns-in_default-clause-image
+returns-in_default-clause-image c =
     let columns = c.args.columns.now in
     let signals = signals_of (spec_shape c.args.spec.now) in
     let outs = outputs_of (spec_shape c.args.spec.now) in
     let same : asked c.in_ok-simple.simple ≡ simple_outputs outs = c.in_ok-simple.ensures.outputs ∙ ap simple_outputs c.expanded.ensures.unfolds in
     plain_is columns signals outs c.in-Err.fault c.in_ok-plain.plain
     (subst (λ (xs : List Asked). IsReason (over_columns columns xs) c.in-Err.fault) same c.in-Err.ensures.refused)
-    (sym c.is_limit.ensures ∙ c.if-is_limit.true)
+    c.in_default.not-Memory
     c.in_ok-plain.ensures.image

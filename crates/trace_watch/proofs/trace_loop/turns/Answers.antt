@@ -24,15 +24,16 @@ loop-ending-init g c = record {
       (record { program_kept = refl; stands = c.requires.ready.no_rows; drained = c.requires.ready.drained }) c.requires.start.no_lines c.requires.start.no_rows);
 }
 
-pub turn-requires-clause-counted : goal.turn-requires-clause-counted
-turn-requires-clause-counted g c =
+pub turn-requires-clause-under_way : goal.turn-requires-clause-under_way
+turn-requires-clause-under_way g c =
     let was = c.loop-ending.invariant in
     let has = was.log.holds in
     let course = c.loop-ending.course in
-    subst (IsCounted course.reader course.lines) has.kept.stands.taken.stand.count (is_counted was.feed course.reader course.lines has.rows has.keeps)
-
-pub turn-requires-clause-mission : goal.turn-requires-clause-mission
-turn-requires-clause-mission g c = omega (arith, c.loop-ending.invariant.mission, c.requires.ready.within)
+    record {
+      drained = has.kept.drained;
+      counted = subst (IsCounted course.reader course.lines) has.kept.stands.taken.stand.count (is_counted was.feed course.reader course.lines has.rows has.keeps);
+      mission = omega (arith, was.mission, c.requires.ready.within);
+    }
 
 pub loop-ending-preserved : goal.loop-ending-preserved
 loop-ending-preserved g c =

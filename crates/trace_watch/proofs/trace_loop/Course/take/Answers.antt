@@ -35,7 +35,7 @@ returns-in-Blank-clause-log g c rows feed stands at =
     let program = program_of before in
     OnLog-none _ _ (takes_blank feed c.args.cut.now.number (line_of program course feed c.args.cut.now) program course rows c.read.new.monitor
     (ap (text_meaning program course.mission feed) (sym c.line.ensures) ∙ c.in-Blank.ensures.told rows feed stands at) at
-    (writes_none rows before c.read.new.monitor c.read.ensures.same stands c.requires.drained))
+    (writes_none rows before c.read.new.monitor c.read.ensures.same stands c.requires.under_way.drained))
 
 pub returns-in-Bad-clause-log : goal.returns-in-Bad-clause-log
 returns-in-Bad-clause-log g c rows feed stands at =
@@ -44,7 +44,7 @@ returns-in-Bad-clause-log g c rows feed stands at =
     let program = program_of before in
     OnLog-none _ _ (takes_bad (line_of program course feed c.args.cut.now) c.args.cut.now.number c.number.result (why_of c.in-Bad.fault) program course course rows c.read.new.monitor
     (ap (text_meaning program course.mission feed) (sym c.line.ensures) ∙ c.in-Bad.ensures.told rows feed stands at) c.number.ensures
-    (writes_none rows before c.read.new.monitor c.read.ensures.same stands c.requires.drained))
+    (writes_none rows before c.read.new.monitor c.read.ensures.same stands c.requires.under_way.drained))
 
 pub returns-in-Past-clause-log : goal.returns-in-Past-clause-log
 returns-in-Past-clause-log g c rows feed stands at =
@@ -53,4 +53,4 @@ returns-in-Past-clause-log g c rows feed stands at =
     let program = program_of before in
     OnLog-none _ _ (takes_past (line_of program course feed c.args.cut.now) c.args.cut.now.number program course course rows c.read.new.monitor
     (ap (text_meaning program course.mission feed) (sym c.line.ensures) ∙ c.in-Past.ensures.told rows feed stands at)
-    (writes_none rows before c.read.new.monitor c.read.ensures.same stands c.requires.drained))
+    (writes_none rows before c.read.new.monitor c.read.ensures.same stands c.requires.under_way.drained))
