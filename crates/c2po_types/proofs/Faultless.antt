@@ -22,7 +22,7 @@ use Rattle.c2po_types.specs.FirstFault.{State, start, when_ranged, one_tense, wi
 use Rattle.c2po_types.specs.Signals.{body_signals}
 use Rattle.c2po_types.proofs.Parts.{is-ok, bind-ok, unless-ok, not-passed, when-ok, when_ranged-ok, ok-inj}
 use Rattle.c2po_types.proofs.SignalLaws.{body-signals}
-use Rattle.c2po_types.specs.Outputs.{Place, before, values_after, asked_at, behind, asked_from, outputs_of}
+use Rattle.c2po_types.specs.Outputs.{Place, before, values_after, asked_at, place_after, asked_from, outputs_of}
 use Rattle.c2po_types.proofs.Tensing.{of_tense}
 
 -- no whole number lacks a range
@@ -119,7 +119,7 @@ body-values line (contract engine label left right) s t p h e n more =
     sym (out-passes line _ _ _ _ s t r.2).values ∙ e
 
 -- one item more
-item-agrees : (i : ItemShape) (s t : State) (p : Place) → Agrees s p → item_step i s ≡ Ok t → Agrees t (behind i.body p)
+item-agrees : (i : ItemShape) (s t : State) (p : Place) → Agrees s p → item_step i s ≡ Ok t → Agrees t (place_after i.body p)
 item-agrees i s t p a h =
     let more = body-signals i.line i.body s t h in
     record {
@@ -133,9 +133,9 @@ unfolding asked_from
 items-right [] s t p a h = All-nil IsRight
 items-right (i ∷ items) s t p a h =
     let q = bind-ok (item_step i s) (in_turn item_step items) t h in
-    All-append IsRight (asked_at i.body p) (asked_from items (behind i.body p))
+    All-append IsRight (asked_at i.body p) (asked_from items (place_after i.body p))
     (subst (λ env. All IsRight (asked_at i.body (place_with env p))) a.values (body-right i.line i.body s q.0 p q.1))
-    (items-right items q.0 t (behind i.body p) (item-agrees i s q.0 p a q.1) q.2)
+    (items-right items q.0 t (place_after i.body p) (item-agrees i s q.0 p a q.1) q.2)
 
 faultless-right : (items : List ItemShape) → first_fault items ≡ None → All IsRight (outputs_of items)
 unfolding checked outputs_of

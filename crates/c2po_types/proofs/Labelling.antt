@@ -10,7 +10,7 @@ use Rattle.std.proofs.lemmas.List.Elements.{All-nil, All-cons, All-push, All-app
 use Rattle.c2po_lexer.specs.Cut.{is_in_word}
 use Rattle.c2po_tree.specs.Names.{IsPlainName, IsPlainLabel, IsPlainBody, ArePlainItems}
 use Rattle.c2po_tree.specs.ItemShape.{BodyShape, ItemShape, structure, input, define, formula, contract}
-use Rattle.c2po_types.specs.Outputs.{Place, before, name_of, asked_at, behind, asked_from, outputs_of, HasPlainName}
+use Rattle.c2po_types.specs.Outputs.{Place, before, name_of, asked_at, place_after, asked_from, outputs_of, HasPlainName}
 
 digit_in_word : (d : ℕ) → d < 10 → is_in_word (48 + d) ≡ true
 digit_in_word d h = grind (arith, nat_tests)
@@ -38,8 +38,8 @@ plain_from : (items : List ItemShape) (p : Place) → p.outputs + length (asked_
     → All HasPlainName (asked_from items p)
 unfolding asked_from
 plain_from [] p h plain = All-nil HasPlainName
-plain_from (i ∷ items) p h plain = All-append HasPlainName (asked_at i.body p) (asked_from items (behind i.body p))
-    (plain_at i.body p (omega arith) plain.0) (plain_from items (behind i.body p) (omega (arith, length-append (asked_at i.body p) (asked_from items (behind i.body p)))) plain.1)
+plain_from (i ∷ items) p h plain = All-append HasPlainName (asked_at i.body p) (asked_from items (place_after i.body p))
+    (plain_at i.body p (omega arith) plain.0) (plain_from items (place_after i.body p) (omega (arith, length-append (asked_at i.body p) (asked_from items (place_after i.body p)))) plain.1)
 
 -- the names of a specification's outputs are plain
 pub plain_outputs : (items : List ItemShape) → length (outputs_of items) < 2 ^ 64 → ArePlainItems items → All HasPlainName (outputs_of items)

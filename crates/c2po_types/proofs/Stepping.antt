@@ -27,7 +27,7 @@ use Rattle.unfold.specs.Environment.{no_names, value_of}
 use Rattle.unfold.specs.Values.{formula_of}
 use Rattle.unfold.specs.Holding.{StandsFor, nodes_of}
 use Rattle.c2po_types.specs.declared.progress.Progress.{Progress}
-use Rattle.c2po_types.specs.Outputs.{Place, before, name_of, values_after, asked_at, behind, asked_from, outputs_of}
+use Rattle.c2po_types.specs.Outputs.{Place, before, name_of, values_after, asked_at, place_after, asked_from, outputs_of}
 use Rattle.c2po_types.specs.Unfolded.{AskFor, StandsAt, HasUnfolded, Leaves}
 use Rattle.c2po_types.proofs.Asking.{asks-none, asks-later, asks-push}
 
@@ -72,7 +72,7 @@ is_later (Err why) found u v n outs place told e was h values sound grows has = 
 -- an item without outputs
 pub stands-after : (u v : Unfolding) (n m : ℕ) (outs : List PlainOut) (body : BodyShape) (place : Place) (told : List Asked) → asked_at body place ≡ []
     → StandsAt u n outs place told → StandsFor v (values_after body place) → m ≡ n + length (body_signals body)
-    → AreSound m (nodes_of v) → Grows (nodes_of u) (nodes_of v) → StandsAt v m outs (behind body place) (told ++ asked_at body place)
+    → AreSound m (nodes_of v) → Grows (nodes_of u) (nodes_of v) → StandsAt v m outs (place_after body place) (told ++ asked_at body place)
 stands-after u v n m outs body place told none h values more sound grows = record {
   values = values;
   numbered = more ∙ ap (λ k. k + length (body_signals body)) h.numbered;
@@ -97,7 +97,7 @@ stands-out u n outs place told o a h names is = record {
 pub stands-formula : (u : Unfolding) (n : ℕ) (outs : List PlainOut) (place : Place) (told : List Asked)
     (engine : Engine) (label : Option (List ℕ)) (e : Shape) (node : ℕ) (name : List ℕ) → StandsAt u n outs place told → name ≡ name_of (length outs) label
     → Has (nodes_of u) node (formula (formula_of (value_of e place.values)))
-    → StandsAt u n (outs ++ out.Formula engine node name ∷ []) (behind (item.formula engine label e) place) (told ++ asked_at (item.formula engine label e) place)
+    → StandsAt u n (outs ++ out.Formula engine node name ∷ []) (place_after (item.formula engine label e) place) (told ++ asked_at (item.formula engine label e) place)
 stands-formula u n outs place told engine label e node name h named has =
     stands-out u n outs place told (out.Formula engine node name) _ h (is_formula (nodes_of u) node _ has)
     (ap (λ (x : List ℕ). record { engine = engine; name = x; output = output.formula (formula_at (trees (nodes_of u)) node) }) (named ∙ ap (λ k. name_of k label) h.counted)
@@ -107,7 +107,7 @@ stands-formula u n outs place told engine label e node name h named has =
 pub stands-contract : (u : Unfolding) (n : ℕ) (outs : List PlainOut) (place : Place) (told : List Asked)
     (engine : Engine) (label : Option (List ℕ)) (e f : Shape) (left right : ℕ) (name : List ℕ) → StandsAt u n outs place told → name ≡ name_of (length outs) label
     → Has (nodes_of u) left (formula (formula_of (value_of e place.values))) → Has (nodes_of u) right (formula (formula_of (value_of f place.values)))
-    → StandsAt u n (outs ++ out.Contract engine left right name ∷ []) (behind (item.contract engine label e f) place) (told ++ asked_at (item.contract engine label e f) place)
+    → StandsAt u n (outs ++ out.Contract engine left right name ∷ []) (place_after (item.contract engine label e f) place) (told ++ asked_at (item.contract engine label e f) place)
 stands-contract u n outs place told engine label e f left right name h named has also =
     let at : ℕ → Formula = λ k. formula_at (trees (nodes_of u)) k in
     stands-out u n outs place told (out.Contract engine left right name) _ h (is_formula (nodes_of u) left _ has, is_formula (nodes_of u) right _ also)
@@ -132,13 +132,13 @@ leaves-all p all stands = record { place = before; told = []; stands = stands; o
 
 -- one item less is left
 pub leaves-less : (p q : Progress) (i : ItemShape) (left all : List ItemShape) → (h : Leaves p (i ∷ left) all)
-    → HasUnfolded q (behind i.body h.place) (h.told ++ asked_at i.body h.place) → Leaves q left all
+    → HasUnfolded q (place_after i.body h.place) (h.told ++ asked_at i.body h.place) → Leaves q left all
 unfolding asked_from
 leaves-less p q i left all h stands = record {
-  place = behind i.body h.place;
+  place = place_after i.body h.place;
   told = h.told ++ asked_at i.body h.place;
   stands = stands;
-  outputs = append_assoc h.told (asked_at i.body h.place) (asked_from left (behind i.body h.place)) ∙ h.outputs;
+  outputs = append_assoc h.told (asked_at i.body h.place) (asked_from left (place_after i.body h.place)) ∙ h.outputs;
 }
 
 -- the items that are left in a loop over them

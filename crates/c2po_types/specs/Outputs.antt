@@ -51,8 +51,8 @@ asked_at (item.contract engine label e f) p = record {
 } ∷ []
 
 -- what is known after an item
-abbrev pub behind : BodyShape → Place → Place
-behind body p = record {
+abbrev pub place_after : BodyShape → Place → Place
+place_after body p = record {
   values = values_after body p;
   signals = p.signals + length (body_signals body);
   outputs = p.outputs + length (asked_at body p);
@@ -61,7 +61,7 @@ behind body p = record {
 -- the outputs of items from a place on
 unfoldable pub asked_from : List ItemShape → Place → List Asked
 asked_from [] p = []
-asked_from (i ∷ items) p = asked_at i.body p ++ asked_from items (behind i.body p)
+asked_from (i ∷ items) p = asked_at i.body p ++ asked_from items (place_after i.body p)
 
 -- the outputs of a specification in order, counted from 0
 unfoldable pub outputs_of : List ItemShape → List Asked

@@ -11,7 +11,7 @@ use Rattle.c2po_kinds.specs.Checking.{Checked}
 use Rattle.unfold.specs.declared.unfolding.Unfolding.{Unfolding}
 use Rattle.unfold.specs.Holding.{StandsFor, nodes_of}
 use Rattle.c2po_types.specs.declared.progress.Progress.{Progress}
-use Rattle.c2po_types.specs.Outputs.{Place, behind, asked_at, asked_from, outputs_of}
+use Rattle.c2po_types.specs.Outputs.{Place, place_after, asked_at, asked_from, outputs_of}
 
 -- outputs over nodes name formulas, and ask for these
 pub record AskFor (nodes : List Plain) (outs : List PlainOut) (told : List Asked) : Type 0 where
@@ -35,7 +35,7 @@ HasUnfolded p place told = StandsAt p.values (length p.declared.signals) p.outs 
 -- outputs are those of before and the item's
 abbrev pub Puts : BodyShape → Progress → Progress → Checked ⊤ → Type 0
 Puts body old new result = (place : Place) (told : List Asked) → HasUnfolded old place told
-    → OnOk result (HasUnfolded new (behind body place) (told ++ asked_at body place))
+    → OnOk result (HasUnfolded new (place_after body place) (told ++ asked_at body place))
 
 -- of all items, so many are left to be unfolded
 pub record Leaves (p : Progress) (left all : List ItemShape) : Type 0 where

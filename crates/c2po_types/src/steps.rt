@@ -13,7 +13,7 @@ ghost use Rattle.unfold.specs.Environment.{Env, value_of};
 ghost use Rattle.unfold.specs.Holding.{StandsFor, Unfolds, nodes_of};
 ghost use Rattle.unfold.specs.Values.{Value, formula_of};
 ghost use Rattle.c2po_types.specs.FirstFault.{item_step, struct_step, input_step, define_step, formula_step, contract_step, one_out, two_out, with_out, other_tense, range_fault, with_signals};
-ghost use Rattle.c2po_types.specs.Outputs.{Place, asked_at, behind, name_of};
+ghost use Rattle.c2po_types.specs.Outputs.{Place, asked_at, place_after, name_of};
 ghost use Rattle.c2po_types.specs.Reaching.{Reaches, state_of, unfold_fault};
 ghost use Rattle.c2po_types.specs.Unfolded.{HasUnfolded, Puts};
 
@@ -251,7 +251,7 @@ impl Progress {
             (formula_tree (formula_of (value_of e place.values)))
             → HasUnfolded self.old place told
             → OnOk result (HasUnfolded self.new
-            (behind (contract engine label.now e (shape right.now)) place)
+            (place_after (contract engine label.now e (shape right.now)) place)
             (told ++ asked_at (contract engine label.now e (shape right.now)) place)) }
         ensures light { OnOk result (self.new.total ≤ MAX_WEIGHT) }
     {

@@ -11,7 +11,7 @@ use Rattle.c2po_types.specs.Signals.{body_signals, signals_of}
 use Rattle.unfold.specs.Values.{formula_of}
 use Rattle.unfold.specs.Environment.{Env, declare, fields, value, signal_value, value_of}
 use Rattle.mltl_base.specs.Kinds.{ReadsKinds, ReadsSignals, kinds_of}
-use Rattle.set_expand.specs.Outputs.{Place, before, values_after, asked_at, behind, asked_from, outputs_of}
+use Rattle.set_expand.specs.Outputs.{Place, before, values_after, asked_at, place_after, asked_from, outputs_of}
 use Rattle.set_expand.proofs.ReadValues.{ValueReads, EnvReads, formula_reads, nothing_reads, declare_reads, value_reads}
 
 -- the first member after a front
@@ -71,10 +71,10 @@ outputs_read front (i ∷ items) p e h =
     let whole : front ++ kinds_of (signals_of (i ∷ items)) ≡ front ++ (kinds_of ss ++ kinds_of (signals_of items)) = ap (λ ks. front ++ ks) split in
     let same : (front ++ kinds_of ss) ++ kinds_of (signals_of items) ≡ front ++ kinds_of (signals_of (i ∷ items)) = append_assoc front (kinds_of ss) (kinds_of (signals_of items)) ∙ sym whole in
     let now = values_read front i.body (kinds_of (signals_of items)) p e (subst (λ ks. EnvReads ks p.values) whole h) in
-    All-append (ReadsSignals (front ++ kinds_of (signals_of (i ∷ items)))) (asked_at i.body p) (asked_from items (behind i.body p))
+    All-append (ReadsSignals (front ++ kinds_of (signals_of (i ∷ items)))) (asked_at i.body p) (asked_from items (place_after i.body p))
     (asked_reads (front ++ kinds_of (signals_of (i ∷ items))) i.body p h)
-    (subst (λ ks. All (ReadsSignals ks) (asked_from items (behind i.body p))) same
-    (outputs_read (front ++ kinds_of ss) items (behind i.body p) (omega (arith, length-append front (kinds_of ss), length-map ss (λ (s : Signal). s.truth)))
+    (subst (λ ks. All (ReadsSignals ks) (asked_from items (place_after i.body p))) same
+    (outputs_read (front ++ kinds_of ss) items (place_after i.body p) (omega (arith, length-append front (kinds_of ss), length-map ss (λ (s : Signal). s.truth)))
     (subst (λ ks. EnvReads ks (values_after i.body p)) (sym (append_assoc front (kinds_of ss) (kinds_of (signals_of items)))) now)))
 
 -- the outputs of a specification read signals by their kinds

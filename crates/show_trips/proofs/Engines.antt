@@ -20,7 +20,7 @@ use Rattle.mltl_base.specs.Programs.{Expression, whole, truth, atom_of, atoms, e
 use Rattle.obs_verify.specs.WellFormed.{is_truth, is_window, has_future_operands, has_future_window, has_past_operands, has_past_window}
 use Rattle.unfold.specs.Values.{truth_value, interval}
 use Rattle.unfold.specs.Environment.{Env, value_of}
-use Rattle.c2po_types.specs.Outputs.{Place, behind}
+use Rattle.c2po_types.specs.Outputs.{Place, place_after}
 use Rattle.obs_show.specs.Lines.{Reference, always, named, Form, Line, define}
 use Rattle.obs_show.specs.Naming.{ft_name, pt_name, bz_reference, ft_called, ft_reference, pt_called, pt_reference}
 use Rattle.obs_show.specs.Text.{ft_form, pt_form, ft_line, pt_line}
@@ -67,7 +67,7 @@ step_core program reference columns J i n name None c before cores ls more p sta
     go n p (record { base = h.base; known = cores_push reference columns p.values before c h.known (subst (λ (k : ℕ). MeansFormula columns p.values (reference k) (plain c)) (sym len) m) }) new
 step_core program reference columns J i n name (Some f) c before cores ls more p stays len m definable h go new =
     let head = new_head n name f (ls ++ more) p new in
-    let q : Place = behind (line_body n (define name f)) p in
+    let q : Place = place_after (line_body n (define name f)) p in
     let later : IsLater p.values q.values = defined_later n name f p in
     let one : MeansFormula columns q.values (named name) (plain c) =
     record { of = value_of (form_shape n f) p.values; finds = declared_here name (value_of (form_shape n f) p.values) p.values head.0; says = m.1 n } in

@@ -23,7 +23,7 @@ use Rattle.plain_nodes.specs.Faults.{formula_fault, or_later}
 use Rattle.unfold.specs.Values as values
 use Rattle.unfold.specs.Faults.{value_fault}
 use Rattle.unfold.specs.Environment.{Env, Known, nothing, value, declare, or_else, signal_value, value_of}
-use Rattle.c2po_types.specs.Outputs.{Place, before, behind}
+use Rattle.c2po_types.specs.Outputs.{Place, before, place_after}
 use Rattle.obs_show.specs.Lines.{Reference, Form, Line, input, define, formula, contract}
 use Rattle.show_trips.specs.Said.{reference_shape, form_shape, kind_name, line_body, line_item, line_items}
 use Rattle.show_trips.specs.Unfolded.{IsNew, AreNew}
@@ -81,7 +81,7 @@ record Together (s : State) (p : Place) : Type 0 where
 -- a line's step, and what it leaves
 record Stepped (n : ℕ) (l : Line) (p : Place) (t : State) : Type 0 where
   new : IsNew l p.values
-  together : Together t (behind (line_body n l) p)
+  together : Together t (place_after (line_body n l) p)
 
 define_ok : (n : ℕ) (x : List ℕ) (f : Form) (s t : State) (p : Place) → define_step n x (form_shape n f) s ≡ Ok t → Together s p → Stepped n (define x f) p t
 define_ok n x f s t p e h =
@@ -95,7 +95,7 @@ define_ok n x f s t p e h =
     let is : after ≡ t = cc in
     record {
       new = ap (λ (env : Env). env x) (sym h.values) ∙ h.agrees x free.0;
-      together = subst (λ (u : State). Together u (behind (line_body n (define x f)) p)) is (record {
+      together = subst (λ (u : State). Together u (place_after (line_body n (define x f)) p)) is (record {
         values = ap (λ (env : Env). declare x (value (value_of (form_shape n f) env)) env) h.values;
         signals = let same : p.signals ≡ p.signals + 0 = omega arith in h.signals ∙ same;
         agrees = agrees_push s.declared.names s.values x (Value k) (value v) h.agrees;
@@ -124,7 +124,7 @@ formula_ok n engine label x s t p e h =
     let v = value_of (reference_shape n x) s.values in
     let same = out_ok n e1.0 (values.weight v) (formula_fault (values.formula_of v)) (is_mixed engine (values.formula_of v)) s t e2.2 in
     let more : p.signals ≡ p.signals + 0 = omega arith in
-    record { new = tt; together = out_together s t p (behind (line_body n (formula engine label x)) p) same refl more h }
+    record { new = tt; together = out_together s t p (place_after (line_body n (formula engine label x)) p) same refl more h }
 
 contract_ok : (n : ℕ) (engine : Engine) (label : Option (List ℕ)) (x y : Reference) (s t : State) (p : Place) → contract_step n engine label (reference_shape n x) (reference_shape n y) s ≡ Ok t → Together s p → Stepped n (contract engine label x y) p t
 contract_ok n engine label x y s t p e h =
@@ -134,7 +134,7 @@ contract_ok n engine label x y s t p e h =
     let w = value_of (reference_shape n y) s.values in
     let same = out_ok n e1.0 (values.weight v + values.weight w) (or_later (formula_fault (values.formula_of v)) (formula_fault (values.formula_of w))) _ s t e2.2 in
     let more : p.signals ≡ p.signals + 0 = omega arith in
-    record { new = tt; together = out_together s t p (behind (line_body n (contract engine label x y)) p) same refl more h }
+    record { new = tt; together = out_together s t p (place_after (line_body n (contract engine label x y)) p) same refl more h }
 
 -- the declarations with a signal
 abbrev pub signal_added : Bool → List ℕ → Declarations → Declarations
@@ -161,7 +161,7 @@ input_ok n x truth s t p e h =
     let e1 = bind_ok (with_input n (x ∷ []) (type_named (kind_name truth)) s.declared) (λ d. Ok (record { declared = d; labels = s.labels; values = with_signals count (drop count d.signals) s.values; total = s.total })) t e in
     let added = signal_ok n x truth s.declared e1.0 e1.1 in
     let d : Declarations = signal_added truth x s.declared in
-    let q : Place = behind (line_body n (input x truth)) p in
+    let q : Place = place_after (line_body n (input x truth)) p in
     let after : State = record { declared = d; labels = s.labels; values = with_signals count (drop count d.signals) s.values; total = s.total } in
     let first : after ≡ record { declared = e1.0; labels = s.labels; values = with_signals count (drop count e1.0.signals) s.values; total = s.total } =
     ap (λ (c : Declarations). let u : State = record { declared = c; labels = s.labels; values = with_signals count (drop count c.signals) s.values; total = s.total } in u) added.1 in
@@ -193,7 +193,7 @@ lines_ok [] n s t p e h = tt
 lines_ok (l ∷ ls) n s t p e h =
     let e1 = bind_ok (item_step (line_item n l) s) (in_turn item_step (line_items (n + 1) ls)) t e in
     let step = line_ok n l s e1.0 p e1.1 h in
-    (step.new, lines_ok ls (n + 1) e1.0 t (behind (line_body n l) p) e1.2 step.together)
+    (step.new, lines_ok ls (n + 1) e1.0 t (place_after (line_body n l) p) e1.2 step.together)
 
 without_fault : (r : Checked State) → fault_of r ≡ None → (s : State) × (r ≡ Ok s)
 without_fault (Ok s) e = (s, refl)

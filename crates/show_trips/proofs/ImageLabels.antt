@@ -27,7 +27,7 @@ use Rattle.unfold.specs.Environment.{value_of}
 use Rattle.unfold.specs.Faults.{value_fault}
 use Rattle.c2po_types.specs.FirstFault.{State, start, with_out, body_step, item_step, checked, fault_of, first_fault}
 use Rattle.c2po_types.proofs.Parts.{bind-ok, unless-ok, when-ok, when_ranged-ok, ok-inj}
-use Rattle.c2po_types.specs.Outputs.{Place, before, behind, name_of, asked_at, asked_from, outputs_of}
+use Rattle.c2po_types.specs.Outputs.{Place, before, place_after, name_of, asked_at, asked_from, outputs_of}
 use Rattle.spec_compile.specs.Front.{items_in, first_refusal}
 use Rattle.spec_compile.specs.Compiled.{signals_in, outputs_in}
 use Rattle.spec_compile.specs.Image.{over_columns}
@@ -139,7 +139,7 @@ names_in outs = map (λ a. a.name) outs
 nothing_more : (k : ℕ) (names : List (List ℕ)) (os : List (Option (List ℕ))) → names ≡ names_from (k + 0) os → names ≡ names_from k os
 nothing_more k names os h = let same : k + 0 ≡ k = omega arith in h ∙ ap (λ (n : ℕ). names_from n os) same
 
-body_names : (body : BodyShape) (p : Place) (outs : List Asked) (os : List (Option (List ℕ))) → names_in outs ≡ names_from (behind body p).outputs os
+body_names : (body : BodyShape) (p : Place) (outs : List Asked) (os : List (Option (List ℕ))) → names_in outs ≡ names_from (place_after body p).outputs os
     → names_in (asked_at body p ++ outs) ≡ names_from p.outputs (body_labels body ++ os)
 body_names (item.structure x fs) p outs os h = nothing_more p.outputs (names_in outs) os h
 body_names (item.input xs t) p outs os h = nothing_more p.outputs (names_in outs) os h
@@ -150,7 +150,7 @@ body_names (item.contract engine label e f) p outs os h = ap (◌∷◌ (name_of
 items_names : (items : List ItemShape) (p : Place) → names_in (asked_from items p) ≡ names_from p.outputs (labels_of items)
 unfolding asked_from
 items_names [] p = refl
-items_names (i ∷ items) p = body_names i.body p (asked_from items (behind i.body p)) (labels_of items) (items_names items (behind i.body p))
+items_names (i ∷ items) p = body_names i.body p (asked_from items (place_after i.body p)) (labels_of items) (items_names items (place_after i.body p))
 
 source_names : (items : List ItemShape) → names_in (outputs_of items) ≡ names_from 0 (labels_of items)
 unfolding outputs_of

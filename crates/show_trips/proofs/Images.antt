@@ -22,7 +22,7 @@ use Rattle.c2po_tree.specs.ItemShape.{TypeShape, BodyShape, ItemShape}
 use Rattle.c2po_parse.specs.Specification.{spec_of}
 use Rattle.c2po_types.specs.Signals.{is_bool, body_signals, signals_of}
 use Rattle.c2po_types.specs.Outputs as expanding
-use Rattle.c2po_types.specs.Outputs.{Place, before, behind, asked_at, asked_from, outputs_of}
+use Rattle.c2po_types.specs.Outputs.{Place, before, place_after, asked_at, asked_from, outputs_of}
 use Rattle.mltl_simplify.specs.Outputs.{simple_outputs}
 use Rattle.spec_compile.specs.declared.fault.CompileFault.{CompileFault}
 use Rattle.spec_compile.specs.Refusals.{token_refusal, tree_refusal}
@@ -121,7 +121,7 @@ items_labelled : (items : List ItemShape) (p : Place) → GoodItems items → Ar
 unfolding asked_from
 items_labelled [] p h = tt
 items_labelled (i ∷ items) p h =
-    labels_append (asked_at i.body p) (asked_from items (behind i.body p)) p.outputs (behind i.body p).outputs (asked_labelled i.body p h.0) refl (items_labelled items (behind i.body p) h.1)
+    labels_append (asked_at i.body p) (asked_from items (place_after i.body p)) p.outputs (place_after i.body p).outputs (asked_labelled i.body p h.0) refl (items_labelled items (place_after i.body p) h.1)
 
 outputs_labelled : (items : List ItemShape) → GoodItems items → AreLabels 0 (outputs_of items)
 unfolding outputs_of

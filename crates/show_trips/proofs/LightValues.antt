@@ -23,7 +23,7 @@ use Rattle.plain_nodes.specs.Tenses.{has_past, has_future}
 use Rattle.unfold.specs.Values as values
 use Rattle.unfold.specs.Values.{Value, weight}
 use Rattle.unfold.specs.Environment.{Env, value_of}
-use Rattle.c2po_types.specs.Outputs.{Place, before, behind}
+use Rattle.c2po_types.specs.Outputs.{Place, before, place_after}
 use Rattle.c2po_types.specs.FirstFault.{is_mixed}
 use Rattle.obs_verify.specs.WellFormed.{IsWellFormed, bz_fault, range_fault}
 use Rattle.obs_verify.proofs.RuleLaws.{or_none}
@@ -261,7 +261,7 @@ outputs_pass program [] n k total p known ranged w light = tt
 outputs_pass program (o ∷ outs) n k total p known ranged w light =
     let all = sum_by-cons output_weight (output_of program o) (map (output_of program) outs) in
     let here = output_passes program n total p known ranged k o w.0 (omega (arith, all)) in
-    let q : Place = behind (line_body n (output_line program k o)) p in
+    let q : Place = place_after (line_body n (output_line program k o)) p in
     let after = after_output program n k o p in (
       here.0,
       outputs_pass program outs (n + 1) (k + 1) (total + added n (output_line program k o) p) q (subst (EnginesKnown program) (sym after.0) known) ranged w.1 (omega (arith, all, here.1)),

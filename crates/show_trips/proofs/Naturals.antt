@@ -31,7 +31,7 @@ use Rattle.c2po_tree.specs.Shape.{Shape, Shapes}
 use Rattle.c2po_types.specs.FirstFault.{with_signals}
 use Rattle.c2po_types.specs.Signals.{body_signals}
 use Rattle.plain_nodes.specs.Nodes.{Tree, number, formula, constant_formula, arithmetic, comparison, connected, windowed, ranged}
-use Rattle.c2po_types.specs.Outputs.{Place, before, values_after, asked_at, behind, asked_from, outputs_of}
+use Rattle.c2po_types.specs.Outputs.{Place, before, values_after, asked_at, place_after, asked_from, outputs_of}
 use Rattle.unfold.specs.Values.{Value, Values, leaf, structure, set, none, more, weight, list_of, term_of, formula_of, members, part_or, picked, connected_value, connected_all, body_at, counted_formula, counted, interval}
 use Rattle.unfold.specs.Environment.{Env, Known, nothing, fields, value, signal_value, bind, declare, or_else, fields_in, value_in, value_of, values_of}
 
@@ -316,7 +316,7 @@ items_natural : (items : List ItemShape) (p : Place) → GoodItems items → Env
 unfolding asked_from
 items_natural [] p k h = All-nil IsNaturalOutput
 items_natural (i ∷ items) p k h =
-    All-append IsNaturalOutput (asked_at i.body p) (asked_from items (behind i.body p)) (asked_natural i.body p k.0 h) (items_natural items (behind i.body p) k.1 (after_natural i.body p k.0 h))
+    All-append IsNaturalOutput (asked_at i.body p) (asked_from items (place_after i.body p)) (asked_natural i.body p k.0 h) (items_natural items (place_after i.body p) k.1 (after_natural i.body p k.0 h))
 
 -- the constants in the outputs of a specification are numbers of the language
 pub outputs_natural : (items : List ItemShape) → GoodItems items → All IsNaturalOutput (outputs_of items)

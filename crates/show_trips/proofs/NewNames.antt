@@ -10,7 +10,7 @@ use Rattle.c2po_kinds.specs.Expressions.{kind_of}
 use Rattle.c2po_kinds.specs.Items.{nothing, new, signal_kind}
 use Rattle.c2po_kinds.specs.Scopes.{outside}
 use Rattle.unfold.specs.Environment.{Env, value, declare, signal_value, value_of}
-use Rattle.c2po_types.specs.Outputs.{Place, before, behind}
+use Rattle.c2po_types.specs.Outputs.{Place, before, place_after}
 use Rattle.obs_show.specs.Lines.{Form, Line, input, define, formula, contract}
 use Rattle.show_trips.specs.Said.{form_shape, line_body}
 use Rattle.show_trips.specs.Unfolded.{IsNew, AreNew}
@@ -26,12 +26,12 @@ record Alongside (d : Declarations) (p : Place) : Type 0 where
 -- what a line declares is new, and what is known after it goes alongside
 record Goes (n : ℕ) (l : Line) (p : Place) (later : Declarations) : Type 0 where
   new : IsNew l p.values
-  along : Alongside later (behind (line_body n l) p)
+  along : Alongside later (place_after (line_body n l) p)
 
 input_goes : (n : ℕ) (x : List ℕ) (truth : Bool) (d later : Declarations) (p : Place) → KindPasses n (input x truth) d later → Alongside d p → Goes n (input x truth) p later
 input_goes n x truth d later p h a =
     let added = signal_ok n x truth d later h in
-    let q : Place = behind (line_body n (input x truth)) p in
+    let q : Place = place_after (line_body n (input x truth)) p in
     let there : declare x (value (signal_value truth p.signals)) p.values ≡ q.values = sym (input_declares n x truth p) in
     let counted : length (signal_added truth x d).signals ≡ q.signals = omega (arith, length-append d.signals (record { name = x; truth = truth } ∷ []), a.signals) in
     record {
@@ -50,7 +50,7 @@ define_goes n x f d later p h a =
     let same : p.signals ≡ p.signals + 0 = omega arith in
     record {
       new = a.agrees x free.0;
-      along = subst (λ (c : Declarations). Alongside c (behind (line_body n (define x f)) p)) h.2 (record {
+      along = subst (λ (c : Declarations). Alongside c (place_after (line_body n (define x f)) p)) h.2 (record {
         signals = a.signals ∙ same;
         agrees = agrees_push d.names p.values x (Value k) (value (value_of (form_shape n f) p.values)) a.agrees;
       });
@@ -73,7 +73,7 @@ unfolding KindsPass AreNew
 lines_new [] n d p h a = tt
 lines_new (l ∷ ls) n d p h a =
     let step = line_goes n l d h.0 p h.1 a in
-    (step.new, lines_new ls (n + 1) h.0 (behind (line_body n l) p) h.2 step.along)
+    (step.new, lines_new ls (n + 1) h.0 (place_after (line_body n l) p) h.2 step.along)
 
 pub new_of_kinds : (ls : List Line) → KindsPass 1 ls nothing → AreNew 1 ls before
 new_of_kinds ls h = lines_new ls 1 nothing before h (record { signals = refl; agrees = λ x g. refl })

@@ -20,7 +20,7 @@ use Rattle.unfold.specs.Values as values
 use Rattle.unfold.specs.Values.{Value, formula_of}
 use Rattle.unfold.specs.Faults.{value_fault}
 use Rattle.unfold.specs.Environment.{Env, value, declare, signal_value}
-use Rattle.c2po_types.specs.Outputs.{Place, before, behind}
+use Rattle.c2po_types.specs.Outputs.{Place, before, place_after}
 use Rattle.obs_show.specs.Lines.{Reference, Form, Line, input, define, formula, contract}
 use Rattle.show_trips.specs.Said.{reference_shape, line_body, line_item, line_items}
 use Rattle.show_trips.proofs.Fresh.{signal_added, signal_ok}
@@ -51,14 +51,14 @@ at_most a b h = grind (arith, nat_tests)
 -- a step that goes on, and the numbers of signals after it
 record Goes (n : ℕ) (l : Line) (p : Place) (s t : State) : Type 0 where
   step : item_step (line_item n l) s ≡ Ok t
-  counted : length t.declared.signals ≡ (behind (line_body n l) p).signals
+  counted : length t.declared.signals ≡ (place_after (line_body n l) p).signals
 
 -- a signal
 input_goes : (n : ℕ) (x : List ℕ) (truth : Bool) (d later : Declarations) (labels next : Labels) (p : Place) (total : ℕ)
     → length d.signals ≡ p.signals → KindPasses n (input x truth) d later → with_label n (label_in (input x truth)) labels ≡ Ok next
-    → Goes n (input x truth) p (known d labels p.values total) (known later next (behind (line_body n (input x truth)) p).values (total + added n (input x truth) p))
+    → Goes n (input x truth) p (known d labels p.values total) (known later next (place_after (line_body n (input x truth)) p).values (total + added n (input x truth) p))
 input_goes n x truth d later labels next p total count kinds label =
-    let q : Place = behind (line_body n (input x truth)) p in
+    let q : Place = place_after (line_body n (input x truth)) p in
     let k : ℕ = length d.signals in
     let one : List Signal = record { name = x; truth = truth } ∷ [] in
     let both = signal_ok n x truth d later kinds in
@@ -79,7 +79,7 @@ input_goes n x truth d later labels next p total count kinds label =
 -- a definition
 define_goes : (n : ℕ) (x : List ℕ) (f : Form) (d later : Declarations) (labels next : Labels) (p : Place) (total : ℕ)
     → length d.signals ≡ p.signals → KindPasses n (define x f) d later → with_label n (label_in (define x f)) labels ≡ Ok next → ValuePasses n (define x f) p total
-    → Goes n (define x f) p (known d labels p.values total) (known later next (behind (line_body n (define x f)) p).values (total + added n (define x f) p))
+    → Goes n (define x f) p (known d labels p.values total) (known later next (place_after (line_body n (define x f)) p).values (total + added n (define x f) p))
 define_goes n x f d later labels next p total count kinds label passes =
     let v : Value = form_value n f p in
     let s : State = known d labels p.values total in
@@ -140,7 +140,7 @@ contract_goes n engine name x y d later labels next p total count kinds label pa
 -- each line
 line_goes : (n : ℕ) (l : Line) (d later : Declarations) (labels next : Labels) (p : Place) (total : ℕ)
     → length d.signals ≡ p.signals → KindPasses n l d later → with_label n (label_in l) labels ≡ Ok next → ValuePasses n l p total
-    → Goes n l p (known d labels p.values total) (known later next (behind (line_body n l) p).values (total + added n l p))
+    → Goes n l p (known d labels p.values total) (known later next (place_after (line_body n l) p).values (total + added n l p))
 line_goes n (input x truth) d later labels next p total count kinds label passes = input_goes n x truth d later labels next p total count kinds label
 line_goes n (define x f) d later labels next p total count kinds label passes = define_goes n x f d later labels next p total count kinds label passes
 line_goes n (formula engine name x) d later labels next p total count kinds label passes = formula_goes n engine name x d later labels next p total count kinds label passes
@@ -152,7 +152,7 @@ lines_go : (ls : List Line) (n : ℕ) (d : Declarations) (labels : Labels) (p : 
 unfolding line_items KindsPass LabelsPass ValuesPass
 lines_go [] n d labels p total count kinds names passes = (known d labels p.values total, refl)
 lines_go (l ∷ ls) n d labels p total count kinds names passes =
-    let q : Place = behind (line_body n l) p in
+    let q : Place = place_after (line_body n l) p in
     let here = line_goes n l d kinds.0 labels names.0 p total count kinds.1 names.1 passes.0 in
     let rest = lines_go ls (n + 1) kinds.0 names.0 q (total + added n l p) here.counted kinds.2 names.2 passes.1 in
     (rest.0, ap (λ (m : Checked State). m >>= in_turn item_step (line_items (n + 1) ls)) here.step ∙ rest.1)

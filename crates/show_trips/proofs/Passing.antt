@@ -16,7 +16,7 @@ use Rattle.plain_nodes.specs.Faults.{formula_fault, or_later}
 use Rattle.unfold.specs.Values.{Value, weight, formula_of}
 use Rattle.unfold.specs.Faults.{value_fault}
 use Rattle.unfold.specs.Environment.{value_of}
-use Rattle.c2po_types.specs.Outputs.{Place, behind}
+use Rattle.c2po_types.specs.Outputs.{Place, place_after}
 use Rattle.obs_show.specs.Lines.{Reference, Form, Line, input, define, formula, contract}
 use Rattle.obs_show.specs.Weight as shown
 use Rattle.obs_show.specs.Weighing.{expression_weight}
@@ -54,7 +54,7 @@ ValuePasses n (contract engine label x y) p total =
 -- so do lines from a place on, after outputs of a weight
 unfoldable pub ValuesPass : ℕ → List Line → Place → ℕ → Type 0
 ValuesPass n [] p total = ⊤
-ValuesPass n (l ∷ ls) p total = ValuePasses n l p total × ValuesPass (n + 1) ls (behind (line_body n l) p) (total + added n l p)
+ValuesPass n (l ∷ ls) p total = ValuePasses n l p total × ValuesPass (n + 1) ls (place_after (line_body n l) p) (total + added n l p)
 
 -- ---- kinds
 

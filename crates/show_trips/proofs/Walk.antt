@@ -24,7 +24,7 @@ use Rattle.obs_verify.specs.Soundness.{IsWhole, IsWholeExpression, AreWhole, IsS
 use Rattle.plain_nodes.specs.Nodes.{arithmetic, comparison}
 use Rattle.unfold.specs.Values.{number_value}
 use Rattle.unfold.specs.Environment.{Env, nothing, value, signal_value, value_of}
-use Rattle.c2po_types.specs.Outputs.{Place, behind, asked_from}
+use Rattle.c2po_types.specs.Outputs.{Place, place_after, asked_from}
 use Rattle.obs_show.specs.Lines.{Reference, named, Form, arith as computes, compare, Line, define}
 use Rattle.obs_show.specs.Naming.{name_in, bz_name, bz_called, bz_reference}
 use Rattle.obs_show.specs.Text.{bz_form, bz_line}
@@ -294,7 +294,7 @@ pub record BzKnown (program : Program) (count : ℕ) (es : List Expression) (p :
   pub outputs : p.outputs ≡ count
 
 -- after a definition, names keep their meanings, and its own name has its value
-pub defined_later : (n : ℕ) (x : List ℕ) (f : Form) (p : Place) → IsLater p.values (behind (line_body n (define x f)) p).values
+pub defined_later : (n : ℕ) (x : List ℕ) (f : Form) (p : Place) → IsLater p.values (place_after (line_body n (define x f)) p).values
 defined_later n x f p = declare_later x (value (value_of (form_shape n f) p.values)) p.values
 
 -- a signal and a definition add nothing to the weight of the outputs
@@ -303,7 +303,7 @@ nothing_added total = omega arith
 
 -- one more line: what was reached after it is reached from it
 pub reaches_define : (program : Program) (n : ℕ) (x : List ℕ) (f : Form) (ls more : List Line) (p : Place) (I : Place → Type 0) → (AreDefinable program → IsValueDefinable (form_value n f p))
-    → Reaches program (n + 1) ls (behind (line_body n (define x f)) p) more I → Reaches program n (define x f ∷ ls) p more I
+    → Reaches program (n + 1) ls (place_after (line_body n (define x f)) p) more I → Reaches program n (define x f ∷ ls) p more I
 unfolding asked_from line_items ValuesPass
 reaches_define program n x f ls more p I definable r = record {
   line = r.line;
@@ -311,10 +311,10 @@ reaches_define program n x f ls more p I definable r = record {
   new = r.new;
   holds = r.holds;
   same = r.same;
-  passes = λ d total pass. (definable d, subst (ValuesPass (n + 1) ls (behind (line_body n (define x f)) p)) (nothing_added total) (r.passes d total pass));
+  passes = λ d total pass. (definable d, subst (ValuesPass (n + 1) ls (place_after (line_body n (define x f)) p)) (nothing_added total) (r.passes d total pass));
 }
 
-pub new_head : (n : ℕ) (x : List ℕ) (f : Form) (ls : List Line) (p : Place) → AreNew n (define x f ∷ ls) p → (p.values x ≡ nothing) × AreNew (n + 1) ls (behind (line_body n (define x f)) p)
+pub new_head : (n : ℕ) (x : List ℕ) (f : Form) (ls : List Line) (p : Place) → AreNew n (define x f ∷ ls) p → (p.values x ≡ nothing) × AreNew (n + 1) ls (place_after (line_body n (define x f)) p)
 unfolding AreNew
 new_head n x f ls p h = h
 
@@ -340,7 +340,7 @@ step_bz program i n outputs op before es ls more p (Some f) some at len ok versi
     subst (λ (o : Option Form). OptionSays (columns_in program) p.values o (expression_of before op)) some
     (bz_says program p.values before op h.knows sound) in
     let head = new_head n (bz_name program i) f (ls ++ more) p new in
-    let q : Place = behind (line_body n (define (bz_name program i) f)) p in
+    let q : Place = place_after (line_body n (define (bz_name program i) f)) p in
     let later : IsLater p.values q.values = defined_later n (bz_name program i) f p in
     let m : Means (columns_in program) q.values (named (bz_name program i)) (expression_of before op) =
     record { of = value_of (form_shape n f) p.values; finds = declared_here (bz_name program i) (value_of (form_shape n f) p.values) p.values head.0; says = says n } in

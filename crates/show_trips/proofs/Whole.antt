@@ -27,7 +27,7 @@ use Rattle.obs_verify.specs.Soundness.{AreSound}
 use Rattle.obs_verify.specs.WellFormed.{reports_within}
 use Rattle.unfold.specs.Values as values
 use Rattle.unfold.specs.Environment.{Env, nothing, value, declare, signal_value, value_of}
-use Rattle.c2po_types.specs.Outputs.{Place, before, behind, name_of, asked_at, asked_from, outputs_of}
+use Rattle.c2po_types.specs.Outputs.{Place, before, place_after, name_of, asked_at, asked_from, outputs_of}
 use Rattle.obs_show.specs.Lines.{Reference, Line, input}
 use Rattle.obs_show.specs.Naming.{ft_reference, pt_reference}
 use Rattle.obs_show.specs.Text.{signal_line, bz_line, ft_line, pt_line, label_of, output_line, lines_by, output_lines, lines}
@@ -43,7 +43,7 @@ record SignalsKnown (program : Program) (count : ℕ) (p : Place) : Type 0 where
   signals : KnowsSignals program.signals p.values
   outputs : p.outputs ≡ count
 
-pub input_declares : (n : ℕ) (x : List ℕ) (truth : Bool) (p : Place) → (behind (line_body n (input x truth)) p).values ≡ declare x (value (signal_value truth p.signals)) p.values
+pub input_declares : (n : ℕ) (x : List ℕ) (truth : Bool) (p : Place) → (place_after (line_body n (input x truth)) p).values ≡ declare x (value (signal_value truth p.signals)) p.values
 input_declares n x true p = refl
 input_declares n x false p = refl
 
@@ -56,12 +56,12 @@ signals_push front s k env later len g here h j t i = pick (get_push front s t j
         subst (λ (u : StoredSignal). later u.name ≡ value (signal_value u.truth j)) last.1
         (subst (λ (m : ℕ). later s.name ≡ value (signal_value s.truth m)) (sym (last.0 ∙ len)) here)
 
-input_head : (n : ℕ) (x : List ℕ) (truth : Bool) (ls : List Line) (p : Place) → AreNew n (input x truth ∷ ls) p → (p.values x ≡ nothing) × AreNew (n + 1) ls (behind (line_body n (input x truth)) p)
+input_head : (n : ℕ) (x : List ℕ) (truth : Bool) (ls : List Line) (p : Place) → AreNew n (input x truth ∷ ls) p → (p.values x ≡ nothing) × AreNew (n + 1) ls (place_after (line_body n (input x truth)) p)
 unfolding AreNew
 input_head n x truth ls p h = h
 
 reaches_input : (program : Program) (n : ℕ) (x : List ℕ) (truth : Bool) (ls more : List Line) (p : Place) (I : Place → Type 0)
-    → Reaches program (n + 1) ls (behind (line_body n (input x truth)) p) more I → Reaches program n (input x truth ∷ ls) p more I
+    → Reaches program (n + 1) ls (place_after (line_body n (input x truth)) p) more I → Reaches program n (input x truth ∷ ls) p more I
 unfolding asked_from line_items ValuesPass
 reaches_input program n x truth ls more p I r = record {
   line = r.line;
@@ -69,7 +69,7 @@ reaches_input program n x truth ls more p I r = record {
   new = r.new;
   holds = r.holds;
   same = r.same;
-  passes = λ d total pass. (tt, subst (ValuesPass (n + 1) ls (behind (line_body n (input x truth)) p)) (nothing_added total) (r.passes d total pass));
+  passes = λ d total pass. (tt, subst (ValuesPass (n + 1) ls (place_after (line_body n (input x truth)) p)) (nothing_added total) (r.passes d total pass));
 }
 
 walk_signals : (program : Program) (count : ℕ) (front signals : List StoredSignal) (n : ℕ) (more : List Line) (p : Place)
@@ -79,7 +79,7 @@ walk_signals program count front [] n more p all len h outs new =
     reaches_at_once program n more p (SignalsKnown program count) new (record { signals = subst (λ (ss : List StoredSignal). KnowsSignals ss p.values) (sym (all ∙ append-nil front)) h; outputs = outs })
 walk_signals program count front (s ∷ signals) n more p all len h outs new =
     let head = input_head n s.name s.truth (map signal_line signals ++ more) p new in
-    let q : Place = behind (line_body n (input s.name s.truth)) p in
+    let q : Place = place_after (line_body n (input s.name s.truth)) p in
     let is : q.values ≡ declare s.name (value (signal_value s.truth p.signals)) p.values = input_declares n s.name s.truth p in
     let later : IsLater p.values q.values = subst (λ (e : Env). IsLater p.values e) (sym is) (declare_later s.name (value (signal_value s.truth p.signals)) p.values) in
     let here : q.values s.name ≡ value (signal_value s.truth p.signals) = ap (λ (e : Env). e s.name) is ∙ declared_here s.name (signal_value s.truth p.signals) p.values head.0 in
@@ -141,7 +141,7 @@ output_asks program n k p (out.TheVariants.Contract Pt i j name) e h w =
     (formula_by (columns_in program) p.values n (pt_reference program j) (plain (formula_at program Pt j)) (h.pt j (under j (length program.pt) parts.1)))
 
 -- after an output nothing but its number is new
-pub after_output : (program : Program) (n k : ℕ) (o : out.Out) (p : Place) → ((behind (line_body n (output_line program k o)) p).values ≡ p.values) × ((behind (line_body n (output_line program k o)) p).outputs ≡ p.outputs + 1)
+pub after_output : (program : Program) (n k : ℕ) (o : out.Out) (p : Place) → ((place_after (line_body n (output_line program k o)) p).values ≡ p.values) × ((place_after (line_body n (output_line program k o)) p).outputs ≡ p.outputs + 1)
 after_output program n k (out.TheVariants.Formula engine i name) p = (refl, refl)
 after_output program n k (out.TheVariants.Contract engine i j name) p = (refl, refl)
 
@@ -154,7 +154,7 @@ outputs_ask : (program : Program) (outs : List out.Out) (n k : ℕ) (p : Place) 
 unfolding asked_from line_items
 outputs_ask program [] n k p e h w = refl
 outputs_ask program (o ∷ outs) n k p e h w =
-    let q : Place = behind (line_body n (output_line program k o)) p in
+    let q : Place = place_after (line_body n (output_line program k o)) p in
     let after = after_output program n k o p in
     let next : q.outputs ≡ k + 1 = after.1 ∙ ap (λ (m : ℕ). m + 1) e in
     map-append (asked_over (columns_in program)) (asked_at (line_body n (output_line program k o)) p) (asked_from (line_items (n + 1) (map (λ x. output_line program x.0 x.1) (enumerate_from (k + 1) outs))) q)

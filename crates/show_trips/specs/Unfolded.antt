@@ -4,7 +4,7 @@ use Rattle.std.specs.Prelude.{◌≡◌, ◌+◌, ℕ, List, [], ◌∷◌, ⊤}
 use Rattle.mltl_base.specs.declared.program.StoredSignal.{StoredSignal}
 use Rattle.mltl_base.specs.declared.signal.Signal.{Signal}
 use Rattle.unfold.specs.Environment.{Env, nothing}
-use Rattle.c2po_types.specs.Outputs.{Place, behind}
+use Rattle.c2po_types.specs.Outputs.{Place, place_after}
 use Rattle.obs_show.specs.Lines.{Line, input, define, formula, contract}
 use Rattle.show_trips.specs.Said.{line_body}
 
@@ -18,7 +18,7 @@ IsNew (contract engine label x y) env = ⊤
 -- from a place on, each line declares a name that isn't known before it
 unfoldable pub AreNew : ℕ → List Line → Place → Type 0
 AreNew n [] p = ⊤
-AreNew n (line ∷ lines) p = IsNew line p.values × AreNew (n + 1) lines (behind (line_body n line) p)
+AreNew n (line ∷ lines) p = IsNew line p.values × AreNew (n + 1) lines (place_after (line_body n line) p)
 
 -- a stored signal as a specification declares it
 abbrev pub declared_by : StoredSignal → Signal

@@ -23,7 +23,7 @@ use Rattle.c2po_tree.specs.Shape.{Shape, Shapes}
 use Rattle.c2po_types.specs.FirstFault.{with_signals}
 use Rattle.c2po_types.specs.Signals.{body_signals}
 use Rattle.plain_nodes.specs.Nodes.{Tree, number, formula, constant_formula, connected, windowed, ranged}
-use Rattle.c2po_types.specs.Outputs.{Place, before, values_after, asked_at, behind, asked_from, outputs_of}
+use Rattle.c2po_types.specs.Outputs.{Place, before, values_after, asked_at, place_after, asked_from, outputs_of}
 use Rattle.unfold.specs.Values.{Value, Values, leaf, structure, set, none, more, weight, list_of, formula_of, members, part_or, picked, connected_value, connected_all, body_at, counted_formula, counted, interval}
 use Rattle.unfold.specs.Environment.{Env, Known, nothing, fields, value, signal_value, bind, declare, or_else, fields_in, value_in, value_of, values_of}
 
@@ -248,7 +248,7 @@ items_ordered : (items : List ItemShape) (p : Place) → EnvOrdered p.values →
 unfolding asked_from
 items_ordered [] p h = All-nil IsOrderedOutput
 items_ordered (i ∷ items) p h =
-    All-append IsOrderedOutput (asked_at i.body p) (asked_from items (behind i.body p)) (asked_ordered i.body p h) (items_ordered items (behind i.body p) (after_ordered i.body p h))
+    All-append IsOrderedOutput (asked_at i.body p) (asked_from items (place_after i.body p)) (asked_ordered i.body p h) (items_ordered items (place_after i.body p) (after_ordered i.body p h))
 
 -- intervals in the outputs of a specification run upward
 pub outputs_ordered : (items : List ItemShape) → All IsOrderedOutput (outputs_of items)

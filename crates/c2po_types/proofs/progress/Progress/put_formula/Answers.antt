@@ -3,7 +3,7 @@ use Rattle.std.proofs.Common.{◌≡◌, ◌++◌, ◌∙◌, Ok, length, ap, su
 use Rattle.c2po_tree.specs.Shape.{shape}
 use Rattle.c2po_tree.specs.ItemShape as item
 use Rattle.c2po_types.specs.declared.progress.Progress.{Progress}
-use Rattle.c2po_types.specs.Outputs.{asked_at, behind, name_of}
+use Rattle.c2po_types.specs.Outputs.{asked_at, place_after, name_of}
 use Rattle.c2po_types.specs.Unfolded.{HasUnfolded}
 use Rattle.c2po_types.proofs.Parts.{ok_before}
 use Rattle.c2po_types.proofs.Stepping.{on-ok, is_later, stands-formula}
@@ -20,6 +20,6 @@ returns-clause-puts c = λ place told stands.
     let made = c.unfold.ensures in
     let later = is_later c.unfold.result found p.values c.unfold.new.self n p.outs place told e was stands
     (made.stands place.values stands.values) (made.sound n stands.sound) made.grows (made.has place.values stands.values) in
-    on-ok c.put_out.result _ _ (λ same. subst (λ (q : Progress). HasUnfolded q (behind body place) (told ++ asked_at body place)) (sym same)
+    on-ok c.put_out.result _ _ (λ same. subst (λ (q : Progress). HasUnfolded q (place_after body place) (told ++ asked_at body place)) (sym same)
     (stands-formula c.unfold.new.self n p.outs place told c.args.engine c.args.label.now e found.node c.output_name-name.result later.stands
     (c.output_name-name.ensures ∙ ap (λ k. name_of k c.args.label.now) c.len.ensures) later.has)) c.put_out.ensures.put
