@@ -4,11 +4,11 @@ use Rattle.std.specs.Prelude.{◌≡◌, ◌≢◌, ℕ, Option, List}
 use Rattle.tool_io.specs.declared.host.Place.{Place}
 use Rattle.tool_io.specs.declared.host.Place.TheVariants.{Err}
 use Rattle.tool_io.specs.Log.{Event, OnLog}
-use Rattle.tool_runs.specs.declared.status.Status.{Status}
-use Rattle.tool_runs.specs.Causes.{CauseAt}
-use Rattle.tool_runs.specs.Codes.{code_of}
-use Rattle.c2po_runs.specs.Asking.{ask}
-use Rattle.c2po_runs.specs.Run.{IsMade}
+use Rattle.mltl_tools.specs.Status.{Status}
+use Rattle.mltl_tools.specs.Causes.{CauseAt}
+use Rattle.mltl_tools.specs.Codes.{code_of}
+use Rattle.mltl_tools.specs.C2poAsking.{ask}
+use Rattle.mltl_tools.specs.C2poRun.{IsMade}
 
 -- It ends with the code of the status of a run over these words, which the log tells, where the host has one.
 pub record EndsByRun (words : List (List ℕ)) (code : ℕ) (faults now : Place → ℕ) (before after : Option (List Event))
