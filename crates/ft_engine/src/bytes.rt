@@ -1,4 +1,4 @@
-//! How many bytes the elements of an engine's lists take, on x86-64 and on aarch64 alike.
+//! How many bytes the elements of an engine's lists take: compared with the types for x86-64, counted on aarch64.
 
 use crate::queue::Queue;
 use scq_ring::Slot;

@@ -1,5 +1,5 @@
-//! How many bytes a monitor takes: the blocks of all lists that it holds, by the sizes of their elements on x86-64 and on
-//! aarch64 alike.
+//! How many bytes a monitor takes: the blocks of all lists that it holds, by the sizes of their elements. These are
+//! compared with the types for x86-64, and were counted the same on aarch64.
 
 ghost use Rattle.std.specs.Prelude.{◌≡◌, ◌+◌, ◌*◌, ◌<◌, ◌^◌};
 ghost use Rattle.mltl_base.specs.Room.{room};
