@@ -5,8 +5,9 @@
  *     static uint8_t memory[8192];
  *     r2u2_arena(memory, sizeof memory);
  *
- * A monitor takes memory in r2u2_open and r2u2_open_under and gives it back in r2u2_close; no other call comes here. The
- * arena is one for the program: where several threads open and close, they do so one at a time.
+ * A monitor takes memory in r2u2_open and r2u2_open_under and gives it back in r2u2_close; r2u2_bytes takes some and gives
+ * it back before it answers. No other call comes here. The arena is one for the program: where several threads make these
+ * calls, they do so one at a time.
  *
  * Blocks stand one after the other, each after two words that the arena keeps. A new one takes the smallest free block
  * that serves, or else stands after the last; the last block grows in place, and so does one before a free block. The
