@@ -45,6 +45,11 @@ class Pages(unittest.TestCase):
     def tearDownClass(cls):
         cls.folder.cleanup()
 
+    def test_help(self):
+        ran = subprocess.run([sys.executable, str(ROOT / "tools/pages"), "--help"], capture_output=True, encoding="utf-8")
+        self.assertEqual((ran.returncode, ran.stderr), (0, ""))
+        self.assertIn("usage: tools/pages\n", ran.stdout)
+
     def told(self):
         ran = subprocess.run([sys.executable, str(self.top / "tools/pages")], capture_output=True, encoding="utf-8")
         self.assertEqual(ran.stderr, "")
