@@ -88,6 +88,14 @@ def told_os(path, doing, fault):
     return Trouble(f"cannot {doing} {path}: {fault.strerror}")
 
 
+def write(path, text):
+    """Writes a text into a file."""
+    try:
+        Path(path).write_text(text, encoding="utf-8", errors="replace")
+    except OSError as fault:
+        raise told_os(path, "write", fault) from None
+
+
 def opened(path):
     """A file as bytes, or the standard input for `-`."""
     if str(path) == "-":
