@@ -62,12 +62,13 @@ check:
 	tools/edges
 
 install: $(BUILT)
-	install -d $(INTO)/bin $(INTO)/share/man/man1 $(SHARED)/tools/lib $(SHARED)/vscode $(BASH) $(ZSH) $(FISH) $(VIM)/syntax $(VIM)/ftdetect
+	install -d $(INTO)/bin $(INTO)/share/man/man1 $(INTO)/share/man/man5 $(SHARED)/tools/lib $(SHARED)/vscode $(BASH) $(ZSH) $(FISH) $(VIM)/syntax $(VIM)/ftdetect
 	install -m 755 $(BUILT) $(INTO)/bin
 	install -m 755 $(TOOLS:%=tools/%) $(SHARED)/tools
 	install -m 644 tools/lib/*.* $(SHARED)/tools/lib
 	for tool in $(TOOLS); do ln -sf ../share/r2u2/tools/$$tool $(INTO)/bin/r2u2-$$tool; done
 	install -m 644 $(NAMES:%=docs/man/%.1) $(INTO)/share/man/man1
+	install -m 644 docs/man/c2po.5 $(INTO)/share/man/man5
 	install -m 644 desk/completions/r2u2.bash $(BASH)/r2u2
 	for name in $(filter-out r2u2,$(NAMES)); do ln -sf r2u2 $(BASH)/$$name; done
 	install -m 644 desk/completions/_r2u2 $(ZSH)
@@ -79,7 +80,7 @@ install: $(BUILT)
 	sed "s/\"version\": \"0.0.0\"/\"version\": \"$(VERSION)\"/" desk/vscode/package.json > $(SHARED)/vscode/package.json
 
 uninstall:
-	rm -f $(NAMES:%=$(INTO)/bin/%) $(NAMES:%=$(INTO)/share/man/man1/%.1) $(NAMES:%=$(BASH)/%) $(NAMES:%=$(FISH)/%.fish)
+	rm -f $(NAMES:%=$(INTO)/bin/%) $(NAMES:%=$(INTO)/share/man/man1/%.1) $(INTO)/share/man/man5/c2po.5 $(NAMES:%=$(BASH)/%) $(NAMES:%=$(FISH)/%.fish)
 	rm -f $(ZSH)/_r2u2 $(VIM)/syntax/c2po.vim $(VIM)/ftdetect/c2po.vim
 	rm -rf $(SHARED)
 

@@ -1,6 +1,7 @@
 """How the tools tell what is wrong: one line on the error output, and a status."""
 
 import argparse
+import re
 import signal
 import sys
 from pathlib import Path
@@ -40,16 +41,24 @@ def plain(text):
 
 
 def words(doc, **more):
-    """A reader of the command line: its text for --help is the text at the top of the tool, without the usage line."""
-    head, _, rest = doc.partition("\n\n")
-    body = "\n\n".join(part for part in rest.split("\n\n") if not part.startswith("usage:"))
+    """A reader of the command line: its text for --help, and the forms that it shows, are those at the top of the tool."""
+    head, usage, body = doc.split("\n\n", 2)
+    forms = re.sub(r"^(usage: | {7})\w+", lambda found: found[1] + "%(prog)s", usage, flags=re.M)
     return Words(
         prog=name(),
+        usage=forms.removeprefix("usage: "),
         description=f"{head}\n\n{body}".strip(),
         formatter_class=argparse.RawDescriptionHelpFormatter,
         allow_abbrev=False,
         **more,
     )
+
+
+def count(text):
+    """A number among the words."""
+    if not re.fullmatch(r"[0-9]+", text):
+        raise argparse.ArgumentTypeError(f"{text} isn't a whole number from 0 on")
+    return int(text)
 
 
 def run(main):
@@ -77,6 +86,14 @@ def run(main):
 def told_os(path, doing, fault):
     """Trouble with a file: `cannot open x.csv: No such file or directory`."""
     return Trouble(f"cannot {doing} {path}: {fault.strerror}")
+
+
+def write(path, text):
+    """Writes a text into a file."""
+    try:
+        Path(path).write_text(text, encoding="utf-8", errors="replace")
+    except OSError as fault:
+        raise told_os(path, "write", fault) from None
 
 
 def opened(path):

@@ -196,3 +196,11 @@ class Bytes(Case):
         status, out, errors = tool("budget", self.spec, env=broken)
         self.assertEqual((status, out), (2, ""))
         self.one_line(errors)
+
+
+class Words(Case):
+    def test_numbers(self):
+        for option in ("--top", "--max-slots", "--max-steps", "--max-bytes"):
+            for number in ("-1", "0.5", "x", "\N{SUPERSCRIPT TWO}"):
+                told = f"budget: argument {option}: {number} isn't a whole number from 0 on (--help tells more)\n"
+                self.assertEqual(tool("budget", f"{option}={number}", "no.c2po"), (2, "", told))

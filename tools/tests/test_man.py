@@ -20,8 +20,19 @@ class Man(Case):
                 told = {f"-{word}" for word in re.findall(r"Fl (-?[a-z][-a-z]*)", lists)} - {"--help", "-h"}
                 self.assertEqual(helped, told)
 
+    def test_forms(self):
+        """The forms that the help shows are those of the synopsis, with the same options."""
+        for name, page in self.pages():
+            with self.subTest(name):
+                forms = tool(name, "--help")[1].partition("\n\n")[0]
+                synopsis = page.read_text(encoding="utf-8").partition(".Sh SYNOPSIS")[2].partition(".Sh ")[0]
+                self.assertEqual(len(re.findall(rf"\b{name} ", forms)), synopsis.count(".Nm"))
+                told = {f"-{word}" for word in re.findall(r"Fl (-?[a-z][-a-z]*)", synopsis)}
+                self.assertEqual(set(re.findall(r"(?<!\S)\[?(--?[a-z][-a-z]*)", forms)), told)
+
     def test_groff_takes_them(self):
         if shell("command -v groff")[0]:
             self.skipTest("no groff")
-        for name, page in self.pages():
+        for page in sorted((ROOT / "docs/man").glob("*.[1-9]")):
+            name = page.name
             self.assertEqual(shell('groff -Tutf8 -mdoc -ww "$PAGE" >/dev/null', PAGE=page), (0, "", ""), name)

@@ -13,6 +13,8 @@ PARTS = [".ci", "bench", "crates", "desk", "docs", "embed", "examples", "include
 # A file, what stands in it, what is put in its place, and what is to be told then.
 CHANGES = [
     ("README.md", "(docs/LANGUAGE.md)", "(docs/LANGUAGES.md)", "README.md: no file docs/LANGUAGES.md"),
+    ("bench/README.md", "(plain.cpp)", "(plain.c)", "bench/README.md: no file plain.c"),
+    ("CONTRIBUTING.md", "#to-change-a-rule", "#to-change", "CONTRIBUTING.md: no heading docs/DEVELOPING.md#to-change"),
     ("README.md", "granted:2,F", "granted:2,T", "README.md: no case gives the lines of"),
     ("docs/TROUBLESHOOTING.md", "`mixed tense`", "`mixed times`", "docs/TROUBLESHOOTING.md: no entry shows mixed tense"),
     ("docs/TROUBLESHOOTING.md", "`FTSPEC f: p == q;`", "`FTSPEC f: q == p;`", "no case has the line FTSPEC f: q == p;"),
@@ -44,6 +46,11 @@ class Pages(unittest.TestCase):
     @classmethod
     def tearDownClass(cls):
         cls.folder.cleanup()
+
+    def test_help(self):
+        ran = subprocess.run([sys.executable, str(ROOT / "tools/pages"), "--help"], capture_output=True, encoding="utf-8")
+        self.assertEqual((ran.returncode, ran.stderr), (0, ""))
+        self.assertIn("usage: tools/pages\n", ran.stdout)
 
     def told(self):
         ran = subprocess.run([sys.executable, str(self.top / "tools/pages")], capture_output=True, encoding="utf-8")

@@ -1,4 +1,4 @@
-"""tools/prove: what it hands the gate and what it leaves, with an rt that only says what it was given."""
+"""tools/prove and tools/edits: what they hand the gate and what they leave, with an rt that only says what it was given."""
 
 import os
 import shutil
@@ -64,3 +64,34 @@ class Proofs(Case):
         (self.folder / "bin/rt").unlink()
         status, _, errors = shell('"$FOLDER/tools/prove" top', FOLDER=self.folder, PATH=tools)
         self.assertEqual((status, errors), (1, "prove: rt, the command of Rattle's kit, is not on the path\n"))
+
+
+class Edits(Case):
+    """tools/edits, with an rt that only says how it was called."""
+
+    def setUp(self):
+        super().setUp()
+        for folder in ("bin", "tools", "crates/low/edits", "crates/top"):
+            (self.folder / folder).mkdir(parents=True)
+        self.file("crates/low/edits/wrong.edit", "")
+        self.file("bin/rt", '#!/bin/sh\necho "rt $*: $(ls crates/low/must-fail)"\n').chmod(0o755)
+        shutil.copy(ROOT / "tools/edits", self.folder / "tools")
+
+    def edits(self, words):
+        path = f"{self.folder}/bin:{os.environ['PATH']}"
+        return shell(f'"$FOLDER/tools/edits" {words}', FOLDER=self.folder, PATH=path)
+
+    def test_edits_are_lent_and_given_back(self):
+        for words in ("", "low"):
+            self.assertEqual(self.edits(words), (0, "rt must-fail low: wrong.edit\n", ""))
+            self.assertFalse((self.folder / "crates/low/must-fail").exists())
+
+    def test_a_crate_without_edits(self):
+        for name in ("top", "nothing", "--all"):
+            self.assertEqual(self.edits(name), (2, "", f"tools/edits: no crate {name} has edits\n"))
+            self.assertEqual(self.edits(f"low {name}")[:2], (2, ""))
+
+    def test_help(self):
+        status, out, errors = self.edits("--help")
+        self.assertEqual((status, errors), (0, ""))
+        self.assertIn("tools/edits NAME..", out)

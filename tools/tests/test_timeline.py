@@ -161,7 +161,7 @@ class Quick(Pictures):
             (["none.lines"], "", "cannot open none.lines: No such file or directory"),
             ([], "f;1\n", "line 1: not a verdict line: f;1"),
             ([], "", "no row and no verdict to show"),
-            (["--from", "x"], "", "argument --from: invalid count value: 'x' (--help tells more)"),
+            (["--from", "x"], "", "argument --from: x isn't a whole number from 0 on (--help tells more)"),
             (["--from", "3", "--to", "2"], "", "--to is before --from (--help tells more)"),
             (["-o", "no/such/file"], "f:0,T\n", "cannot write no/such/file: No such file or directory"),
             (["--"], "", "no command after -- (--help tells more)"),

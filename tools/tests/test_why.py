@@ -257,3 +257,4 @@ class Sentences(Case):
             status, _, errors = tool("why", *words)
             self.assertEqual(status, 2, words)
             self.one_line(errors)
+        self.assertEqual(errors, f"why: cannot write {words[1]}: No such file or directory\n")
