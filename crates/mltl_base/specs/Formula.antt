@@ -25,6 +25,42 @@ pub data Formula : Type 0 where
   historically : Interval → Formula → Formula
   since : Interval → Formula → Formula → Formula
 
+-- this is so of each atom of the formula
+abbrev pub EachAtom : (Atom → Type 0) → Formula → Type 0
+EachAtom P truth = ⊤
+EachAtom P falsity = ⊤
+EachAtom P (atom a) = P a
+EachAtom P (negation p) = EachAtom P p
+EachAtom P (conjunction p q) = EachAtom P p × EachAtom P q
+EachAtom P (disjunction p q) = EachAtom P p × EachAtom P q
+EachAtom P (implication p q) = EachAtom P p × EachAtom P q
+EachAtom P (equivalence p q) = EachAtom P p × EachAtom P q
+EachAtom P (finally i p) = EachAtom P p
+EachAtom P (globally i p) = EachAtom P p
+EachAtom P (until i p q) = EachAtom P p × EachAtom P q
+EachAtom P (release i p q) = EachAtom P p × EachAtom P q
+EachAtom P (once i p) = EachAtom P p
+EachAtom P (historically i p) = EachAtom P p
+EachAtom P (since i p q) = EachAtom P p × EachAtom P q
+
+-- this is so of each interval of the formula
+abbrev pub EachInterval : (Interval → Type 0) → Formula → Type 0
+EachInterval P truth = ⊤
+EachInterval P falsity = ⊤
+EachInterval P (atom a) = ⊤
+EachInterval P (negation p) = EachInterval P p
+EachInterval P (conjunction p q) = EachInterval P p × EachInterval P q
+EachInterval P (disjunction p q) = EachInterval P p × EachInterval P q
+EachInterval P (implication p q) = EachInterval P p × EachInterval P q
+EachInterval P (equivalence p q) = EachInterval P p × EachInterval P q
+EachInterval P (finally i p) = P i × EachInterval P p
+EachInterval P (globally i p) = P i × EachInterval P p
+EachInterval P (until i p q) = P i × (EachInterval P p × EachInterval P q)
+EachInterval P (release i p q) = P i × (EachInterval P p × EachInterval P q)
+EachInterval P (once i p) = P i × EachInterval P p
+EachInterval P (historically i p) = P i × EachInterval P p
+EachInterval P (since i p q) = P i × (EachInterval P p × EachInterval P q)
+
 -- a core formula
 pub data Core : Type 0 where
   ctrue : Core

@@ -4,8 +4,7 @@
 use Rattle.std.specs.Prelude.{◌≡◌, ◌≢◌, ◌<◌, ℕ, Bool, true, false, Some, List, map, slice_get, All, ⊤}
 use Rattle.mltl_base.specs.Atoms.{Term, column, constant, negative, plus, minus, times, quotient, remainder, Atom}
 use Rattle.mltl_base.specs.Atoms.{is_true, equal, different, less, at_most, greater, at_least}
-use Rattle.mltl_base.specs.Formula.{Formula, truth, falsity, atom, negation, conjunction, disjunction, implication}
-use Rattle.mltl_base.specs.Formula.{equivalence, finally, globally, until, release, once, historically, since}
+use Rattle.mltl_base.specs.Formula.{Formula, EachAtom}
 use Rattle.mltl_base.specs.Subformulas.{Asked, formulas_of}
 use Rattle.mltl_base.specs.declared.signal.Signal.{Signal}
 
@@ -36,21 +35,7 @@ AtomReadsKinds kinds (at_least a b) = ReadsWholes kinds a × ReadsWholes kinds b
 
 -- the formula reads signals that exist, each by its kind
 abbrev pub ReadsKinds : List Bool → Formula → Type 0
-ReadsKinds kinds truth = ⊤
-ReadsKinds kinds falsity = ⊤
-ReadsKinds kinds (atom a) = AtomReadsKinds kinds a
-ReadsKinds kinds (negation p) = ReadsKinds kinds p
-ReadsKinds kinds (conjunction p q) = ReadsKinds kinds p × ReadsKinds kinds q
-ReadsKinds kinds (disjunction p q) = ReadsKinds kinds p × ReadsKinds kinds q
-ReadsKinds kinds (implication p q) = ReadsKinds kinds p × ReadsKinds kinds q
-ReadsKinds kinds (equivalence p q) = ReadsKinds kinds p × ReadsKinds kinds q
-ReadsKinds kinds (finally i p) = ReadsKinds kinds p
-ReadsKinds kinds (globally i p) = ReadsKinds kinds p
-ReadsKinds kinds (until i p q) = ReadsKinds kinds p × ReadsKinds kinds q
-ReadsKinds kinds (release i p q) = ReadsKinds kinds p × ReadsKinds kinds q
-ReadsKinds kinds (once i p) = ReadsKinds kinds p
-ReadsKinds kinds (historically i p) = ReadsKinds kinds p
-ReadsKinds kinds (since i p q) = ReadsKinds kinds p × ReadsKinds kinds q
+ReadsKinds kinds p = EachAtom (AtomReadsKinds kinds) p
 
 -- the same of an output
 abbrev pub ReadsSignals : List Bool → Asked → Type 0

@@ -4,7 +4,7 @@
 use Rattle.std.specs.Prelude.{ℕ, ◌+◌, ◌<◌, ◌≤◌, ◌≡◌, Bool, List, ◌++◌, length, ⊤}
 use Rattle.mltl_base.specs.Atoms.{Row}
 use Rattle.mltl_base.specs.Formula.{Formula, truth, falsity, atom, negation, conjunction, disjunction, implication}
-use Rattle.mltl_base.specs.Formula.{equivalence, finally, globally, until, release, once, historically, since, wpd}
+use Rattle.mltl_base.specs.Formula.{equivalence, finally, globally, until, release, once, historically, since, wpd, EachInterval}
 use Rattle.mltl_base.specs.Meaning.{sat}
 
 -- a list of verdicts begins a longer one
@@ -22,21 +22,7 @@ SettledAmong IsIn rows p t v =
 
 -- each interval runs upward
 abbrev pub IsOrdered : Formula → Type 0
-IsOrdered truth = ⊤
-IsOrdered falsity = ⊤
-IsOrdered (atom a) = ⊤
-IsOrdered (negation p) = IsOrdered p
-IsOrdered (conjunction p q) = IsOrdered p × IsOrdered q
-IsOrdered (disjunction p q) = IsOrdered p × IsOrdered q
-IsOrdered (implication p q) = IsOrdered p × IsOrdered q
-IsOrdered (equivalence p q) = IsOrdered p × IsOrdered q
-IsOrdered (finally i p) = (i.lo ≤ i.hi) × IsOrdered p
-IsOrdered (globally i p) = (i.lo ≤ i.hi) × IsOrdered p
-IsOrdered (until i p q) = (i.lo ≤ i.hi) × (IsOrdered p × IsOrdered q)
-IsOrdered (release i p q) = (i.lo ≤ i.hi) × (IsOrdered p × IsOrdered q)
-IsOrdered (once i p) = (i.lo ≤ i.hi) × IsOrdered p
-IsOrdered (historically i p) = (i.lo ≤ i.hi) × IsOrdered p
-IsOrdered (since i p q) = (i.lo ≤ i.hi) × (IsOrdered p × IsOrdered q)
+IsOrdered p = EachInterval (λ i. i.lo ≤ i.hi) p
 
 -- no operator of the future
 abbrev pub IsPast : Formula → Type 0

@@ -13,8 +13,7 @@ use Rattle.mltl_base.specs.declared.operators.WindowOp as window_op
 use Rattle.mltl_base.specs.declared.operators.BetweenOp as between_op
 use Rattle.mltl_base.specs.Atoms.{Row, Term, column, constant, negative, plus, minus, times, quotient, remainder, Atom}
 use Rattle.mltl_base.specs.Atoms.{is_true, equal, less, at_most, different, greater, at_least, value}
-use Rattle.mltl_base.specs.Formula.{Formula, truth, falsity, atom, negation, conjunction, disjunction, implication}
-use Rattle.mltl_base.specs.Formula.{equivalence, finally, globally, until, release, once, historically, since}
+use Rattle.mltl_base.specs.Formula.{Formula, EachAtom}
 use Rattle.mltl_base.specs.Kleene.{k_not}
 use Rattle.mltl_base.specs.Reports.{Output, formula, contract}
 use Rattle.mltl_plain.specs.declared.verdict.Operator as operator
@@ -106,21 +105,7 @@ k_operator (operator.TheVariants.Between op i) p q = k_between op i p q
 
 -- each atom of the formula can be computed on each row
 abbrev pub ComputesAll : List Row → Formula → Type 0
-ComputesAll rows truth = ⊤
-ComputesAll rows falsity = ⊤
-ComputesAll rows (atom a) = All (λ row. ComputesAtom row a) rows
-ComputesAll rows (negation p) = ComputesAll rows p
-ComputesAll rows (conjunction p q) = ComputesAll rows p × ComputesAll rows q
-ComputesAll rows (disjunction p q) = ComputesAll rows p × ComputesAll rows q
-ComputesAll rows (implication p q) = ComputesAll rows p × ComputesAll rows q
-ComputesAll rows (equivalence p q) = ComputesAll rows p × ComputesAll rows q
-ComputesAll rows (finally i p) = ComputesAll rows p
-ComputesAll rows (globally i p) = ComputesAll rows p
-ComputesAll rows (until i p q) = ComputesAll rows p × ComputesAll rows q
-ComputesAll rows (release i p q) = ComputesAll rows p × ComputesAll rows q
-ComputesAll rows (once i p) = ComputesAll rows p
-ComputesAll rows (historically i p) = ComputesAll rows p
-ComputesAll rows (since i p q) = ComputesAll rows p × ComputesAll rows q
+ComputesAll rows p = EachAtom (λ a. All (λ row. ComputesAtom row a) rows) p
 
 -- each atom of an output's formulas can be computed on each row
 abbrev pub ComputesOutput : List Row → Output → Type 0

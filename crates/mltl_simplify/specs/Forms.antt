@@ -1,11 +1,11 @@
 -- What stands in a formula.
 -- A reader of the contracts needs this file.
 
-use Rattle.std.specs.Prelude.{ℕ, ◌≡◌, ◌⊎◌, ⊤}
+use Rattle.std.specs.Prelude.{ℕ, ◌≡◌, ◌⊎◌}
 use Rattle.mltl_base.specs.declared.interval.Interval.{Interval}
 use Rattle.mltl_base.specs.Atoms.{Atom, is_true}
 use Rattle.mltl_base.specs.Formula.{Formula, truth, falsity, atom, negation, conjunction, disjunction, implication}
-use Rattle.mltl_base.specs.Formula.{equivalence, finally, globally, until, release, once, historically, since}
+use Rattle.mltl_base.specs.Formula.{equivalence, finally, globally, until, release, once, historically, since, EachInterval}
 use Rattle.plain_nodes.specs.Nodes.{IsBounded}
 
 -- the interval from lo to hi
@@ -18,21 +18,7 @@ signal s = atom (is_true s)
 
 -- each interval of the formula runs upward, and no further than the limit
 abbrev pub AreBounded : Formula → Type 0
-AreBounded truth = ⊤
-AreBounded falsity = ⊤
-AreBounded (atom a) = ⊤
-AreBounded (negation p) = AreBounded p
-AreBounded (conjunction p q) = AreBounded p × AreBounded q
-AreBounded (disjunction p q) = AreBounded p × AreBounded q
-AreBounded (implication p q) = AreBounded p × AreBounded q
-AreBounded (equivalence p q) = AreBounded p × AreBounded q
-AreBounded (finally i p) = IsBounded i × AreBounded p
-AreBounded (globally i p) = IsBounded i × AreBounded p
-AreBounded (until i p q) = IsBounded i × (AreBounded p × AreBounded q)
-AreBounded (release i p q) = IsBounded i × (AreBounded p × AreBounded q)
-AreBounded (once i p) = IsBounded i × AreBounded p
-AreBounded (historically i p) = IsBounded i × AreBounded p
-AreBounded (since i p q) = IsBounded i × (AreBounded p × AreBounded q)
+AreBounded p = EachInterval IsBounded p
 
 -- the atom stands in the formula
 abbrev pub HasAtom : Formula → Atom → Type 0

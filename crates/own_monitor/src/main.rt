@@ -20,9 +20,15 @@ fn main(rt: HostRuntime) -> Result<()> {
     let mut monitor = Monitor::load(rt.alloc(), checked)?;
     for row in &ROWS {
         monitor.take(row)?;
-        while let Some(report) = monitor.next_report() {
-            print!(rt; "{}", str::from_utf8(&monitor.line_of(&report))?)?;
-        }
+        tell(&rt, &mut monitor)?;
+    }
+    Ok(())
+}
+
+/// Prints the line of each verdict that the rows so far decide and that isn't told yet.
+fn tell(rt: &impl Print, monitor: &mut Monitor) -> Result<()> {
+    while let Some(report) = monitor.next_report() {
+        print!(rt; "{}", str::from_utf8(&monitor.line_of(&report))?)?;
     }
     Ok(())
 }
