@@ -1,7 +1,7 @@
 //! Variables of quantifiers, which stand for members of sets that aren't unfolded yet.
 
 use crate::values::Stored;
-use c2po_tree::Expr;
+use spec_tree::Expr;
 use mltl_base::Name;
 use std::alloc::Global;
 
