@@ -11,9 +11,9 @@ use crate::operand::{
     TRUTH, WHOLE, are_same, build, expect, gather, is_same, member_of, pick, value_of,
 };
 use crate::{Kind, Scope, TypeFault};
-use spec_tree::{Expr, Node};
 use mltl_base::Name;
 use mltl_base::limits::{MAX_BOUND, MAX_COUNT};
+use spec_tree::{Expr, Node};
 use std::alloc::Global;
 
 /// The kind of a formula over an interval, whose operands are truths where a test holds.

@@ -9,9 +9,9 @@ ghost use Rattle.c2po_kinds.specs.Items.{nothing, type_kind, signal_truth, with_
 
 use crate::operand::{TRUTH, WHOLE, are_same, expect, is_same, set_of};
 use crate::{Base, Declarations, Kind, Meaning, NameTable, Scope, Signal, TypeFault, kind_of};
-use spec_tree::{Expr, FieldDecl, TypeTree};
 use mltl_base::limits::MAX_SIGNALS;
 use mltl_base::{List, Name};
+use spec_tree::{Expr, FieldDecl, TypeTree};
 use std::alloc::Global;
 
 /// The name of the type of whole numbers.

@@ -25,7 +25,7 @@ use Rattle.c2po_tree.proofs.Heads.{is_sign-same, past-at}
 use Rattle.c2po_tree.proofs.Operators.{IsOperator, separator-none, separator-closed}
 use Rattle.c2po_tree.proofs.Starts.{IsStart, is_leaf, IsMiddle}
 use Rattle.c2po_tree.proofs.Rules as rules
-use Rattle.c2po_tree.proofs.Rules.{Derives, DerivesAll, down, picks, behind, alone, inside, encloses, binds, last, and_more, IsLevel, infix_is_level, prefix_low, IsClosing, closing_closes, round_closes}
+use Rattle.c2po_tree.proofs.Rules.{Derives, DerivesAll, down, picks, behind, alone, inside, encloses, binds, last, and_more, infix_is_level, prefix_low, closing_closes}
 use Rattle.c2po_tree.proofs.ClimbSound.{Stops, right_level-low, regroup_front, regroup_bound}
 
 -- What the rules derive is read by climbing.

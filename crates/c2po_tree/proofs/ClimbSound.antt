@@ -24,7 +24,7 @@ use Rattle.c2po_tree.proofs.Heads.{past-begins}
 use Rattle.c2po_tree.proofs.Operators.{IsOperator, operator_at-front}
 use Rattle.c2po_tree.proofs.Starts.{start_at-front, middle_at-front}
 use Rattle.c2po_tree.proofs.Rules as rules
-use Rattle.c2po_tree.proofs.Rules.{Derives, DerivesAll, down, picks, behind, alone, inside, encloses, binds, last, and_more, IsLevel, infix_is_level, prefix_low}
+use Rattle.c2po_tree.proofs.Rules.{Derives, DerivesAll, down, picks, behind, alone, inside, encloses, binds, last, and_more, infix_is_level, prefix_low}
 
 -- What climbing reads follows the rules.
 

@@ -34,7 +34,7 @@ use Rattle.c2po_tree.proofs.Heads.{past-at}
 use Rattle.c2po_tree.proofs.Operators.{IsOperator}
 use Rattle.c2po_tree.proofs.Starts.{IsStart, IsMiddle}
 use Rattle.c2po_tree.proofs.Rules as rules
-use Rattle.c2po_tree.proofs.Rules.{Derives, DerivesAll, down, picks, behind, alone, inside, encloses, binds, last, and_more, IsLevel, infix_is_level, prefix_low, QuietTo, row, operator-inner, whole, IsClosing, closing_closes, round_closes}
+use Rattle.c2po_tree.proofs.Rules.{Derives, DerivesAll, down, picks, behind, alone, inside, encloses, binds, last, and_more, IsLevel, infix_is_level, prefix_low, QuietTo, row, operator-inner, whole, IsClosing, closing_closes}
 use Rattle.c2po_tree.proofs.ClimbComplete.{bind-with, if-true, if-false, some-suc, no-leaf, not-past}
 
 -- What the rules derive is found by splitting.

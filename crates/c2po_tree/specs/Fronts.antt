@@ -25,7 +25,6 @@ use Rattle.spec_tree.specs.declared.operator.Quantifier.{Quantifier}
 use Rattle.spec_tree.specs.declared.operator.Quantifier.TheVariants.{Each, Exists, Count}
 use Rattle.spec_tree.specs.declared.operator.Bracket.{Bracket}
 use Rattle.spec_tree.specs.declared.operator.Bracket.TheVariants.{Curly, Call}
-use Rattle.spec_tree.specs.declared.operator.Atom.{Atom}
 use Rattle.spec_tree.specs.declared.operator.Atom.TheVariants.{Number, Truth, Ref}
 use Rattle.c2po_tree.specs.declared.operator.Start.{Start}
 use Rattle.c2po_tree.specs.declared.operator.Start.TheVariants.{Leaf, Before, Round, Open, Bind}

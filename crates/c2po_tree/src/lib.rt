@@ -20,5 +20,6 @@ pub mod operator;
 pub use expression::read_expression;
 pub use fault::TreeFault;
 pub use spec_tree::{
-    Body, Expr, FieldDecl, Item, Node, SpecTree, TypeTree, copy_tree, copy_type, field_names, item, tree,
+    Body, Expr, FieldDecl, Item, Node, SpecTree, TypeTree, copy_tree, copy_type, field_names, item,
+    tree,
 };

@@ -10,8 +10,8 @@ ghost use Rattle.c2po_types.specs.Unfolded.{Leaves};
 use crate::TypedSpec;
 use crate::progress::Progress;
 use c2po_kinds::TypeFault;
-use spec_tree::{Item, SpecTree, copy_tree};
 use plain_nodes::Expanded;
+use spec_tree::{Item, SpecTree, copy_tree};
 use std::alloc::Global;
 
 /// What is known after all items.

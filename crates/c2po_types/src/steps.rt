@@ -20,11 +20,11 @@ ghost use Rattle.c2po_types.specs.Unfolded.{HasUnfolded, Puts};
 use crate::names::output_name;
 use crate::progress::Progress;
 use c2po_kinds::{Signal, TypeFault, check_contract, check_define, check_formula, declare_label};
-use spec_tree::{Body, Expr, FieldDecl, Item, TypeTree, field_names};
 use mltl_base::limits::MAX_WEIGHT;
 use mltl_base::{Engine, List, Name};
 use mltl_ranges::NoRange;
 use plain_nodes::{PlainOut, Tenses, first_fault};
+use spec_tree::{Body, Expr, FieldDecl, Item, TypeTree, field_names};
 use std::alloc::Global;
 use unfold::{UnfoldFault, Unfolded, Unfolding};
 

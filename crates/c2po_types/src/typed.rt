@@ -12,9 +12,9 @@ ghost use Rattle.c2po_types.specs.Outputs.{HasPlainName, outputs_of};
 ghost use Rattle.c2po_types.specs.Signals.{signals_of};
 
 use c2po_kinds::Signal;
-use spec_tree::SpecTree;
 use mltl_base::List;
 use plain_nodes::Expanded;
+use spec_tree::SpecTree;
 use std::marker::Model;
 
 /// A specification without a fault, which contracts see as its tree.

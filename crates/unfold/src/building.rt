@@ -18,9 +18,9 @@ use crate::scope::{Head, Site};
 use crate::values::{Location, Stored, Whole};
 use crate::visits::Visits;
 use crate::{UnfoldFault, Unfolding};
-use spec_tree::Expr;
 use mltl_base::{CountOp, List, LogicOp};
 use plain_nodes::Plain;
+use spec_tree::Expr;
 
 impl Unfolding {
     /// The value of an expression.

@@ -14,8 +14,8 @@ use crate::scope::{Head, Named, Scope};
 use crate::values::{Entry, Location, Stored, Whole};
 use crate::visits::Visits;
 use crate::{UnfoldFault, Unfolding};
-use spec_tree::{Expr, Node};
 use mltl_base::Name;
+use spec_tree::{Expr, Node};
 
 impl Unfolding {
     /// What a declared name stands for.

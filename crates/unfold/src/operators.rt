@@ -6,8 +6,8 @@ ghost use Rattle.unfold.specs.Environment.{Env, value_of};
 ghost use Rattle.unfold.specs.Heads.{is_operator};
 ghost use Rattle.unfold.specs.Operators.{operation_value};
 
-use spec_tree::{Expr, Node};
 use mltl_base::{ArithOp, BetweenOp, CompareOp, CountOp, LogicOp, Name, WindowOp};
+use spec_tree::{Expr, Node};
 
 /// An operator over one operand.
 #[derive(Clone, Copy)]

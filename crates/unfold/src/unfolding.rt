@@ -20,11 +20,11 @@ use crate::fields::Fields;
 use crate::scope::{Scope, Site};
 use crate::values::{Entry, Location, Parts, Stored, Whole};
 use crate::visits::Visits;
-use spec_tree::Expr;
 use mltl_base::{List, Name};
 use mltl_ranges::NoRange;
 use name_table::NameTable;
 use plain_nodes::{Nodes, Plain, Tenses, first_fault};
+use spec_tree::Expr;
 use std::alloc::{AllocError, Global};
 
 /// How deep an expression may be nested: deeper than any stack is.

@@ -1,6 +1,6 @@
 //! Copies of items.
 
-ghost use Rattle.std.specs.Prelude.{◌≡◌, map, option_map, IfOk};
+ghost use Rattle.std.specs.Prelude.{◌≡◌, map, IfOk};
 ghost use Rattle.spec_tree.specs.ItemShape.{type_shape, field_shape, body_shape, item_shape, spec_shape};
 
 use super::expression::copy_expr;
