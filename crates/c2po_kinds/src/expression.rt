@@ -1,7 +1,7 @@
 //! The kinds of expressions.
 
 ghost use Rattle.std.specs.Prelude.{◌≡◌};
-ghost use Rattle.c2po_tree.specs.Shape.{shape, shapes};
+ghost use Rattle.spec_tree.specs.Shape.{shape, shapes};
 ghost use Rattle.c2po_kinds.specs.Checking.{Gives, GivesAs};
 ghost use Rattle.c2po_kinds.specs.Kinds as kinds;
 ghost use Rattle.c2po_kinds.specs.Scopes.{meaning_of, visible};
@@ -11,9 +11,9 @@ use crate::operand::{
     TRUTH, WHOLE, are_same, build, expect, gather, is_same, member_of, pick, value_of,
 };
 use crate::{Kind, Scope, TypeFault};
-use c2po_tree::{Expr, Node};
 use mltl_base::Name;
 use mltl_base::limits::{MAX_BOUND, MAX_COUNT};
+use spec_tree::{Expr, Node};
 use std::alloc::Global;
 
 /// The kind of a formula over an interval, whose operands are truths where a test holds.

@@ -10,7 +10,7 @@ use Rattle.tool_io.specs.Log.{Event, Attached}
 use Rattle.tool_io.specs.Whole.{Takes}
 use Rattle.tool_io.specs.Cutting.{Cutting, IsRow, CutsLine, line_text, lines_of, fresh, row_of}
 use Rattle.tool_io.proofs.CutLaws.{lines_of-row, lines_of-last, lines_of-long, lines_of-none, is_long-row}
-use Rattle.c2po_tree.specs.ItemShape.{ItemShape}
+use Rattle.spec_tree.specs.ItemShape.{ItemShape}
 use Rattle.spec_compile.specs.Front.{first_refusal, items_in}
 use Rattle.spec_compile.specs.Refusals.{IsFirstRefusal}
 use Rattle.spec_compile.specs.declared.fault.CompileFault.{CompileFault}

@@ -4,7 +4,7 @@ use Rattle.std.proofs.Common.{◌≡◌, ◌∙◌, ℕ, Bool, true, false, Opti
 use Rattle.std.specs.declared.alloc.Global.{Global}
 use Rattle.mltl_base.specs.declared.program.Columns.{Columns}
 use Rattle.mltl_base.specs.declared.program.Program.{Program}
-use Rattle.c2po_tree.specs.ItemShape.{ItemShape}
+use Rattle.spec_tree.specs.ItemShape.{ItemShape}
 use Rattle.c2po_types.specs.Signals.{signals_of}
 use Rattle.c2po_types.specs.Outputs.{outputs_of}
 use Rattle.obs_files.specs.Layout.{Fits, spelling}

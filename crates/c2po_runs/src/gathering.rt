@@ -2,7 +2,7 @@
 
 ghost use Rattle.std.specs.Prelude.{◌≡◌, ◌≤◌, List as Seq, None, ℕ, length, option_map};
 ghost use Rattle.mltl_base.specs.declared.limits.TheConstants.{MAX_SPEC_BYTES};
-ghost use Rattle.c2po_tree.specs.ItemShape.{spec_shape};
+ghost use Rattle.spec_tree.specs.ItemShape.{spec_shape};
 ghost use Rattle.spec_compile.specs.Front.{first_refusal, items_in};
 ghost use Rattle.tool_io.specs.Log.{OnLog};
 ghost use Rattle.tool_words.specs.declared.file_kind.FileKind.TheVariants.{Program};

@@ -1,7 +1,7 @@
 //! The header file of a compilation.
 
 ghost use Rattle.std.specs.Prelude.{◌≡◌, List as Seq, None, ℕ};
-ghost use Rattle.c2po_tree.specs.ItemShape.{spec_shape};
+ghost use Rattle.spec_tree.specs.ItemShape.{spec_shape};
 ghost use Rattle.spec_compile.specs.Front.{first_refusal, items_in};
 ghost use Rattle.tool_io.specs.Log.{OnLog};
 ghost use Rattle.tool_runs.specs.Causes.{PhaseCause};

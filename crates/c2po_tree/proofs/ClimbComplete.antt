@@ -7,24 +7,25 @@ use Rattle.c2po_lexer.specs.declared.token.Sign.{Sign}
 use Rattle.c2po_lexer.specs.declared.token.Sign.TheVariants as sign
 use Rattle.c2po_lexer.specs.declared.token.What.TheVariants as what
 use Rattle.c2po_lexer.specs.declared.token.Token.{Token}
-use Rattle.c2po_tree.specs.declared.operator.Infix.{Infix}
+use Rattle.spec_tree.specs.declared.operator.Infix.{Infix}
 use Rattle.c2po_tree.specs.declared.operator.Operator.{Operator}
 use Rattle.c2po_tree.specs.declared.operator.Operator.TheVariants.{Binary, Field}
-use Rattle.c2po_tree.specs.declared.operator.Prefix.{Prefix}
-use Rattle.c2po_tree.specs.declared.operator.Quantifier.{Quantifier}
-use Rattle.c2po_tree.specs.declared.operator.Bracket.{Bracket}
+use Rattle.spec_tree.specs.declared.operator.Prefix.{Prefix}
+use Rattle.spec_tree.specs.declared.operator.Quantifier.{Quantifier}
+use Rattle.spec_tree.specs.declared.operator.Bracket.{Bracket}
 use Rattle.c2po_tree.specs.declared.operator.Start.{Start}
 use Rattle.c2po_tree.specs.declared.operator.Start.TheVariants.{Leaf, Before, Round, Open, Bind}
-use Rattle.c2po_tree.specs.Shape.{Shape, pick}
+use Rattle.spec_tree.specs.Shape.{Shape, pick}
 use Rattle.c2po_tree.specs.Tokens.{is_sign, token_level, is_separator, left_level, right_level, is_right_level, is_prefix_level}
-use Rattle.c2po_tree.specs.Fronts.{◌>>=◌, past, operator_at, start_at, middle_at, infix_level, level_of, joined, prefixed, prefix_level, enclosed, closing, quantified, leaf}
+use Rattle.spec_tree.specs.Parts.{joined, prefixed, enclosed, quantified, leaf}
+use Rattle.c2po_tree.specs.Fronts.{◌>>=◌, past, operator_at, start_at, middle_at, infix_level, level_of, prefix_level, closing}
 use Rattle.c2po_tree.specs.Climbing.{Goal, Whole, Operand, Rest, Elements, Climbs, closed, operand, joins, rest_of, elements_of, climb_step, climb}
 use Rattle.c2po_tree.proofs.Walks.{bind-some, if-cases}
 use Rattle.c2po_tree.proofs.Heads.{is_sign-same, past-at}
 use Rattle.c2po_tree.proofs.Operators.{IsOperator, separator-none, separator-closed}
 use Rattle.c2po_tree.proofs.Starts.{IsStart, is_leaf, IsMiddle}
 use Rattle.c2po_tree.proofs.Rules as rules
-use Rattle.c2po_tree.proofs.Rules.{Derives, DerivesAll, down, picks, behind, alone, inside, encloses, binds, last, and_more, IsLevel, infix_is_level, prefix_low, IsClosing, closing_closes, round_closes}
+use Rattle.c2po_tree.proofs.Rules.{Derives, DerivesAll, down, picks, behind, alone, inside, encloses, binds, last, and_more, infix_is_level, prefix_low, closing_closes}
 use Rattle.c2po_tree.proofs.ClimbSound.{Stops, right_level-low, regroup_front, regroup_bound}
 
 -- What the rules derive is read by climbing.

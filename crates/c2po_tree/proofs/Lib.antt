@@ -1,4 +1,3 @@
-pub mod Rows
 pub mod Words
 pub mod Walks
 pub mod Heads
@@ -11,4 +10,3 @@ pub mod ClimbComplete
 pub mod SplitComplete
 pub mod Agree
 pub mod PlainNames
-pub mod Copying

@@ -9,8 +9,8 @@ use Rattle.c2po_lexer.specs.declared.token.What.{What}
 use Rattle.c2po_lexer.specs.declared.token.What.TheVariants as what
 use Rattle.c2po_lexer.specs.declared.token.Token.{Token}
 use Rattle.mltl_base.specs.declared.operators.BetweenOp.{BetweenOp}
-use Rattle.c2po_tree.specs.declared.operator.Infix.{Infix}
-use Rattle.c2po_tree.specs.declared.operator.Infix.TheVariants.{Logic, Between, Compare, Arith}
+use Rattle.spec_tree.specs.declared.operator.Infix.{Infix}
+use Rattle.spec_tree.specs.declared.operator.Infix.TheVariants.{Logic, Between, Compare, Arith}
 use Rattle.mltl_base.specs.declared.operators.ArithOp.TheVariants as arith_op
 use Rattle.mltl_base.specs.declared.operators.CompareOp.TheVariants as compare_op
 use Rattle.mltl_base.specs.declared.operators.LogicOp.TheVariants as logic_op

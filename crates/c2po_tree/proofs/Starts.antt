@@ -9,13 +9,13 @@ use Rattle.c2po_lexer.specs.declared.token.What.{What}
 use Rattle.c2po_lexer.specs.declared.token.What.TheVariants as what
 use Rattle.c2po_lexer.specs.declared.token.Token.{Token}
 use Rattle.mltl_base.specs.declared.operators.WindowOp.{WindowOp}
-use Rattle.c2po_tree.specs.declared.operator.Prefix.TheVariants.{Not, Minus, Window}
-use Rattle.c2po_tree.specs.declared.operator.Quantifier.{Quantifier}
-use Rattle.c2po_tree.specs.declared.operator.Quantifier.TheVariants.{Each, Exists, Count}
-use Rattle.c2po_tree.specs.declared.operator.Bracket.{Bracket}
-use Rattle.c2po_tree.specs.declared.operator.Bracket.TheVariants.{Curly, Call}
-use Rattle.c2po_tree.specs.declared.operator.Atom.{Atom}
-use Rattle.c2po_tree.specs.declared.operator.Atom.TheVariants.{Number, Truth, Ref}
+use Rattle.spec_tree.specs.declared.operator.Prefix.TheVariants.{Not, Minus, Window}
+use Rattle.spec_tree.specs.declared.operator.Quantifier.{Quantifier}
+use Rattle.spec_tree.specs.declared.operator.Quantifier.TheVariants.{Each, Exists, Count}
+use Rattle.spec_tree.specs.declared.operator.Bracket.{Bracket}
+use Rattle.spec_tree.specs.declared.operator.Bracket.TheVariants.{Curly, Call}
+use Rattle.spec_tree.specs.declared.operator.Atom.{Atom}
+use Rattle.spec_tree.specs.declared.operator.Atom.TheVariants.{Number, Truth, Ref}
 use Rattle.c2po_tree.specs.declared.operator.Start.{Start}
 use Rattle.c2po_tree.specs.declared.operator.Start.TheVariants.{Leaf, Before, Round, Open, Bind}
 use Rattle.c2po_tree.specs.Tokens.{word_level, level_after, ends_operand, depth_after, is_separator}

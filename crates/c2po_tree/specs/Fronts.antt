@@ -15,22 +15,19 @@ use Rattle.c2po_lexer.specs.declared.token.Keyword.TheVariants as keyword
 use Rattle.c2po_lexer.specs.declared.token.What.{What}
 use Rattle.c2po_lexer.specs.declared.token.What.TheVariants as what
 use Rattle.c2po_lexer.specs.declared.token.Token.{Token}
-use Rattle.c2po_tree.specs.declared.operator.Infix.{Infix}
-use Rattle.c2po_tree.specs.declared.operator.Infix.TheVariants.{Logic, Between, Compare, Arith}
+use Rattle.spec_tree.specs.declared.operator.Infix.{Infix}
+use Rattle.spec_tree.specs.declared.operator.Infix.TheVariants.{Logic, Between, Compare, Arith}
 use Rattle.c2po_tree.specs.declared.operator.Operator.{Operator}
 use Rattle.c2po_tree.specs.declared.operator.Operator.TheVariants.{Binary, Field}
-use Rattle.c2po_tree.specs.declared.operator.Prefix.{Prefix}
-use Rattle.c2po_tree.specs.declared.operator.Prefix.TheVariants.{Not, Minus, Window}
-use Rattle.c2po_tree.specs.declared.operator.Quantifier.{Quantifier}
-use Rattle.c2po_tree.specs.declared.operator.Quantifier.TheVariants.{Each, Exists, Count}
-use Rattle.c2po_tree.specs.declared.operator.Bracket.{Bracket}
-use Rattle.c2po_tree.specs.declared.operator.Bracket.TheVariants.{Curly, Call}
-use Rattle.c2po_tree.specs.declared.operator.Atom.{Atom}
-use Rattle.c2po_tree.specs.declared.operator.Atom.TheVariants.{Number, Truth, Ref}
+use Rattle.spec_tree.specs.declared.operator.Prefix.{Prefix}
+use Rattle.spec_tree.specs.declared.operator.Prefix.TheVariants.{Not, Minus, Window}
+use Rattle.spec_tree.specs.declared.operator.Quantifier.{Quantifier}
+use Rattle.spec_tree.specs.declared.operator.Quantifier.TheVariants.{Each, Exists, Count}
+use Rattle.spec_tree.specs.declared.operator.Bracket.{Bracket}
+use Rattle.spec_tree.specs.declared.operator.Bracket.TheVariants.{Curly, Call}
+use Rattle.spec_tree.specs.declared.operator.Atom.TheVariants.{Number, Truth, Ref}
 use Rattle.c2po_tree.specs.declared.operator.Start.{Start}
 use Rattle.c2po_tree.specs.declared.operator.Start.TheVariants.{Leaf, Before, Round, Open, Bind}
-use Rattle.c2po_tree.specs.Shape.{Shape, number, truth, named, build, group, minus, negation, arith, compare, logic}
-use Rattle.c2po_tree.specs.Shape.{window, between, each, exists, count, of_list}
 use Rattle.c2po_tree.specs.Tokens.{is_sign}
 
 infixl 10 ◌>>=◌
@@ -175,46 +172,16 @@ abbrev pub level_of : Operator → ℕ
 level_of (Binary line op) = infix_level op
 level_of (Field line x) = 11
 
--- two operands joined by an operator
-abbrev pub joined : ℕ → Infix → Shape → Shape → Shape
-joined line (Logic op) e f = logic line op e f
-joined line (Between op a b) e f = between line op a b e f
-joined line (Compare op) e f = compare line op e f
-joined line (Arith op) e f = arith line op e f
-
--- an operand after a prefix
-abbrev pub prefixed : Prefix → Shape → Shape
-prefixed (Not line) e = negation line e
-prefixed (Minus line) e = minus line e
-prefixed (Window line op a b) e = window line op a b e
-
 -- the level of a prefix
 abbrev pub prefix_level : Prefix → ℕ
 prefix_level (Not line) = 6
 prefix_level (Minus line) = 10
 prefix_level (Window line op a b) = 6
 
--- what braces or a call make of their elements
-abbrev pub enclosed : Bracket → List Shape → Shape
-enclosed (Curly line) es = group line (of_list es)
-enclosed (Call line x) es = build line x (of_list es)
-
 -- the sign that closes braces or a call
 abbrev pub closing : Bracket → Sign
 closing (Curly line) = sign.RightCurly
 closing (Call line x) = sign.RightRound
-
--- a quantifier over a set, with its number where it counts
-abbrev pub quantified : ℕ → Quantifier → List ℕ → Shape → ℕ → Shape → Shape
-quantified line Each x s n e = each line x s e
-quantified line Exists x s n e = exists line x s e
-quantified line (Count op) x s n e = count line op x s n e
-
--- a number, a truth or a name with its line
-abbrev pub leaf : ℕ → Atom → Shape
-leaf line (Number n) = number line n
-leaf line (Truth b) = truth line b
-leaf line (Ref x) = named line x
 
 -- a name is called where `(` follows it
 abbrev pub named_or_called : ℕ → List ℕ → List Token → Option (List Token) → Start × List Token

@@ -1,8 +1,9 @@
-pub mod Shape
-pub mod ItemShape
 pub mod Names
 pub mod Gives
 pub mod Tokens
 pub mod Fronts
 pub mod Splitting
 pub mod Climbing
+pub use Rattle.spec_tree.specs.Shape
+pub use Rattle.spec_tree.specs.Parts
+pub use Rattle.spec_tree.specs.ItemShape

@@ -2,7 +2,7 @@
 
 ghost use Rattle.std.specs.Prelude.{◌≡◌, ◌+◌, ◌<◌, ◌≤◌, length, suc, map, MatchResult};
 ghost use Rattle.c2po_tree.specs.declared.fault.TreeFault.TheVariants.{NoTree};
-ghost use Rattle.c2po_tree.specs.Shape.{shape};
+ghost use Rattle.spec_tree.specs.Shape.{shape};
 ghost use Rattle.c2po_tree.specs.Gives.{Gives};
 ghost use Rattle.c2po_tree.specs.Tokens.{right_level};
 ghost use Rattle.c2po_tree.specs.Splitting.{tree_of};
@@ -10,14 +10,14 @@ ghost use Rattle.c2po_tree.specs.Climbing.{climb, climb_all, closed, bound, befo
 
 use crate::front::{take_middle, take_operator, take_sign, take_start};
 use crate::node::{
-    add_member, apply_prefix, closing_of, enclose, join, leaf_of, operator_level, pick_of,
-    prefix_level_of, quantify,
+    add_member, apply_prefix, closing_of, join, operator_level, pick_of, prefix_level_of,
 };
 use crate::operator::{Bracket, Operator, Prefix, Quantifier, Start};
 use crate::{Expr, TreeFault};
 use c2po_lexer::{Sign, Token};
 use mltl_base::Name;
 use mltl_base::limits::MAX_ITEM_TOKENS;
+use spec_tree::node::{enclose, leaf_of, quantify};
 use std::alloc::Global;
 
 /// What is left of the room for nested steps after one step.

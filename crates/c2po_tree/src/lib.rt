@@ -1,9 +1,9 @@
-//! The trees of a specification, and the reading of expressions.
+//! The reading of expressions.
 //!
 //! The tree of an expression is found by splitting its tokens at the loosest operator outside brackets, level by level:
 //! at the last one, or at the first for `->`. That definition stands in this crate's `specs/`, and `read_expression`
-//! gives its tree, though it goes through the tokens once, from the left, and climbs the levels. `copy_tree` gives a second
-//! tree of the same shape.
+//! gives its tree, though it goes through the tokens once, from the left, and climbs the levels. The trees themselves, their
+//! shapes and their copies stand in `spec_tree`, whose items this crate gives on.
 //!
 //! ```text
 //! let tokens = lex(alloc, b"!a && b")?;
@@ -11,17 +11,15 @@
 //! ```
 #![tactic(auto)]
 
-mod copy;
 mod expression;
 pub mod fault;
 pub mod front;
-pub mod item;
 mod node;
 pub mod operator;
-pub mod tree;
 
-pub use copy::{copy_tree, copy_type, field_names};
 pub use expression::read_expression;
 pub use fault::TreeFault;
-pub use item::{Body, FieldDecl, Item, SpecTree, TypeTree};
-pub use tree::{Expr, Node};
+pub use spec_tree::{
+    Body, Expr, FieldDecl, Item, Node, SpecTree, TypeTree, copy_tree, copy_type, field_names, item,
+    tree,
+};

@@ -1,52 +1,13 @@
-//! Operators, prefixes and quantifiers of expressions.
+//! What tokens can begin: the start of an operand, and the operator after one.
 
-use mltl_base::{ArithOp, BetweenOp, CompareOp, CountOp, LogicOp, Name, WindowOp};
-
-/// An operator between operands, with its interval where it has one.
-#[derive(Clone, Copy)]
-pub enum Infix {
-    Logic(LogicOp),
-    Between(BetweenOp, u64, u64),
-    Compare(CompareOp),
-    Arith(ArithOp),
-}
+use mltl_base::Name;
+pub use spec_tree::operator::{Atom, Bracket, Infix, Prefix, Quantifier};
 
 /// What goes on after an operand: an operator with its line, or a picked field with the line of its name.
 #[derive(Drop)]
 pub enum Operator {
     Binary(u32, Infix),
     Field(u32, Name),
-}
-
-/// What stands before an operand, with its line, and its interval where it has one.
-#[derive(Clone, Copy)]
-pub enum Prefix {
-    Not(u32),
-    Minus(u32),
-    Window(u32, WindowOp, u64, u64),
-}
-
-/// A quantifier over a set.
-#[derive(Clone, Copy)]
-pub enum Quantifier {
-    Each,
-    Exists,
-    Count(CountOp),
-}
-
-/// Brackets around elements with commas between them: braces, or those of a named struct, with their line.
-#[derive(Drop)]
-pub enum Bracket {
-    Curly(u32),
-    Call(u32, Name),
-}
-
-/// An operand of one token.
-#[derive(Drop)]
-pub enum Atom {
-    Number(i64),
-    Truth(bool),
-    Ref(Name),
 }
 
 /// How an operand begins.

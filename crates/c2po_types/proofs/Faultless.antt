@@ -10,7 +10,7 @@ use Rattle.mltl_base.specs.declared.limits.TheConstants.{MAX_WEIGHT}
 use Rattle.mltl_base.specs.Ranges.{NoRange}
 use Rattle.mltl_base.specs.Subformulas.{Asked, IsOfTense, IsTensed}
 use Rattle.plain_nodes.proofs.NoFaults.{neither}
-use Rattle.c2po_tree.specs.ItemShape.{BodyShape, ItemShape, structure, input, define, formula, contract}
+use Rattle.spec_tree.specs.ItemShape.{BodyShape, ItemShape, structure, input, define, formula, contract}
 use Rattle.c2po_kinds.specs.declared.fault.TypeFault.TheVariants.{Wide, Tense}
 use Rattle.c2po_kinds.specs.Checking.{Checked, in_turn}
 use Rattle.c2po_kinds.specs.Items.{Labels, with_struct, with_input, define_kind, with_value, with_label, formula_kind, contract_kind}

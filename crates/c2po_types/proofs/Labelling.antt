@@ -9,7 +9,7 @@ use Rattle.std.proofs.lemmas.Fmt.{decimal_by_steps}
 use Rattle.std.proofs.lemmas.List.Elements.{All-nil, All-cons, All-push, All-append}
 use Rattle.c2po_lexer.specs.Cut.{is_in_word}
 use Rattle.c2po_tree.specs.Names.{IsPlainName, IsPlainLabel, IsPlainBody, ArePlainItems}
-use Rattle.c2po_tree.specs.ItemShape.{BodyShape, ItemShape, structure, input, define, formula, contract}
+use Rattle.spec_tree.specs.ItemShape.{BodyShape, ItemShape, structure, input, define, formula, contract}
 use Rattle.c2po_types.specs.Outputs.{Place, before, name_of, asked_at, place_after, asked_from, outputs_of, HasPlainName}
 
 digit_in_word : (d : ℕ) → d < 10 → is_in_word (48 + d) ≡ true

@@ -15,10 +15,10 @@ use Rattle.plain_nodes.specs.declared.nodes.PlainOut.TheVariants as out
 use Rattle.plain_nodes.specs.Nodes.{Tree, formula, formula_at, trees, Has, Grows, IsFormed, AreSound}
 use Rattle.plain_nodes.specs.Outputs.{NamesFormulas, asked_by}
 use Rattle.plain_nodes.proofs.Pushing.{formula_in_place, is_formula}
-use Rattle.c2po_tree.specs.declared.item.Item.{Item}
-use Rattle.c2po_tree.specs.Shape.{Shape}
-use Rattle.c2po_tree.specs.ItemShape as item
-use Rattle.c2po_tree.specs.ItemShape.{BodyShape, ItemShape, item_shape}
+use Rattle.spec_tree.specs.declared.item.Item.{Item}
+use Rattle.spec_tree.specs.Shape.{Shape}
+use Rattle.spec_tree.specs.ItemShape as item
+use Rattle.spec_tree.specs.ItemShape.{BodyShape, ItemShape, item_shape}
 use Rattle.c2po_kinds.proofs.Turns.{drop-first}
 use Rattle.c2po_types.specs.Signals.{body_signals}
 use Rattle.unfold.specs.declared.unfolding.Unfolded.{Unfolded}

@@ -1,7 +1,7 @@
 -- Specifications without a fault.
 
 use Rattle.std.specs.Prelude.{◌≡◌, List, None, length}
-use Rattle.c2po_tree.specs.ItemShape.{ItemShape}
+use Rattle.spec_tree.specs.ItemShape.{ItemShape}
 use Rattle.c2po_tree.specs.Names.{ArePlainItems}
 use Rattle.mltl_base.specs.declared.signal.Signal.{Signal}
 use Rattle.plain_nodes.specs.declared.nodes.Expanded.{Expanded}

@@ -8,9 +8,9 @@ use Rattle.mltl_base.specs.declared.interval.Engine.{Engine}
 use Rattle.mltl_base.specs.declared.interval.Engine.TheVariants.{Ft, Pt}
 use Rattle.mltl_base.specs.Formula.{Formula}
 use Rattle.mltl_base.specs.Ranges.{NoRange, divisor, wide}
-use Rattle.c2po_tree.specs.Shape.{Shape}
-use Rattle.c2po_tree.specs.ItemShape.{TypeShape, FieldShape, BodyShape, ItemShape, structure, input, define, formula}
-use Rattle.c2po_tree.specs.ItemShape.{contract}
+use Rattle.spec_tree.specs.Shape.{Shape}
+use Rattle.spec_tree.specs.ItemShape.{TypeShape, FieldShape, BodyShape, ItemShape, structure, input, define, formula}
+use Rattle.spec_tree.specs.ItemShape.{contract}
 use Rattle.mltl_base.specs.declared.signal.Signal.{Signal}
 use Rattle.c2po_kinds.specs.declared.declarations.Declarations.{Declarations}
 use Rattle.c2po_kinds.specs.declared.fault.TypeFault.{TypeFault}

@@ -3,8 +3,8 @@
 use Rattle.std.specs.Prelude.{ℕ, ◌+◌, Option, Some, None, List, [], ◌∷◌, ◌++◌, length, map, decimal}
 use Rattle.mltl_base.specs.Reports.{formula, contract}
 use Rattle.mltl_base.specs.Subformulas.{Asked}
-use Rattle.c2po_tree.specs.ItemShape as item
-use Rattle.c2po_tree.specs.ItemShape.{BodyShape, ItemShape}
+use Rattle.spec_tree.specs.ItemShape as item
+use Rattle.spec_tree.specs.ItemShape.{BodyShape, ItemShape}
 use Rattle.c2po_tree.specs.Names.{IsPlainName}
 use Rattle.unfold.specs.Values.{formula_of}
 use Rattle.unfold.specs.Environment.{Env, no_names, declare, fields, value, value_of}

@@ -6,7 +6,7 @@ use Rattle.plain_nodes.specs.declared.nodes.Plain.{Plain}
 use Rattle.plain_nodes.specs.declared.nodes.PlainOut.{PlainOut}
 use Rattle.plain_nodes.specs.Nodes.{trees, AreSound}
 use Rattle.plain_nodes.specs.Outputs.{asked_by, NamesFormulas}
-use Rattle.c2po_tree.specs.ItemShape.{BodyShape, ItemShape}
+use Rattle.spec_tree.specs.ItemShape.{BodyShape, ItemShape}
 use Rattle.c2po_kinds.specs.Checking.{Checked}
 use Rattle.unfold.specs.declared.unfolding.Unfolding.{Unfolding}
 use Rattle.unfold.specs.Holding.{StandsFor, nodes_of}

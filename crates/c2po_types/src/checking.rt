@@ -2,7 +2,7 @@
 
 ghost use Rattle.std.specs.Prelude.{◌≡◌, ◌≢◌, [], None, Some, map, IfOk, IfErr, OnOk};
 ghost use Rattle.c2po_tree.specs.Names.{ArePlainItems};
-ghost use Rattle.c2po_tree.specs.ItemShape.{item_shape, spec_shape};
+ghost use Rattle.spec_tree.specs.ItemShape.{item_shape, spec_shape};
 ghost use Rattle.c2po_types.specs.FirstFault.{checked, first_fault};
 ghost use Rattle.c2po_types.specs.Reaching.{Comes};
 ghost use Rattle.c2po_types.specs.Unfolded.{Leaves};
@@ -10,8 +10,8 @@ ghost use Rattle.c2po_types.specs.Unfolded.{Leaves};
 use crate::TypedSpec;
 use crate::progress::Progress;
 use c2po_kinds::TypeFault;
-use c2po_tree::{Item, SpecTree, copy_tree};
 use plain_nodes::Expanded;
+use spec_tree::{Item, SpecTree, copy_tree};
 use std::alloc::Global;
 
 /// What is known after all items.

@@ -3,7 +3,7 @@
 use Rattle.std.proofs.Common.{◌≡◌, ◌≢◌, ◌∙◌, ℕ, ◌==◌, if◌then◌else◌, Option, Some, None, Result, Ok, Err, List, map, IfOk, IfErr, refl, sym, ap, subst}
 use Rattle.mltl_base.specs.declared.program.Columns.{Columns}
 use Rattle.mltl_base.specs.declared.program.Program.{Program}
-use Rattle.c2po_tree.specs.ItemShape.{ItemShape}
+use Rattle.spec_tree.specs.ItemShape.{ItemShape}
 use Rattle.c2po_types.specs.Signals.{signals_of}
 use Rattle.c2po_types.specs.Outputs.{outputs_of}
 use Rattle.obs_verify.specs.Bound.{bound}

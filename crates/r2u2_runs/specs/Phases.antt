@@ -8,7 +8,7 @@ use Rattle.mltl_base.specs.declared.program.Program.{Program}
 use Rattle.tool_io.specs.declared.host.Place as place
 use Rattle.tool_io.specs.Log.{Event, taken, given, ended_from, names_of, IsFront, Reads, meets_end, Prompt}
 use Rattle.tool_io.specs.Cutting.{Cutting, HasNoNewline, IsRow, OnlyWhereNeeded, line_text, next_number}
-use Rattle.c2po_tree.specs.ItemShape.{spec_shape}
+use Rattle.spec_tree.specs.ItemShape.{spec_shape}
 use Rattle.obs_files.specs.Faults.{opened}
 use Rattle.spec_compile.specs.Front.{items_in, first_refusal}
 use Rattle.tool_words.specs.declared.file_kind.FileKind.{FileKind}

@@ -18,8 +18,8 @@ use Rattle.mltl_base.specs.declared.interval.Interval.{Interval}
 use Rattle.mltl_base.specs.Atoms.{Term}
 use Rattle.mltl_base.specs.Formula.{Formula}
 use Rattle.count_sets.specs.Counting as counting
-use Rattle.c2po_tree.specs.Shape as tree
-use Rattle.c2po_tree.specs.Shape.{Shape, Shapes}
+use Rattle.spec_tree.specs.Shape as tree
+use Rattle.spec_tree.specs.Shape.{Shape, Shapes}
 use Rattle.plain_nodes.specs.Nodes.{Tree, number, formula, constant_formula, arithmetic, comparison, connected, windowed, ranged}
 use Rattle.unfold.specs.Values.{Value, Values, leaf, structure, set, none, more, weight, list_of, term_of, formula_of, members, part_or, picked, connected_value, connected_all, body_at, counted_formula, counted, interval}
 use Rattle.unfold.specs.Environment.{Env, Known, nothing, fields, value, bind, declare, or_else, fields_in, value_in, value_of, values_of}

@@ -5,7 +5,7 @@ ghost use Rattle.mltl_base.specs.declared.operators.CountOp.{CountOp as Op};
 ghost use Rattle.mltl_base.specs.Atoms.{Row};
 ghost use Rattle.mltl_base.specs.Formula.{Formula};
 ghost use Rattle.mltl_base.specs.Meaning.{count, sat};
-ghost use Rattle.c2po_tree.specs.ItemShape.{spec_shape};
+ghost use Rattle.spec_tree.specs.ItemShape.{spec_shape};
 ghost use Rattle.c2po_types.specs.Signals.{signals_of};
 ghost use Rattle.count_sets.specs.Counting.{compares, counting};
 ghost use Rattle.plain_nodes.specs.Faults.{HasRanges};

@@ -5,14 +5,14 @@ use Rattle.std.proofs.Common.{◌≡◌, ◌∙◌, ℕ, ℤ, suc, List, [], ◌
 use Rattle.mltl_base.specs.declared.operators.WindowOp.{WindowOp}
 use Rattle.c2po_lexer.specs.declared.token.Sign.{Sign}
 use Rattle.c2po_lexer.specs.declared.token.Token.{Token}
-use Rattle.c2po_tree.specs.declared.operator.Infix.{Infix}
-use Rattle.c2po_tree.specs.declared.operator.Infix.TheVariants.{Logic, Between, Compare, Arith}
-use Rattle.c2po_tree.specs.declared.operator.Prefix.{Prefix}
-use Rattle.c2po_tree.specs.declared.operator.Prefix.TheVariants.{Not, Minus, Window}
-use Rattle.c2po_tree.specs.declared.operator.Quantifier.{Quantifier}
-use Rattle.c2po_tree.specs.declared.operator.Quantifier.TheVariants.{Each, Exists, Count}
-use Rattle.c2po_tree.specs.declared.operator.Bracket.{Bracket}
-use Rattle.c2po_tree.specs.declared.operator.Bracket.TheVariants.{Curly, Call}
+use Rattle.spec_tree.specs.declared.operator.Infix.{Infix}
+use Rattle.spec_tree.specs.declared.operator.Infix.TheVariants.{Logic, Between, Compare, Arith}
+use Rattle.spec_tree.specs.declared.operator.Prefix.{Prefix}
+use Rattle.spec_tree.specs.declared.operator.Prefix.TheVariants.{Not, Minus, Window}
+use Rattle.spec_tree.specs.declared.operator.Quantifier.{Quantifier}
+use Rattle.spec_tree.specs.declared.operator.Quantifier.TheVariants.{Each, Exists, Count}
+use Rattle.spec_tree.specs.declared.operator.Bracket.{Bracket}
+use Rattle.spec_tree.specs.declared.operator.Bracket.TheVariants.{Curly, Call}
 use Rattle.c2po_tree.specs.declared.operator.Start.{Start}
 use Rattle.c2po_tree.specs.declared.operator.Start.TheVariants.{Leaf, Before}
 use Rattle.c2po_lexer.specs.declared.token.Sign.TheVariants as sign
@@ -20,13 +20,14 @@ use Rattle.c2po_lexer.specs.declared.token.Keyword.{Keyword}
 use Rattle.c2po_lexer.specs.declared.token.Keyword.TheVariants as keyword
 use Rattle.c2po_lexer.specs.declared.token.What.{What}
 use Rattle.c2po_lexer.specs.declared.token.What.TheVariants as what
-use Rattle.c2po_tree.specs.declared.operator.Atom.{Atom}
-use Rattle.c2po_tree.specs.declared.operator.Atom.TheVariants.{Number, Truth, Ref}
-use Rattle.c2po_tree.specs.Shape as tree
-use Rattle.c2po_tree.specs.Shape.{Shape, Shapes, of_list}
+use Rattle.spec_tree.specs.declared.operator.Atom.{Atom}
+use Rattle.spec_tree.specs.declared.operator.Atom.TheVariants.{Number, Truth, Ref}
+use Rattle.spec_tree.specs.Shape as tree
+use Rattle.spec_tree.specs.Shape.{Shape, Shapes, of_list}
 use Rattle.show_trips.specs.Written.{IsNumber, IsToken}
 use Rattle.c2po_tree.specs.Tokens.{left_level, right_level}
-use Rattle.c2po_tree.specs.Fronts.{infix_level, joined, prefixed, prefix_level, enclosed, closing, quantified, leaf, past, name_at, interval_at, named_or_called, bound_start, word_start, word_quantifier, sign_start, start_in, start_at, ◌>>=◌}
+use Rattle.spec_tree.specs.Parts.{joined, prefixed, enclosed, quantified, leaf}
+use Rattle.c2po_tree.specs.Fronts.{infix_level, prefix_level, closing, past, name_at, interval_at, named_or_called, bound_start, word_start, word_quantifier, sign_start, start_in, start_at, ◌>>=◌}
 use Rattle.c2po_tree.specs.Splitting.{tree_of}
 use Rattle.show_trips.proofs.GoodWords.{GoodWords, words-head, words-tail, words-left, words-right}
 use Rattle.c2po_tree.proofs.Starts.{IsStart}

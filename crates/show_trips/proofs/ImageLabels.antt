@@ -17,8 +17,8 @@ use Rattle.mltl_simplify.specs.Outputs.{simple_outputs}
 use Rattle.plain_nodes.specs.Outputs.{asked_over}
 use Rattle.obs_build.specs.Image.{IsImageOf}
 use Rattle.name_table.specs.Tables.{entry_of, is_named}
-use Rattle.c2po_tree.specs.ItemShape as item
-use Rattle.c2po_tree.specs.ItemShape.{BodyShape, ItemShape}
+use Rattle.spec_tree.specs.ItemShape as item
+use Rattle.spec_tree.specs.ItemShape.{BodyShape, ItemShape}
 use Rattle.c2po_kinds.specs.declared.fault.TypeFault.TheVariants as fault
 use Rattle.c2po_kinds.specs.Checking.{Checked, in_turn}
 use Rattle.c2po_kinds.specs.Items.{Labels, with_struct, with_input, define_kind, with_label, formula_kind, contract_kind}

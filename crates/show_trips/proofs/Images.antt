@@ -17,8 +17,8 @@ use Rattle.obs_build.specs.Image.{IsImageOf, stored_signals}
 use Rattle.obs_verify.specs.Layout.{HasLayout}
 use Rattle.obs_verify.specs.WellFormed.{IsWellFormed}
 use Rattle.c2po_lexer.specs.Tokens.{tokens_of}
-use Rattle.c2po_tree.specs.ItemShape as item
-use Rattle.c2po_tree.specs.ItemShape.{TypeShape, BodyShape, ItemShape}
+use Rattle.spec_tree.specs.ItemShape as item
+use Rattle.spec_tree.specs.ItemShape.{TypeShape, BodyShape, ItemShape}
 use Rattle.c2po_parse.specs.Specification.{spec_of}
 use Rattle.c2po_types.specs.Signals.{is_bool, body_signals, signals_of}
 use Rattle.c2po_types.specs.Outputs as expanding

@@ -7,7 +7,7 @@ use Rattle.mltl_base.specs.declared.limits.TheConstants.{MAX_WEIGHT}
 use Rattle.mltl_base.specs.declared.program.Program.{Program}
 use Rattle.mltl_base.specs.Formula.{plain}
 use Rattle.mltl_base.specs.Programs.{Expression, expressions, formula_at}
-use Rattle.c2po_tree.specs.ItemShape.{type_named}
+use Rattle.spec_tree.specs.ItemShape.{type_named}
 use Rattle.c2po_kinds.specs.declared.kind.Kind.{Kind}
 use Rattle.c2po_kinds.specs.declared.declarations.Declarations.{Declarations}
 use Rattle.c2po_kinds.specs.Items.{Labels, with_input, with_value, with_label, define_kind, formula_kind, contract_kind}

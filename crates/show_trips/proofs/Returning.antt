@@ -10,7 +10,7 @@ use Rattle.mltl_base.proofs.Returning.{lists_return}
 use Rattle.plain_nodes.specs.Outputs.{asked_over}
 use Rattle.obs_verify.specs.WellFormed.{IsWellFormed}
 use Rattle.obs_build.specs.Image.{IsImageOf, stored_signals}
-use Rattle.c2po_tree.specs.ItemShape.{ItemShape}
+use Rattle.spec_tree.specs.ItemShape.{ItemShape}
 use Rattle.c2po_parse.specs.Specification.{spec_of}
 use Rattle.c2po_types.specs.FirstFault.{first_fault}
 use Rattle.c2po_types.specs.Signals.{signals_of}

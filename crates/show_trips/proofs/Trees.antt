@@ -15,19 +15,20 @@ use Rattle.c2po_lexer.specs.declared.token.Keyword.TheVariants as keyword
 use Rattle.c2po_lexer.specs.declared.token.Token.{Token}
 use Rattle.c2po_lexer.specs.declared.token.What.{What}
 use Rattle.c2po_lexer.specs.declared.token.What.TheVariants as what
-use Rattle.c2po_tree.specs.declared.operator.Infix.{Infix}
-use Rattle.c2po_tree.specs.declared.operator.Infix.TheVariants.{Logic, Between, Compare, Arith}
+use Rattle.spec_tree.specs.declared.operator.Infix.{Infix}
+use Rattle.spec_tree.specs.declared.operator.Infix.TheVariants.{Logic, Between, Compare, Arith}
 use Rattle.c2po_tree.specs.declared.operator.Operator.TheVariants.{Binary}
-use Rattle.c2po_tree.specs.declared.operator.Prefix.{Prefix}
-use Rattle.c2po_tree.specs.declared.operator.Prefix.TheVariants.{Not, Minus}
-use Rattle.c2po_tree.specs.declared.operator.Atom.{Atom}
-use Rattle.c2po_tree.specs.declared.operator.Atom.TheVariants.{Number, Truth, Ref}
+use Rattle.spec_tree.specs.declared.operator.Prefix.{Prefix}
+use Rattle.spec_tree.specs.declared.operator.Prefix.TheVariants.{Not, Minus}
+use Rattle.spec_tree.specs.declared.operator.Atom.{Atom}
+use Rattle.spec_tree.specs.declared.operator.Atom.TheVariants.{Number, Truth, Ref}
 use Rattle.c2po_tree.specs.declared.operator.Start.TheVariants.{Leaf, Before}
-use Rattle.c2po_tree.specs.Shape.{Shape}
-use Rattle.c2po_tree.specs.ItemShape as item
-use Rattle.c2po_tree.specs.ItemShape.{BodyShape, ItemShape}
+use Rattle.spec_tree.specs.Shape.{Shape}
+use Rattle.spec_tree.specs.ItemShape as item
+use Rattle.spec_tree.specs.ItemShape.{BodyShape, ItemShape}
 use Rattle.c2po_tree.specs.Tokens.{is_sign, depth_after, left_level, right_level}
-use Rattle.c2po_tree.specs.Fronts.{infix_level, joined, prefixed, prefix_level, leaf, start_at, operator_at, interval_at}
+use Rattle.spec_tree.specs.Parts.{joined, prefixed, leaf}
+use Rattle.c2po_tree.specs.Fronts.{infix_level, prefix_level, start_at, operator_at, interval_at}
 use Rattle.c2po_tree.specs.Splitting.{tree_of}
 use Rattle.c2po_tree.proofs.Rules.{Derives, down, joins, behind, alone}
 use Rattle.c2po_tree.proofs.Starts.{StartFront, start_at-front}

@@ -14,10 +14,10 @@ use Rattle.c2po_lexer.specs.declared.token.Sign.{Sign}
 use Rattle.c2po_lexer.specs.declared.token.Sign.TheVariants as sign
 use Rattle.c2po_lexer.specs.declared.token.What.{What}
 use Rattle.c2po_lexer.specs.declared.token.What.TheVariants as what
-use Rattle.c2po_tree.specs.Shape as tree
-use Rattle.c2po_tree.specs.Shape.{Shape}
-use Rattle.c2po_tree.specs.ItemShape as item
-use Rattle.c2po_tree.specs.ItemShape.{BodyShape, ItemShape, type_named}
+use Rattle.spec_tree.specs.Shape as tree
+use Rattle.spec_tree.specs.Shape.{Shape}
+use Rattle.spec_tree.specs.ItemShape as item
+use Rattle.spec_tree.specs.ItemShape.{BodyShape, ItemShape, type_named}
 use Rattle.obs_show.specs.Lines.{Reference, always, named, number, Form, minus, arith, compare, negation, logic}
 use Rattle.obs_show.specs.Lines.{between, Line, input, define, formula, contract}
 use Rattle.show_trips.specs.Written.{Mark, token, space, newline, IsName, IsToken, IsNumber}

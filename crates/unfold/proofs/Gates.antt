@@ -19,7 +19,7 @@ use Rattle.plain_nodes.specs.declared.nodes.Plain.TheVariants as plain
 use Rattle.plain_nodes.specs.Nodes.{Tree, number, formula, formula_at as nodes_formula_at, constant_formula, tree_of, trees, Has, Grows, IsFormula}
 use Rattle.plain_nodes.proofs.Pushing.{formula_in_place}
 use Rattle.plain_nodes.proofs.Places.{at_push}
-use Rattle.c2po_tree.specs.Shape.{shape}
+use Rattle.spec_tree.specs.Shape.{shape}
 use Rattle.unfold.specs.declared.values.Stored.{Stored}
 use Rattle.unfold.specs.declared.scope.Scope.{Scope}
 use Rattle.unfold.specs.declared.scope.Head.{Head}

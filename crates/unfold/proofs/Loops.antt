@@ -7,8 +7,8 @@ use Rattle.std.proofs.lemmas.Option.{slice_get_within, get_or_from_slice_get, sl
 use Rattle.mltl_base.specs.declared.operators.LogicOp.{LogicOp}
 use Rattle.mltl_base.specs.declared.operators.CountOp.{CountOp}
 use Rattle.plain_nodes.specs.Nodes.{formula}
-use Rattle.c2po_tree.specs.declared.tree.Expr.{Expr}
-use Rattle.c2po_tree.specs.Shape.{shape, shapes}
+use Rattle.spec_tree.specs.declared.tree.Expr.{Expr}
+use Rattle.spec_tree.specs.Shape.{shape, shapes}
 use Rattle.unfold.specs.declared.values.Stored.{Stored}
 use Rattle.unfold.specs.declared.scope.Scope.{Scope}
 use Rattle.unfold.specs.declared.scope.Head.{Head}

@@ -3,9 +3,9 @@
 use Rattle.std.proofs.Common.{◌≡◌, ℕ, zero, suc, true, Some, List, [], ◌∷◌, map, fold, length, get_or, slice_get, ◌++◌, ◌<◌, refl, sym, subst, ap, ◌∙◌}
 use Rattle.std.proofs.lemmas.Option.{slice_get_read}
 use Rattle.plain_nodes.proofs.Places.{get_last}
-use Rattle.c2po_tree.specs.Shape as tree
-use Rattle.c2po_tree.specs.Shape.{Shape, shape, shapes}
-use Rattle.c2po_tree.specs.declared.tree.Expr.{Expr}
+use Rattle.spec_tree.specs.Shape as tree
+use Rattle.spec_tree.specs.Shape.{Shape, shape, shapes}
+use Rattle.spec_tree.specs.declared.tree.Expr.{Expr}
 use Rattle.mltl_base.specs.declared.operators.LogicOp.{LogicOp}
 use Rattle.mltl_base.specs.declared.operators.LogicOp.TheVariants.{And, Or}
 use Rattle.mltl_base.specs.declared.operators.CountOp.{CountOp}

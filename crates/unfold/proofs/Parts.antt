@@ -6,8 +6,8 @@ use Rattle.std.proofs.lemmas.Option.{slice_get_within, slice_get-get_or, get_or_
 use Rattle.std.proofs.lemmas.List.{get_or_past}
 use Rattle.plain_nodes.proofs.Pushing.{grows_same}
 use Rattle.plain_nodes.proofs.Places.{get_left}
-use Rattle.c2po_tree.specs.declared.tree.Expr.{Expr}
-use Rattle.c2po_tree.specs.Shape.{Shape, shape, shapes}
+use Rattle.spec_tree.specs.declared.tree.Expr.{Expr}
+use Rattle.spec_tree.specs.Shape.{Shape, shape, shapes}
 use Rattle.unfold.specs.declared.values.Location.TheVariants.{Parts as PartsAt}
 use Rattle.unfold.specs.declared.values.Stored.{Stored}
 use Rattle.unfold.specs.declared.values.Whole.TheVariants as whole

@@ -6,8 +6,8 @@ use Rattle.mltl_base.specs.declared.operators.LogicOp.TheVariants.{And, Or}
 use Rattle.mltl_base.specs.Atoms.{is_true, column}
 use Rattle.mltl_base.specs.Formula.{atom}
 use Rattle.plain_nodes.specs.Nodes.{number, formula}
-use Rattle.c2po_tree.specs.Shape as tree
-use Rattle.c2po_tree.specs.Shape.{Shape, Shapes}
+use Rattle.spec_tree.specs.Shape as tree
+use Rattle.spec_tree.specs.Shape.{Shape, Shapes}
 use Rattle.unfold.specs.Values.{Value, Values, leaf, none, more, number_value, truth_value, built, grouped, opposite}
 use Rattle.unfold.specs.Values.{inverted, computed, compared, connected_value, windowed_value, ranged_value, members}
 use Rattle.unfold.specs.Values.{picked, connected_all, counted}

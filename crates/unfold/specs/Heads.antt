@@ -1,8 +1,8 @@
 -- What names and picked fields lead to.
 
 use Rattle.std.specs.Prelude.{ℕ, ◌≡◌, Bool, true, false, List, [], slice_get, Some}
-use Rattle.c2po_tree.specs.Shape as tree
-use Rattle.c2po_tree.specs.Shape.{Shape, shape, shapes}
+use Rattle.spec_tree.specs.Shape as tree
+use Rattle.spec_tree.specs.Shape.{Shape, shape, shapes}
 use Rattle.unfold.specs.declared.scope.Named.{Named}
 use Rattle.unfold.specs.declared.scope.Named.TheVariants as named
 use Rattle.unfold.specs.declared.scope.Head.{Head}

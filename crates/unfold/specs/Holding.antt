@@ -4,7 +4,7 @@ use Rattle.std.specs.Prelude.{ℕ, ◌≡◌, Option, Some, None, List, [], ◌�
 use Rattle.plain_nodes.specs.declared.nodes.Plain.{Plain}
 use Rattle.plain_nodes.specs.Nodes.{Has, Grows, AreSound}
 use Rattle.name_table.specs.Tables.{entry_of}
-use Rattle.c2po_tree.specs.Shape.{shape}
+use Rattle.spec_tree.specs.Shape.{shape}
 use Rattle.unfold.specs.declared.values.Location.TheVariants.{Node, Parts as PartsAt}
 use Rattle.unfold.specs.declared.values.Stored.{Stored}
 use Rattle.unfold.specs.declared.values.Whole.TheVariants as whole

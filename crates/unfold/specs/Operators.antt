@@ -1,7 +1,7 @@
 -- The values of operators by the number of their operands, and of quantifiers by their bodies.
 
 use Rattle.std.specs.Prelude.{List, map}
-use Rattle.c2po_tree.specs.Shape.{shape}
+use Rattle.spec_tree.specs.Shape.{shape}
 use Rattle.unfold.specs.declared.operators.UnaryOp.{UnaryOp}
 use Rattle.unfold.specs.declared.operators.UnaryOp.TheVariants as unary
 use Rattle.unfold.specs.declared.operators.BinaryOp.{BinaryOp}

@@ -2,7 +2,7 @@
 
 ghost use Rattle.std.specs.Prelude.{◌≡◌, ◌+◌, ◌<◌, ◌≤◌, ℕ, true, map, sum_by, slice_get, Some, IfOk, IfErr, OnOk};
 ghost use Rattle.mltl_base.specs.declared.limits.TheConstants.{MAX_WEIGHT};
-ghost use Rattle.c2po_tree.specs.Shape.{shape, shapes};
+ghost use Rattle.spec_tree.specs.Shape.{shape, shapes};
 ghost use Rattle.unfold.specs.declared.fault.UnfoldFault.TheVariants.{Heavy};
 ghost use Rattle.unfold.specs.Bodies.{AreFormulas, HaveFormulas};
 ghost use Rattle.unfold.specs.Environment.{Env, value_of, values_of};
@@ -18,9 +18,9 @@ use crate::scope::{Head, Site};
 use crate::values::{Location, Stored, Whole};
 use crate::visits::Visits;
 use crate::{UnfoldFault, Unfolding};
-use c2po_tree::Expr;
 use mltl_base::{CountOp, List, LogicOp};
 use plain_nodes::Plain;
+use spec_tree::Expr;
 
 impl Unfolding {
     /// The value of an expression.

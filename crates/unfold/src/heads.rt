@@ -2,7 +2,7 @@
 
 ghost use Rattle.std.specs.Prelude.{◌≡◌, ℕ, Some, length, position, slice_get, IfOk, IfErr};
 ghost use Rattle.std.specs.Str.{bytes_eq};
-ghost use Rattle.c2po_tree.specs.Shape.{shape};
+ghost use Rattle.spec_tree.specs.Shape.{shape};
 ghost use Rattle.unfold.specs.declared.fault.UnfoldFault.TheVariants.{Memory};
 ghost use Rattle.unfold.specs.Environment.{Env, bind, fields_in, value_of};
 ghost use Rattle.unfold.specs.Heads.{Heads, HoldMembers, Names};
@@ -14,8 +14,8 @@ use crate::scope::{Head, Named, Scope};
 use crate::values::{Entry, Location, Stored, Whole};
 use crate::visits::Visits;
 use crate::{UnfoldFault, Unfolding};
-use c2po_tree::{Expr, Node};
 use mltl_base::Name;
+use spec_tree::{Expr, Node};
 
 impl Unfolding {
     /// What a declared name stands for.

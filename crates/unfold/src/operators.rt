@@ -1,13 +1,13 @@
 //! Operators by the number of their operands, and quantifiers by what they do with their bodies.
 
 ghost use Rattle.std.specs.Prelude.{◌≡◌, true};
-ghost use Rattle.c2po_tree.specs.Shape.{shape};
+ghost use Rattle.spec_tree.specs.Shape.{shape};
 ghost use Rattle.unfold.specs.Environment.{Env, value_of};
 ghost use Rattle.unfold.specs.Heads.{is_operator};
 ghost use Rattle.unfold.specs.Operators.{operation_value};
 
-use c2po_tree::{Expr, Node};
 use mltl_base::{ArithOp, BetweenOp, CompareOp, CountOp, LogicOp, Name, WindowOp};
+use spec_tree::{Expr, Node};
 
 /// An operator over one operand.
 #[derive(Clone, Copy)]

@@ -1,8 +1,8 @@
 //! Variables of quantifiers, which stand for members of sets that aren't unfolded yet.
 
 use crate::values::Stored;
-use c2po_tree::Expr;
 use mltl_base::Name;
+use spec_tree::Expr;
 use std::alloc::Global;
 
 /// The variables around an expression, the innermost first.

@@ -3,7 +3,7 @@
 ghost use Rattle.std.specs.Prelude.{◌≡◌, ◌+◌, ◌<◌, ◌≤◌, ◌^◌, ℕ, [], ◌∷◌, ◌++◌, length, IfOk, IfErr, OnOk, Some, List as Seq};
 ghost use Rattle.mltl_base.specs.declared.limits.TheConstants.{MAX_WEIGHT};
 ghost use Rattle.plain_nodes.specs.Nodes.{AreSound, Grows, Has, formula};
-ghost use Rattle.c2po_tree.specs.Shape.{shape};
+ghost use Rattle.spec_tree.specs.Shape.{shape};
 ghost use Rattle.unfold.specs.declared.fault.UnfoldFault.TheVariants.{Heavy};
 ghost use Rattle.unfold.specs.declared.values.Location.TheVariants.{Parts as PartsAt};
 ghost use Rattle.unfold.specs.declared.values.Whole.TheVariants.{Struct, Set};
@@ -20,11 +20,11 @@ use crate::fields::Fields;
 use crate::scope::{Scope, Site};
 use crate::values::{Entry, Location, Parts, Stored, Whole};
 use crate::visits::Visits;
-use c2po_tree::Expr;
 use mltl_base::{List, Name};
 use mltl_ranges::NoRange;
 use name_table::NameTable;
 use plain_nodes::{Nodes, Plain, Tenses, first_fault};
+use spec_tree::Expr;
 use std::alloc::{AllocError, Global};
 
 /// How deep an expression may be nested: deeper than any stack is.

@@ -1,6 +1,6 @@
 use Rattle.std.proofs.Common.{None, [], option_map, refl, subst, sym}
 use Rattle.std.proofs.lemmas.Result.{IfOk-weaker}
-use Rattle.c2po_tree.specs.ItemShape.{spec_shape}
+use Rattle.spec_tree.specs.ItemShape.{spec_shape}
 use Rattle.tool_io.proofs.LogLaws.{OnLog-none}
 use Rattle.c2po_runs.specs.Made.{text_bytes}
 use Rattle.c2po_runs.specs.Phases.{SpecLog}

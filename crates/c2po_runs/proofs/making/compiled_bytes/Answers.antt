@@ -1,7 +1,7 @@
 use Rattle.std.proofs.Common.{rules, ap}
 use Rattle.std.proofs.lemmas.Result.{err_from_is_err_and}
 use Rattle.std.specs.Option.{option_copied}
-use Rattle.c2po_tree.specs.ItemShape.{spec_shape}
+use Rattle.spec_tree.specs.ItemShape.{spec_shape}
 use Rattle.c2po_types.specs.Signals.{signals_of}
 use Rattle.tool_runs.proofs.StatusLaws.{told_fault, told_value}
 use Rattle.c2po_runs.specs.Made.{compile_status}

@@ -1,5 +1,5 @@
 use Rattle.std.proofs.Common.{◌<◌, ◌^◌, ◌∙◌, refl, sym, ap, subst, map, length, arith}
-use Rattle.c2po_tree.specs.ItemShape.{item_shape}
+use Rattle.spec_tree.specs.ItemShape.{item_shape}
 use Rattle.plain_nodes.specs.declared.nodes.Expanded.{Expanded}
 use Rattle.plain_nodes.specs.Outputs.{IsSound}
 use Rattle.c2po_types.specs.Outputs.{outputs_of}

@@ -1,6 +1,6 @@
 use Rattle.std.proofs.Common.{◌∙◌, ◌+◌, sym, ap, subst, arith, map, drop}
 use Rattle.std.proofs.lemmas.Result.{err_from_is_err_and}
-use Rattle.c2po_tree.specs.ItemShape.{item_shape}
+use Rattle.spec_tree.specs.ItemShape.{item_shape}
 use Rattle.c2po_kinds.specs.Checking.{Fails}
 use Rattle.c2po_kinds.proofs.Turns.{turn-more, turn-fails, turn-end}
 use Rattle.unfold.specs.Environment.{no_names}

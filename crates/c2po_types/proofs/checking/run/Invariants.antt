@@ -1,6 +1,6 @@
 use Rattle.std.proofs.Common.{◌≡◌, ◌≤◌, drop, map}
 use Rattle.mltl_base.specs.declared.limits.TheConstants.{MAX_WEIGHT}
-use Rattle.c2po_tree.specs.ItemShape.{item_shape}
+use Rattle.spec_tree.specs.ItemShape.{item_shape}
 use Rattle.c2po_kinds.specs.Checking.{in_turn}
 use Rattle.unfold.specs.Environment.{Env}
 use Rattle.unfold.specs.Holding.{StandsFor}

@@ -1,7 +1,7 @@
 use Rattle.std.proofs.Common.{◌≡◌, Ok, Err, Result, length, sym, subst}
 use Rattle.std.specs.Prelude.{All, IfOk}
 use Rattle.mltl_base.specs.Kinds.{ReadsSignals, kinds_of}
-use Rattle.c2po_tree.specs.ItemShape.{spec_shape}
+use Rattle.spec_tree.specs.ItemShape.{spec_shape}
 use Rattle.c2po_types.specs.Signals.{signals_of}
 use Rattle.plain_nodes.specs.declared.nodes.Expanded.{Expanded}
 use Rattle.plain_nodes.specs.Faults.{HasRanges}

@@ -1,7 +1,7 @@
 -- Two formulas that are unfolded are an output.
 use Rattle.std.proofs.Common.{◌≡◌, ◌++◌, ◌∙◌, Ok, length, ap, subst, sym}
-use Rattle.c2po_tree.specs.Shape.{shape}
-use Rattle.c2po_tree.specs.ItemShape as item
+use Rattle.spec_tree.specs.Shape.{shape}
+use Rattle.spec_tree.specs.ItemShape as item
 use Rattle.plain_nodes.specs.Nodes.{formula}
 use Rattle.unfold.specs.Environment.{value_of}
 use Rattle.unfold.specs.Values.{formula_of}

@@ -1,8 +1,8 @@
 -- A definition without a fault is known after it, and declares no signals.
 use Rattle.std.proofs.Common.{◌≡◌, Ok, length, refl, sym, ap, subst, arith, rules}
 use Rattle.std.specs.Prelude.{OnOk}
-use Rattle.c2po_tree.specs.Shape.{shape}
-use Rattle.c2po_tree.specs.ItemShape.{define}
+use Rattle.spec_tree.specs.Shape.{shape}
+use Rattle.spec_tree.specs.ItemShape.{define}
 use Rattle.c2po_kinds.specs.declared.declarations.Declarations.{Declarations}
 use Rattle.c2po_kinds.specs.Items.{with_value}
 use Rattle.plain_nodes.specs.Nodes.{AreSound, Grows}

@@ -1,5 +1,5 @@
 use Rattle.std.proofs.lemmas.Result.{err_from_is_err_and}
-use Rattle.c2po_tree.specs.Shape.{shape}
+use Rattle.spec_tree.specs.Shape.{shape}
 use Rattle.c2po_kinds.specs.Items.{with_label, formula_kind}
 use Rattle.unfold.specs.Environment.{value_of}
 use Rattle.c2po_types.specs.FirstFault.{one_out}

@@ -2,7 +2,7 @@
 use Rattle.std.proofs.Common.{◌≡◌, ◌∙◌, ◌+◌, ◌++◌, refl, sym, ap, subst, drop, length, arith}
 use Rattle.std.proofs.Math.Seq.{drop-append_seam}
 use Rattle.std.proofs.lemmas.List.{length-append}
-use Rattle.c2po_tree.specs.ItemShape.{input, type_shape}
+use Rattle.spec_tree.specs.ItemShape.{input, type_shape}
 use Rattle.plain_nodes.specs.Nodes.{AreSound}
 use Rattle.c2po_types.specs.FirstFault.{with_signals}
 use Rattle.c2po_types.specs.Outputs.{values_after}

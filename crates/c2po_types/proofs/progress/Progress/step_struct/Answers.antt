@@ -1,6 +1,6 @@
 -- A struct declares no signals, and unfolds to nothing.
 use Rattle.std.proofs.Common.{◌≡◌, ◌+◌, ◌∙◌, refl, sym, ap, subst, map, length, arith}
-use Rattle.c2po_tree.specs.ItemShape.{structure, field_shape}
+use Rattle.spec_tree.specs.ItemShape.{structure, field_shape}
 use Rattle.plain_nodes.specs.Nodes.{AreSound}
 use Rattle.unfold.specs.Environment.{declare, fields}
 use Rattle.unfold.specs.Holding.{StandsFor, nodes_of}

@@ -1,7 +1,7 @@
 -- A quantifier's bodies are those of its expression.
 use Rattle.std.proofs.Common.{ap, sym, ◌∙◌}
 use Rattle.mltl_base.specs.declared.operators.LogicOp.TheVariants.{And, Or}
-use Rattle.c2po_tree.specs.Shape.{shape, node_shape}
+use Rattle.spec_tree.specs.Shape.{shape, node_shape}
 use Rattle.unfold.specs.Values.{connected_all, counted}
 use Rattle.unfold.specs.Environment.{value_of}
 use Rattle.unfold.proofs.Loops.{values_over}

@@ -4,7 +4,7 @@ use Rattle.std.proofs.lemmas.List.{take_all, length-map}
 use Rattle.std.proofs.lemmas.Result.{err_from_is_err_and}
 use Rattle.count_sets.specs.Counting.{counting}
 use Rattle.plain_nodes.specs.Nodes.{Has, formula}
-use Rattle.c2po_tree.specs.Shape.{shape}
+use Rattle.spec_tree.specs.Shape.{shape}
 use Rattle.unfold.specs.declared.fault.UnfoldFault.TheVariants.{Heavy}
 use Rattle.unfold.specs.declared.values.Location.TheVariants.{Node}
 use Rattle.unfold.specs.declared.values.Stored.{Stored}

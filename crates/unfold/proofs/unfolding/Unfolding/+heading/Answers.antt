@@ -1,6 +1,6 @@
 use Rattle.std.proofs.Common.{ap, sym, subst, refl, ◌∙◌, IfOk}
-use Rattle.c2po_tree.specs.Shape.{shapes}
-use Rattle.c2po_tree.proofs.Rows.{shape_of-Build, shape_of-Group}
+use Rattle.spec_tree.specs.Shape.{shapes}
+use Rattle.spec_tree.proofs.Rows.{shape_of-Build, shape_of-Group}
 use Rattle.unfold.specs.Values.{built, grouped}
 use Rattle.unfold.specs.Environment.{value_of, values_of, fields_in}
 use Rattle.unfold.specs.Heads.{Heads}

@@ -1,5 +1,5 @@
 use Rattle.std.proofs.Common.{refl, sym, subst}
-use Rattle.c2po_tree.specs.Shape.{shape}
+use Rattle.spec_tree.specs.Shape.{shape}
 use Rattle.plain_nodes.specs.Nodes.{Grows}
 use Rattle.unfold.specs.Environment.{value, value_of}
 use Rattle.unfold.proofs.Later.{stands_later, stands_visited}

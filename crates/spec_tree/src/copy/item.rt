@@ -1,7 +1,7 @@
 //! Copies of items.
 
-ghost use Rattle.std.specs.Prelude.{◌≡◌, map, option_map, IfOk};
-ghost use Rattle.c2po_tree.specs.ItemShape.{type_shape, field_shape, body_shape, item_shape, spec_shape};
+ghost use Rattle.std.specs.Prelude.{◌≡◌, map, IfOk};
+ghost use Rattle.spec_tree.specs.ItemShape.{type_shape, field_shape, body_shape, item_shape, spec_shape};
 
 use super::expression::copy_expr;
 use crate::{Body, FieldDecl, Item, SpecTree, TypeTree};

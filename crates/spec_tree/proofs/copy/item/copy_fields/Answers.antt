@@ -1,6 +1,6 @@
-use Rattle.c2po_tree.specs.ItemShape.{field_shape}
-use Rattle.c2po_tree.proofs.Copying.{copied-more}
-use Rattle.c2po_tree.proofs.copy.item.copy_fields.Goals as goal
+use Rattle.spec_tree.specs.ItemShape.{field_shape}
+use Rattle.spec_tree.proofs.Copying.{copied-more}
+use Rattle.spec_tree.proofs.copy.item.copy_fields.Goals as goal
 
 pub loop-field-preserved : goal.loop-field-preserved
 loop-field-preserved c = copied-more field_shape c.args.fields.now c.loop-field.copies _ c.loop-field.field-index c.field-item.result c.in_ok-copy.copy

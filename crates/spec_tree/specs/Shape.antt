@@ -5,10 +5,10 @@ use Rattle.mltl_base.specs.declared.operators.LogicOp.{LogicOp}
 use Rattle.mltl_base.specs.declared.operators.WindowOp.{WindowOp}
 use Rattle.mltl_base.specs.declared.operators.BetweenOp.{BetweenOp}
 use Rattle.mltl_base.specs.declared.operators.CountOp.{CountOp}
-use Rattle.c2po_tree.specs.declared.tree.Expr.{Expr}
-use Rattle.c2po_tree.specs.declared.tree.Node.{Node, Row_of-Expr, end_of-Expr, more_of-Expr, Number, Truth, Ref, Build'}
-use Rattle.c2po_tree.specs.declared.tree.Node.{Group', Pick', Minus', Not', Arith', Compare', Logic', Window', Between'}
-use Rattle.c2po_tree.specs.declared.tree.Node.{Each', Exists', Count'}
+use Rattle.spec_tree.specs.declared.tree.Expr.{Expr}
+use Rattle.spec_tree.specs.declared.tree.Node.{Node, Row_of-Expr, end_of-Expr, more_of-Expr, Number, Truth, Ref, Build'}
+use Rattle.spec_tree.specs.declared.tree.Node.{Group', Pick', Minus', Not', Arith', Compare', Logic', Window', Between'}
+use Rattle.spec_tree.specs.declared.tree.Node.{Each', Exists', Count'}
 
 -- The tree of an expression, as contracts compare it: a box is what it holds, a vector the list of its members.
 -- Each node has its line first; a name is the list of its bytes.

@@ -1,8 +1,8 @@
 //! Copies of expressions. A level of nesting takes little of the stack, since each form has a function of its own.
 
 ghost use Rattle.std.specs.Prelude.{◌≡◌, map, IfOk};
-ghost use Rattle.c2po_tree.specs.Fronts.{enclosed, joined, prefixed, quantified};
-ghost use Rattle.c2po_tree.specs.Shape.{pick, shape};
+ghost use Rattle.spec_tree.specs.Parts.{enclosed, joined, prefixed, quantified};
+ghost use Rattle.spec_tree.specs.Shape.{pick, shape};
 
 use crate::node::{enclose, joined_by, leaf_of, prefixed_by, quantify};
 use crate::operator::{Atom, Bracket, Infix, Prefix, Quantifier};

@@ -1,12 +1,12 @@
 -- Copies one by one.
 use Rattle.std.proofs.Common.{◌≡◌, ℕ, ◌+◌, ◌<◌, List, [], ◌∷◌, ◌++◌, map, take, get_or, length, refl, sym, ap, ◌∙◌, Vec, Global}
 use Rattle.std.proofs.lemmas.List.{take_more}
-use Rattle.c2po_tree.specs.declared.tree.Expr.{Expr}
-use Rattle.c2po_tree.specs.declared.tree.Node.{Group, Build}
-use Rattle.c2po_tree.specs.declared.operator.Bracket.TheVariants.{Curly, Call}
-use Rattle.c2po_tree.specs.Fronts.{enclosed}
-use Rattle.c2po_tree.specs.Shape.{shape, of_list, build, group}
-use Rattle.c2po_tree.proofs.Rows.{shape_of-Build, shape_of-Group}
+use Rattle.spec_tree.specs.declared.tree.Expr.{Expr}
+use Rattle.spec_tree.specs.declared.tree.Node.{Group, Build}
+use Rattle.spec_tree.specs.declared.operator.Bracket.TheVariants.{Curly, Call}
+use Rattle.spec_tree.specs.Parts.{enclosed}
+use Rattle.spec_tree.specs.Shape.{shape, of_list, build, group}
+use Rattle.spec_tree.proofs.Rows.{shape_of-Build, shape_of-Group}
 
 map-push : {X Y : Type 0} (f : X → Y) (xs : List X) (x : X) → map f (xs ++ x ∷ []) ≡ map f xs ++ f x ∷ []
 map-push f [] x = refl

@@ -1,9 +1,9 @@
 use Rattle.std.proofs.Common.{ap, refl, sym, ◌∙◌, map}
-use Rattle.c2po_tree.specs.declared.tree.Node.{Group, Build}
-use Rattle.c2po_tree.specs.Shape.{shape}
-use Rattle.c2po_tree.specs.Fronts.{enclosed}
-use Rattle.c2po_tree.proofs.Rows.{shape_of-Group, shape_of-Build}
-use Rattle.c2po_tree.proofs.node.enclose.Goals as goal
+use Rattle.spec_tree.specs.declared.tree.Node.{Group, Build}
+use Rattle.spec_tree.specs.Shape.{shape}
+use Rattle.spec_tree.specs.Parts.{enclosed}
+use Rattle.spec_tree.proofs.Rows.{shape_of-Group, shape_of-Build}
+use Rattle.spec_tree.proofs.node.enclose.Goals as goal
 
 pub returns-in-Curly : goal.returns-in-Curly
 returns-in-Curly c =

@@ -1,8 +1,8 @@
 use Rattle.std.proofs.Common.{◌≡◌, ℕ, List, map, refl, ap, ◌∙◌, Vec, Global}
-use Rattle.c2po_tree.specs.declared.tree.Expr.{Expr}
-use Rattle.c2po_tree.specs.declared.tree.Node.{Group, Build, Row_of-Expr, end_of-Expr, more_of-Expr}
-use Rattle.c2po_tree.specs.declared.tree.Node.TheBlock.{items-the_row-Expr, items_hidden-the_row-Expr-0, hidden-the_row-Expr-0}
-use Rattle.c2po_tree.specs.Shape.{shape, row_shape, of_list, node_shape, more, shapes, group, build}
+use Rattle.spec_tree.specs.declared.tree.Expr.{Expr}
+use Rattle.spec_tree.specs.declared.tree.Node.{Group, Build, Row_of-Expr, end_of-Expr, more_of-Expr}
+use Rattle.spec_tree.specs.declared.tree.Node.TheBlock.{items-the_row-Expr, items_hidden-the_row-Expr-0, hidden-the_row-Expr-0}
+use Rattle.spec_tree.specs.Shape.{shape, row_shape, of_list, node_shape, more, shapes, group, build}
 
 -- a row of expressions has the shapes of its members
 pub row_list : {n : _} (row : Row_of-Expr n) → row_shape row ≡ of_list (map shape (items-the_row-Expr n row))

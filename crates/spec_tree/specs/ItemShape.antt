@@ -1,12 +1,12 @@
 use Rattle.std.specs.Prelude.{ℕ, List, Option, map}
 use Rattle.mltl_base.specs.declared.interval.Engine.{Engine}
-use Rattle.c2po_tree.specs.declared.item.TypeTree.{TypeTree, Named, Set'}
-use Rattle.c2po_tree.specs.declared.item.FieldDecl.{FieldDecl}
-use Rattle.c2po_tree.specs.declared.item.Body.{Body}
-use Rattle.c2po_tree.specs.declared.item.Body.TheVariants.{Struct, Input, Define, Formula, Contract}
-use Rattle.c2po_tree.specs.declared.item.Item.{Item}
-use Rattle.c2po_tree.specs.declared.item.SpecTree.{SpecTree}
-use Rattle.c2po_tree.specs.Shape.{Shape, shape}
+use Rattle.spec_tree.specs.declared.item.TypeTree.{TypeTree, Named, Set'}
+use Rattle.spec_tree.specs.declared.item.FieldDecl.{FieldDecl}
+use Rattle.spec_tree.specs.declared.item.Body.{Body}
+use Rattle.spec_tree.specs.declared.item.Body.TheVariants.{Struct, Input, Define, Formula, Contract}
+use Rattle.spec_tree.specs.declared.item.Item.{Item}
+use Rattle.spec_tree.specs.declared.item.SpecTree.{SpecTree}
+use Rattle.spec_tree.specs.Shape.{Shape, shape}
 
 -- The trees of items, as contracts compare them. A name is the list of its bytes.
 

@@ -1,7 +1,7 @@
 use Rattle.std.proofs.Common.{◌≡◌, IfOk, subst}
-use Rattle.c2po_tree.specs.Shape.{Shape, shape}
-use Rattle.c2po_tree.proofs.Copying.{copied-more, enclosed-Build, enclosed-Group}
-use Rattle.c2po_tree.proofs.copy.expression.+copying.Goals as goal
+use Rattle.spec_tree.specs.Shape.{Shape, shape}
+use Rattle.spec_tree.proofs.Copying.{copied-more, enclosed-Build, enclosed-Group}
+use Rattle.spec_tree.proofs.copy.expression.+copying.Goals as goal
 
 pub copy_all-loop-expr-preserved : goal.copy_all-loop-expr-preserved
 copy_all-loop-expr-preserved t c = copied-more shape c.args.exprs.now c.loop-expr.copies.items _ c.loop-expr.expr-index c.expr-item.result c.in_ok-copy.copy

@@ -1,0 +1,20 @@
+//! The trees of a specification: items, types and expressions, the parts that expressions are made of, and copies.
+//!
+//! A contract says which tree it means by its shape, which this crate's `specs/` define: two trees of one shape have the
+//! same nodes with the same lines. `copy_tree` gives a second tree of the same shape. How tokens are read into these trees
+//! is told in `c2po_tree` and `c2po_parse`; what needs only the trees stands on this crate alone.
+//!
+//! ```text
+//! let expr = node::leaf_of(1, operator::Atom::Truth(true)); // the tree of `true` in line 1
+//! ```
+#![tactic(auto)]
+
+mod copy;
+pub mod item;
+pub mod node;
+pub mod operator;
+pub mod tree;
+
+pub use copy::{copy_tree, copy_type, field_names};
+pub use item::{Body, FieldDecl, Item, SpecTree, TypeTree};
+pub use tree::{Expr, Node};
