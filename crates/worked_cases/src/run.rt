@@ -14,11 +14,6 @@ use mltl_tools::{Words, c2po_main, r2u2_main};
 use std::alloc::{AllocError, Global};
 use tool_io::{Host, MemHost, Place};
 
-/// The events and bytes for which a host has room: more than the longest case needs.
-const EVENTS: usize = 2_000_000;
-
-const BYTES: usize = 17_000_000;
-
 /// A run that a script asks for, and what it is to give.
 #[derive(Drop)]
 pub struct Asked {
@@ -55,7 +50,7 @@ fn put_files(host: &mut MemHost, files: &[NamedBytes]) -> Result<(), AllocError>
 
 /// The host of a run, with the files of its case in place of those of all cases.
 fn host_of(alloc: Global, scenes: &Scenes, setting: Setting) -> Result<MemHost, AllocError> {
-    let mut host = MemHost::make(alloc, EVENTS, BYTES)?;
+    let mut host = MemHost::make(alloc, scenes.room.events, scenes.room.bytes)?;
     put_files(&mut host, scenes.common.files.as_slice())?;
     put_files(&mut host, scenes.own.files.as_slice())?;
     if let Some((place, call)) = setting.failing {

@@ -5,6 +5,36 @@ use crate::piece::{Piece, hex_bytes, numbered};
 use anyhow::{Context, Result, bail};
 use std::alloc::{AllocError, Global};
 
+/// The events and bytes for which a host has room.
+#[derive(Clone, Copy)]
+pub struct Room {
+    pub events: usize,
+    pub bytes: usize,
+}
+
+/// More than a case needs whose name doesn't end in `(long)`.
+const SHORT: Room = Room {
+    events: 20_000,
+    bytes: 200_000,
+};
+
+/// More than the longest case needs.
+const LONG: Room = Room {
+    events: 2_000_000,
+    bytes: 17_000_000,
+};
+
+impl Room {
+    /// The room of a case, by its name.
+    pub fn of(case: &str) -> Room {
+        if case.ends_with("(long)") {
+            LONG
+        } else {
+            SHORT
+        }
+    }
+}
+
 /// Files, and how many bytes a read gives at most in each of the runs.
 #[derive(Drop)]
 pub struct Scene {
@@ -46,6 +76,7 @@ pub struct Scenes {
     pub common: Scene,
     pub own: Scene,
     pub in_case: bool,
+    pub room: Room,
 }
 
 impl Scenes {
@@ -55,6 +86,7 @@ impl Scenes {
             common: Scene::new(alloc),
             own: Scene::new(alloc),
             in_case: false,
+            room: SHORT,
         }
     }
 

@@ -4,7 +4,7 @@ use crate::outcome::{Outcome, Parts};
 use crate::piece::Piece;
 use crate::print::{print_difference, print_untimely};
 use crate::run::{Asked, outcome_of};
-use crate::scene::Scenes;
+use crate::scene::{Room, Scenes};
 use crate::setting::Setting;
 use crate::step::{Step, step_of};
 use crate::tally::Tally;
@@ -53,6 +53,7 @@ impl Stage {
         }
         self.case = String::from_str(self.alloc, name)?;
         self.scenes.in_case = true;
+        self.scenes.room = Room::of(name);
         self.before = self.tally;
         Ok(())
     }
