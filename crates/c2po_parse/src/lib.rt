@@ -14,6 +14,6 @@ mod form;
 mod parser;
 pub mod section;
 
-pub use c2po_tree::{Body, Expr, FieldDecl, Item, Node, SpecTree, TypeTree};
 pub use fault::ParseFault;
 pub use parser::parse;
+pub use spec_tree::{Body, Expr, FieldDecl, Item, Node, SpecTree, TypeTree};

@@ -3,7 +3,7 @@
 ghost use Rattle.std.specs.Prelude.{◌≡◌, ◌≢◌, ◌<◌, ◌≤◌, ◌++◌, ◌∷◌, [], true, Ok, Err, length, map, All, IfOk, IfErr};
 ghost use Rattle.c2po_lexer.specs.Tokens.{HasPlainName};
 ghost use Rattle.c2po_tree.specs.Names.{ArePlainItems};
-ghost use Rattle.c2po_tree.specs.ItemShape.{item_shape, body_shape, spec_shape};
+ghost use Rattle.spec_tree.specs.ItemShape.{item_shape, body_shape, spec_shape};
 ghost use Rattle.c2po_parse.specs.Sections.{pieces, begins_item, ended_of, tail_of};
 ghost use Rattle.c2po_parse.specs.Specification.{piece_trees, with_first, reads_on, spec_of, with_line, piece_body};
 
@@ -11,9 +11,10 @@ use crate::ParseFault;
 use crate::form::read_body;
 use crate::section::{Section, piece_end, section_begun};
 use c2po_lexer::{Token, Tokens};
-use c2po_tree::{Item, SpecTree, TreeFault};
+use c2po_tree::TreeFault;
 use mltl_base::List;
 use mltl_base::limits::MAX_ITEM_TOKENS;
+use spec_tree::{Item, SpecTree};
 use std::alloc::Global;
 
 /// An item on a line from its tokens and what stands after them.

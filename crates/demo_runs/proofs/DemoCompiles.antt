@@ -7,7 +7,7 @@ use Rattle.mltl_base.specs.declared.program.Program.{Program}
 use Rattle.mltl_base.specs.declared.signal.Signal.{Signal}
 use Rattle.c2po_lexer.specs.declared.token.Token.{Token}
 use Rattle.c2po_lexer.specs.Tokens.{tokens_of}
-use Rattle.c2po_tree.specs.ItemShape.{ItemShape}
+use Rattle.spec_tree.specs.ItemShape.{ItemShape}
 use Rattle.c2po_parse.specs.Specification.{spec_of}
 use Rattle.c2po_types.specs.FirstFault.{first_fault}
 use Rattle.c2po_types.specs.Signals.{signals_of}

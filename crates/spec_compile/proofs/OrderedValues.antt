@@ -16,10 +16,10 @@ use Rattle.mltl_base.specs.Formula.{Formula}
 use Rattle.mltl_base.specs.Settled.{IsOrdered}
 use Rattle.mltl_base.specs.Subformulas.{Asked, formulas_of}
 use Rattle.count_sets.specs.Counting as counting
-use Rattle.c2po_tree.specs.ItemShape as item
-use Rattle.c2po_tree.specs.ItemShape.{BodyShape, ItemShape}
-use Rattle.c2po_tree.specs.Shape as tree
-use Rattle.c2po_tree.specs.Shape.{Shape, Shapes}
+use Rattle.spec_tree.specs.ItemShape as item
+use Rattle.spec_tree.specs.ItemShape.{BodyShape, ItemShape}
+use Rattle.spec_tree.specs.Shape as tree
+use Rattle.spec_tree.specs.Shape.{Shape, Shapes}
 use Rattle.c2po_types.specs.FirstFault.{with_signals}
 use Rattle.c2po_types.specs.Signals.{body_signals}
 use Rattle.plain_nodes.specs.Nodes.{Tree, number, formula, constant_formula, connected, windowed, ranged}

@@ -1,7 +1,7 @@
 //! The signals of a checked specification.
 
 ghost use Rattle.std.specs.Prelude.{◌≡◌, ◌≤◌, length};
-ghost use Rattle.c2po_tree.specs.ItemShape.{spec_shape};
+ghost use Rattle.spec_tree.specs.ItemShape.{spec_shape};
 ghost use Rattle.c2po_tree.specs.Names.{ArePlainItems};
 ghost use Rattle.c2po_types.specs.Signals.{signals_of as declared};
 ghost use Rattle.mltl_base.specs.Kinds.{HaveOwnNames};

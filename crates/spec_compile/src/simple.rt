@@ -1,7 +1,7 @@
 //! From a checked specification to its program in simplified form.
 
 ghost use Rattle.std.specs.Prelude.{◌≡◌, ◌<◌, ◌^◌, None, length, if◌then◌else◌, nat_le, IfErr, IfOk, OnOk};
-ghost use Rattle.c2po_tree.specs.ItemShape.{spec_shape};
+ghost use Rattle.spec_tree.specs.ItemShape.{spec_shape};
 ghost use Rattle.c2po_types.specs.Signals.{signals_of as declared};
 ghost use Rattle.obs_files.specs.Names.{NamesFit};
 ghost use Rattle.c2po_types.specs.Outputs.{outputs_of};

@@ -1,6 +1,6 @@
 use Rattle.std.proofs.lemmas.Result.{err_from_is_err_and}
 use Rattle.std.specs.Option.{option_copied}
-use Rattle.c2po_tree.specs.ItemShape.{spec_shape}
+use Rattle.spec_tree.specs.ItemShape.{spec_shape}
 use Rattle.spec_compile.proofs.CompiledLaws.{text_refused, header_answer, back_answers, back_refuses}
 use Rattle.spec_compile.proofs.compiling.compile.Goals as goal
 

@@ -3,7 +3,7 @@ use Rattle.std.specs.Prelude.{All}
 use Rattle.mltl_base.specs.Kinds.{ReadsSignals, kinds_of}
 use Rattle.mltl_base.specs.Subformulas.{Asked}
 use Rattle.mltl_simplify.specs.Outputs.{simple_outputs}
-use Rattle.c2po_tree.specs.ItemShape.{spec_shape}
+use Rattle.spec_tree.specs.ItemShape.{spec_shape}
 use Rattle.c2po_types.specs.Signals.{signals_of}
 use Rattle.plain_nodes.specs.Outputs.{asked}
 use Rattle.c2po_types.specs.Outputs.{outputs_of}
