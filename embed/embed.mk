@@ -2,7 +2,7 @@
 # make embed                  proves and builds the library into build/x86_64/: archives, headers and arena
 # make embed TARGET=aarch64   the same for that processor, into build/aarch64/
 # make check-embed            builds and runs what lies in embed/ and examples/embed/, for both processors, or for TARGET alone
-# make python                 build/libr2u2.so, which embed/python/r2u2.py calls
+# make python                 build/libr2u2.so, which embed/python/r2u2.py and tools/budget call
 # make deb                    a Debian package of all that `make install` installs
 #
 # LIBRARY=FILE takes an archive that was built before, of TARGET, in the place of proving and building one.
@@ -138,9 +138,11 @@ check-rust: | $(TRIES)
 	  cmp $(TRIES)/rust.out $(EXPECTED); \
 	else echo 'check-embed: no cargo, so the example in Rust is passed over'; fi
 
-python: build/libr2u2.so
+SHARED_OBJECT = build/libr2u2.so
 
-build/libr2u2.so: $(EMBED)/libr2u2.a
+python: $(SHARED_OBJECT)
+
+$(SHARED_OBJECT): $(EMBED)/libr2u2.a
 	$(CC) -shared -Wl,--whole-archive $(EMBED)/libr2u2.a -Wl,--no-whole-archive $(EMBED)/libr2u2_heap.a -o $@
 
 check-python: python | $(TRIES)
@@ -156,9 +158,17 @@ INSTALLED_SOURCES = embed/arena.c embed/arena.h embed/constant embed/cpp/r2u2.hp
 install: install-embed
 uninstall: uninstall-embed
 
-install-embed: $(EMBED)/libr2u2.a
-	install -d $(INTO)/lib/pkgconfig $(INTO)/include $(INTO)/share/man/man3 $(INTO)/share/r2u2/embed
+# The shared object stands in a folder of its own, so that -lr2u2 finds the archive. It is for the processor of the tools.
+ifeq ($(TARGET),x86_64)
+INSTALLED_OBJECT = $(SHARED_OBJECT)
+endif
+
+install-embed: $(EMBED)/libr2u2.a $(INSTALLED_OBJECT)
+	install -d $(INTO)/lib/pkgconfig $(INTO)/lib/r2u2 $(INTO)/include $(INTO)/share/man/man3 $(INTO)/share/r2u2/embed
 	install -m 644 $(INSTALLED_LIBRARIES:%=$(EMBED)/%) $(INTO)/lib
+ifneq ($(INSTALLED_OBJECT),)
+	install -m 644 $(INSTALLED_OBJECT) $(INTO)/lib/r2u2/libr2u2.so
+endif
 	install -m 644 $(INSTALLED_HEADERS) $(INTO)/include
 	install -m 644 $(INSTALLED_SOURCES) $(INTO)/share/r2u2/embed
 	chmod 755 $(INTO)/share/r2u2/embed/constant
@@ -172,7 +182,7 @@ install-embed: $(EMBED)/libr2u2.a
 uninstall-embed:
 	rm -f $(INSTALLED_LIBRARIES:%=$(INTO)/lib/%) $(addprefix $(INTO)/include/,$(notdir $(INSTALLED_HEADERS)))
 	rm -f $(INTO)/share/man/man3/r2u2.3 $(INTO)/lib/pkgconfig/r2u2.pc
-	rm -rf $(INTO)/share/r2u2/embed
+	rm -rf $(INTO)/share/r2u2/embed $(INTO)/lib/r2u2
 
 # The example builds and runs outside the repository, by what was installed alone.
 check-installed: | $(TRIES)

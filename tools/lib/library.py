@@ -7,6 +7,11 @@ from programs import BUILT
 from tell import Trouble
 
 DONE, NO_MEMORY = 0, 4
+# The repository, or the folder share/r2u2 of what `make install` put under a PREFIX.
+HOME = BUILT.parent
+INSTALLED = not (HOME / "Makefile").is_file()
+OWN = HOME.parent.parent / "lib/r2u2/libr2u2.so" if INSTALLED else BUILT / "libr2u2.so"
+MADE_BY = "`make install` puts it there" if INSTALLED else "`make python` builds it"
 
 
 class _Fault(ctypes.Structure):
@@ -15,13 +20,13 @@ class _Fault(ctypes.Structure):
 
 
 def path():
-    """The file that R2U2_LIBRARY names, else the one in build/."""
-    return os.environ.get("R2U2_LIBRARY") or str(BUILT / "libr2u2.so")
+    """The file that R2U2_LIBRARY names, else the one in build/, or of installed tools the one that was installed with them."""
+    return os.environ.get("R2U2_LIBRARY") or str(OWN)
 
 
 def why_none():
     """Why no library can be asked, in words; nothing where one is there."""
-    return "" if os.path.isfile(path()) else f"no {path()}: `make python` builds it, and R2U2_LIBRARY may name another"
+    return "" if os.path.isfile(path()) else f"no {path()}: {MADE_BY}, and R2U2_LIBRARY may name another"
 
 
 def bytes_of(program):

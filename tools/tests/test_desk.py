@@ -164,9 +164,9 @@ class Installed(Case):
     def make(self, goal):
         for name in ("r2u2", "c2po"):
             self.file(name, "#!/bin/sh\n").chmod(0o755)
-        for name in ("libr2u2.a", "libr2u2_heap.a"):
+        for name in ("libr2u2.a", "libr2u2_heap.a", "libr2u2.so"):
             self.file(name, "")
-        line = 'make -C "$ROOT" -s "$GOAL" DESTDIR="$INTO" PREFIX=/usr BUILT="$FOLDER/r2u2 $FOLDER/c2po" EMBED="$FOLDER"'
+        line = 'make -C "$ROOT" -s "$GOAL" DESTDIR="$INTO" PREFIX=/usr BUILT="$FOLDER/r2u2 $FOLDER/c2po" EMBED="$FOLDER" SHARED_OBJECT="$FOLDER/libr2u2.so"'
         told = shell(line, ROOT=ROOT, GOAL=goal, INTO=self.folder / "into", FOLDER=self.folder)
         self.assertEqual(told, (0, "", ""))
         into = self.folder / "into/usr"
@@ -183,7 +183,7 @@ class Installed(Case):
             status, out, errors = shell('"$TOOL" --help', TOOL=self.folder / "into/usr/bin" / tool)
             self.assertEqual((status, errors), (0, ""))
             self.assertIn(f"usage: {tool} ", out)
-        for path in ("lib/libr2u2.a", "lib/libr2u2_heap.a", "include/r2u2.h", "include/r2u2_checked.h"):
+        for path in ("lib/libr2u2.a", "lib/libr2u2_heap.a", "lib/r2u2/libr2u2.so", "include/r2u2.h", "include/r2u2_checked.h"):
             self.assertIn(path, found)
         for path in (ROOT / "docs/man").iterdir():
             self.assertIn(f"share/man/man{path.suffix[1:]}/{path.name}", found)
@@ -194,3 +194,16 @@ class Installed(Case):
         lib = {path.name for path in (TOOLS / "lib").iterdir() if path.is_file()}
         self.assertEqual({path.rpartition("/")[2] for path in found if "/tools/lib/" in path}, lib)
         self.assertEqual(self.make("uninstall"), set())
+
+    def test_the_library_of_budget(self):
+        """An installed budget asks the library that was installed with it: bytes can be limited where that is there."""
+        needs("make")
+        self.make("install")
+        into = self.folder / "into/usr"
+        asked = lambda: shell('env -u R2U2_LIBRARY "$TOOL" --max-bytes 1 nowhere.c2po', TOOL=into / "bin/r2u2-budget")
+        self.assertNotIn("libr2u2.so", asked()[2])
+        (into / "lib/r2u2/libr2u2.so").unlink()
+        status, out, errors = asked()
+        self.assertEqual((status, out), (2, ""))
+        self.one_line(errors)
+        self.assertIn(f"no {into.resolve()}/lib/r2u2/libr2u2.so: ", errors)

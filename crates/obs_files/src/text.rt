@@ -1,13 +1,13 @@
 //! Faults of programs in words.
 
-ghost use Rattle.std.specs.Prelude.{◌≡◌, ◌+◌, ◌≤◌, ◌++◌, decimal, length};
+ghost use Rattle.std.specs.Prelude.{◌≡◌, ◌+◌, ◌≤◌, ◌++◌, length};
 ghost use Rattle.arrayvec.specs.ArrayVec.{array_vec_len};
 ghost use Rattle.obs_files.specs.Texts.{fault_text};
 ghost use Rattle.obs_verify.specs.FaultTexts.{numbered, parted};
 
 use crate::ProgramFault;
+use crate::adding::{add, add_number};
 use arrayvec::ArrayVec;
-use itoa::Buffer;
 use mltl_base::Part;
 use obs_verify::name_of_part;
 use std::{fmt, str};
@@ -83,22 +83,4 @@ fn add_parted(text: &mut Text, name: &[u8], part: Part, n: u32)
     add(text, name_of_part(part).as_bytes());
     add(text, b" ");
     add_number(text, u64::from(n));
-}
-
-/// Puts a number after a text that has room for it.
-fn add_number(text: &mut Text, n: u64)
-    requires { array_vec_len text.old + 20 ≤ 40 }
-    ensures { text.new.items ≡ text.old.items ++ decimal n }
-{
-    let mut buffer = Buffer::new();
-    add(text, buffer.format(n).as_bytes());
-}
-
-/// Puts a piece after a text that has room for it.
-fn add(text: &mut Text, piece: &[u8])
-    requires { array_vec_len text.old + length piece.now ≤ 40 }
-    ensures items { text.new.items ≡ text.old.items ++ piece.now }
-    ensures len { array_vec_len text.new ≡ array_vec_len text.old + length piece.now }
-{
-    text.try_extend_from_slice(piece).unwrap();
 }

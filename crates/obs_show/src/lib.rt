@@ -8,6 +8,7 @@ mod naming;
 mod operation;
 mod references;
 mod showing;
+mod shown;
 mod text;
 mod weights;
 

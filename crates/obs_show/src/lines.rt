@@ -1,29 +1,41 @@
 //! The lines of a program.
 
-ghost use Rattle.std.specs.Prelude.{◌≡◌, ◌++◌, ◌<◌, ℕ, OnOk, codes, length, slice_index};
+ghost use Rattle.std.specs.Prelude.{◌≡◌, ◌++◌, ℕ, OnOk, codes, slice_index};
 ghost use Rattle.mltl_base.specs.declared.program.Program.{Program as Observer};
 ghost use Rattle.obs_show.specs.Naming.{numbered_name};
-ghost use Rattle.obs_show.specs.Showing.{NamesAll, reference_at, written_form, written_line};
-ghost use Rattle.obs_show.specs.Text.{bz_form, bz_line, ft_form, ft_line, interval_text, label_of, label_text, line_text, output_line, pt_form, pt_line, reference_in, reference_text, section_text, signal_line, spaced};
+ghost use Rattle.obs_show.specs.Showing.{NamesAll, reference_at, written_form};
+ghost use Rattle.obs_show.specs.Text.{bz_form, ft_form, interval_text, label_of, label_text, pt_form, reference_in, reference_text, section_text, spaced};
 
 use crate::names::add_number;
 use crate::naming::Naming;
 use crate::operation::Instruction;
 use crate::references::{add_defined_name, add_reference};
+use crate::shown::Shown;
 use itoa::Buffer;
 use mltl_base::{BzOp, Engine, FtOp, Interval, Name, Out, Part, Program, PtOp, StoredSignal};
 use std::alloc::AllocError;
 
-/// Adds the line of a signal.
-pub(crate) fn add_signal(text: &mut Vec<u8>, signal: &StoredSignal) -> Result<(), AllocError>
-    ensures { OnOk result (text.new.items ≡ text.old.items ++ line_text (signal_line signal.now)) }
-{
-    text.extend_from_slice(b"INPUT ")?;
-    text.extend_from_slice(signal.name.bytes())?;
-    if signal.truth {
-        text.extend_from_slice(b": bool;\n")
-    } else {
-        text.extend_from_slice(b": int;\n")
+impl Shown for StoredSignal {
+    ghost use Rattle.obs_show.specs.Writing.{signal_bytes};
+
+    ghost members = { λ program. program.signals };
+
+    ghost bytes = { λ _. signal_bytes };
+
+    fn add_line(
+        &self,
+        text: &mut Vec<u8>,
+        _program: &Program,
+        _naming: &Naming,
+        _k: usize,
+    ) -> Result<(), AllocError> {
+        text.extend_from_slice(b"INPUT ")?;
+        text.extend_from_slice(self.name.bytes())?;
+        if self.truth {
+            text.extend_from_slice(b": bool;\n")
+        } else {
+            text.extend_from_slice(b": int;\n")
+        }
     }
 }
 
@@ -176,67 +188,73 @@ fn add_pt_form(
     }
 }
 
-/// Adds the line of an instruction of the Booleanizer, if it is an operation.
-pub(crate) fn add_bz_line(
-    text: &mut Vec<u8>,
-    program: &Program,
-    naming: &Naming,
-    i: usize,
-    op: BzOp,
-) -> Result<(), AllocError>
-    requires names { NamesAll program.now naming.now }
-    requires there { i < length program.now.bz }
-    ensures { OnOk result (text.new.items ≡ text.old.items
-        ++ written_line (bz_line program.now i op)) }
-{
-    if !op.is_operation() {
-        return Ok(());
+impl Shown for BzOp {
+    ghost use Rattle.obs_show.specs.Writing.{bz_bytes};
+
+    ghost members = { λ program. program.bz };
+
+    ghost bytes = { bz_bytes };
+
+    fn add_line(
+        &self,
+        text: &mut Vec<u8>,
+        program: &Program,
+        naming: &Naming,
+        i: usize,
+    ) -> Result<(), AllocError> {
+        if !self.is_operation() {
+            return Ok(());
+        }
+        begin_define(text, naming, naming.bz[i])?;
+        add_bz_form(text, program, naming, *self)?;
+        text.extend_from_slice(b";\n")
     }
-    begin_define(text, naming, naming.bz[i])?;
-    add_bz_form(text, program, naming, op)?;
-    text.extend_from_slice(b";\n")
 }
 
-/// Adds the line of an instruction of future time, if it is an operation.
-pub(crate) fn add_ft_line(
-    text: &mut Vec<u8>,
-    program: &Program,
-    naming: &Naming,
-    i: usize,
-    op: FtOp,
-) -> Result<(), AllocError>
-    requires names { NamesAll program.now naming.now }
-    requires there { i < length program.now.ft }
-    ensures { OnOk result (text.new.items ≡ text.old.items
-        ++ written_line (ft_line program.now i op)) }
-{
-    if !op.is_operation() {
-        return Ok(());
+impl Shown for FtOp {
+    ghost use Rattle.obs_show.specs.Writing.{ft_bytes};
+
+    ghost members = { λ program. program.ft };
+
+    ghost bytes = { ft_bytes };
+
+    fn add_line(
+        &self,
+        text: &mut Vec<u8>,
+        program: &Program,
+        naming: &Naming,
+        i: usize,
+    ) -> Result<(), AllocError> {
+        if !self.is_operation() {
+            return Ok(());
+        }
+        begin_define(text, naming, naming.ft[i])?;
+        add_ft_form(text, program, naming, *self)?;
+        text.extend_from_slice(b";\n")
     }
-    begin_define(text, naming, naming.ft[i])?;
-    add_ft_form(text, program, naming, op)?;
-    text.extend_from_slice(b";\n")
 }
 
-/// Adds the line of an instruction of past time, if it is an operation.
-pub(crate) fn add_pt_line(
-    text: &mut Vec<u8>,
-    program: &Program,
-    naming: &Naming,
-    i: usize,
-    op: PtOp,
-) -> Result<(), AllocError>
-    requires names { NamesAll program.now naming.now }
-    requires there { i < length program.now.pt }
-    ensures { OnOk result (text.new.items ≡ text.old.items
-        ++ written_line (pt_line program.now i op)) }
-{
-    if !op.is_operation() {
-        return Ok(());
+impl Shown for PtOp {
+    ghost use Rattle.obs_show.specs.Writing.{pt_bytes};
+
+    ghost members = { λ program. program.pt };
+
+    ghost bytes = { pt_bytes };
+
+    fn add_line(
+        &self,
+        text: &mut Vec<u8>,
+        program: &Program,
+        naming: &Naming,
+        i: usize,
+    ) -> Result<(), AllocError> {
+        if !self.is_operation() {
+            return Ok(());
+        }
+        begin_define(text, naming, naming.pt[i])?;
+        add_pt_form(text, program, naming, *self)?;
+        text.extend_from_slice(b";\n")
     }
-    begin_define(text, naming, naming.pt[i])?;
-    add_pt_form(text, program, naming, op)?;
-    text.extend_from_slice(b";\n")
 }
 
 /// Adds the section of an output, and its label where its name isn't its number.
@@ -267,29 +285,32 @@ fn part_of(engine: Engine) -> Part
     }
 }
 
-/// Adds the line of output `k`.
-pub(crate) fn add_output(
-    text: &mut Vec<u8>,
-    program: &Program,
-    naming: &Naming,
-    k: usize,
-    output: &Out,
-) -> Result<(), AllocError>
-    requires { NamesAll program.now naming.now }
-    ensures { OnOk result (text.new.items ≡ text.old.items
-        ++ line_text (output_line program.now k output.now)) }
-{
-    match output {
-        Out::Formula(engine, i, name) => {
-            begin_output(text, *engine, k, name)?;
-            add_reference(text, program, naming, part_of(*engine), *i)?;
+impl Shown for Out {
+    ghost use Rattle.obs_show.specs.Writing.{output_bytes};
+
+    ghost members = { λ program. program.outs };
+
+    ghost bytes = { output_bytes };
+
+    fn add_line(
+        &self,
+        text: &mut Vec<u8>,
+        program: &Program,
+        naming: &Naming,
+        k: usize,
+    ) -> Result<(), AllocError> {
+        match self {
+            Out::Formula(engine, i, name) => {
+                begin_output(text, *engine, k, name)?;
+                add_reference(text, program, naming, part_of(*engine), *i)?;
+            }
+            Out::Contract(engine, i, j, name) => {
+                begin_output(text, *engine, k, name)?;
+                add_reference(text, program, naming, part_of(*engine), *i)?;
+                text.extend_from_slice(b" => ")?;
+                add_reference(text, program, naming, part_of(*engine), *j)?;
+            }
         }
-        Out::Contract(engine, i, j, name) => {
-            begin_output(text, *engine, k, name)?;
-            add_reference(text, program, naming, part_of(*engine), *i)?;
-            text.extend_from_slice(b" => ")?;
-            add_reference(text, program, naming, part_of(*engine), *j)?;
-        }
+        text.extend_from_slice(b";\n")
     }
-    text.extend_from_slice(b";\n")
 }

@@ -4,12 +4,12 @@ ghost use Rattle.std.specs.Prelude.{◌≡◌, ◌≢◌, ◌≤◌, ◌<◌, Al
 ghost use Rattle.obs_show.specs.declared.fault.ShowFault.TheVariants.{Memory, TooLong};
 ghost use Rattle.obs_show.specs.Showing.{NamesAll};
 ghost use Rattle.obs_show.specs.Text.{text as text_of};
-ghost use Rattle.obs_show.specs.Writing.{Adds, bz_bytes, ft_bytes, output_bytes, pt_bytes, signal_bytes, written};
+ghost use Rattle.obs_show.specs.Writing.{Adds, written};
 ghost use Rattle.obs_verify.specs.Layout.{HasLayout};
 
 use crate::fault::ShowFault;
-use crate::lines::{add_bz_line, add_ft_line, add_output, add_pt_line, add_signal};
 use crate::naming::Naming;
+use crate::shown::Shown;
 use mltl_base::Program;
 use mltl_base::limits::MAX_SHOWN_BYTES;
 use std::alloc::Global;
@@ -25,81 +25,29 @@ pub(crate) fn write(alloc: Global, program: &Program) -> Result<Vec<u8>, ShowFau
 {
     let naming = Naming::of(alloc, program)?;
     let mut text = Vec::new(alloc);
-    add_signals(&mut text, program)?;
-    add_bz(&mut text, program, &naming)?;
-    add_ft(&mut text, program, &naming)?;
-    add_pt(&mut text, program, &naming)?;
-    add_outputs(&mut text, program, &naming)?;
+    add_all(&mut text, program, &naming, program.signals.as_slice())?;
+    add_all(&mut text, program, &naming, program.bz.as_slice())?;
+    add_all(&mut text, program, &naming, program.ft.as_slice())?;
+    add_all(&mut text, program, &naming, program.pt.as_slice())?;
+    add_all(&mut text, program, &naming, program.outs.as_slice())?;
     Ok(text)
 }
 
-fn add_signals(text: &mut Vec<u8>, program: &Program) -> Result<(), ShowFault>
-    requires { length text.old.items ≤ MAX_SHOWN_BYTES }
-    ensures { Adds text.old.items result text.new.items
-        (written signal_bytes 0 program.now.signals) }
-{
-    for signal in program.signals.as_slice() {
-        add_signal(text, signal)?;
-        if text.len() > MAX_SHOWN_BYTES {
-            return Err(ShowFault::TooLong);
-        }
-    }
-    Ok(())
-}
-
-fn add_bz(text: &mut Vec<u8>, program: &Program, naming: &Naming) -> Result<(), ShowFault>
+/// Adds the lines of all members of one kind, as long as the text isn't too long.
+fn add_all<T: Shown>(
+    text: &mut Vec<u8>,
+    program: &Program,
+    naming: &Naming,
+    members: &[T],
+) -> Result<(), ShowFault>
     requires names { NamesAll program.now naming.now }
+    requires all { members.now ≡ T.members program.now }
     requires short { length text.old.items ≤ MAX_SHOWN_BYTES }
     ensures { Adds text.old.items result text.new.items
-        (written (bz_bytes program.now) 0 program.now.bz) }
+        (written (T.bytes program.now) 0 (T.members program.now)) }
 {
-    for (i, op) in program.bz.as_slice().iter().enumerate() {
-        add_bz_line(text, program, naming, i, *op)?;
-        if text.len() > MAX_SHOWN_BYTES {
-            return Err(ShowFault::TooLong);
-        }
-    }
-    Ok(())
-}
-
-fn add_ft(text: &mut Vec<u8>, program: &Program, naming: &Naming) -> Result<(), ShowFault>
-    requires names { NamesAll program.now naming.now }
-    requires short { length text.old.items ≤ MAX_SHOWN_BYTES }
-    ensures { Adds text.old.items result text.new.items
-        (written (ft_bytes program.now) 0 program.now.ft) }
-{
-    for (i, op) in program.ft.as_slice().iter().enumerate() {
-        add_ft_line(text, program, naming, i, *op)?;
-        if text.len() > MAX_SHOWN_BYTES {
-            return Err(ShowFault::TooLong);
-        }
-    }
-    Ok(())
-}
-
-fn add_pt(text: &mut Vec<u8>, program: &Program, naming: &Naming) -> Result<(), ShowFault>
-    requires names { NamesAll program.now naming.now }
-    requires short { length text.old.items ≤ MAX_SHOWN_BYTES }
-    ensures { Adds text.old.items result text.new.items
-        (written (pt_bytes program.now) 0 program.now.pt) }
-{
-    for (i, op) in program.pt.as_slice().iter().enumerate() {
-        add_pt_line(text, program, naming, i, *op)?;
-        if text.len() > MAX_SHOWN_BYTES {
-            return Err(ShowFault::TooLong);
-        }
-    }
-    Ok(())
-}
-
-fn add_outputs(text: &mut Vec<u8>, program: &Program, naming: &Naming) -> Result<(), ShowFault>
-    requires names { NamesAll program.now naming.now }
-    requires short { length text.old.items ≤ MAX_SHOWN_BYTES }
-    ensures { Adds text.old.items result text.new.items
-        (written (output_bytes program.now) 0 program.now.outs) }
-{
-    for (k, output) in program.outs.as_slice().iter().enumerate() {
-        add_output(text, program, naming, k, output)?;
+    for (k, member) in members.iter().enumerate() {
+        member.add_line(text, program, naming, k)?;
         if text.len() > MAX_SHOWN_BYTES {
             return Err(ShowFault::TooLong);
         }

@@ -12,7 +12,7 @@ use Rattle.mltl_monitor.specs.declared.row_fault.RowFault.TheVariants.{ReportsLe
 use Rattle.mltl_monitor.specs.RowFaults.{IsRowCause}
 use Rattle.r2u2_c.specs.declared.codes.TheConstants.{NOT_A_ROW, NOT_OPEN, REPORTS_LEFT, TOO_MANY_ROWS}
 use Rattle.r2u2_c.specs.declared.fault.Fault.{Fault}
-use Rattle.r2u2_c.specs.declared.opening.Refusal.{Refusal}
+use Rattle.r2u2_c.specs.declared.opening.OpeningFault.{OpeningFault}
 use Rattle.r2u2_c.specs.declared.report.Told.{Told}
 use Rattle.r2u2_c.specs.declared.row_why.RowWhy.{RowWhy}
 use Rattle.r2u2_c.specs.Faults.{fault_of}
@@ -20,13 +20,13 @@ use Rattle.r2u2_c.specs.Opening.{IsFresh, Starts}
 use Rattle.r2u2_c.specs.Reports.{shown}
 
 -- none was open, and now a fresh monitor of the program that was found is
-abbrev pub Opens : Result Program Refusal → Option State → Option State → Type 0
+abbrev pub Opens : Result Program OpeningFault → Option State → Option State → Type 0
 Opens found None (Some monitor) = Starts found monitor
 Opens found None None = ⊥
 Opens found (Some before) after = ⊥
 
 -- there is no program, and the fault tells why
-abbrev pub Refuses : Result Program Refusal → Fault → Type 0
+abbrev pub Refuses : Result Program OpeningFault → Fault → Type 0
 Refuses (Err why) fault = fault ≡ fault_of why
 Refuses (Ok program) fault = ⊥
 

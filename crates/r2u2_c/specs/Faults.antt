@@ -1,4 +1,4 @@
--- What C reads of a refusal: its kind, its place and its text.
+-- What C reads of the fault of an opening: its kind, its place and its text.
 
 use Rattle.std.specs.Prelude.{ℕ, List, ◌++◌, codes, drop, length, replicate}
 use Rattle.mltl_base.specs.declared.interval.Part as part
@@ -7,12 +7,12 @@ use Rattle.obs_files.specs.Texts.{fault_text}
 use Rattle.trace_feed.specs.declared.header_fault.HeaderFault.TheVariants as header
 use Rattle.trace_feed.specs.HeaderTexts.{header_fault_text}
 use Rattle.r2u2_c.specs.declared.fault.Fault.{Fault}
-use Rattle.r2u2_c.specs.declared.opening.Refusal.{Refusal}
-use Rattle.r2u2_c.specs.declared.opening.Refusal.TheVariants.{Program, NoSignals, LongHeader, NoHeader, Missing, Twice}
-use Rattle.r2u2_c.specs.declared.opening.Refusal.TheVariants.{Memory}
+use Rattle.r2u2_c.specs.declared.opening.OpeningFault.{OpeningFault}
+use Rattle.r2u2_c.specs.declared.opening.OpeningFault.TheVariants.{Program, NoSignals, LongHeader, NoHeader, Missing, Twice}
+use Rattle.r2u2_c.specs.declared.opening.OpeningFault.TheVariants.{Memory}
 
 -- what is wrong, in words
-abbrev pub text_of : Refusal → List ℕ
+abbrev pub text_of : OpeningFault → List ℕ
 text_of (Program f) = fault_text f
 text_of NoSignals = codes "no signals"
 text_of LongHeader = codes "line too long"
@@ -42,8 +42,8 @@ fault_kind (fault.TheVariants.Output k) = 16
 fault_kind (fault.TheVariants.Size p i) = 17
 fault_kind fault.TheVariants.TooManySlots = 18
 
--- and each other refusal
-abbrev pub kind_of : Refusal → ℕ
+-- and each other fault of an opening
+abbrev pub kind_of : OpeningFault → ℕ
 kind_of (Program f) = fault_kind f
 kind_of NoSignals = 19
 kind_of LongHeader = 20
@@ -65,8 +65,8 @@ fault_part (fault.TheVariants.Interval p i) = part_number p
 fault_part (fault.TheVariants.Size p i) = part_number p
 fault_part f = 0
 
--- the same of a refusal
-abbrev pub part_of : Refusal → ℕ
+-- the same of an opening
+abbrev pub part_of : OpeningFault → ℕ
 part_of (Program f) = fault_part f
 part_of why = 0
 
@@ -86,8 +86,8 @@ fault_place (fault.TheVariants.Output k) = k
 fault_place (fault.TheVariants.Size p i) = i
 fault_place f = 0
 
--- the same of a refusal
-abbrev pub place_of : Refusal → ℕ
+-- the same of an opening
+abbrev pub place_of : OpeningFault → ℕ
 place_of (Program f) = fault_place f
 place_of why = 0
 
@@ -95,6 +95,6 @@ place_of why = 0
 abbrev pub padded : List ℕ → List ℕ
 padded text = text ++ drop (length text) (replicate 96 0)
 
--- what C reads of a refusal
-abbrev pub fault_of : Refusal → Fault
+-- what C reads of the fault of an opening
+abbrev pub fault_of : OpeningFault → Fault
 fault_of why = record { kind = kind_of why; part = part_of why; place = place_of why; text = padded (text_of why) }

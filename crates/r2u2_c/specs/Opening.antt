@@ -14,50 +14,50 @@ use Rattle.trace_feed.specs.Header.{header_meaning}
 use Rattle.mltl_monitor.specs.declared.state.State.{State}
 use Rattle.mltl_monitor.specs.Bytes.{bytes_of, monitor_bytes}
 use Rattle.mltl_monitor.specs.Monitoring.{IsDrained, Stands, program_of}
-use Rattle.r2u2_c.specs.declared.opening.Refusal.{Refusal}
-use Rattle.r2u2_c.specs.declared.opening.Refusal.TheVariants as refusal
+use Rattle.r2u2_c.specs.declared.opening.OpeningFault.{OpeningFault}
+use Rattle.r2u2_c.specs.declared.opening.OpeningFault.TheVariants as opening
 
--- the fault of a file as a refusal
-abbrev pub of_file : FileFault → Refusal
-of_file (file.Program fault) = refusal.Program fault
-of_file file.Memory = refusal.Memory
+-- the fault of a file as one of an opening
+abbrev pub of_file : FileFault → OpeningFault
+of_file (file.Program fault) = opening.Program fault
+of_file file.Memory = opening.Memory
 
--- that of a header as a refusal
-abbrev pub of_header : HeaderFault → Refusal
-of_header header.NoHeader = refusal.NoHeader
-of_header (header.Missing name) = refusal.Missing name
-of_header (header.Twice name) = refusal.Twice name
-of_header header.Memory = refusal.Memory
+-- that of a header as one of an opening
+abbrev pub of_header : HeaderFault → OpeningFault
+of_header header.NoHeader = opening.NoHeader
+of_header (header.Missing name) = opening.Missing name
+of_header (header.Twice name) = opening.Twice name
+of_header header.Memory = opening.Memory
 
--- what a file gives, with the refusal in place of its fault
-abbrev pub unless_refused : Result Program FileFault → Result Program Refusal
+-- what a file gives, with the fault of an opening in place of its own
+abbrev pub unless_refused : Result Program FileFault → Result Program OpeningFault
 unless_refused (Ok program) = Ok program
 unless_refused (Err fault) = Err (of_file fault)
 
 -- the program that these bytes spell, or their first fault
-abbrev pub program_by : List ℕ → Result Program Refusal
+abbrev pub program_by : List ℕ → Result Program OpeningFault
 program_by bytes = unless_refused (opened bytes)
 
 -- a program over the columns that were found
-abbrev pub bound_over : Program → Result Columns HeaderFault → Result Program Refusal
+abbrev pub bound_over : Program → Result Columns HeaderFault → Result Program OpeningFault
 bound_over program (Ok columns) = Ok (bound program columns.width columns.of_signal)
 bound_over program (Err fault) = Err (of_header fault)
 
 -- a program with its signals in the columns that a header names; one of version 1 stores no signals
-abbrev pub bound_by : List ℕ → Program → Result Program Refusal
+abbrev pub bound_by : List ℕ → Program → Result Program OpeningFault
 bound_by line program =
     if program.version == 2
     then (if nat_lt (length line) MAX_LINE_BYTES then bound_over program
-    (header_meaning (map (λ s. s.name) program.signals) line) else Err refusal.LongHeader)
-    else Err refusal.NoSignals
+    (header_meaning (map (λ s. s.name) program.signals) line) else Err opening.LongHeader)
+    else Err opening.NoSignals
 
 -- the same of what was found before
-abbrev pub bound_if : List ℕ → Result Program Refusal → Result Program Refusal
+abbrev pub bound_if : List ℕ → Result Program OpeningFault → Result Program OpeningFault
 bound_if line (Ok program) = bound_by line program
 bound_if line (Err why) = Err why
 
 -- the program of these bytes under a header, or the first that refuses it: the bytes, then the header
-abbrev pub program_under : List ℕ → List ℕ → Result Program Refusal
+abbrev pub program_under : List ℕ → List ℕ → Result Program OpeningFault
 program_under line bytes = bound_if line (program_by bytes)
 
 -- the monitor has taken no rows, and has no report to give
@@ -67,6 +67,6 @@ pub record IsFresh (found : Program) (monitor : State) : Type 0 where
   pub drained : IsDrained monitor
 
 -- it is a fresh monitor of the program that was found, whose lists hold as many bytes as the program says
-abbrev pub Starts : Result Program Refusal → State → Type 0
+abbrev pub Starts : Result Program OpeningFault → State → Type 0
 Starts (Ok program) monitor = IsFresh program monitor × (bytes_of monitor ≡ monitor_bytes program)
 Starts (Err why) monitor = ⊥

@@ -11,7 +11,7 @@ use Rattle.mltl_monitor.specs.Monitoring.{program_of, taken_by}
 use Rattle.mltl_monitor.specs.Running.{row_work}
 use Rattle.mltl_monitor.specs.Bytes.{monitor_bytes}
 use Rattle.r2u2_c.specs.declared.bytes.TheConstants.{MONITOR_BYTES}
-use Rattle.r2u2_c.specs.declared.opening.Refusal.{Refusal}
+use Rattle.r2u2_c.specs.declared.opening.OpeningFault.{OpeningFault}
 
 -- the number of columns of a row
 abbrev pub width_of : Option State → ℕ
@@ -65,6 +65,6 @@ pub record WritesName (name : List ℕ) (answer : ℕ) (before after : List ℕ)
   pub written : after ≡ name ++ ended (drop (length name) before)
 
 -- the bytes of a monitor of the program that was found: of its own block, and of its lists
-abbrev pub TellsBytes : Result Program Refusal → ℕ → Type 0
+abbrev pub TellsBytes : Result Program OpeningFault → ℕ → Type 0
 TellsBytes (Ok program) told = told ≡ MONITOR_BYTES + monitor_bytes program
 TellsBytes (Err why) told = ⊥

@@ -8,7 +8,7 @@ ghost use Rattle.r2u2_c.specs.Queries.{TellsBytes};
 use crate::codes::{DONE, NO_MEMORY, REFUSED};
 use crate::exports::refuse;
 use crate::fault::Fault;
-use crate::opening::Refusal;
+use crate::opening::OpeningFault;
 use mltl_monitor::{Monitor, monitor_bytes};
 use obs_files::open;
 use std::alloc::Global;
@@ -39,9 +39,10 @@ pub extern "C" fn r2u2_bytes(alloc: Global, bytes: &[u8], told: &mut u64, fault:
 }
 
 /// How many bytes a monitor of the program that these bytes spell holds.
-fn bytes_of(alloc: Global, bytes: &[u8]) -> Result<u64, Refusal>
+fn bytes_of(alloc: Global, bytes: &[u8]) -> Result<u64, OpeningFault>
     ensures told { IfOk result (λ count. TellsBytes (program_by bytes.now) count) }
-    ensures refused { IfErr result (λ why. why ≢ Refusal.Memory → program_by bytes.now ≡ Err why) }
+    ensures refused { IfErr result (λ why. why ≢ OpeningFault.Memory
+        → program_by bytes.now ≡ Err why) }
 {
     let checked = open(alloc, bytes)?;
     Ok(MONITOR_BYTES as u64 + monitor_bytes(&checked))

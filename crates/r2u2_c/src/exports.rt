@@ -2,7 +2,7 @@
 
 ghost use Rattle.std.specs.Prelude.{◌≡◌, ◌≢◌, ◌↔◌, ◌<◌, [], ◌∷◌, Contains, IsSome, IsSomeAnd, IfErr, IfOk, None};
 ghost use Rattle.mltl_monitor.specs.Monitoring.{IsDrained};
-ghost use Rattle.r2u2_c.specs.declared.opening.Refusal.TheVariants.{Memory};
+ghost use Rattle.r2u2_c.specs.declared.opening.OpeningFault.TheVariants.{Memory};
 ghost use Rattle.mltl_monitor.specs.declared.row_fault.RowFault.TheVariants.{NotARow, ReportsLeft, TooManyRows};
 ghost use Rattle.r2u2_c.specs.Exports.{BeginsAgain, HoldsBack, Opens, Refuses, Takes, Tells, TellsWhy, why_of};
 ghost use Rattle.r2u2_c.specs.Faults.{fault_of};
@@ -15,7 +15,7 @@ use crate::codes::{
 };
 use crate::fault::Fault;
 use crate::handle::R2u2;
-use crate::opening::{Refusal, open_monitor, open_under};
+use crate::opening::{OpeningFault, open_monitor, open_under};
 use crate::report::{Told, next_of};
 use crate::row_why::RowWhy;
 use mltl_monitor::RowFault;
@@ -73,12 +73,12 @@ pub extern "C" fn r2u2_open_under(
 }
 
 /// Tells why no monitor was opened.
-pub(crate) fn refuse(why: Refusal, fault: &mut Fault) -> u32
+pub(crate) fn refuse(why: OpeningFault, fault: &mut Fault) -> u32
     ensures memory { why ≡ Memory → (result ≡ NO_MEMORY) × (fault.new ≡ fault.old) }
     ensures refused { why ≢ Memory → (result ≡ REFUSED) × (fault.new ≡ fault_of why) }
 {
     match why {
-        Refusal::Memory => NO_MEMORY,
+        OpeningFault::Memory => NO_MEMORY,
         why => {
             *fault = Fault::of(&why);
             REFUSED

@@ -1,14 +1,14 @@
-//! Refusals as C reads them.
+//! Faults of openings as C reads them.
 
 ghost use Rattle.std.specs.Prelude.{◌≡◌, ◌≤◌, ◌++◌, drop, length};
 ghost use Rattle.r2u2_c.specs.Faults.{fault_kind, fault_of, fault_part, fault_place, kind_of, part_number, part_of, place_of};
 
-use crate::fault_text::text_of_refusal;
-use crate::opening::Refusal;
+use crate::fault_text::text_of_fault;
+use crate::opening::OpeningFault;
 use mltl_base::Part;
 use obs_files::ProgramFault;
 
-/// A refusal as C reads it.
+/// The fault of an opening as C reads it.
 #[repr(C)]
 #[derive(Clone, Copy)]
 pub struct Fault {
@@ -23,17 +23,17 @@ pub struct Fault {
 }
 
 impl Fault {
-    /// A refusal as C reads it.
-    pub(crate) fn of(why: &Refusal) -> Fault
+    /// The fault of an opening as C reads it.
+    pub(crate) fn of(why: &OpeningFault) -> Fault
         ensures { result ≡ fault_of why.now }
     {
-        let line = text_of_refusal(why);
+        let line = text_of_fault(why);
         let mut text = [0; 96];
         fill_front(&mut text, line.as_slice());
         Fault {
-            kind: kind_of_refusal(why),
-            part: part_of_refusal(why),
-            place: place_of_refusal(why),
+            kind: kind_of_fault(why),
+            part: part_of_fault(why),
+            place: place_of_fault(why),
             text,
         }
     }
@@ -47,21 +47,21 @@ pub(crate) fn fill_front(into: &mut [u8], piece: &[u8])
     into[..piece.len()].copy_from_slice(piece);
 }
 
-fn kind_of_refusal(why: &Refusal) -> u32
+fn kind_of_fault(why: &OpeningFault) -> u32
     ensures { result ≡ kind_of why.now }
 {
     match why {
-        Refusal::Program(fault) => kind_of_fault(*fault),
-        Refusal::NoSignals => 19,
-        Refusal::LongHeader => 20,
-        Refusal::NoHeader => 21,
-        Refusal::Missing(_) => 22,
-        Refusal::Twice(_) => 23,
-        Refusal::Memory => 0,
+        OpeningFault::Program(fault) => kind_of_program_fault(*fault),
+        OpeningFault::NoSignals => 19,
+        OpeningFault::LongHeader => 20,
+        OpeningFault::NoHeader => 21,
+        OpeningFault::Missing(_) => 22,
+        OpeningFault::Twice(_) => 23,
+        OpeningFault::Memory => 0,
     }
 }
 
-fn kind_of_fault(fault: ProgramFault) -> u32
+fn kind_of_program_fault(fault: ProgramFault) -> u32
     ensures { result ≡ fault_kind fault }
 {
     match fault {
@@ -86,16 +86,16 @@ fn kind_of_fault(fault: ProgramFault) -> u32
     }
 }
 
-fn part_of_refusal(why: &Refusal) -> u32
+fn part_of_fault(why: &OpeningFault) -> u32
     ensures { result ≡ part_of why.now }
 {
     match why {
-        Refusal::Program(fault) => part_of_fault(*fault),
+        OpeningFault::Program(fault) => part_of_program_fault(*fault),
         _ => 0,
     }
 }
 
-fn part_of_fault(fault: ProgramFault) -> u32
+fn part_of_program_fault(fault: ProgramFault) -> u32
     ensures { result ≡ fault_part fault }
 {
     match fault {
@@ -116,16 +116,16 @@ fn number_of_part(part: Part) -> u32
     }
 }
 
-fn place_of_refusal(why: &Refusal) -> u64
+fn place_of_fault(why: &OpeningFault) -> u64
     ensures { result ≡ place_of why.now }
 {
     match why {
-        Refusal::Program(fault) => place_of_fault(*fault),
+        OpeningFault::Program(fault) => place_of_program_fault(*fault),
         _ => 0,
     }
 }
 
-fn place_of_fault(fault: ProgramFault) -> u64
+fn place_of_program_fault(fault: ProgramFault) -> u64
     ensures { result ≡ fault_place fault }
 {
     match fault {

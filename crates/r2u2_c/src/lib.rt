@@ -23,7 +23,7 @@ pub use bytes::r2u2_bytes;
 pub use exports::{r2u2_close, r2u2_next, r2u2_open, r2u2_open_under, r2u2_reset, r2u2_row};
 pub use fault::Fault;
 pub use handle::R2u2;
-pub use opening::Refusal;
+pub use opening::OpeningFault;
 pub use queries::{
     r2u2_delay, r2u2_name, r2u2_outputs, r2u2_rows, r2u2_signal, r2u2_signals, r2u2_steps,
     r2u2_version, r2u2_width,

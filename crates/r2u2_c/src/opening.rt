@@ -14,7 +14,7 @@ use trace_feed::{HeaderFault, header_of};
 
 /// Why no monitor is opened.
 #[derive(Drop)]
-pub enum Refusal {
+pub enum OpeningFault {
     /// This is wrong with the program.
     Program(ProgramFault),
     /// A header was given, and the program stores no signals, being of version 1.
@@ -31,54 +31,55 @@ pub enum Refusal {
     Memory,
 }
 
-impl From<FileFault> for Refusal {
+impl From<FileFault> for OpeningFault {
     ghost from_gives = { λ fault why. why ≡ of_file fault };
 
-    fn from(fault: FileFault) -> Refusal {
+    fn from(fault: FileFault) -> OpeningFault {
         match fault {
-            FileFault::Program(fault) => Refusal::Program(fault),
-            FileFault::Memory => Refusal::Memory,
+            FileFault::Program(fault) => OpeningFault::Program(fault),
+            FileFault::Memory => OpeningFault::Memory,
         }
     }
 }
 
-impl From<HeaderFault> for Refusal {
+impl From<HeaderFault> for OpeningFault {
     ghost from_gives = { λ fault why. why ≡ of_header fault };
 
-    fn from(fault: HeaderFault) -> Refusal {
+    fn from(fault: HeaderFault) -> OpeningFault {
         match fault {
-            HeaderFault::NoHeader => Refusal::NoHeader,
-            HeaderFault::Missing(name) => Refusal::Missing(name),
-            HeaderFault::Twice(name) => Refusal::Twice(name),
-            HeaderFault::Memory => Refusal::Memory,
+            HeaderFault::NoHeader => OpeningFault::NoHeader,
+            HeaderFault::Missing(name) => OpeningFault::Missing(name),
+            HeaderFault::Twice(name) => OpeningFault::Twice(name),
+            HeaderFault::Memory => OpeningFault::Memory,
         }
     }
 }
 
-impl From<AllocError> for Refusal {
-    ghost use Rattle.r2u2_c.specs.declared.opening.Refusal.TheVariants.{Memory};
+impl From<AllocError> for OpeningFault {
+    ghost use Rattle.r2u2_c.specs.declared.opening.OpeningFault.TheVariants.{Memory};
 
     ghost from_gives = { λ _ why. why ≡ Memory };
 
-    fn from(_refused: AllocError) -> Refusal {
-        Refusal::Memory
+    fn from(_refused: AllocError) -> OpeningFault {
+        OpeningFault::Memory
     }
 }
 
-impl<T: Drop> From<AllocFailed<T>> for Refusal {
-    ghost use Rattle.r2u2_c.specs.declared.opening.Refusal.TheVariants.{Memory};
+impl<T: Drop> From<AllocFailed<T>> for OpeningFault {
+    ghost use Rattle.r2u2_c.specs.declared.opening.OpeningFault.TheVariants.{Memory};
 
     ghost from_gives = { λ _ why. why ≡ Memory };
 
-    fn from(_refused: AllocFailed<T>) -> Refusal {
-        Refusal::Memory
+    fn from(_refused: AllocFailed<T>) -> OpeningFault {
+        OpeningFault::Memory
     }
 }
 
 /// The monitor of the program that these bytes spell.
-pub(crate) fn open_monitor(alloc: Global, bytes: &[u8]) -> Result<Box<Monitor>, Refusal>
+pub(crate) fn open_monitor(alloc: Global, bytes: &[u8]) -> Result<Box<Monitor>, OpeningFault>
     ensures opened { IfOk result (λ b. Starts (program_by bytes.now) b.value) }
-    ensures refused { IfErr result (λ why. why ≢ Refusal.Memory → program_by bytes.now ≡ Err why) }
+    ensures refused { IfErr result (λ why. why ≢ OpeningFault.Memory
+        → program_by bytes.now ≡ Err why) }
 {
     load(alloc, open(alloc, bytes)?)
 }
@@ -88,9 +89,9 @@ pub(crate) fn open_under(
     alloc: Global,
     bytes: &[u8],
     header: &[u8],
-) -> Result<Box<Monitor>, Refusal>
+) -> Result<Box<Monitor>, OpeningFault>
     ensures opened { IfOk result (λ b. Starts (program_under header.now bytes.now) b.value) }
-    ensures refused { IfErr result (λ why. why ≢ Refusal.Memory
+    ensures refused { IfErr result (λ why. why ≢ OpeningFault.Memory
         → program_under header.now bytes.now ≡ Err why) }
 {
     let checked = open(alloc, bytes)?;
@@ -99,25 +100,25 @@ pub(crate) fn open_under(
 }
 
 /// A program with its signals in the columns that a header names.
-fn bind(alloc: Global, checked: Checked, header: &[u8]) -> Result<Checked, Refusal>
+fn bind(alloc: Global, checked: Checked, header: &[u8]) -> Result<Checked, OpeningFault>
     ensures bound { IfOk result (λ bound. bound_by header.now checked ≡ Ok bound) }
-    ensures refused { IfErr result (λ why. why ≢ Refusal.Memory
+    ensures refused { IfErr result (λ why. why ≢ OpeningFault.Memory
         → bound_by header.now checked ≡ Err why) }
 {
     if checked.program().version != 2 {
-        return Err(Refusal::NoSignals);
+        return Err(OpeningFault::NoSignals);
     }
     if header.len() >= MAX_LINE_BYTES {
-        return Err(Refusal::LongHeader);
+        return Err(OpeningFault::LongHeader);
     }
     let columns = header_of(alloc, header, &checked)?;
     Ok(rebind(checked, &columns))
 }
 
 /// A monitor in memory of its own.
-fn load(alloc: Global, checked: Checked) -> Result<Box<Monitor>, Refusal>
+fn load(alloc: Global, checked: Checked) -> Result<Box<Monitor>, OpeningFault>
     ensures starts { IfOk result (λ b. Starts (Ok checked) b.value) }
-    ensures memory { IfErr result (λ why. why ≡ Refusal.Memory) }
+    ensures memory { IfErr result (λ why. why ≡ OpeningFault.Memory) }
 {
     let monitor = Monitor::load(alloc, checked)?;
     Ok(Box::new(alloc, monitor)?)

@@ -55,8 +55,9 @@ pub enum Put {
 ///
 /// `faults` counts the failed calls of each place; a count never falls, and stays at 2^64 - 1 once it is there.
 /// `log`, where the host tells it, is the list of its events. `left`, where it is told, is what a place has still to
-/// be read. A call that fails raises the count of its place by one; every other call leaves all counts, and tells one
-/// event. So the calls of a place are the events and the faults that it has together.
+/// be read. A call that fails raises the count of its place by one, and only a failed attach may tell an event, `Missed`;
+/// every other call leaves all counts, and tells one event. So the calls of a place are its faults and its events other
+/// than `Missed` together.
 /// `Out` and `Err` stand at the standard streams until they are attached elsewhere.
 pub trait Host {
     ghost faults: { Self → Place → ℕ };

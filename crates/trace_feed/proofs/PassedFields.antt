@@ -64,10 +64,10 @@ block_from line at size n fewer =
 
 -- the place that was looked for
 pub found : (line : List ℕ) (from count at left : ℕ) → from ≤ length line → at ≤ length line → left ≡ 0 → AreAfter line from count at left → fields_from line at ≡ drop count (fields_from line from)
-found line from count at left first inside none behind =
+found line from count at left first inside none after =
     some_fields line at inside
     ∙ ap (λ n. drop n (fields_of (drop at line))) (sym none)
-    ∙ behind
+    ∙ after
     ∙ ap (drop count) (sym (some_fields line from first))
 
 -- there are fewer fields
@@ -75,11 +75,11 @@ nothing_left : (n : ℕ) → 0 < n → drop n (fields_of []) ≡ []
 nothing_left n some = drop_all n (fields_of []) (omega arith)
 
 pub wanting : (line : List ℕ) (from count at left : ℕ) → from ≤ length line → length line ≤ at → 0 < left → AreAfter line from count at left → fields_from line (length line + 1) ≡ drop count (fields_from line from)
-wanting line from count at left first past some behind =
+wanting line from count at left first past some after =
     no_field line (length line + 1) (omega arith)
     ∙ sym (nothing_left left some)
     ∙ ap (λ (bytes : List ℕ). drop left (fields_of bytes)) (sym (drop_all at line past))
-    ∙ behind
+    ∙ after
     ∙ ap (drop count) (sym (some_fields line from first))
 
 -- past the end there are none
@@ -98,4 +98,4 @@ says_over reading readings width line old new from to m known wide passes so_far
     sym (known (from.column + k) Unread (omega (arith, passes.left, passes.onward))) ∙ passes.unread (from.column + k) (omega arith) (omega (arith, passes.onward)) in
     ap (λ ns. onto ns (fields_meaning reading to.column (width - to.column) (fields_from line to.at))) passes.zeros
     ∙ ap (λ k. onto (take from.column old ++ replicate n (pos 0)) (fields_meaning reading k (width - k) (fields_from line to.at))) (sym column)
-    ∙ says_passed reading from.column n width from.at to.at line (take from.column old) m (omega (arith, passes.left, wide)) unread passes.behind so_far
+    ∙ says_passed reading from.column n width from.at to.at line (take from.column old) m (omega (arith, passes.left, wide)) unread passes.after so_far

@@ -92,15 +92,15 @@ field_step reading c n field fields v good =
     elim (cases_lt (length fields) n) [
       | inl few ↦
           let here : nat_lt (length (field ∷ fields)) (suc n) ≡ true = lt-ltb (length (field ∷ fields)) (suc n) (omega arith) in
-          let behind : nat_lt (length fields) n ≡ true = lt-ltb (length fields) n few in
+          let size : nat_lt (length fields) n ≡ true = lt-ltb (length fields) n few in
           ap (λ b. cond b too_few (row_from reading c (take (suc n) (field ∷ fields)))) here
-          ∙ sym (ap (λ b. put_in_front v (cond b too_few (row_from reading (suc c) (take n fields)))) behind)
+          ∙ sym (ap (λ b. put_in_front v (cond b too_few (row_from reading (suc c) (take n fields)))) size)
       | inr enough ↦
           let here : nat_lt (length (field ∷ fields)) (suc n) ≡ false = le-ltb (length (field ∷ fields)) (suc n) (omega arith) in
-          let behind : nat_lt (length fields) n ≡ false = le-ltb (length fields) n enough in
+          let size : nat_lt (length fields) n ≡ false = le-ltb (length fields) n enough in
           ap (λ b. cond b too_few (row_from reading c (take (suc n) (field ∷ fields)))) here
           ∙ ap (λ r. field_before c r (row_from reading (suc c) (take n fields))) good
-          ∙ sym (ap (λ b. put_in_front v (cond b too_few (row_from reading (suc c) (take n fields)))) behind)
+          ∙ sym (ap (λ b. put_in_front v (cond b too_few (row_from reading (suc c) (take n fields)))) size)
     ]
 
 -- no field more is wanted
@@ -182,12 +182,12 @@ unread_fields reading (suc n) c left (field ∷ fields) more unread =
 
 pub says_passed : (reading : ℕ → Reading) (c n width at to : ℕ) (line : List ℕ) (ns : List ℤ) (m : LineMeaning) → c + n < width → ((k : ℕ) → k < n → reading (c + k) ≡ Unread)
     → fields_from line to ≡ drop n (fields_from line at) → Says reading c (width - c) ns line at m → Says reading (c + n) (width - (c + n)) (ns ++ replicate n (pos 0)) line to m
-says_passed reading c n width at to line ns m more unread behind so_far =
+says_passed reading c n width at to line ns m more unread after so_far =
     let size : width - (c + n) ≡ width - c - n = omega arith in
     let zeros : List ℤ = replicate n (pos 0) in
     onto_append ns zeros (fields_meaning reading (c + n) (width - (c + n)) (fields_from line to))
     ∙ ap (λ k. onto ns (onto zeros (fields_meaning reading (c + n) k (fields_from line to)))) size
-    ∙ ap (λ fs. onto ns (onto zeros (fields_meaning reading (c + n) (width - c - n) fs))) behind
+    ∙ ap (λ fs. onto ns (onto zeros (fields_meaning reading (c + n) (width - c - n) fs))) after
     ∙ ap (onto ns) (unread_fields reading n c (width - c) (fields_from line at) (omega arith) unread)
     ∙ so_far
 
@@ -210,14 +210,14 @@ enough_is : (reading : ℕ → Reading) (c left : ℕ) (rest : List ℕ) → 0 <
     → (more : LineMeaning) × (fields_meaning reading c left (fields_of rest) ≡ field_before c (value_of (reading c) (before_first is_comma rest)) more)
 unfolding row_from
 enough_is reading c left rest some enough =
-    let behind : List (List ℕ) = fields_from rest (position_or_len is_comma rest + 1) in
-    let fields : fields_of rest ≡ before_first is_comma rest ∷ behind = first_of_fields rest in
+    let after : List (List ℕ) = fields_from rest (position_or_len is_comma rest + 1) in
+    let fields : fields_of rest ≡ before_first is_comma rest ∷ after = first_of_fields rest in
     let is : nat_lt (length (fields_of rest)) left ≡ false = le-ltb (length (fields_of rest)) left enough in
     let size : left ≡ suc (left - 1) = omega arith in (
-      row_from reading (suc c) (take (left - 1) behind),
+      row_from reading (suc c) (take (left - 1) after),
       ap (λ b. cond b too_few (row_from reading c (take left (fields_of rest)))) is
           ∙ ap (λ fs. row_from reading c (take left fs)) fields
-          ∙ ap (λ n. row_from reading c (take n (before_first is_comma rest ∷ behind))) size,
+          ∙ ap (λ n. row_from reading c (take n (before_first is_comma rest ∷ after))) size,
     )
 
 pub fault_not_whole : (reading : ℕ → Reading) (c left : ℕ) (rest : List ℕ) → 0 < left → left ≤ length (fields_of rest) → value_of (reading c) (before_first is_comma rest) ≡ Err NotWhole

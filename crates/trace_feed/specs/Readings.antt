@@ -49,5 +49,5 @@ pub record PassesOver (readings : List Reading) (line : List ℕ) (old new : Row
   pub left : to.column < length readings
   pub within : to.at ≤ length line + 1
   pub unread : (k : ℕ) → from.column ≤ k → k < to.column → slice_index_or readings k Unread ≡ Unread
-  pub behind : fields_from line to.at ≡ drop (to.column - from.column) (fields_from line from.at)
+  pub after : fields_from line to.at ≡ drop (to.column - from.column) (fields_from line from.at)
   pub zeros : take to.column new ≡ take from.column old ++ replicate (to.column - from.column) (pos 0)

@@ -62,7 +62,7 @@ fn commas_in(block: &[u8]) -> u8
 fn after_fields(line: &[u8], from: usize, count: usize) -> usize
     requires within { from ≤ length line.now + 1 }
     ensures within { result ≤ length line.now + 1 }
-    ensures behind { fields_from line.now result ≡ drop count (fields_from line.now from) }
+    ensures after { fields_from line.now result ≡ drop count (fields_from line.now from) }
 {
     if line.len() < from {
         return from;

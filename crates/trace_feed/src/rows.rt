@@ -57,8 +57,8 @@ fn fault_at(c: u32, fault: FieldFault, rest: &[u8], left: u32) -> RowAnswer
     }
 }
 
-/// Reads the fields of a line from left to right, once, and passes over those that aren't read. Commas are counted only
-/// after a fault.
+/// Reads the fields of a line from left to right, once. Those that aren't read are passed over by their commas; after a
+/// field that is read, commas are counted only where it has a fault.
 fn read_fields(line: &[u8], width: u32, readings: &[Reading], fields: &mut [i64]) -> RowAnswer
     requires wide { length fields.old ≡ width }
     requires one_each { length readings.now ≡ width }

@@ -12,10 +12,10 @@ passing-preserved c =
     let here : c.from-here.result ≡ count_by is_comma (take 64 (drop at line)) = c.from-here.ensures ∙ c.commas_in.ensures ∙ ap (λ n. count_by is_comma (take n (drop at line))) size in
     record {
       within = omega arith;
-      behind =
+      after =
           ap (λ n. drop (c.passing.left - n) (fields_of (drop (at + 64) line))) here
           ∙ sym (block_from line at 64 c.passing.left (omega (arith, here)))
-          ∙ c.passing.invariant.behind;
+          ∙ c.passing.invariant.after;
     }
 
 pub bytes-preserved : goal.bytes-preserved
@@ -24,8 +24,8 @@ bytes-preserved c =
     let at : ℕ = c.bytes.at in
     record {
       within = omega arith;
-      behind =
+      after =
           ap (λ n. drop (c.bytes.left - n) (fields_of (drop (at + 1) line))) c.from-left.ensures
           ∙ sym (byte_from line at c.bytes.left (omega arith) (omega arith))
-          ∙ c.bytes.invariant.behind;
+          ∙ c.bytes.invariant.after;
     }

@@ -6,7 +6,7 @@ use Rattle.trace_feed.proofs.passing.after_fields.Given as goal
 abbrev pub invariant-passing : goal.invariant-passing
 invariant-passing l = record {
   within : l.at ≤ length l.line;
-  behind : AreAfter l.line l.from l.count l.at l.left;
+  after : AreAfter l.line l.from l.count l.at l.left;
 }
 
 abbrev pub decreases-passing : goal.decreases-passing
@@ -15,7 +15,7 @@ decreases-passing l = length l.line - l.at
 abbrev pub invariant-bytes : goal.invariant-bytes
 invariant-bytes l = record {
   within : l.at ≤ length l.line;
-  behind : AreAfter l.line l.from l.count l.at l.left;
+  after : AreAfter l.line l.from l.count l.at l.left;
 }
 
 abbrev pub decreases-bytes : goal.decreases-bytes

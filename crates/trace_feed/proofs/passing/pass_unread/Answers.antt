@@ -16,6 +16,6 @@ returns-clause-passes c =
       unread = λ k past below.
           let at : from + (k - from) ≡ k = omega arith in
           ap (λ j. slice_index_or c.args.readings.now j Unread) (sym at) ∙ c.unread_from.ensures.unread (k - from) (omega (arith, c.min-count.ensures));
-      behind = c.after_fields.ensures.behind ∙ ap (λ n. drop n (fields_from c.args.line.now c.args.spot.at)) many;
+      after = c.after_fields.ensures.after ∙ ap (λ n. drop n (fields_from c.args.line.now c.args.spot.at)) many;
       zeros = c.clear.ensures.zeros ∙ ap (λ n. take from c.args.fields.now ++ replicate n (pos 0)) many;
     }

@@ -1,0 +1,28 @@
+//! What is shown as a line of a program: signals, instructions and outputs.
+
+ghost use Rattle.std.specs.Prelude.{◌≡◌, ◌++◌, ◌<◌, ℕ, List, OnOk, length};
+ghost use Rattle.mltl_base.specs.declared.program.Program.{Program as Observer};
+ghost use Rattle.obs_show.specs.Showing.{NamesAll};
+
+use crate::naming::Naming;
+use mltl_base::Program;
+use std::alloc::AllocError;
+
+/// A member of a program that has a line, or none where it is no operation.
+pub(crate) trait Shown {
+    ghost members: { Observer → List Self };
+
+    ghost bytes: { Observer → ℕ → Self → List ℕ };
+
+    /// Adds the line of the member with this number.
+    fn add_line(
+        &self,
+        text: &mut Vec<u8>,
+        program: &Program,
+        naming: &Naming,
+        k: usize,
+    ) -> Result<(), AllocError>
+        requires names { NamesAll program.now naming.now }
+        requires there { k < length (members program.now) }
+        ensures { OnOk result (text.new.items ≡ text.old.items ++ bytes program.now k self.now) };
+}
