@@ -1,13 +1,14 @@
 //! The compilation of a text under a header line, as a call of its own.
 
 use mltl_base::BzOp;
+use mltl_base::limits::MAX_LINE_BYTES;
 use spec_compile::{CompileFault, HeaderWhy, compile};
 use std::alloc::Global;
 use std::test::Fail;
 
 /// What a text of two signals compiles to under a header line: the columns that are read, or what is wrong with the line.
 fn read_under(alloc: Global, line: &[u8]) -> &'static str {
-    if line.len() > 65535 {
+    if line.len() >= MAX_LINE_BYTES {
         return "long";
     }
     match compile(alloc, b"INPUT p, q: bool; FTSPEC f: p && !q;", Some(line)) {

@@ -8,6 +8,7 @@ ghost use Rattle.mltl_base.specs.Programs.{output_names};
 
 use arrayvec::ArrayVec;
 use itoa::Buffer;
+use mltl_base::text::add;
 use mltl_base::{Report, Word};
 use obs_verify::Checked;
 
@@ -44,15 +45,6 @@ pub fn put_line(text: &mut ArrayVec<u8, 128>, report: &Report, checked: &Checked
     text.push(b',');
     add_word(text, report.word);
     text.push(b'\n');
-}
-
-/// Puts a piece after a line that has room for it.
-fn add(text: &mut Line, piece: &[u8])
-    requires { array_vec_len text.old + length piece.now ≤ 128 }
-    ensures items { text.new.items ≡ text.old.items ++ piece.now }
-    ensures len { array_vec_len text.new ≡ array_vec_len text.old + length piece.now }
-{
-    let _ = text.try_extend_from_slice(piece);
 }
 
 /// Puts a word after a line that has room for it. The words of formulas have one byte.

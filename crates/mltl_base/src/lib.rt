@@ -14,6 +14,7 @@ pub mod operators;
 pub mod program;
 pub mod report;
 pub mod signal;
+pub mod text;
 
 pub use interval::{Engine, Interval, Part};
 pub use list::List;

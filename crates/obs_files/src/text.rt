@@ -6,9 +6,9 @@ ghost use Rattle.obs_files.specs.Texts.{fault_text};
 ghost use Rattle.obs_verify.specs.FaultTexts.{numbered, parted};
 
 use crate::ProgramFault;
-use crate::adding::{add, add_number};
 use arrayvec::ArrayVec;
 use mltl_base::Part;
+use mltl_base::text::{add, add_number};
 use obs_verify::name_of_part;
 use std::{fmt, str};
 

@@ -5,7 +5,7 @@ ghost use Rattle.r2u2_c.specs.Faults.{text_of};
 
 use crate::opening::OpeningFault;
 use arrayvec::ArrayVec;
-use obs_files::add;
+use mltl_base::text::add;
 
 /// What is wrong, in words: at most 77 bytes.
 pub(crate) fn text_of_fault(why: &OpeningFault) -> ArrayVec<u8, 95>

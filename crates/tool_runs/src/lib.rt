@@ -5,7 +5,6 @@ mod message;
 mod reading;
 mod status;
 mod telling;
-mod text;
 
 pub use message::{Tool, message_of};
 pub use reading::read_file;

@@ -7,10 +7,9 @@ ghost use Rattle.spec_compile.specs.HeaderTexts.{header_fault_text, missing_text
 ghost use Rattle.tool_runs.specs.Messages.{message, usage, tool_name, trace_text, place_name, status_text};
 
 use crate::Status;
-use crate::text::add;
 use arrayvec::ArrayVec;
-use itoa::Buffer;
 use mltl_base::Name;
+use mltl_base::text::{add, add_number};
 use spec_compile::{HeaderWhy, Refusal};
 use tool_io::Place;
 use trace_watch::TraceWhy;
@@ -42,15 +41,6 @@ pub fn message_of(tool: Tool, status: &Status) -> ArrayVec<u8, 192>
         }
     }
     text
-}
-
-fn add_number(text: &mut Text, n: u64)
-    requires { array_vec_len text.old + 20 ≤ 192 }
-    ensures items { text.new.items ≡ text.old.items ++ decimal n }
-    ensures len { array_vec_len text.new ≤ array_vec_len text.old + 20 }
-{
-    let mut buffer = Buffer::new();
-    add(text, buffer.format(n).as_bytes());
 }
 
 fn usage_of(tool: Tool) -> &'static str

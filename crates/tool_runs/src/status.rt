@@ -13,7 +13,7 @@ use trace_watch::TraceWhy;
 /// How a run ended. Lines count from 1; line 0 stands for the whole specification.
 #[derive(Drop)]
 pub enum Status {
-    /// The trace was read to its end and all lines are out.
+    /// What the words ask for was done, and all of its output is out; a trace was read to its end.
     Done,
     /// The words asked for help, and the usage line is out.
     Helped,
