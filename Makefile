@@ -44,12 +44,13 @@ try:
 	@echo 'Unproved. The proved programs come by "make".'
 	@spec=$$(realpath -- '$(SPEC)') && trace=$$(realpath -- '$(TRACE)') && cd crates/r2u2 && rt try -- --source "$$spec" "$$trace"
 
-# Side by side: the tests as they go, and what the cases gave at the end. `rt try` runs the cases compiled with checks.
+# Side by side: the tests as they go, and what the cases gave at the end. `rt try` runs the cases compiled with checks,
+# which takes longest, so the tests leave it the processor that it needs.
 test:
 	@echo 'Unproved. The gate is "make check".'
 	@mkdir -p build
 	@(cd crates/worked_cases && awk '$(SHORT_CASES)' stdin | rt try --steps 1 --seconds 300) > build/cases.log 2>&1 & cases=$$!; \
-	    tools/test; tests=$$?; \
+	    nice tools/test; tests=$$?; \
 	    wait $$cases; played=$$?; \
 	    grep -v '^interpreter: ' build/cases.log; \
 	    [ $$tests -eq 0 ] && [ $$played -eq 0 ]

@@ -125,6 +125,7 @@ class Spelled(Case):
         return out.read_bytes()
 
     def test_random_specifications(self):
+        program("c2po")
         for seed in range(60):
             text = random_specs.spec(random.Random(seed), simple=True)
             made = compiled(self.file("spec.c2po", text), self.folder)
