@@ -4,7 +4,8 @@
 use Rattle.std.specs.Prelude.{ℕ, ◌+◌, ◌<◌, ◌≤◌, ◌≡◌, Bool, List, ◌++◌, length, ⊤}
 use Rattle.mltl_base.specs.Atoms.{Row}
 use Rattle.mltl_base.specs.Formula.{Formula, truth, falsity, atom, negation, conjunction, disjunction, implication}
-use Rattle.mltl_base.specs.Formula.{equivalence, finally, globally, until, release, once, historically, since, wpd, EachInterval}
+use Rattle.mltl_base.specs.Formula.{equivalence, finally, globally, until, release, once, historically, since, wpd}
+use Rattle.mltl_base.specs.Formula.{EachInterval}
 use Rattle.mltl_base.specs.Meaning.{sat}
 
 -- a list of verdicts begins a longer one

@@ -5,7 +5,8 @@ use Rattle.std.specs.Prelude.{ℕ, ◌≡◌, ◌⊎◌}
 use Rattle.mltl_base.specs.declared.interval.Interval.{Interval}
 use Rattle.mltl_base.specs.Atoms.{Atom, is_true}
 use Rattle.mltl_base.specs.Formula.{Formula, truth, falsity, atom, negation, conjunction, disjunction, implication}
-use Rattle.mltl_base.specs.Formula.{equivalence, finally, globally, until, release, once, historically, since, EachInterval}
+use Rattle.mltl_base.specs.Formula.{equivalence, finally, globally, until, release, once, historically, since}
+use Rattle.mltl_base.specs.Formula.{EachInterval}
 use Rattle.plain_nodes.specs.Nodes.{IsBounded}
 
 -- the interval from lo to hi

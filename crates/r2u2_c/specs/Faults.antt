@@ -8,8 +8,8 @@ use Rattle.trace_feed.specs.declared.header_fault.HeaderFault.TheVariants as hea
 use Rattle.trace_feed.specs.HeaderTexts.{header_fault_text}
 use Rattle.r2u2_c.specs.declared.fault.Fault.{Fault}
 use Rattle.r2u2_c.specs.declared.opening.OpeningFault.{OpeningFault}
-use Rattle.r2u2_c.specs.declared.opening.OpeningFault.TheVariants.{Program, NoSignals, LongHeader, NoHeader, Missing, Twice}
-use Rattle.r2u2_c.specs.declared.opening.OpeningFault.TheVariants.{Memory}
+use Rattle.r2u2_c.specs.declared.opening.OpeningFault.TheVariants.{Program, NoSignals, LongHeader}
+use Rattle.r2u2_c.specs.declared.opening.OpeningFault.TheVariants.{NoHeader, Missing, Twice, Memory}
 
 -- what is wrong, in words
 abbrev pub text_of : OpeningFault → List ℕ
