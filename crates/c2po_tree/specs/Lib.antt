@@ -4,6 +4,3 @@ pub mod Tokens
 pub mod Fronts
 pub mod Splitting
 pub mod Climbing
-pub use Rattle.spec_tree.specs.Shape
-pub use Rattle.spec_tree.specs.Parts
-pub use Rattle.spec_tree.specs.ItemShape
