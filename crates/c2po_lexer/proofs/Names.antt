@@ -8,7 +8,8 @@ use Rattle.std.proofs.lemmas.List.{get_or-take, length-take-le}
 use Rattle.std.proofs.lemmas.List.Sums.{prefix_len_passes, prefix_len-le-length}
 use Rattle.std.proofs.lemmas.List.Elements.{All-cons}
 use Rattle.c2po_lexer.specs.Spelling.{keyword_of, sign_at}
-use Rattle.c2po_lexer.specs.Cut.{is_blank, begins_word, is_in_line, is_in_word, sign_or_stray, front_of, size_of, piece_at, pieces_from}
+use Rattle.mltl_base.specs.Letters.{is_in_word}
+use Rattle.c2po_lexer.specs.Cut.{is_blank, begins_word, is_in_line, sign_or_stray, front_of, size_of, piece_at, pieces_from}
 use Rattle.c2po_lexer.specs.Tokens.{HasPlainName, reserved_or_name, line_at, what_of, reading_of, result_map, before, all_of, tokens_of, token_of}
 use Rattle.c2po_lexer.proofs.Spans.{in_word}
 use Rattle.c2po_lexer.specs.declared.token.Token.{Token}

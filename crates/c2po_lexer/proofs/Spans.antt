@@ -8,7 +8,8 @@ use Rattle.std.proofs.lemmas.List.Sums.{prefix_len-le-length}
 use Rattle.std.proofs.lemmas.Bool.Decides.{nat_tests}
 use Rattle.c2po_lexer.proofs.Fronts.{size_of_sign}
 use Rattle.c2po_lexer.specs.Spelling.{sign_at, sign_text, signs}
-use Rattle.c2po_lexer.specs.Cut.{is_blank, begins_word, is_in_line, is_in_word, sign_or_stray, front_of, size_of, piece_at, pieces_from}
+use Rattle.mltl_base.specs.Letters.{is_in_word}
+use Rattle.c2po_lexer.specs.Cut.{is_blank, begins_word, is_in_line, sign_or_stray, front_of, size_of, piece_at, pieces_from}
 use Rattle.c2po_lexer.specs.Tokens.{AreInOrder, line_at, what_of, reading_of, result_map, before, all_of, tokens_of, token_of}
 use Rattle.c2po_lexer.specs.declared.token.Token.{Token}
 use Rattle.c2po_lexer.specs.declared.token.What.{What}

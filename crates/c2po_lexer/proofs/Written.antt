@@ -11,7 +11,8 @@ use Rattle.std.proofs.lemmas.List.Elements.{All-cons}
 use Rattle.c2po_lexer.proofs.Fronts.{find_passes}
 use Rattle.c2po_lexer.proofs.Spans.{piece_sized}
 use Rattle.c2po_lexer.specs.Spelling.{keyword_text, keyword_of, keywords, sign_text, sign_at, signs}
-use Rattle.c2po_lexer.specs.Cut.{is_blank, begins_word, is_in_line, is_in_word, sign_or_stray, front_of, size_of, piece_at, pieces_from}
+use Rattle.mltl_base.specs.Letters.{is_in_word}
+use Rattle.c2po_lexer.specs.Cut.{is_blank, begins_word, is_in_line, sign_or_stray, front_of, size_of, piece_at, pieces_from}
 use Rattle.c2po_lexer.specs.Tokens.{IsWrittenAs, bytes_of, reserved_or_name, line_at, what_of, reading_of, result_map, before, all_of, tokens_of, token_of}
 use Rattle.c2po_lexer.specs.declared.token.Token.{Token}
 use Rattle.c2po_lexer.specs.declared.token.What.{What}

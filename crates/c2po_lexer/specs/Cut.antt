@@ -3,7 +3,8 @@ use Rattle.std.specs.Str.{all_ascii_digits}
 use Rattle.std.specs.Prelude.{ℕ, IsTrue, ◌-◌, zero, suc, List, [], ◌∷◌, length, Bool, not, ◌||◌, ◌==◌, if◌then◌else◌}
 use Rattle.std.specs.Prelude.{nat_eq, take, slice_index, codes, Option, Some, None, ⊤}
 use Rattle.std.specs.List.{starts_with, prefix_len}
-use Rattle.std.specs.Char.{is_ascii_alphabetic, is_ascii_alphanumeric, is_ascii_digit}
+use Rattle.std.specs.Char.{is_ascii_alphabetic, is_ascii_digit}
+use Rattle.mltl_base.specs.Letters.{is_in_word}
 use Rattle.c2po_lexer.specs.Spelling.{sign_text, sign_at}
 use Rattle.c2po_lexer.specs.declared.token.Sign.{Sign}
 use Rattle.c2po_lexer.specs.declared.front.Front.{Front}
@@ -13,13 +14,9 @@ use Rattle.c2po_lexer.specs.declared.front.Front.TheVariants as front
 abbrev pub is_blank : ℕ → Bool
 is_blank b = b == 32 || b == 9 || b == 13 || b == 10
 
--- a word begins with a letter of ASCII or `_`
+-- a word begins with a letter of ASCII or `_`, and goes on with letters, digits and `_`
 abbrev pub begins_word : ℕ → Bool
 begins_word b = is_ascii_alphabetic b || b == 95
-
--- and goes on with letters, digits and `_`
-abbrev pub is_in_word : ℕ → Bool
-is_in_word b = is_ascii_alphanumeric b || b == 95
 
 -- any byte but a newline
 abbrev pub is_in_line : ℕ → Bool

@@ -5,7 +5,8 @@ use Rattle.std.specs.List.{AllPass}
 use Rattle.std.specs.Str.Parse.{digits_value}
 use Rattle.mltl_base.specs.declared.limits.TheConstants.{MAX_NUMBER}
 use Rattle.c2po_lexer.specs.Spelling.{keyword_text, keyword_of, sign_text}
-use Rattle.c2po_lexer.specs.Cut.{Piece, is_in_word, front_of, size_of, piece_at, pieces_of}
+use Rattle.mltl_base.specs.Letters.{is_in_word}
+use Rattle.c2po_lexer.specs.Cut.{Piece, front_of, size_of, piece_at, pieces_of}
 use Rattle.c2po_lexer.specs.declared.token.Token.{Token}
 use Rattle.c2po_lexer.specs.declared.token.What.{What}
 use Rattle.c2po_lexer.specs.declared.token.What.TheVariants as what

@@ -1,7 +1,8 @@
 //! What a text begins with.
 
 ghost use Rattle.std.specs.Prelude.{◌≡◌, ◌<◌, ◌≤◌, ℕ, length, take};
-ghost use Rattle.c2po_lexer.specs.Cut.{is_blank, begins_word, is_in_line, is_in_word, front_of, size_of, HasDigitsAlone};
+ghost use Rattle.mltl_base.specs.Letters.{is_in_word};
+ghost use Rattle.c2po_lexer.specs.Cut.{is_blank, begins_word, is_in_line, front_of, size_of, HasDigitsAlone};
 ghost use Rattle.std.specs.List.{prefix_len};
 ghost use Rattle.std.specs.Char.{is_ascii_digit};
 

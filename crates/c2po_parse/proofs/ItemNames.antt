@@ -9,10 +9,10 @@ use Rattle.c2po_lexer.specs.declared.token.Keyword.TheVariants as keyword
 use Rattle.c2po_lexer.specs.declared.token.What.{What}
 use Rattle.c2po_lexer.specs.declared.token.What.TheVariants as what
 use Rattle.c2po_lexer.specs.declared.token.Token.{Token}
-use Rattle.c2po_lexer.specs.Cut.{is_in_word}
+use Rattle.mltl_base.specs.Letters.{is_in_word}
 use Rattle.c2po_lexer.specs.Tokens.{HasPlainName}
 use Rattle.spec_tree.specs.ItemShape.{TypeShape, FieldShape, BodyShape, ItemShape, type_named, set_of, structure, input, define, formula, contract}
-use Rattle.c2po_tree.specs.Names.{IsPlainName, HasPlainType, ArePlainFields, ArePlain, IsPlainLabel, IsPlainBody, ArePlainItems}
+use Rattle.spec_tree.specs.Names.{IsPlainName, HasPlainType, ArePlainFields, ArePlain, IsPlainLabel, IsPlainBody, ArePlainItems}
 use Rattle.c2po_tree.specs.Fronts.{◌>>=◌, past, name_at}
 use Rattle.c2po_tree.specs.Splitting.{tree_of, at_end}
 use Rattle.c2po_tree.proofs.Walks.{bind-some, if-cases}

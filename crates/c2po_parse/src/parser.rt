@@ -2,7 +2,7 @@
 
 ghost use Rattle.std.specs.Prelude.{◌≡◌, ◌≢◌, ◌<◌, ◌≤◌, ◌++◌, ◌∷◌, [], true, Ok, Err, length, map, All, IfOk, IfErr};
 ghost use Rattle.c2po_lexer.specs.Tokens.{HasPlainName};
-ghost use Rattle.c2po_tree.specs.Names.{ArePlainItems};
+ghost use Rattle.spec_tree.specs.Names.{ArePlainItems};
 ghost use Rattle.spec_tree.specs.ItemShape.{item_shape, body_shape, spec_shape};
 ghost use Rattle.c2po_parse.specs.Sections.{pieces, begins_item, ended_of, tail_of};
 ghost use Rattle.c2po_parse.specs.Specification.{piece_trees, with_first, reads_on, spec_of, with_line, piece_body};

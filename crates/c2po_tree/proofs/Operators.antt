@@ -18,7 +18,7 @@ use Rattle.c2po_tree.specs.declared.operator.Operator.{Operator}
 use Rattle.c2po_tree.specs.declared.operator.Operator.TheVariants.{Binary, Field}
 use Rattle.c2po_tree.specs.Tokens.{is_sign, sign_level, word_level, token_level, ends_operand, depth_after, is_separator}
 use Rattle.c2po_tree.specs.Fronts.{◌>>=◌, word_in, name_at, interval_at, sign_infix, word_between, field_of, sign_operator, operator_in, operator_at, infix_level, level_of}
-use Rattle.c2po_tree.specs.Names.{IsPlainName}
+use Rattle.spec_tree.specs.Names.{IsPlainName}
 use Rattle.c2po_tree.proofs.Words.{PlainWords, words-head, word-plain}
 use Rattle.c2po_tree.proofs.Walks.{bind-some, ends_of, depth_of, Quiet}
 use Rattle.c2po_tree.proofs.Heads.{IsInterval, interval_at-front, plain-of}

@@ -16,7 +16,7 @@ use Rattle.c2po_tree.specs.Tokens.{left_level, right_level}
 use Rattle.spec_tree.specs.Parts.{joined, prefixed, enclosed, quantified, leaf}
 use Rattle.c2po_tree.specs.Fronts.{infix_level, prefix_level, closing}
 use Rattle.c2po_tree.specs.Splitting.{tree_of}
-use Rattle.c2po_tree.specs.Names.{IsPlainName, HasPlainNames, HavePlainNames}
+use Rattle.spec_tree.specs.Names.{IsPlainName, HasPlainNames, HavePlainNames}
 use Rattle.c2po_tree.proofs.Words.{PlainWords, words-tail, words-left, words-right}
 use Rattle.c2po_tree.proofs.Starts.{AtomNames, BracketNames}
 use Rattle.c2po_tree.proofs.Rules as rules

@@ -21,7 +21,7 @@ use Rattle.c2po_tree.specs.declared.operator.Start.TheVariants.{Leaf, Before, Ro
 use Rattle.c2po_tree.specs.Tokens.{word_level, level_after, ends_operand, depth_after, is_separator}
 use Rattle.c2po_tree.specs.Fronts.{◌>>=◌, past, name_at, natural_in, natural_at, interval_at, word_window, word_quantifier, named_or_called, bound_start, window_start, word_start, sign_start, start_in, start_at, number_at, middle_at}
 use Rattle.c2po_lexer.specs.Tokens.{HasPlainName}
-use Rattle.c2po_tree.specs.Names.{IsPlainName}
+use Rattle.spec_tree.specs.Names.{IsPlainName}
 use Rattle.c2po_tree.proofs.Words.{PlainWords, words-head, words-tail, word-plain}
 use Rattle.c2po_tree.proofs.Walks.{bind-some, ends_of, depth_of, Quiet}
 use Rattle.c2po_tree.proofs.Heads.{past-begins, past-at, natural_at-counts, natural_at-at, natural-flat, IsInterval, interval_at-front, plain-of}

@@ -4,7 +4,7 @@ use Rattle.c2po_lexer.specs.declared.token.What.{What}
 use Rattle.c2po_lexer.specs.declared.token.What.TheVariants as what
 use Rattle.c2po_lexer.specs.declared.token.Token.{Token}
 use Rattle.c2po_lexer.specs.Tokens.{HasPlainName}
-use Rattle.c2po_tree.specs.Names.{IsPlainName}
+use Rattle.spec_tree.specs.Names.{IsPlainName}
 
 -- Token lists whose names are made of letters, digits and `_`.
 pub PlainWords : List Token → Type 0

@@ -1,4 +1,3 @@
-pub mod Names
 pub mod Gives
 pub mod Tokens
 pub mod Fronts

@@ -7,8 +7,8 @@ use Rattle.std.proofs.lemmas.Bool.Decides.{nat_tests}
 use Rattle.std.proofs.lemmas.List.{length-append}
 use Rattle.std.proofs.lemmas.Fmt.{decimal_by_steps}
 use Rattle.std.proofs.lemmas.List.Elements.{All-nil, All-cons, All-push, All-append}
-use Rattle.c2po_lexer.specs.Cut.{is_in_word}
-use Rattle.c2po_tree.specs.Names.{IsPlainName, IsPlainLabel, IsPlainBody, ArePlainItems}
+use Rattle.mltl_base.specs.Letters.{is_in_word}
+use Rattle.spec_tree.specs.Names.{IsPlainName, IsPlainLabel, IsPlainBody, ArePlainItems}
 use Rattle.spec_tree.specs.ItemShape.{BodyShape, ItemShape, structure, input, define, formula, contract}
 use Rattle.c2po_types.specs.Outputs.{Place, before, name_of, asked_at, place_after, asked_from, outputs_of, HasPlainName}
 

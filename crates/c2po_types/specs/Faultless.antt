@@ -2,7 +2,7 @@
 
 use Rattle.std.specs.Prelude.{◌≡◌, List, None, length}
 use Rattle.spec_tree.specs.ItemShape.{ItemShape}
-use Rattle.c2po_tree.specs.Names.{ArePlainItems}
+use Rattle.spec_tree.specs.Names.{ArePlainItems}
 use Rattle.mltl_base.specs.declared.signal.Signal.{Signal}
 use Rattle.plain_nodes.specs.declared.nodes.Expanded.{Expanded}
 use Rattle.plain_nodes.specs.Outputs.{IsSound, asked}

@@ -1,7 +1,7 @@
 //! The check of a whole specification.
 
 ghost use Rattle.std.specs.Prelude.{◌≡◌, ◌≢◌, [], None, Some, map, IfOk, IfErr, OnOk};
-ghost use Rattle.c2po_tree.specs.Names.{ArePlainItems};
+ghost use Rattle.spec_tree.specs.Names.{ArePlainItems};
 ghost use Rattle.spec_tree.specs.ItemShape.{item_shape, spec_shape};
 ghost use Rattle.c2po_types.specs.FirstFault.{checked, first_fault};
 ghost use Rattle.c2po_types.specs.Reaching.{Comes};

@@ -4,7 +4,7 @@ ghost use Rattle.std.specs.Prelude.{◌≡◌, ◌≤◌, None, All, length};
 ghost use Rattle.mltl_base.specs.declared.limits.TheConstants.{MAX_SIGNALS};
 ghost use Rattle.mltl_base.specs.Kinds.{HaveOwnNames};
 ghost use Rattle.spec_tree.specs.ItemShape.{spec_shape};
-ghost use Rattle.c2po_tree.specs.Names.{ArePlainItems};
+ghost use Rattle.spec_tree.specs.Names.{ArePlainItems};
 ghost use Rattle.plain_nodes.specs.Faults.{HasRanges};
 ghost use Rattle.plain_nodes.specs.Outputs.{IsSound, asked};
 ghost use Rattle.c2po_types.specs.FirstFault.{first_fault};

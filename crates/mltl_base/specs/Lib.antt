@@ -14,3 +14,4 @@ pub mod Queues
 pub mod Room
 pub mod Kinds
 pub mod Blanks
+pub mod Letters

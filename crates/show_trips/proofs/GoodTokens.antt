@@ -5,7 +5,8 @@ use Rattle.std.specs.Prelude.{slice_index}
 use Rattle.std.specs.Str.Parse.{digits_value}
 use Rattle.std.proofs.lemmas.List.Elements.{All-cons}
 use Rattle.c2po_lexer.specs.Spelling.{keyword_of}
-use Rattle.c2po_lexer.specs.Cut.{begins_word, is_in_word, front_of, size_of, piece_at, pieces_from}
+use Rattle.mltl_base.specs.Letters.{is_in_word}
+use Rattle.c2po_lexer.specs.Cut.{begins_word, front_of, size_of, piece_at, pieces_from}
 use Rattle.c2po_lexer.specs.Tokens.{reserved_or_name, line_at, what_of, reading_of, result_map, before, all_of, tokens_of, token_of}
 use Rattle.std.proofs.lemmas.Bool.Decides.{nat_tests}
 use Rattle.c2po_lexer.proofs.Names.{IsWord, piece_word}

@@ -15,7 +15,8 @@ use Rattle.c2po_lexer.proofs.Steps.{tokens_from, tokens_step, tokens_begin, onto
 use Rattle.std.proofs.lemmas.Fmt.{decimal_nonempty, digits_decimal, digits_value-decimal}
 use Rattle.std.proofs.lemmas.Str.Parse.{IsNumeralModel, numerals_by_value, tells_all_ascii_digits}
 use Rattle.c2po_lexer.specs.Spelling.{keyword_text, keyword_of, sign_text}
-use Rattle.c2po_lexer.specs.Cut.{is_blank, begins_word, is_in_word, front_of, size_of, piece_at, pieces_from}
+use Rattle.mltl_base.specs.Letters.{is_in_word}
+use Rattle.c2po_lexer.specs.Cut.{is_blank, begins_word, front_of, size_of, piece_at, pieces_from}
 use Rattle.c2po_lexer.specs.Tokens.{what_of, reserved_or_name, line_at, reading_of, reading_at, size_at, before, all_of, tokens_of, result_map}
 use Rattle.c2po_lexer.specs.declared.token.Keyword.{Keyword}
 use Rattle.c2po_lexer.specs.declared.token.Keyword.TheVariants as keyword

@@ -21,7 +21,7 @@ use Rattle.mltl_base.specs.declared.program.Out as out
 use Rattle.mltl_base.specs.declared.program.Program.{Program}
 use Rattle.mltl_base.specs.declared.program.StoredSignal.{StoredSignal}
 use Rattle.mltl_base.specs.Programs.{name_of}
-use Rattle.c2po_lexer.specs.Cut.{is_in_word}
+use Rattle.mltl_base.specs.Letters.{is_in_word}
 use Rattle.obs_verify.specs.Layout.{HasLayout}
 use Rattle.obs_verify.specs.WellFormed.{IsWellFormed, has_future_window, has_past_window, is_window, has_kind}
 use Rattle.obs_show.specs.Lines.{Form, Line}

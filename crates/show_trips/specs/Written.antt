@@ -5,7 +5,8 @@ use Rattle.std.specs.Prelude.{slice_index, flat_map, decimal, None, ⊤}
 use Rattle.std.specs.List.{AllPass}
 use Rattle.std.specs.Char.{is_ascii_digit}
 use Rattle.c2po_lexer.specs.Spelling.{keyword_text, keyword_of, sign_text}
-use Rattle.c2po_lexer.specs.Cut.{begins_word, is_in_word}
+use Rattle.mltl_base.specs.Letters.{is_in_word}
+use Rattle.c2po_lexer.specs.Cut.{begins_word}
 use Rattle.c2po_lexer.specs.declared.token.Sign.{Sign}
 use Rattle.c2po_lexer.specs.declared.token.Sign.TheVariants as sign
 use Rattle.c2po_lexer.specs.declared.token.Token.{Token}

@@ -9,7 +9,7 @@ use Rattle.mltl_base.specs.declared.program.Out.{Out}
 use Rattle.mltl_base.specs.Programs.{name_of}
 use Rattle.mltl_base.proofs.Unfolding.{Each, each_from_all}
 use Rattle.spec_tree.specs.ItemShape.{TypeShape, BodyShape, ItemShape, structure, input, define, formula, contract}
-use Rattle.c2po_tree.specs.Names.{IsPlainName, ArePlain, IsPlainBody, ArePlainItems}
+use Rattle.spec_tree.specs.Names.{IsPlainName, ArePlain, IsPlainBody, ArePlainItems}
 use Rattle.mltl_base.specs.declared.signal.Signal.{Signal}
 use Rattle.c2po_types.specs.Signals.{is_bool, body_signals, signals_of}
 use Rattle.obs_files.specs.Layout.{is_letter, signal_name}

@@ -2,7 +2,7 @@
 
 ghost use Rattle.std.specs.Prelude.{◌≡◌, ◌≤◌, length};
 ghost use Rattle.spec_tree.specs.ItemShape.{spec_shape};
-ghost use Rattle.c2po_tree.specs.Names.{ArePlainItems};
+ghost use Rattle.spec_tree.specs.Names.{ArePlainItems};
 ghost use Rattle.c2po_types.specs.Signals.{signals_of as declared};
 ghost use Rattle.mltl_base.specs.Kinds.{HaveOwnNames};
 

@@ -1,3 +1,4 @@
 pub mod Shape
 pub mod Parts
 pub mod ItemShape
+pub mod Names

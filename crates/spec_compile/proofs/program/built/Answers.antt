@@ -2,7 +2,7 @@ use Rattle.std.proofs.Common.{◌∙◌, ◌<◌, ◌^◌, map, length, ap, subs
 use Rattle.std.specs.List.{flat_map, list_all}
 use Rattle.std.proofs.lemmas.List.Elements.{All-map}
 use Rattle.spec_tree.specs.ItemShape.{spec_shape}
-use Rattle.c2po_tree.specs.Names.{IsPlainName}
+use Rattle.spec_tree.specs.Names.{IsPlainName}
 use Rattle.plain_nodes.specs.Outputs.{asked}
 use Rattle.obs_files.specs.Layout.{is_letter, out_names, signal_name, signal_names}
 use Rattle.obs_build.specs.Image.{stored_signals}

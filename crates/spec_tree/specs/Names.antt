@@ -1,6 +1,6 @@
 use Rattle.std.specs.Prelude.{ℕ, List, [], ◌∷◌, Option, Some, None, ⊤}
 use Rattle.std.specs.List.{AllPass}
-use Rattle.c2po_lexer.specs.Cut.{is_in_word}
+use Rattle.mltl_base.specs.Letters.{is_in_word}
 use Rattle.spec_tree.specs.Shape.{Shape, Shapes, number, truth, named, build, group, pick, minus, negation, arith}
 use Rattle.spec_tree.specs.Shape.{compare, logic, window, between, each, exists, count, none, more}
 use Rattle.spec_tree.specs.ItemShape.{TypeShape, FieldShape, BodyShape, ItemShape, type_named, set_of, structure, input}
