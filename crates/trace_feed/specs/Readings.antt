@@ -1,7 +1,7 @@
 -- How a program reads the columns of a row.
 
-use Rattle.std.specs.Prelude.{ℕ, ◌≡◌, ◌+◌, ◌-◌, ◌<◌, ◌≤◌, ◌++◌, ℤ, pos, List, length, map, slice_index, slice_index_or}
-use Rattle.std.specs.Prelude.{drop, replicate, take, cond, ◌==◌, nat_lt, if◌then◌else◌, Result, Ok}
+use Rattle.std.specs.Prelude.{ℕ, ◌≡◌, ◌≢◌, ◌+◌, ◌-◌, ◌<◌, ◌≤◌, ◌++◌, ℤ, pos, List, length, map, slice_index}
+use Rattle.std.specs.Prelude.{slice_index_or, drop, replicate, take, cond, ◌==◌, nat_lt, if◌then◌else◌, Result, Ok}
 use Rattle.std.specs.List.{range_with_len}
 use Rattle.std.specs.Str.Parse.{starts_with_minus}
 use Rattle.mltl_base.specs.declared.program.Program.{Program}
@@ -43,11 +43,13 @@ value_at Truth n = in_range is_bit n
 abbrev pub fields_meaning : (ℕ → Reading) → ℕ → ℕ → List (List ℕ) → LineMeaning
 fields_meaning reading c n fields = if nat_lt (length fields) n then too_few else row_from reading c (take n fields)
 
--- columns that aren't read are passed over: their fields, up to a column that is left, and 0 is their number
+-- columns that aren't read are passed over: their fields, up to the first that is read or the last one, and 0 is their
+-- number
 pub record PassesOver (readings : List Reading) (line : List ℕ) (old new : Row) (from to : Spot) : Type 0 where
   pub onward : from.column ≤ to.column
   pub left : to.column < length readings
   pub within : to.at ≤ length line + 1
   pub unread : (k : ℕ) → from.column ≤ k → k < to.column → slice_index_or readings k Unread ≡ Unread
+  pub all : to.column + 1 < length readings → slice_index_or readings to.column Unread ≢ Unread
   pub after : fields_from line to.at ≡ drop (to.column - from.column) (fields_from line from.at)
   pub zeros : take to.column new ≡ take from.column old ++ replicate (to.column - from.column) (pos 0)

@@ -1,6 +1,6 @@
 //! Fields that are passed over, since no instruction reads them.
 
-ghost use Rattle.std.specs.Prelude.{◌≡◌, ◌+◌, ◌<◌, ◌≤◌, ℕ, ◌^◌, ◌++◌, pos, count_by, drop, length, replicate, slice_index_or, take};
+ghost use Rattle.std.specs.Prelude.{◌≡◌, ◌≢◌, ◌+◌, ◌<◌, ◌≤◌, ℕ, ◌^◌, ◌++◌, pos, count_by, drop, length, replicate, slice_index_or, take};
 ghost use Rattle.trace_feed.specs.declared.fields.Reading.TheVariants.{Unread};
 ghost use Rattle.trace_feed.specs.Readings.{PassesOver};
 ghost use Rattle.trace_feed.specs.Rows.{fields_from, is_comma};
@@ -26,6 +26,8 @@ fn unread_from(readings: &[Reading], c: usize) -> usize
     ensures within { c + result ≤ length readings.now }
     ensures unread { (k : ℕ) → k < result
         → slice_index_or readings.now (c + k) Unread ≡ Unread }
+    ensures longest { c + result < length readings.now
+        → slice_index_or readings.now (c + result) Unread ≢ Unread }
 {
     let mut count = 0;
     'columns: while c + count < readings.len() && readings[c + count] == Reading::Unread {
