@@ -29,12 +29,13 @@ use Rattle.plain_nodes.specs.Outputs.{asked_over}
 use Rattle.c2po_runs.specs.Asking.{ask, compile_asked, make, served}
 use Rattle.c2po_runs.specs.Images.{IsFileBy, IsFileUnder, header_of}
 use Rattle.c2po_runs.specs.Run.{IsMade}
-use Rattle.r2u2_runs.specs.Formulas.{TellsProgram, columns_under}
-use Rattle.r2u2_runs.specs.Outcome.{StopsBy, due_by, rows_over}
-use Rattle.r2u2_runs.specs.ProgramBy.{header_in, program_by, program_over}
-use Rattle.r2u2_runs.specs.Run.{IsRun, lines_in, trace_ended, trace_of}
-use Rattle.r2u2_runs.proofs.ImageFiles.{program_told}
-use Rattle.r2u2_runs.proofs.Telling.{over_found}
+use Rattle.trace_runs.specs.Formulas.{TellsProgram, columns_under}
+use Rattle.trace_runs.specs.Outcome.{StopsBy, due_by, rows_over}
+use Rattle.trace_runs.specs.ProgramBy.{header_in, program_by, program_over}
+use Rattle.trace_runs.specs.Taken.{lines_in, trace_ended, trace_of}
+use Rattle.r2u2_runs.specs.Run.{IsRun}
+use Rattle.trace_runs.proofs.ImageFiles.{program_told}
+use Rattle.trace_runs.proofs.Telling.{over_found}
 use Rattle.mltl_tools.specs.Sentence.{HasCompiled, HasWatched, TellsFormulas, TellsText, lines_at}
 use Rattle.mltl_tools.proofs.Outputs.{reports_below}
 

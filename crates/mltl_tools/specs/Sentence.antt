@@ -27,9 +27,10 @@ use Rattle.spec_compile.specs.Simplified.{TellWords}
 use Rattle.c2po_runs.specs.Asking.{ask}
 use Rattle.c2po_runs.specs.Images.{header_of}
 use Rattle.c2po_runs.specs.Run.{IsMade}
-use Rattle.r2u2_runs.specs.Outcome.{rows_over}
-use Rattle.r2u2_runs.specs.ProgramBy.{header_in, program_over}
-use Rattle.r2u2_runs.specs.Run.{IsRun, lines_in, trace_of}
+use Rattle.trace_runs.specs.Outcome.{rows_over}
+use Rattle.trace_runs.specs.ProgramBy.{header_in, program_over}
+use Rattle.trace_runs.specs.Taken.{lines_in, trace_of}
+use Rattle.r2u2_runs.specs.Run.{IsRun}
 
 -- the lines of what was read at a place
 abbrev pub lines_at : Place → List Event → List (List ℕ)

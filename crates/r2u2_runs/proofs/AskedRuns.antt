@@ -20,7 +20,7 @@ use Rattle.tool_runs.proofs.UseLaws.{writes_unused}
 use Rattle.r2u2_runs.specs.Asking.{asked_names}
 use Rattle.demo_runs.specs.Summary.{demo_summary}
 use Rattle.r2u2_runs.specs.Demo.{DemoLog, DemoOutcome, KeepsDemo, SummaryLog}
-use Rattle.r2u2_runs.specs.Outcome.{due_by}
+use Rattle.trace_runs.specs.Outcome.{due_by}
 use Rattle.r2u2_runs.specs.Run.{found_in, FileOutcome, HelpOutcome, NothingOutcome, OutcomeOf, RefusesAfter, TriesSecond, IsPrompt, Ran}
 
 -- help, or a front of it, went out

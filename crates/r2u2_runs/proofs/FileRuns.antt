@@ -24,12 +24,13 @@ use Rattle.tool_runs.proofs.UseLaws.{reads_unused, unused-append}
 use Rattle.tool_runs.specs.FirstLine.{begins_long}
 use Rattle.tool_runs.specs.Telling.{is_used}
 use Rattle.spec_compile.specs.Refusals.{unless_refused}
-use Rattle.r2u2_runs.specs.ProgramBy.{file_refusal, unless_long, header_in, program_by, program_over}
-use Rattle.r2u2_runs.specs.Outcome.{due_by, Silent}
-use Rattle.r2u2_runs.specs.Run.{file_ended, trace_of, trace_ended, lines_in, found_in, IsReadable, ReadsFirstLine, FileOutcome, BegunFor, RefusesAfter, Ran}
-use Rattle.r2u2_runs.specs.Phases.{IsOpened, RanFile, TraceOutcome}
-use Rattle.r2u2_runs.proofs.Refusing.{Refuses, file_refuses}
-use Rattle.r2u2_runs.proofs.TraceRuns.{trace_elsewhere}
+use Rattle.trace_runs.specs.ProgramBy.{file_refusal, unless_long, header_in, program_by, program_over}
+use Rattle.trace_runs.specs.Outcome.{due_by, Silent}
+use Rattle.trace_runs.specs.Taken.{trace_of, trace_ended, lines_in, ReadsFirstLine, BegunFor}
+use Rattle.r2u2_runs.specs.Run.{file_ended, found_in, IsReadable, FileOutcome, RefusesAfter, Ran}
+use Rattle.trace_runs.specs.Phases.{IsOpened, RanFile, TraceOutcome}
+use Rattle.trace_runs.proofs.Refusing.{Refuses, file_refuses}
+use Rattle.trace_runs.proofs.TraceRuns.{trace_elsewhere}
 
 err_elsewhere : (kind : FileKind) → same_place at.Err (file_place kind) ≡ false
 err_elsewhere Spec = refl

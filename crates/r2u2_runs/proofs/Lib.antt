@@ -1,10 +1,3 @@
-pub mod OpenLaws
-pub mod Refusing
-pub mod FirstLine
-pub mod LineRuns
-pub mod TraceRuns
 pub mod FileRuns
 pub mod AskedRuns
-pub mod ImageFiles
-pub mod Telling
 pub mod MainLaws

@@ -27,10 +27,11 @@ use Rattle.tool_runs.proofs.CauseLaws.{err_stays, message_rose, rose_at}
 use Rattle.tool_runs.proofs.MessageLaws.{Leaves, message_leaves, unattached}
 use Rattle.tool_runs.proofs.UseLaws.{unused-given}
 use Rattle.r2u2_runs.specs.Demo.{DemoOutcome}
-use Rattle.r2u2_runs.specs.ProgramBy.{file_refusal, program_over}
-use Rattle.r2u2_runs.specs.Outcome.{due_by, StopsBy, LinesOutcome}
-use Rattle.r2u2_runs.specs.Run.{BegunFor, RefusesAfter, file_of, file_ended, trace_of, trace_ended, lines_in, found_in, IsReadable, FileOutcome, HelpOutcome, NothingOutcome, OutcomeOf, TriesSecond, IsPrompt, TellsFormulas, Ran, CompletesBy, IsRun}
-use Rattle.r2u2_runs.proofs.Telling.{settled_by}
+use Rattle.trace_runs.specs.ProgramBy.{file_refusal, program_over}
+use Rattle.trace_runs.specs.Outcome.{due_by, StopsBy, LinesOutcome}
+use Rattle.trace_runs.specs.Taken.{BegunFor, trace_of, trace_ended, lines_in}
+use Rattle.r2u2_runs.specs.Run.{RefusesAfter, file_of, file_ended, found_in, IsReadable, FileOutcome, HelpOutcome, NothingOutcome, OutcomeOf, TriesSecond, IsPrompt, TellsFormulas, Ran, CompletesBy, IsRun}
+use Rattle.trace_runs.proofs.Telling.{settled_by}
 
 -- rows that end cleanly, and a program, where another end is told, or no program
 not_clean : (stop : Stop) (asked : RunAsked) (found : Result Program status.Status) (ended : Bool) (bytes : List ℕ) → StopsBy stop asked found ended bytes → StopsBy Clean asked found ended bytes → Clean ≡ stop

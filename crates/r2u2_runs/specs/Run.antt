@@ -1,11 +1,11 @@
 -- What a whole run of r2u2 tells: from its words to its message.
 
 use Rattle.std.specs.Prelude.{◌≡◌, ℕ, ◌<◌, ◌≤◌, ◌⊎◌, Bool, true, false, Option, None, Result}
-use Rattle.std.specs.Prelude.{List, [], ◌∷◌, ◌++◌, length, ⊤}
+use Rattle.std.specs.Prelude.{List, [], length, ⊤}
 use Rattle.mltl_base.specs.declared.program.Program.{Program}
 use Rattle.tool_io.specs.declared.host.Place as place
-use Rattle.tool_io.specs.Log.{Event, Took, taken, given, ended_from, names_of, IsFront, IsProperFront, Prompt}
-use Rattle.tool_io.specs.Cutting.{HasNoNewline, lines_of}
+use Rattle.tool_io.specs.Log.{Event, taken, given, ended_from, names_of, IsFront, IsProperFront, Prompt}
+use Rattle.tool_io.specs.Cutting.{lines_of}
 use Rattle.tool_words.specs.R2u2Words.{Asked, RunAsked, help, run, demo, nothing}
 use Rattle.mltl_monitor.specs.declared.state.State.{State}
 use Rattle.trace_watch.specs.Trace.{Clean}
@@ -15,13 +15,13 @@ use Rattle.tool_runs.specs.Messages.{usage, told_to_user}
 use Rattle.tool_runs.specs.Causes.{NoOtherRose}
 use Rattle.tool_runs.specs.Attaching.{OpensAsTold, ReadsAttached}
 use Rattle.tool_runs.specs.Files.{file_limit, file_place}
-use Rattle.tool_runs.specs.FirstLine.{HasBegun}
 use Rattle.tool_runs.specs.Telling.{is_used, ToldWhole, MessageLast}
 use Rattle.r2u2_runs.specs.Asking.{asked_names}
-use Rattle.r2u2_runs.specs.ProgramBy.{file_refusal, header_in, program_over}
+use Rattle.trace_runs.specs.ProgramBy.{file_refusal, header_in, program_over}
 use Rattle.r2u2_runs.specs.Demo.{DemoOutcome}
-use Rattle.r2u2_runs.specs.Outcome.{due_by, Silent, StopsBy, LinesOutcome}
-use Rattle.r2u2_runs.specs.Formulas.{IsSettledBy}
+use Rattle.trace_runs.specs.Outcome.{due_by, Silent, StopsBy, LinesOutcome}
+use Rattle.trace_runs.specs.Taken.{trace_of, trace_ended, lines_in, ReadsFirstLine, BegunFor}
+use Rattle.trace_runs.specs.Formulas.{IsSettledBy}
 
 -- the bytes of the file that were taken
 abbrev pub file_of : RunAsked → List Event → List ℕ
@@ -30,18 +30,6 @@ file_of asked events = taken (file_place asked.kind) events
 -- whether its end was met
 abbrev pub file_ended : RunAsked → List Event → Bool
 file_ended asked events = ended_from false (file_place asked.kind) events
-
--- the bytes of the trace that were taken
-abbrev pub trace_of : List Event → List ℕ
-trace_of events = taken place.TheVariants.Trace events
-
--- whether its end was met
-abbrev pub trace_ended : List Event → Bool
-trace_ended events = ended_from false place.TheVariants.Trace events
-
--- the lines that it has so far
-abbrev pub lines_in : List Event → List (List ℕ)
-lines_in events = lines_of (trace_ended events) (trace_of events)
 
 -- the program that runs over the trace
 abbrev pub found_in : RunAsked → List Event → Result Program status.Status
@@ -58,12 +46,6 @@ abbrev pub TriesSecond : Asked → List Event → Type 0
 TriesSecond (run asked) events =
     1 < length (names_of events) → IsReadable asked (file_of asked events) (file_ended asked events)
 TriesSecond other events = ⊤
-
--- before each read of the trace no newline was taken
-abbrev pub ReadsFirstLine : List Event → Type 0
-ReadsFirstLine events =
-    (before after : List Event) (piece : List ℕ) → events ≡ before ++ Took place.TheVariants.Trace piece ∷ after
-    → HasNoNewline (taken place.TheVariants.Trace before)
 
 -- before each read of the trace, the lines that are due for what was taken are out, and nothing else
 abbrev pub IsPrompt : Asked → List Event → Type 0
@@ -124,12 +106,7 @@ OutcomeOf answer (run asked) events kept =
     FileOutcome answer asked (file_of asked events) (file_ended asked events) (trace_of events) (trace_ended events)
     (given place.TheVariants.Out events) kept
 
--- the limits of a program refuse it only where the trace has begun
-abbrev pub BegunFor : status.Status → Bool → List (List ℕ) → Type 0
-BegunFor (status.TheVariants.Refused line why) ended lines = HasBegun ended lines
-BegunFor answer ended lines = ⊤
-
--- so they do where the file isn't refused by itself
+-- where the file isn't refused by itself, the limits of a program refuse it only after the trace has begun
 abbrev pub RefusesAfter : Asked → status.Status → List Event → Type 0
 RefusesAfter (run asked) answer events =
     file_refusal asked.kind (file_of asked events) ≡ None → BegunFor answer (trace_ended events) (lines_in events)

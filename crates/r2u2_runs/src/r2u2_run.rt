@@ -1,47 +1,21 @@
 //! The top call of the monitor.
 
-ghost use Rattle.std.specs.Prelude.{◌≡◌, ◌≢◌, ◌≤◌, ◌↔◌, ◌^◌, None, length};
+ghost use Rattle.std.specs.Prelude.{◌≡◌, ◌≢◌, ◌≤◌, ◌↔◌, ◌^◌, None};
 ghost use Rattle.mltl_base.specs.declared.limits.TheConstants.{MAX_MISSION};
 ghost use Rattle.tool_io.specs.Log.{OnLog};
 ghost use Rattle.tool_io.specs.declared.host.Place.{Place as Where};
 ghost use Rattle.tool_io.specs.declared.host.Place.TheVariants.{Err};
 ghost use Rattle.tool_words.specs.R2u2Words.{IsInBounds, ask, asked_of, help, nothing, run as run_over, run_of};
 ghost use Rattle.tool_runs.specs.Causes.{CauseAt, RunCause};
-ghost use Rattle.tool_runs.specs.Files.{file_limit};
 ghost use Rattle.r2u2_runs.specs.Run.{IsRun, Ran};
-ghost use Rattle.r2u2_runs.specs.Phases.{RanFile};
 
 use crate::demo::give_demo;
-use crate::opening::open_file;
-use crate::running::run_trace;
 use mltl_monitor::Monitor;
 use std::alloc::Global;
 use tool_io::Host;
 use tool_runs::{Status, Tool, give_help, read_file, tell_user};
 use tool_words::{R2u2Ask, Run, Words, r2u2_ask};
-
-/// Opens the bytes of the file, lets them go, and runs over the trace.
-fn run_bytes<H: Host>(
-    alloc: Global,
-    asked: &Run<'_>,
-    bytes: Vec<u8>,
-    host: &mut H,
-    kept: &mut Option<Monitor>,
-) -> Status
-    requires within { length bytes.items ≤ file_limit asked.now.kind }
-    requires mission { asked.now.mission ≤ MAX_MISSION }
-    requires none_kept { kept.old ≡ None }
-    ensures cause { RunCause result (H.faults host.old) (H.faults host.new) }
-    ensures log { OnLog (H.log host.old) (H.log host.new)
-        (RanFile (run_of asked.now) bytes.items result kept.new) }
-{
-    let opened = open_file(alloc, asked.kind, &bytes);
-    drop(bytes);
-    match opened {
-        Ok(opened) => run_trace(alloc, asked, opened, host, kept),
-        Err(status) => status,
-    }
-}
+use trace_runs::run_bytes;
 
 /// Reads the file, and runs over the trace.
 fn run_file<H: Host>(

@@ -1,6 +1,6 @@
 -- Which places the events of a log are at, over one log after another.
 
-use Rattle.std.proofs.Common.{◌≡◌, ℕ, Bool, true, false, ◌||◌, List, [], ◌∷◌, ◌++◌, map, refl, sym, ◌∙◌, ap}
+use Rattle.std.proofs.Common.{◌≡◌, ℕ, Bool, true, false, ◌||◌, List, [], ◌∷◌, ◌++◌, map, refl, ◌∙◌, ap}
 use Rattle.tool_io.specs.declared.host.Place as place
 use Rattle.tool_io.specs.Log.{Event, Attached, Missed, Took, Gave, same_place, given}
 use Rattle.tool_runs.specs.Telling.{is_used}

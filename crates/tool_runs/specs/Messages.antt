@@ -9,7 +9,7 @@ use Rattle.obs_files.specs.Texts.{file_fault_text}
 use Rattle.spec_compile.specs.declared.fault.CompileFault as compile
 use Rattle.spec_compile.specs.FaultTexts.{compile_fault_text}
 use Rattle.spec_compile.specs.HeaderTexts.{missing_text, twice_text}
-use Rattle.trace_watch.specs.declared.status.TraceWhy as trace
+use Rattle.trace_feed.specs.declared.trace_why.TraceWhy as trace
 
 -- the name of a program
 abbrev pub tool_name : tool.Tool → List ℕ

@@ -12,7 +12,7 @@ use mltl_base::Name;
 use mltl_base::text::{add, add_number};
 use spec_compile::{HeaderWhy, Refusal};
 use tool_io::Place;
-use trace_watch::TraceWhy;
+use trace_feed::TraceWhy;
 
 /// A program of the product.
 #[derive(Clone, Copy)]

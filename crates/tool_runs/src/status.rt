@@ -8,7 +8,7 @@ use obs_files::{FileFault, ProgramFault};
 use spec_compile::{HeaderWhy, Refusal};
 use std::alloc::AllocError;
 use tool_io::Place;
-use trace_watch::TraceWhy;
+use trace_feed::TraceWhy;
 
 /// How a run ended. Lines count from 1; line 0 stands for the whole specification.
 #[derive(Drop)]

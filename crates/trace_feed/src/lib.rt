@@ -13,6 +13,7 @@ mod names;
 mod passing;
 mod readings;
 mod rows;
+mod trace_why;
 
 pub use columns::{header, header_of, in_order};
 pub use fields::{FieldFault, Reading};
@@ -20,3 +21,4 @@ pub use header_fault::HeaderFault;
 pub use laws::rows_are_fit;
 pub use readings::Readings;
 pub use rows::{RowAnswer, row_fields, row_fields_by};
+pub use trace_why::TraceWhy;

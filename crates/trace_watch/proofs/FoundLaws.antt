@@ -17,8 +17,8 @@ use Rattle.trace_feed.specs.Rows as fields
 use Rattle.trace_watch.specs.declared.reader.Found as found
 use Rattle.trace_watch.specs.declared.reader.Reader as reader
 use Rattle.trace_watch.specs.declared.status.LineFault.{LineFault}
-use Rattle.trace_watch.specs.declared.status.TraceWhy.{TraceWhy}
-use Rattle.trace_watch.specs.declared.status.TraceWhy.TheVariants.{Width}
+use Rattle.trace_feed.specs.declared.trace_why.TraceWhy.{TraceWhy}
+use Rattle.trace_feed.specs.declared.trace_why.TraceWhy.TheVariants.{Width}
 use Rattle.trace_watch.specs.declared.status.Watched as watched
 use Rattle.trace_watch.specs.declared.trace_loop.Course.{Course}
 use Rattle.trace_watch.specs.Endings.{why_of}

@@ -11,7 +11,7 @@ use Rattle.tool_io.specs.Log.{Event, Took, Gave, meets_end}
 use Rattle.tool_io.specs.Cutting.{Cutting, HasNoNewline, IsLastRow, IsRow, lines_of, line_text, is_long, OnlyWhereNeeded, CutsLine}
 use Rattle.tool_io.proofs.CutLaws.{lines_of-row, lines_of-last}
 use Rattle.tool_io.proofs.Prompting.{PromptBy}
-use Rattle.trace_watch.specs.declared.status.TraceWhy.TheVariants.{LongLine}
+use Rattle.trace_feed.specs.declared.trace_why.TraceWhy.TheVariants.{LongLine}
 use Rattle.trace_watch.specs.Feed.{Feed, IsPast, IsFaulty, text_meaning, meaning}
 use Rattle.trace_watch.specs.Trace.{is_marked, is_header, after_header}
 use Rattle.trace_watch.specs.Watch.{OnlyRun, first_of}

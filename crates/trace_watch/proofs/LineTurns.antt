@@ -15,7 +15,7 @@ use Rattle.tool_io.specs.Cutting.{Cutting, lines_of, next_number, CutsLine}
 use Rattle.tool_io.proofs.LogLaws.{Appends-then}
 use Rattle.mltl_monitor.specs.declared.state.State.{State}
 use Rattle.trace_watch.specs.declared.reader.Reader.{Reader}
-use Rattle.trace_watch.specs.declared.status.TraceWhy.TheVariants.{LongLine}
+use Rattle.trace_feed.specs.declared.trace_why.TraceWhy.TheVariants.{LongLine}
 use Rattle.trace_watch.specs.declared.status.Watched as watched
 use Rattle.trace_watch.specs.declared.trace_loop.Course.{Course}
 use Rattle.trace_watch.specs.Feed.{Feed, Meaning, IsPast, IsFaulty, Brings, meaning, text_meaning}

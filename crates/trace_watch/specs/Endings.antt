@@ -5,7 +5,7 @@ use Rattle.std.specs.declared.ops.ControlFlow.{ControlFlow}
 use Rattle.std.specs.declared.ops.ControlFlow.TheVariants.{Continue, Break}
 use Rattle.trace_watch.specs.declared.status.Ending as ending
 use Rattle.trace_watch.specs.declared.status.LineFault as fault
-use Rattle.trace_watch.specs.declared.status.TraceWhy as why
+use Rattle.trace_feed.specs.declared.trace_why.TraceWhy as why
 use Rattle.trace_watch.specs.declared.status.Watched as watched
 
 -- what is wrong with a line, as a fault of the trace

@@ -7,8 +7,9 @@ use Rattle.tool_io.specs.Cutting.{line_text, is_long}
 use Rattle.sparse_feed.specs.declared.stamp.Stamp as stamp
 use Rattle.sparse_feed.specs.Stamps.{stamp_meaning, times_between}
 use Rattle.trace_feed.specs.Rows.{LineMeaning, row, blank, too_few, not_whole, out_of_range, line_meaning}
-use Rattle.trace_watch.specs.declared.status.TraceWhy.{TraceWhy}
-use Rattle.trace_watch.specs.declared.status.TraceWhy.TheVariants.{Width, NotWhole, OutOfRange, LongLine, Stamp, Order}
+use Rattle.trace_feed.specs.declared.trace_why.TraceWhy.{TraceWhy}
+use Rattle.trace_feed.specs.declared.trace_why.TraceWhy.TheVariants.{Width, NotWhole, OutOfRange}
+use Rattle.trace_feed.specs.declared.trace_why.TraceWhy.TheVariants.{LongLine, Stamp, Order}
 
 -- how rows stand in the lines to come: each line is a row; or each is a time and the row that holds from then on, after
 -- this last row and its time, if there was one

@@ -9,7 +9,7 @@ use Rattle.mltl_base.specs.Programs.{outputs, output_names}
 use Rattle.mltl_base.specs.Lines.{lines}
 use Rattle.tool_io.specs.Cutting.{line_text, lines_of, is_long}
 use Rattle.trace_feed.specs.Header.{begins_header}
-use Rattle.trace_watch.specs.declared.status.TraceWhy.{TraceWhy}
+use Rattle.trace_feed.specs.declared.trace_why.TraceWhy.{TraceWhy}
 use Rattle.trace_watch.specs.Feed.{Feed, Plain, Stamped, Meaning, IsPast, IsFaulty, Brings, meaning}
 
 -- whether a line is the first of the trace and begins with `#`

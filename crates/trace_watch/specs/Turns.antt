@@ -1,6 +1,6 @@
 -- What one turn of the loop over a trace finds and brings.
 
-use Rattle.std.specs.Prelude.{◌≡◌, ℕ, ◌+◌, ◌<◌, ◌≤◌, ◌^◌, ◌⊎◌, true, false, Option, Some, None, ⊤}
+use Rattle.std.specs.Prelude.{◌≡◌, ℕ, ◌+◌, ◌<◌, ◌≤◌, ◌⊎◌, true, false, Option, Some, None, ⊤}
 use Rattle.std.specs.Prelude.{List, [], ◌∷◌, ◌++◌, length, replicate}
 use Rattle.std.specs.declared.ops.ControlFlow.{ControlFlow}
 use Rattle.std.specs.declared.ops.ControlFlow.TheVariants.{Continue, Break}
@@ -18,7 +18,7 @@ use Rattle.mltl_monitor.specs.Monitoring.{IsDrained, program_of, taken_by, last_
 use Rattle.trace_feed.specs.Rows.{LineMeaning, row, blank, too_few, not_whole, out_of_range}
 use Rattle.trace_watch.specs.declared.status.LineFault.{LineFault}
 use Rattle.trace_watch.specs.declared.status.LineFault.TheVariants.{Width, NotWhole, OutOfRange}
-use Rattle.trace_watch.specs.declared.status.TraceWhy.TheVariants.{LongLine}
+use Rattle.trace_feed.specs.declared.trace_why.TraceWhy.TheVariants.{LongLine}
 use Rattle.trace_watch.specs.declared.status.Watched as watched
 use Rattle.trace_watch.specs.declared.reader.Reader as reader
 use Rattle.trace_watch.specs.declared.reader.Found as found

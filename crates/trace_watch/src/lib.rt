@@ -7,5 +7,6 @@ mod status;
 mod telling;
 mod trace_loop;
 
-pub use status::{TraceWhy, Watched};
+pub use status::Watched;
+pub use trace_feed::TraceWhy;
 pub use trace_loop::{watch, watch_timed};
