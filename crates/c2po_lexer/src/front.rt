@@ -7,6 +7,7 @@ ghost use Rattle.std.specs.List.{prefix_len};
 ghost use Rattle.std.specs.Char.{is_ascii_digit};
 
 use crate::token::Sign;
+use mltl_base::name::is_in_word;
 
 /// What a text begins with: a blank, or how many bytes a comment, a word or a number takes, or a sign, or a byte that
 /// begins none of these.
@@ -32,13 +33,6 @@ fn begins_word(byte: u8) -> bool
     ensures { result ≡ begins_word byte }
 {
     byte.is_ascii_alphabetic() || byte == b'_'
-}
-
-/// Whether a word may go on with a byte.
-fn is_in_word(byte: u8) -> bool
-    ensures { result ≡ is_in_word byte }
-{
-    byte.is_ascii_alphanumeric() || byte == b'_'
 }
 
 /// How many bytes stand before the next newline.

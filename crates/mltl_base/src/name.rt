@@ -1,6 +1,7 @@
 //! Names of signals and outputs.
 
 ghost use Rattle.std.specs.Prelude.{◌≡◌, ◌↔◌, ◌≤◌, ℕ, length, IsSome, IfSome};
+ghost use Rattle.mltl_base.specs.Letters.{is_in_word};
 
 use arrayvec::ArrayVec;
 use std::marker::Model;
@@ -55,4 +56,11 @@ impl Name {
             None => unreachable!(),
         }
     }
+}
+
+/// Whether a byte may stand in a name or a word of the language: a letter of ASCII, a digit or `_`.
+pub fn is_in_word(byte: u8) -> bool
+    ensures { result ≡ is_in_word byte }
+{
+    byte.is_ascii_alphanumeric() || byte == b'_'
 }

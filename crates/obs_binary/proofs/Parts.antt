@@ -7,7 +7,8 @@ use Rattle.std.proofs.lemmas.Bool.{eqb-true, and_parts}
 use Rattle.std.proofs.lemmas.List.{nil_from_length, take-append-drop, take_at, drop_at, length-append, length-take}
 use Rattle.std.proofs.lemmas.List.Folds.{list_all-append}
 use Rattle.obs_binary.specs.declared.fault.ReadFault.{ReadFault}
-use Rattle.obs_binary.specs.Layout.{is_letter, FitsName}
+use Rattle.mltl_base.specs.Letters.{is_in_word}
+use Rattle.obs_binary.specs.Layout.{FitsName}
 use Rattle.obs_binary.specs.Reading.{◌>>=◌, first_other, unless_other, as_spelled, entry_at, each_at, named, is_name_in_front}
 use Rattle.obs_binary.proofs.Numbers.{IsBytes, IsBytes-drop, IsBytes-take}
 use Rattle.obs_binary.proofs.Entries.{AreEntries}
@@ -125,14 +126,14 @@ le-true a b e = grind arith
 true-le : (a b : ℕ) → a ≤ b → nat_le a b ≡ true
 true-le a b h = grind arith
 
-pub in_front : (len : ℕ) (bytes : List ℕ) → is_name_in_front len bytes ≡ true → (1 ≤ len) × (len ≤ 64) × (len ≤ length bytes) × (list_all is_letter (take len bytes) ≡ true)
+pub in_front : (len : ℕ) (bytes : List ℕ) → is_name_in_front len bytes ≡ true → (1 ≤ len) × (len ≤ 64) × (len ≤ length bytes) × (list_all is_in_word (take len bytes) ≡ true)
 in_front len bytes e =
-    let a = and_parts (is_in_range 1 64 len && nat_le len (length bytes)) (list_all is_letter (take len bytes)) e in
+    let a = and_parts (is_in_range 1 64 len && nat_le len (length bytes)) (list_all is_in_word (take len bytes)) e in
     let b = and_parts (is_in_range 1 64 len) (nat_le len (length bytes)) a.0 in
     let c = and_parts (nat_le 1 len) (nat_le len 64) b.0 in
     (le-true 1 len c.0, le-true len 64 c.1, le-true len (length bytes) b.1, a.1)
 
-pub in_front-again : (name rest : List ℕ) → FitsName name → list_all is_letter name ≡ true → is_name_in_front (length name) (name ++ rest) ≡ true
+pub in_front-again : (name rest : List ℕ) → FitsName name → list_all is_in_word name ≡ true → is_name_in_front (length name) (name ++ rest) ≡ true
 in_front-again name rest fits letters =
     let low = true-le 1 (length name) fits.0 in
     let high = true-le (length name) 64 fits.1 in
@@ -146,12 +147,12 @@ choose_ok false r fault y e = absurd cc
 
 module _ {H X : Type 0} (len_of : H → ℕ) (with_name : H → List ℕ → X) (head_of : X → H) (name_of : X → List ℕ) (Holds : H → Type 0) (Fits : X → Type 0) (laws : AreNamed len_of with_name head_of name_of Holds Fits) (fault : ℕ → ReadFault) where
   pub named-takes : (k : ℕ) (heads : List H) (bytes : List ℕ) (y : List X) → AllByRecursion Holds heads → named len_of with_name fault k heads bytes ≡ Ok y
-      → (bytes ≡ flat_map name_of y) × (map head_of y ≡ heads) × AllByRecursion Fits y × (list_all is_letter bytes ≡ true)
+      → (bytes ≡ flat_map name_of y) × (map head_of y ≡ heads) × AllByRecursion Fits y × (list_all is_in_word bytes ≡ true)
   unfolding named
   named-takes k [] bytes y holds e =
       let c = choose_ok (eqb (length bytes) 0) (Ok []) (fault k) y e in
       let none : bytes ≡ [] = nil_from_length bytes (eqb-true (length bytes) 0 c.0) in
-      subst (λ z. (bytes ≡ flat_map name_of z) × (map head_of z ≡ []) × AllByRecursion Fits z × (list_all is_letter bytes ≡ true)) (ok_is [] y c.1) (none, refl, tt, rw none refl)
+      subst (λ z. (bytes ≡ flat_map name_of z) × (map head_of z ≡ []) × AllByRecursion Fits z × (list_all is_in_word bytes ≡ true)) (ok_is [] y c.1) (none, refl, tt, rw none refl)
   named-takes k (head ∷ heads) bytes y holds e =
       let n = len_of head in
       let c = choose_ok (is_name_in_front n bytes) (named len_of with_name fault (suc k) heads (drop n bytes) >>= λ others. Ok (with_name head (take n bytes) ∷ others)) (fault k) y e in
@@ -163,18 +164,18 @@ module _ {H X : Type 0} (len_of : H → ℕ) (with_name : H → List ℕ → X) 
       let parts : bytes ≡ flat_map name_of (with_name head (take n bytes) ∷ a.0) =
       sym (take-append-drop n bytes) ∙ ap (λ r. take n bytes ++ r) others.0 ∙ ap (λ r. r ++ flat_map name_of a.0) (sym name) in
       let heads_are : map head_of (with_name head (take n bytes) ∷ a.0) ≡ head ∷ heads = rw (laws.head head (take n bytes) len, others.1) refl in
-      let letters : list_all is_letter bytes ≡ true =
-      ap (list_all is_letter) (sym (take-append-drop n bytes)) ∙ list_all-append is_letter (take n bytes) (drop n bytes) ∙ rw (f.3, others.3) refl in
-      subst (λ z. (bytes ≡ flat_map name_of z) × (map head_of z ≡ head ∷ heads) × AllByRecursion Fits z × (list_all is_letter bytes ≡ true)) (ok_is (with_name head (take n bytes) ∷ a.0) y a.2)
+      let letters : list_all is_in_word bytes ≡ true =
+      ap (list_all is_in_word) (sym (take-append-drop n bytes)) ∙ list_all-append is_in_word (take n bytes) (drop n bytes) ∙ rw (f.3, others.3) refl in
+      subst (λ z. (bytes ≡ flat_map name_of z) × (map head_of z ≡ head ∷ heads) × AllByRecursion Fits z × (list_all is_in_word bytes ≡ true)) (ok_is (with_name head (take n bytes) ∷ a.0) y a.2)
       (parts, heads_are, (laws.fits head (take n bytes) holds.0 (omega (arith, f.0), omega (arith, f.1)), others.2), letters)
 
-  pub named-again : (k : ℕ) (xs : List X) → AllByRecursion Fits xs → list_all is_letter (flat_map name_of xs) ≡ true → named len_of with_name fault k (map head_of xs) (flat_map name_of xs) ≡ Ok xs
+  pub named-again : (k : ℕ) (xs : List X) → AllByRecursion Fits xs → list_all is_in_word (flat_map name_of xs) ≡ true → named len_of with_name fault k (map head_of xs) (flat_map name_of xs) ≡ Ok xs
   unfolding named
   named-again k [] fits letters = refl
   named-again k (x ∷ xs) fits letters =
       let name = name_of x in
       let rest = flat_map name_of xs in
-      let both = and_parts (list_all is_letter name) (list_all is_letter rest) (sym (list_all-append is_letter name rest) ∙ letters) in
+      let both = and_parts (list_all is_in_word name) (list_all is_in_word rest) (sym (list_all-append is_in_word name rest) ∙ letters) in
       let front = in_front-again name rest (laws.named x fits.0) both.0 in
       let taken : take (length name) (name ++ rest) ≡ name = take_at name rest (length name) refl in
       let after : drop (length name) (name ++ rest) ≡ rest = drop_at name rest (length name) refl in

@@ -14,7 +14,8 @@ use Rattle.obs_binary.specs.declared.head.SignalHead.{SignalHead}
 use Rattle.obs_binary.specs.declared.header.Header.{Header}
 use Rattle.obs_binary.specs.declared.fault.ReadFault.{ReadFault}
 use Rattle.obs_binary.specs.declared.fault.ReadFault.TheVariants.{NameBytes, SignalBytes}
-use Rattle.obs_binary.specs.Layout.{bz_entry, ft_entry, pt_entry, out_entry, signal_entry, u16_bytes, u32_bytes, header_len, header_bytes, body_len, out_head, signal_name, signal_head, out_names, signal_names, header_of, spelling, is_letter, IsVersioned, FitsBz, FitsFt, FitsPt, FitsOut, FitsSignal, Fits}
+use Rattle.mltl_base.specs.Letters.{is_in_word}
+use Rattle.obs_binary.specs.Layout.{bz_entry, ft_entry, pt_entry, out_entry, signal_entry, u16_bytes, u32_bytes, header_len, header_bytes, body_len, out_head, signal_name, signal_head, out_names, signal_names, header_of, spelling, IsVersioned, FitsBz, FitsFt, FitsPt, FitsOut, FitsSignal, Fits}
 use Rattle.mltl_base.specs.Programs.{name_of}
 use Rattle.obs_binary.specs.Reading.{◌>>=◌, Gives, entry_at, each_at, bz_content, ft_content, pt_content, out_content, signal_content, out_of, signal_of, outs_named, signals_named, said_len, header_at, body_at, program_at}
 use Rattle.obs_binary.proofs.Numbers.{IsBytes, IsBytes-drop}
@@ -186,8 +187,8 @@ body-takes h size bytes p fits holds len e =
           signals = subst (λ n. n < 2 ^ 32) (sym signal_count) holds.signals;
           out_name_bytes = subst (λ n. n < 2 ^ 32) (sym out_bytes) holds.name_bytes;
           signal_name_bytes = subst (λ n. n < 2 ^ 32) (sym signal_bytes) holds.signal_bytes;
-          out_letters = ap (list_all is_letter) (sym n6.0) ∙ n6.3;
-          signal_letters = ap (list_all is_letter) (sym n7.0) ∙ n7.3;
+          out_letters = ap (list_all is_in_word) (sym n6.0) ∙ n6.3;
+          signal_letters = ap (list_all is_in_word) (sym n7.0) ∙ n7.3;
         };
         width = holds.width;
         bz = t1.2;

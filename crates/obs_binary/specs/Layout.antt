@@ -1,7 +1,7 @@
 -- The bytes of observer programs: each program has one spelling. Numbers are little-endian.
-use Rattle.std.specs.Prelude.{◌≡◌, ◌≤◌, ◌<◌, ◌^◌, ◌+◌, ◌*◌, ◌||◌, ◌==◌, ℕ, ℤ, Bool, if◌then◌else◌, IsTrue, List, []}
+use Rattle.std.specs.Prelude.{◌≡◌, ◌≤◌, ◌<◌, ◌^◌, ◌+◌, ◌*◌, ◌==◌, ℕ, ℤ, if◌then◌else◌, IsTrue, List, []}
 use Rattle.std.specs.Prelude.{◌∷◌, ◌++◌, length, Option, Some, None, FitsSigned, unwrap_or, codes, ◌⊎◌, ⊤}
-use Rattle.std.specs.Int.{w16, w32, w64, to_le_bytes, cast_unsigned, is_in_range}
+use Rattle.std.specs.Int.{w16, w32, w64, to_le_bytes, cast_unsigned}
 use Rattle.std.specs.List.{flat_map, zip, list_all, AllByRecursion}
 use Rattle.mltl_base.specs.declared.interval.Engine.{Engine}
 use Rattle.mltl_base.specs.declared.interval.Engine.TheVariants.{Ft, Pt}
@@ -15,6 +15,7 @@ use Rattle.mltl_base.specs.declared.program.Out.{Out}
 use Rattle.mltl_base.specs.declared.program.Out.TheVariants.{Formula, Contract}
 use Rattle.mltl_base.specs.declared.program.StoredSignal.{StoredSignal}
 use Rattle.mltl_base.specs.declared.program.Program.{Program}
+use Rattle.mltl_base.specs.Letters.{is_in_word}
 use Rattle.mltl_base.specs.Programs.{name_of}
 use Rattle.obs_binary.specs.declared.head.OutHead.{OutHead}
 use Rattle.obs_binary.specs.declared.head.SignalHead.{SignalHead}
@@ -170,10 +171,6 @@ spelling p =
 
 -- ---- which programs have bytes
 
--- a letter of ASCII, a digit or `_`
-abbrev pub is_letter : ℕ → Bool
-is_letter c = is_in_range 48 57 c || is_in_range 65 90 c || is_in_range 97 122 c || c == 95
-
 -- Version 1 has no signals.
 abbrev pub IsVersioned : Program → Type 0
 IsVersioned p = ((p.version ≡ 1) × (p.signals ≡ [])) ⊎ (p.version ≡ 2)
@@ -191,8 +188,8 @@ pub record IsWritable (p : Program) : Type 0 where
   pub signals : length p.signals < 2 ^ 32
   pub out_name_bytes : length (out_names p) < 2 ^ 32
   pub signal_name_bytes : length (signal_names p) < 2 ^ 32
-  pub out_letters : IsTrue (list_all is_letter (out_names p))
-  pub signal_letters : IsTrue (list_all is_letter (signal_names p))
+  pub out_letters : IsTrue (list_all is_in_word (out_names p))
+  pub signal_letters : IsTrue (list_all is_in_word (signal_names p))
 
 -- a Booleanizer instruction fits the fields of its entry
 abbrev pub FitsBz : BzOp → Type 0

@@ -25,7 +25,7 @@ use Rattle.obs_binary.specs.declared.fault.ReadFault.{ReadFault}
 use Rattle.obs_binary.specs.declared.fault.ReadFault.TheVariants.{Short, Magic, Version, Reserved, Opcode, Trailing}
 use Rattle.obs_binary.specs.declared.fault.ReadFault.TheVariants.{NameBytes, SignalBytes, Memory}
 use Rattle.obs_binary.specs.Layout.{bz_entry, ft_entry, pt_entry, out_entry, signal_entry, header_len, body_len}
-use Rattle.obs_binary.specs.Layout.{is_letter}
+use Rattle.mltl_base.specs.Letters.{is_in_word}
 
 -- ---- numbers
 
@@ -173,7 +173,7 @@ signal_content bytes =
 
 -- a name of `len` bytes stands in front: 1 to 64 letters, digits or `_`, none of them past the end
 abbrev pub is_name_in_front : ℕ → List ℕ → Bool
-is_name_in_front len bytes = is_in_range 1 64 len && nat_le len (length bytes) && list_all is_letter (take len bytes)
+is_name_in_front len bytes = is_in_range 1 64 len && nat_le len (length bytes) && list_all is_in_word (take len bytes)
 
 -- The names of `heads`, one after the other, which take all bytes. The fault of head k comes where its name isn't one,
 -- and that of the number of heads where bytes are left over.

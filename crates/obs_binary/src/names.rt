@@ -2,11 +2,12 @@
 
 ghost use Rattle.std.specs.Prelude.{◌≡◌, ◌<◌, ◌^◌, ℕ, List as Items, length, MatchOption, false, true, take, drop};
 ghost use Rattle.std.specs.List.{list_all};
-ghost use Rattle.obs_binary.specs.Layout.{is_letter};
+ghost use Rattle.mltl_base.specs.Letters.{is_in_word};
 ghost use Rattle.obs_binary.specs.Reading.{Gives, is_name_in_front, named};
 ghost use Rattle.obs_binary.specs.declared.fault.ReadFault.{ReadFault};
 
 use crate::fault::ReadFault;
+use mltl_base::name::is_in_word;
 use mltl_base::{List, Name};
 use std::alloc::Global;
 
@@ -37,16 +38,10 @@ pub(crate) trait Head: Sized {
         ensures { result ≡ fault k };
 }
 
-fn is_letter(byte: u8) -> bool
-    ensures { result ≡ is_letter byte }
-{
-    byte.is_ascii_alphanumeric() || byte == b'_'
-}
-
 fn all_letters(bytes: &[u8]) -> bool
-    ensures { result ≡ list_all is_letter bytes.now }
+    ensures { result ≡ list_all is_in_word bytes.now }
 {
-    bytes.iter().all(|byte| is_letter(*byte))
+    bytes.iter().all(|byte| is_in_word(*byte))
 }
 
 /// The name of `len` bytes at the front, and the bytes after it; `None` where no name of that length stands there.

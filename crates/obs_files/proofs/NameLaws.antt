@@ -10,22 +10,23 @@ use Rattle.std.proofs.lemmas.List.Folds.{list_all-append}
 use Rattle.std.proofs.lemmas.Str.Parse.{digit_from_value}
 use Rattle.mltl_base.specs.declared.program.Program.{Program}
 use Rattle.mltl_base.specs.declared.program.StoredSignal.{StoredSignal}
-use Rattle.obs_binary.specs.Layout.{is_letter, signal_name}
+use Rattle.mltl_base.specs.Letters.{is_in_word}
+use Rattle.obs_binary.specs.Layout.{signal_name}
 use Rattle.obs_verify.specs.Upgrade.{column_name, raised, reads, signal_in, signal_of, up}
 use Rattle.obs_verify.specs.WellFormed.{IsWellFormed, has_kind}
 use Rattle.obs_verify.proofs.RuleLaws.{or_none, unless_true}
 use Rattle.obs_files.specs.Names.{NamesFit}
 
-digit_written : (c : ℕ) → digit_value c < 10 → is_letter c ≡ true
+digit_written : (c : ℕ) → digit_value c < 10 → is_in_word c ≡ true
 digit_written c h = let range = digit_from_value c h in rw (le-leb 48 c range.0, le-leb c 57 range.1) refl
 
-digits_written : (ds : List ℕ) → AllDigits 10 ds → list_all is_letter ds ≡ true
+digits_written : (ds : List ℕ) → AllDigits 10 ds → list_all is_in_word ds ≡ true
 digits_written [] d = refl
-digits_written (c ∷ cs) d = ap (λ b. b && list_all is_letter cs) (digit_written c d.0) ∙ digits_written cs d.1
+digits_written (c ∷ cs) d = ap (λ b. b && list_all is_in_word cs) (digit_written c d.0) ∙ digits_written cs d.1
 
 -- letters of at most n names of columns
 record IsWritten (n : ℕ) (bytes : List ℕ) : Type 0 where
-  letters : list_all is_letter bytes ≡ true
+  letters : list_all is_in_word bytes ≡ true
   short : length bytes ≤ 6 * n
 
 column_written : (c : ℕ) → c < 65536 → IsWritten 1 (column_name c)
@@ -35,7 +36,7 @@ column_written c h =
 
 joined : (n : ℕ) (xs ys : List ℕ) → IsWritten 1 xs → IsWritten n ys → IsWritten (suc n) (xs ++ ys)
 joined n xs ys one rest = record {
-  letters = list_all-append is_letter xs ys ∙ ap (λ b. b && list_all is_letter ys) one.letters ∙ rest.letters;
+  letters = list_all-append is_in_word xs ys ∙ ap (λ b. b && list_all is_in_word ys) one.letters ∙ rest.letters;
   short = omega (arith, length-append xs ys, one.short, rest.short);
 }
 

@@ -12,23 +12,24 @@ use Rattle.spec_tree.specs.ItemShape.{TypeShape, BodyShape, ItemShape, structure
 use Rattle.spec_tree.specs.Names.{IsPlainName, ArePlain, IsPlainBody, ArePlainItems}
 use Rattle.mltl_base.specs.declared.signal.Signal.{Signal}
 use Rattle.c2po_types.specs.Signals.{is_bool, body_signals, signals_of}
-use Rattle.obs_files.specs.Layout.{is_letter, signal_name}
+use Rattle.mltl_base.specs.Letters.{is_in_word}
+use Rattle.obs_files.specs.Layout.{signal_name}
 use Rattle.obs_build.specs.Image.{stored_signals}
 
 -- a plain name has letters alone
-name_letters : (x : List ℕ) → IsPlainName x → list_all is_letter x ≡ true
-name_letters x h = list_all-from_AllPass is_letter x h
+name_letters : (x : List ℕ) → IsPlainName x → list_all is_in_word x ≡ true
+name_letters x h = list_all-from_AllPass is_in_word x h
 
 -- so has one name with another after it
-letters_append : (x y : List ℕ) → list_all is_letter x ≡ true → list_all is_letter y ≡ true → list_all is_letter (x ++ y) ≡ true
-letters_append x y h k = list_all-append is_letter x y ∙ ap (λ b. b && list_all is_letter y) h ∙ k
+letters_append : (x y : List ℕ) → list_all is_in_word x ≡ true → list_all is_in_word y ≡ true → list_all is_in_word (x ++ y) ≡ true
+letters_append x y h k = list_all-append is_in_word x y ∙ ap (λ b. b && list_all is_in_word y) h ∙ k
 
 -- so have the names of outputs
-each_letters : {X : Type 0} (name : X → List ℕ) (xs : List X) → Each IsPlainName (map name xs) → list_all is_letter (flat_map name xs) ≡ true
+each_letters : {X : Type 0} (name : X → List ℕ) (xs : List X) → Each IsPlainName (map name xs) → list_all is_in_word (flat_map name xs) ≡ true
 each_letters name [] h = refl
 each_letters name (x ∷ xs) h = letters_append (name x) (flat_map name xs) (name_letters (name x) h.0) (each_letters name xs h.1)
 
-pub output_letters : (outs : List Out) (names : List (List ℕ)) → map name_of outs ≡ names → All IsPlainName names → list_all is_letter (flat_map name_of outs) ≡ true
+pub output_letters : (outs : List Out) (names : List (List ℕ)) → map name_of outs ≡ names → All IsPlainName names → list_all is_in_word (flat_map name_of outs) ≡ true
 output_letters outs names e h = each_letters name_of outs (each_from_all IsPlainName (map name_of outs) (subst (All IsPlainName) (sym e) h))
 
 -- and those of signals
@@ -54,12 +55,12 @@ signals_plain : (items : List ItemShape) → ArePlainItems items → ArePlainSig
 signals_plain [] h = tt
 signals_plain (i ∷ items) h = more_signals (body_signals i.body) (signals_of items) (body_plain i.body h.0) (signals_plain items h.1)
 
-stored_letters : (signals : List Signal) (columns : List ℕ) → ArePlainSignals signals → list_all is_letter (flat_map signal_name (stored_signals signals columns)) ≡ true
+stored_letters : (signals : List Signal) (columns : List ℕ) → ArePlainSignals signals → list_all is_in_word (flat_map signal_name (stored_signals signals columns)) ≡ true
 stored_letters [] columns h = refl
 stored_letters (s ∷ signals) [] h = refl
 stored_letters (s ∷ signals) (c ∷ columns) h =
     letters_append s.name (flat_map signal_name (stored_signals signals columns)) (name_letters s.name h.0) (stored_letters signals columns h.1)
 
 pub signal_letters : (items : List ItemShape) (columns : List ℕ) → ArePlainItems items
-    → list_all is_letter (flat_map signal_name (stored_signals (signals_of items) columns)) ≡ true
+    → list_all is_in_word (flat_map signal_name (stored_signals (signals_of items) columns)) ≡ true
 signal_letters items columns h = stored_letters (signals_of items) columns (signals_plain items h)

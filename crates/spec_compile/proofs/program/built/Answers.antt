@@ -4,7 +4,8 @@ use Rattle.std.proofs.lemmas.List.Elements.{All-map}
 use Rattle.spec_tree.specs.ItemShape.{spec_shape}
 use Rattle.spec_tree.specs.Names.{IsPlainName}
 use Rattle.plain_nodes.specs.Outputs.{asked}
-use Rattle.obs_files.specs.Layout.{is_letter, out_names, signal_name, signal_names}
+use Rattle.mltl_base.specs.Letters.{is_in_word}
+use Rattle.obs_files.specs.Layout.{out_names, signal_name, signal_names}
 use Rattle.obs_build.specs.Image.{stored_signals}
 use Rattle.obs_build.proofs.Tenses.{image_names}
 use Rattle.spec_compile.specs.Image.{image}
@@ -41,7 +42,7 @@ returns-clause-names c =
       out_letters = output_letters checked.outs (map (λ a. a.name) outs) (image_names c.signals_of.result.now c.args.columns.now outs checked built)
           (All-map IsPlainName (λ a. a.name) outs c.requires.unfolded.named);
       out_bytes = counted.0;
-      signal_letters = ap (λ signals. list_all is_letter (flat_map signal_name signals)) (built.inputs ∙ ap (λ signals. stored_signals signals columns) c.signals_of.ensures.signals)
+      signal_letters = ap (λ signals. list_all is_in_word (flat_map signal_name signals)) (built.inputs ∙ ap (λ signals. stored_signals signals columns) c.signals_of.ensures.signals)
           ∙ signal_letters (spec_shape c.args.spec.now) columns c.signals_of.ensures.plain;
       signal_bytes = counted.1;
     }
