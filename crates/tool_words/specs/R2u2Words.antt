@@ -1,6 +1,6 @@
 -- What the words of `r2u2` ask for.
 
-use Rattle.std.specs.Prelude.{ℕ, ◌^◌, ◌≤◌, Bool, ◌&&◌, ◌==◌, not, if◌then◌else◌, Option, Some, is_some, unwrap_or}
+use Rattle.std.specs.Prelude.{ℕ, ◌≤◌, Bool, ◌&&◌, ◌==◌, not, if◌then◌else◌, Option, Some, is_some, unwrap_or}
 use Rattle.std.specs.Prelude.{option_map, option_and_then, List, [], ◌∷◌, codes, ⊤}
 use Rattle.std.specs.List.{before_first, after_first}
 use Rattle.std.specs.Option.{option_map_or}

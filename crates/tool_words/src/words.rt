@@ -13,7 +13,7 @@ use std::marker::Model;
 #[derive(Drop)]
 pub struct Words {
     alloc: Global,
-    words: Vec<Word>,
+    words: Vec<WordBytes>,
 }
 
 impl Model for Words {
@@ -49,7 +49,7 @@ impl Words {
         ensures kept { OnErr result (self.new ≡ self.old) }
     {
         let bytes = word.to_vec(self.alloc)?;
-        self.words.push(Word { bytes })?;
+        self.words.push(WordBytes { bytes })?;
         Ok(())
     }
 
@@ -83,7 +83,7 @@ impl Words {
     }
 
     /// The words as texts, as `get` tells them.
-    pub(crate) fn as_slice(&self) -> &[Word]
+    pub(crate) fn as_slice(&self) -> &[WordBytes]
         ensures { map (λ word. text_of word.bytes.items) result.now ≡ map text_of self.now }
     {
         self.words.as_slice()
@@ -92,11 +92,11 @@ impl Words {
 
 /// The bytes of a word.
 #[derive(Drop)]
-pub(crate) struct Word {
+pub(crate) struct WordBytes {
     bytes: Vec<u8>,
 }
 
-impl Word {
+impl WordBytes {
     /// Whether the bytes are UTF-8.
     fn is_text(&self) -> bool
         ensures { result ≡ is_utf8 self.now.bytes.items }
@@ -105,13 +105,13 @@ impl Word {
     }
 }
 
-fn are_utf8(words: &[Word]) -> bool
+fn are_utf8(words: &[WordBytes]) -> bool
     ensures { result ≡ list_all (λ word. is_utf8 word.bytes.items) words.now }
 {
     words.iter().all(|word| word.is_text())
 }
 
-impl AsStr for Word {
+impl AsStr for WordBytes {
     ghost use Rattle.tool_words.specs.Texts.{text_of};
 
     ghost text = { λ word. text_of word.bytes.items };
