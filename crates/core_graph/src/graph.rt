@@ -1,11 +1,14 @@
 //! From a specification that is unfolded to its core graph.
 
-ghost use Rattle.std.specs.Prelude.{◌≡◌, Err, length, All, OnOk, IfOk};
+ghost use Rattle.std.specs.Prelude.{◌≡◌, ◌<◌, Err, length, All, OnOk, IfOk, ℕ, List as Seq};
 ghost use Rattle.mltl_base.specs.Subformulas.{IsGraphOf, IsTensed};
 ghost use Rattle.plain_nodes.specs.Nodes.{AreSound, trees};
 ghost use Rattle.plain_nodes.specs.Outputs.{NamesFormulas, asked, asked_in};
 ghost use Rattle.core_graph.specs.Limits.{AreFew, AreMany};
-ghost use Rattle.core_graph.specs.Listings.{asked_from};
+ghost use Rattle.plain_nodes.specs.declared.nodes.Plain.{Plain as Node};
+ghost use Rattle.core_graph.specs.Vertices.{IsForest};
+ghost use Rattle.core_graph.specs.Reading.{AreRead};
+ghost use Rattle.core_graph.specs.Listings.{NamesNodes, asked_from};
 
 use crate::forest::Forest;
 use crate::keyed::Keyed;
@@ -76,13 +79,36 @@ fn graph_of(
     let marks = reached(alloc, nodes, outs)?;
     let mut forest = Forest::new(alloc, Keyed::by(&marks, nodes));
     let ids = read(alloc, &mut forest, nodes, &marks, columns)?;
-    let bz = list(alloc, &forest, outs, &ids, Part::Bz)?;
-    let ft = list(alloc, &forest, outs, &ids, Part::Ft)?;
-    let pt = list(alloc, &forest, outs, &ids, Part::Pt)?;
-    let bz_list = bz_ops(alloc, &forest, &bz)?;
-    let ft_list = ft_ops(alloc, &forest, &bz, &ft)?;
-    let pt_list = pt_ops(alloc, &forest, &bz, &pt)?;
-    let reports = numbered_outs(alloc, outs, &ids, &ft.places, &pt.places)?;
+    graph_in(alloc, &forest, outs, &ids)
+}
+
+/// The core graph of outputs whose nodes stand in a forest, with the vertex of each node.
+fn graph_in(
+    alloc: Global,
+    forest: &Forest,
+    outs: &[PlainOut],
+    ids: &[usize],
+) -> Result<Graph, GraphFault>
+    requires forest { IsForest forest.now }
+    requires there { All (λ n. n < length forest.now) ids.now }
+    requires named { All (NamesNodes (length ids.now)) outs.now }
+    ensures graph { (columns : Seq ℕ) (nodes : Seq Node) →
+        AreRead columns forest.now nodes ids.now → All (NamesFormulas (trees nodes)) outs.now →
+        IfOk result (λ graph. IsGraphOf (asked_from columns nodes outs.now) graph) }
+    ensures few { (columns : Seq ℕ) (nodes : Seq Node) →
+        AreRead columns forest.now nodes ids.now → All (NamesFormulas (trees nodes)) outs.now →
+        OnOk result (AreFew (asked_from columns nodes outs.now)) }
+    ensures too_many { (columns : Seq ℕ) (nodes : Seq Node) →
+        AreRead columns forest.now nodes ids.now → All (NamesFormulas (trees nodes)) outs.now →
+        result ≡ Err GraphFault.TooManyNodes → AreMany (asked_from columns nodes outs.now) }
+{
+    let bz = list(alloc, forest, outs, ids, Part::Bz)?;
+    let ft = list(alloc, forest, outs, ids, Part::Ft)?;
+    let pt = list(alloc, forest, outs, ids, Part::Pt)?;
+    let bz_list = bz_ops(alloc, forest, &bz)?;
+    let ft_list = ft_ops(alloc, forest, &bz, &ft)?;
+    let pt_list = pt_ops(alloc, forest, &bz, &pt)?;
+    let reports = numbered_outs(alloc, outs, ids, &ft.places, &pt.places)?;
     Ok(Graph {
         bz: bz_list,
         ft: ft_list,

@@ -1,6 +1,6 @@
 //! The run of the demo.
 
-ghost use Rattle.std.specs.Prelude.{◌≡◌, ◌≢◌, Err, ◌+◌, ◌≤◌, ◌<◌, ◌^◌, ◌++◌, ◌∷◌, [], length, List as Seq, None, Ok, IfOk};
+ghost use Rattle.std.specs.Prelude.{◌≡◌, ◌≢◌, Err, ◌+◌, ◌≤◌, ◌<◌, ◌^◌, ◌++◌, ◌∷◌, [], length, List as Seq, None, Ok, IfOk, OnOk};
 ghost use Rattle.mltl_base.specs.Atoms.{Row};
 ghost use Rattle.mltl_monitor.specs.Monitoring.{IsDrained, Stands, program_of, taken_by};
 ghost use Rattle.spec_compile.specs.Compiled.{image_of_text};
@@ -33,11 +33,27 @@ pub fn run_demo(alloc: Global, seed: u32, rows: u32) -> Result<Demo, AllocError>
     ensures drained { IfOk result (λ demo. IsDrained demo.monitor) }
 {
     let mut monitor = demo_monitor(alloc)?;
+    let summary = played(alloc, &mut monitor, seed, rows)?;
+    Ok(Demo { monitor, summary })
+}
+
+/// Lets a fresh monitor of the demo's text take all rows, and sums its reports up.
+fn played(alloc: Global, monitor: &mut Monitor, seed: u32, rows: u32) -> Result<Vec<u8>, AllocError>
+    requires program { image_of_text DEMO_TEXT.now None ≡ Ok (program_of monitor.old) }
+    requires taken { taken_by monitor.old ≡ 0 }
+    requires stands { Stands monitor.old [] }
+    requires drained { IsDrained monitor.old }
+    ensures summary { IfOk result (λ summary. summary.items ≡ demo_summary seed rows) }
+    ensures program { OnOk result
+        (image_of_text DEMO_TEXT.now None ≡ Ok (program_of monitor.new)) }
+    ensures stands { OnOk result (Stands monitor.new (demo_rows seed rows)) }
+    ensures drained { OnOk result (IsDrained monitor.new) }
+{
     let mut tallies = vec![in alloc; Tally::new(); monitor.checked().program().outs.len()]?;
-    play(&mut monitor, &mut tallies, seed, rows);
+    play(monitor, &mut tallies, seed, rows);
     let outs = monitor.checked().program().outs.as_slice();
     let summary = summary_of(alloc, rows, outs, &tallies)?;
-    Ok(Demo { monitor, summary })
+    Ok(summary)
 }
 
 /// A monitor of the demo's text that has taken no rows.

@@ -6,7 +6,6 @@ use Rattle.mltl_base.specs.Queues.{best_delays, best_of, worst_delays, worst_of}
 use Rattle.mltl_base.specs.declared.program.Program.{Program}
 use Rattle.delay_sizes.proofs.DelayLaws.{length-numbered_after}
 use Rattle.obs_verify.specs.Readers.{signal_read, signals_read}
-use Rattle.trace_feed.specs.Readings.{readings_of}
 use Rattle.trace_feed.proofs.ReadingLaws.{length-readings_of}
 use Rattle.mltl_monitor.specs.Bytes.{bytes_of, monitor_bytes}
 use Rattle.mltl_monitor.specs.declared.state.State.{State}

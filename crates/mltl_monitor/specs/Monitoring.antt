@@ -1,6 +1,6 @@
 -- What a monitor stands for.
 
-use Rattle.std.specs.Prelude.{◌≡◌, ◌↔◌, ℕ, ◌+◌, ◌^◌, ◌<◌, ◌≤◌, Option, List, [], ◌∷◌, ◌++◌, length, map, IfNone, IfSome}
+use Rattle.std.specs.Prelude.{◌≡◌, ◌↔◌, ℕ, ◌+◌, ◌<◌, ◌≤◌, Option, List, [], ◌∷◌, ◌++◌, length, map, IfNone, IfSome}
 use Rattle.std.specs.Prelude.{IsNone}
 use Rattle.std.specs.List.{range_with_len}
 use Rattle.mltl_base.specs.declared.limits.TheConstants.{MAX_MISSION}

@@ -1,6 +1,6 @@
 -- Why a monitor doesn't take a row.
 
-use Rattle.std.specs.Prelude.{◌≡◌, ⊤, ◌⊎◌, ℕ, ◌+◌, ◌<◌, ◌^◌, ℤ, pos, FitsSigned, List, ◌++◌, length, codes, decimal}
+use Rattle.std.specs.Prelude.{◌≡◌, ⊤, ◌⊎◌, ℕ, ◌+◌, ◌<◌, ℤ, pos, FitsSigned, List, ◌++◌, length, codes, decimal}
 use Rattle.std.specs.Int.{w32}
 use Rattle.mltl_base.specs.declared.limits.TheConstants.{MAX_MISSION}
 use Rattle.mltl_base.specs.declared.program.Program.{Program}

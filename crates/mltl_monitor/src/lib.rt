@@ -9,6 +9,7 @@ pub mod bytes;
 pub mod laws;
 mod monitor;
 mod queries;
+mod row_buffers;
 mod row_fault;
 mod running;
 mod state;

@@ -1,12 +1,12 @@
 //! The monitor.
 
+use crate::row_buffers::RowBuffers;
 use crate::row_fault::RowFault;
 use crate::running::Running;
 use crate::state::State;
 use crate::unfit::unfit_column;
 use arrayvec::ArrayVec;
 use contract_status::{Cursor, line_of};
-use fixed_list::Fixed;
 use mltl_base::limits::MAX_MISSION;
 use mltl_base::{Report, Style};
 use obs_verify::Checked;
@@ -71,10 +71,11 @@ impl Monitor {
         ensures drained { IfOk result IsDrained }
         ensures bytes { IfOk result (λ monitor. bytes_of monitor ≡ monitor_bytes checked) }
     {
-        let width = checked.program().width as usize;
-        let last = Fixed::filled(alloc, 0, width)?;
-        let read = Fixed::filled(alloc, 0, width)?;
-        let readings = Readings::of(alloc, &checked)?;
+        let RowBuffers {
+            last,
+            read,
+            readings,
+        } = RowBuffers::of(alloc, &checked)?;
         let running = Running::load(alloc, checked)?;
         Ok(Monitor {
             state: State {

@@ -1,5 +1,9 @@
 //! What runs in a monitor.
 
+ghost use Rattle.std.specs.Prelude.{◌≡◌, [], length, IfOk};
+ghost use Rattle.contract_status.specs.Open.{known_counts_of};
+ghost use Rattle.contract_status.specs.Standing.{StandFor};
+
 use booleanizer::Bz;
 use contract_status::{Cursor, Outs};
 use ft_engine::Ft;
@@ -21,6 +25,29 @@ pub struct Running {
     pub taken: u64,
 }
 
+/// What runs a program, before its first row.
+#[derive(Drop)]
+struct Fresh {
+    bz: Bz,
+    ft: Ft,
+    pt: Pt,
+    outs: Outs,
+}
+
+/// The engines and the outputs of a program, before the first row.
+fn engines(alloc: Global, checked: &Checked) -> Result<Fresh, AllocError>
+    ensures numbers { IfOk result (λ fresh. length fresh.bz ≡ length checked.now.bz) }
+    ensures stand { IfOk result (λ fresh.
+        StandFor checked.now [] 0 fresh.ft fresh.pt fresh.outs) }
+    ensures drained { IfOk result (λ fresh. fresh.outs ≡ known_counts_of checked.now []) }
+{
+    let bz = Bz::make(alloc, checked)?;
+    let ft = Ft::make(alloc, checked)?;
+    let pt = Pt::make(alloc, checked)?;
+    let outs = Outs::make(alloc, checked)?;
+    Ok(Fresh { bz, ft, pt, outs })
+}
+
 impl Running {
     ghost use Rattle.std.specs.Prelude.{◌≡◌, ◌+◌, ◌^◌, ◌<◌, ◌≤◌, ◌↔◌, List, [], length, IfOk, IfSome, IsNone, IsTrue};
     ghost use Rattle.mltl_base.specs.declared.limits.TheConstants.{MAX_MISSION};
@@ -37,10 +64,7 @@ impl Running {
         ensures stands { IfOk result (λ running. HasTaken running []) }
         ensures drained { IfOk result IsDrained }
     {
-        let bz = Bz::make(alloc, &checked)?;
-        let ft = Ft::make(alloc, &checked)?;
-        let pt = Pt::make(alloc, &checked)?;
-        let outs = Outs::make(alloc, &checked)?;
+        let Fresh { bz, ft, pt, outs } = engines(alloc, &checked)?;
         Ok(Running {
             checked,
             bz,

@@ -1,7 +1,7 @@
 -- What the program may say of expressions, and Kleene values over lists of known verdicts.
 -- A reader of the contracts needs this file.
 
-use Rattle.std.specs.Prelude.{◌≡◌, ◌≢◌, Bool, true, false, List, ℤ, pos, neg_ℤ, ◌+ℤ◌, ◌-ℤ◌, ◌*ℤ◌, int_div, int_rem}
+use Rattle.std.specs.Prelude.{◌≢◌, Bool, true, false, List, ℤ, pos, neg_ℤ, ◌+ℤ◌, ◌-ℤ◌, ◌*ℤ◌, int_div, int_rem}
 use Rattle.std.specs.Prelude.{int_lt, int_le, not, FitsSigned, slice_get, All, ⊤}
 use Rattle.std.specs.Ordering.{int_eq}
 use Rattle.std.specs.Int.{w64}

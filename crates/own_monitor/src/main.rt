@@ -17,10 +17,14 @@ const ROWS: [[i64; 2]; 6] = [[1, 0], [0, 1], [1, 0], [0, 0], [0, 0], [0, 0]];
 
 fn main(rt: HostRuntime) -> Result<()> {
     let checked = compile(rt.alloc(), REQUIREMENT, None)?;
-    let mut monitor = Monitor::load(rt.alloc(), checked)?;
+    watch(&rt, &mut Monitor::load(rt.alloc(), checked)?)
+}
+
+/// Lets the monitor take the rows, and prints what each of them decides.
+fn watch(rt: &impl Print, monitor: &mut Monitor) -> Result<()> {
     for row in &ROWS {
         monitor.take(row)?;
-        tell(&rt, &mut monitor)?;
+        tell(rt, monitor)?;
     }
     Ok(())
 }

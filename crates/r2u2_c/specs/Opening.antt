@@ -1,10 +1,10 @@
 -- The program of a monitor that is opened, or why none is.
 
-use Rattle.std.specs.Prelude.{ℕ, ◌≡◌, ◌==◌, nat_lt, if◌then◌else◌, List, [], map, length, Result, Ok, Err}
-use Rattle.mltl_base.specs.declared.limits.TheConstants.{MAX_LINE_BYTES}
+use Rattle.std.specs.Prelude.{ℕ, ◌≡◌, ◌==◌, ◌<◌, ◌≤◌, nat_lt, if◌then◌else◌, List, [], All, map, length, Result, Ok, Err}
+use Rattle.mltl_base.specs.declared.limits.TheConstants.{MAX_LINE_BYTES, MAX_SIGNALS}
 use Rattle.mltl_base.specs.declared.program.Columns.{Columns}
 use Rattle.mltl_base.specs.declared.program.Program.{Program}
-use Rattle.obs_verify.specs.Bound.{bound}
+use Rattle.obs_verify.specs.Bound.{AreDifferent, bound}
 use Rattle.obs_files.specs.declared.fault.FileFault.{FileFault}
 use Rattle.obs_files.specs.declared.fault.FileFault.TheVariants as file
 use Rattle.obs_files.specs.Faults.{opened}
@@ -42,6 +42,16 @@ program_by bytes = unless_refused (opened bytes)
 abbrev pub bound_over : Program → Result Columns HeaderFault → Result Program OpeningFault
 bound_over program (Ok columns) = Ok (bound program columns.width columns.of_signal)
 bound_over program (Err fault) = Err (of_header fault)
+
+-- these are the columns that a header gives the signals of a program that stores them
+pub record GivesColumns (line : List ℕ) (program : Program) (columns : Columns) : Type 0 where
+  pub stored : program.version ≡ 2
+  pub short : length line < MAX_LINE_BYTES
+  pub found : header_meaning (map (λ s. s.name) program.signals) line ≡ Ok columns
+  pub narrow : columns.width ≤ MAX_SIGNALS
+  pub one_each : length columns.of_signal ≡ length program.signals
+  pub below : All (λ column. column < columns.width) columns.of_signal
+  pub different : AreDifferent columns.of_signal
 
 -- a program with its signals in the columns that a header names; one of version 1 stores no signals
 abbrev pub bound_by : List ℕ → Program → Result Program OpeningFault

@@ -2,10 +2,10 @@
 
 ghost use Rattle.std.specs.Prelude.{◌≡◌, ◌≢◌, ◌≤◌, Ok, Err, IfOk, IfErr, length};
 ghost use Rattle.mltl_monitor.specs.Monitoring.{program_of};
-ghost use Rattle.r2u2_c.specs.Opening.{Starts, bound_by, of_file, of_header, program_by, program_under};
+ghost use Rattle.r2u2_c.specs.Opening.{GivesColumns, Starts, bound_by, of_file, of_header, program_by, program_under};
 
-use mltl_base::Name;
 use mltl_base::limits::MAX_LINE_BYTES;
+use mltl_base::{Columns, Name};
 use mltl_monitor::Monitor;
 use obs_files::{FileFault, ProgramFault, open};
 use obs_verify::{Checked, rebind};
@@ -105,14 +105,24 @@ fn bind(alloc: Global, checked: Checked, header: &[u8]) -> Result<Checked, Openi
     ensures refused { IfErr result (λ why. why ≢ OpeningFault.Memory
         → bound_by header.now checked ≡ Err why) }
 {
+    let columns = columns_in(alloc, &checked, header)?;
+    Ok(rebind(checked, &columns))
+}
+
+/// The columns that a header gives a program's signals.
+fn columns_in(alloc: Global, checked: &Checked, header: &[u8]) -> Result<Columns, OpeningFault>
+    ensures columns { IfOk result (GivesColumns header.now checked.now) }
+    ensures refused { IfErr result (λ why. why ≢ OpeningFault.Memory
+        → bound_by header.now checked.now ≡ Err why) }
+{
     if checked.program().version != 2 {
         return Err(OpeningFault::NoSignals);
     }
     if header.len() >= MAX_LINE_BYTES {
         return Err(OpeningFault::LongHeader);
     }
-    let columns = header_of(alloc, header, &checked)?;
-    Ok(rebind(checked, &columns))
+    let columns = header_of(alloc, header, checked)?;
+    Ok(columns)
 }
 
 /// A monitor in memory of its own.

@@ -27,7 +27,13 @@ fn smaller(simple: Checked, plain: Checked) -> Checked
     ensures { result ≡ (if nat_le (slots_in simple) (slots_in plain) then simple else plain) }
 {
     let fits = slot_count(&simple.program().sizes) <= slot_count(&plain.program().sizes);
-    if fits { simple } else { plain }
+    if fits {
+        drop(plain);
+        simple
+    } else {
+        drop(simple);
+        plain
+    }
 }
 
 /// The image of a specification in simplified form, over the columns of its signals. Where that form exceeds a limit, or
@@ -50,7 +56,9 @@ pub fn back_simple(
 {
     let plain = back(alloc, spec, columns)?;
     let simple = simplify(alloc, spec.expanded())?;
-    match built(alloc, &simple, spec, columns) {
+    let made = built(alloc, &simple, spec, columns);
+    drop(simple);
+    match made {
         Ok(simple) => Ok(smaller(simple, plain)),
         Err(fault) => match fault {
             BuildFault::Memory => Err(CompileFault::Memory),

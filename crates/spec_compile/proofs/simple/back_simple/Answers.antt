@@ -17,8 +17,8 @@ use Rattle.spec_compile.proofs.LimitLaws.{none_exceeded}
 use Rattle.spec_compile.proofs.SimpleLaws.{fits_either, image_slots, kinds_simple, named_simple, plain_is, smaller_is}
 use Rattle.spec_compile.proofs.simple.back_simple.Goals as goal
 
-pub built-requires-clause-unfolded : goal.built-requires-clause-unfolded
-built-requires-clause-unfolded c =
+pub built-made-requires-clause-unfolded : goal.built-made-requires-clause-unfolded
+built-made-requires-clause-unfolded c =
     let signals = signals_of (spec_shape c.args.spec.now) in
     let spec = c.expanded.result.now in
     let simple = c.in_ok-simple.simple in

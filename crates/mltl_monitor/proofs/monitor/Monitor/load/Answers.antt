@@ -1,6 +1,4 @@
-use Rattle.std.proofs.Common.{◌≡◌, ℤ, pos, ap, sym, ◌∙◌, arith, [], length, replicate}
-use Rattle.std.proofs.lemmas.List.{length-replicate}
-use Rattle.mltl_base.specs.Atoms.{Row}
+use Rattle.std.proofs.Common.{ap, sym, ◌∙◌, arith, [], length}
 use Rattle.mltl_base.specs.declared.program.Program.{Program}
 use Rattle.trace_feed.specs.Readings.{readings_of}
 use Rattle.mltl_monitor.specs.Bytes.{monitor_bytes}
@@ -14,32 +12,26 @@ returns-clause-stands c = record { taken = c.in_ok-running.ensures.stands; last 
 pub invariant_of-result : goal.invariant_of-result
 invariant_of-result c =
     let same = c.in_ok-running.ensures.program in
-    let width : c.program.result.now.width ≡ c.in_ok-running.running.checked.width = ap (λ (p : Program). p.width) (c.program.ensures.program ∙ sym same) in
-    let zero : ℤ = pos 0 in
-    let wide : (row : Row) → row ≡ replicate c.program.result.now.width zero → length row ≡ c.in_ok-running.running.checked.width =
-    λ row is. ap length is ∙ length-replicate c.program.result.now.width zero ∙ width in (
+    let width = ap (λ (p : Program). p.width) (sym same) in (
       record {
         some = ([], record { taken = c.in_ok-running.ensures.stands; last = λ before row is. absurd (none_before before row is) });
         early = omega (arith, c.in_ok-running.ensures.taken);
         numbers = c.in_ok-running.ensures.numbers ∙ ap (λ (p : Program). length p.bz) (sym same);
-        last_wide = wide c.in_ok-last.last c.in_ok-last.ensures;
-        read_wide = wide c.in_ok-read.read c.in_ok-read.ensures;
+        last_wide = c.in_ok-last.ensures.last ∙ width;
+        read_wide = c.in_ok-last.ensures.read ∙ width;
       },
       λ rows future past count known. c.start.ensures c.in_ok-running.running.checked rows c.in_ok-running.running.outs,
-      c.in_ok-readings.ensures.readings ∙ ap readings_of (sym same),
+      c.in_ok-last.ensures.readings ∙ ap readings_of (sym same),
     )
 
 pub returns-clause-bytes : goal.returns-clause-bytes
 returns-clause-bytes c =
     let same = c.in_ok-running.ensures.program in
-    let width : c.program.result.now.width ≡ c.in_ok-running.running.checked.width = ap (λ (p : Program). p.width) (c.program.ensures.program ∙ sym same) in
-    let zero : ℤ = pos 0 in
-    let wide : (row : Row) → row ≡ replicate c.program.result.now.width zero → length row ≡ c.in_ok-running.running.checked.width =
-    λ row is. ap length is ∙ length-replicate c.program.result.now.width zero ∙ width in
+    let width = ap (λ (p : Program). p.width) (sym same) in
     holds_what_it_takes _ (record {
       some = ([], record { taken = c.in_ok-running.ensures.stands; last = λ before row is. absurd (none_before before row is) });
       early = omega (arith, c.in_ok-running.ensures.taken);
       numbers = c.in_ok-running.ensures.numbers ∙ ap (λ (p : Program). length p.bz) (sym same);
-      last_wide = wide c.in_ok-last.last c.in_ok-last.ensures;
-      read_wide = wide c.in_ok-read.read c.in_ok-read.ensures;
+      last_wide = c.in_ok-last.ensures.last ∙ width;
+      read_wide = c.in_ok-last.ensures.read ∙ width;
     }) ∙ ap (λ (p : Program). monitor_bytes p) same

@@ -11,18 +11,18 @@ use Rattle.demo_runs.specs.Summary.{demo_rows, listed_out, summary_of}
 use Rattle.demo_runs.specs.Tallies.{AreTallies}
 use Rattle.demo_runs.proofs.Playing.{all_none, played_all, played_none, written_back}
 use Rattle.demo_runs.proofs.Rows.{summary_is}
-use Rattle.demo_runs.proofs.run.run_demo.Goals as goal
+use Rattle.demo_runs.proofs.run.played.Goals as goal
 
 pub play-requires : goal.play-requires
 play-requires c =
-    let monitor = c.in_ok-monitor.monitor in
+    let monitor = c.args.monitor.now in
     let tallies : List Tally = c.deref_mut.result.now in
     let program : c.program.result.now ≡ program_of monitor = c.program.ensures.program ∙ c.checked.ensures.program in
     let count : c.len.result ≡ length (program_of monitor).outs = c.len.ensures ∙ ap (λ (p : Program). length p.outs) program in
     let items : tallies ≡ replicate c.len.result c.new.result = c.deref_mut.ensures.value ∙ c.in_ok-tallies.ensures.items_if_clones_equal (λ y e. e) in
     let enough : length tallies ≡ length (program_of monitor).outs = ap length items ∙ length-replicate c.len.result c.new.result ∙ count in
     record {
-      before = played_none tallies monitor c.args.seed c.in_ok-monitor.ensures.program c.in_ok-monitor.ensures.taken c.in_ok-monitor.ensures.stands c.in_ok-monitor.ensures.drained
+      before = played_none tallies monitor c.args.seed c.requires.program c.requires.taken c.requires.stands c.requires.drained
           enough (all_none tallies c.len.result c.new.result items c.new.ensures);
     }
 

@@ -1,0 +1,36 @@
+//! The rows that a monitor holds.
+
+ghost use Rattle.std.specs.Prelude.{◌≡◌, length, IfOk};
+ghost use Rattle.trace_feed.specs.Readings.{readings_of};
+
+use fixed_list::Fixed;
+use obs_verify::Checked;
+use std::alloc::{AllocError, Global};
+use trace_feed::Readings;
+
+/// Room for the row that was taken last and for one that was read, and how the program reads their columns.
+#[derive(Drop)]
+pub struct RowBuffers {
+    pub last: Fixed<i64>,
+    pub read: Fixed<i64>,
+    pub readings: Readings,
+}
+
+impl RowBuffers {
+    /// Those of a program. All memory is taken here.
+    pub fn of(alloc: Global, checked: &Checked) -> Result<RowBuffers, AllocError>
+        ensures last { IfOk result (λ buffers. length buffers.last ≡ checked.now.width) }
+        ensures read { IfOk result (λ buffers. length buffers.read ≡ checked.now.width) }
+        ensures readings { IfOk result (λ buffers. buffers.readings ≡ readings_of checked.now) }
+    {
+        let width = checked.program().width as usize;
+        let last = Fixed::filled(alloc, 0, width)?;
+        let read = Fixed::filled(alloc, 0, width)?;
+        let readings = Readings::of(alloc, checked)?;
+        Ok(RowBuffers {
+            last,
+            read,
+            readings,
+        })
+    }
+}
