@@ -1,6 +1,7 @@
 -- The program of a monitor that is opened, or why none is.
 
-use Rattle.std.specs.Prelude.{ℕ, ◌≡◌, ◌==◌, ◌<◌, ◌≤◌, nat_lt, if◌then◌else◌, List, [], All, map, length, Result, Ok, Err}
+use Rattle.std.specs.Prelude.{ℕ, ◌≡◌, ◌==◌, ◌<◌, ◌≤◌, nat_lt, if◌then◌else◌, List, [], All, map, length}
+use Rattle.std.specs.Prelude.{Result, Ok, Err}
 use Rattle.mltl_base.specs.declared.limits.TheConstants.{MAX_LINE_BYTES, MAX_SIGNALS}
 use Rattle.mltl_base.specs.declared.program.Columns.{Columns}
 use Rattle.mltl_base.specs.declared.program.Program.{Program}
