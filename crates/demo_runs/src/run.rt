@@ -52,8 +52,7 @@ fn played(alloc: Global, monitor: &mut Monitor, seed: u32, rows: u32) -> Result<
     let mut tallies = vec![in alloc; Tally::new(); monitor.checked().program().outs.len()]?;
     play(monitor, &mut tallies, seed, rows);
     let outs = monitor.checked().program().outs.as_slice();
-    let summary = summary_of(alloc, rows, outs, &tallies)?;
-    Ok(summary)
+    summary_of(alloc, rows, outs, &tallies)
 }
 
 /// A monitor of the demo's text that has taken no rows.

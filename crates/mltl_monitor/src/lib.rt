@@ -1,8 +1,7 @@
 //! The monitor of a checked program: it takes rows one by one, and gives the reports that each row brings.
 //!
 //! What a program that embeds a monitor names is here: the [`Monitor`] with its rows, faults and reports, the [`Checked`]
-//! program that it is loaded with, and the calls that bind a program to the columns of a header, [`header_of`] and
-//! [`rebind`].
+//! program that it is loaded with, and the call that binds a program to the columns of a header, [`bind_to_header`].
 #![tactic(auto)]
 
 pub mod bytes;
@@ -18,8 +17,8 @@ mod unfit;
 pub use bytes::monitor_bytes;
 pub use mltl_base::{Report, Style, Word};
 pub use monitor::Monitor;
-pub use obs_verify::{Checked, rebind};
+pub use obs_verify::Checked;
 pub use queries::{delay_of, row_steps};
 pub use row_fault::RowFault;
 pub use scq_ring::steps::Steps;
-pub use trace_feed::{HeaderFault, RowAnswer, header_of};
+pub use trace_feed::{HeaderFault, RowAnswer, bind_to_header};

@@ -1,17 +1,15 @@
 -- The program of a monitor that is opened, or why none is.
 
-use Rattle.std.specs.Prelude.{ℕ, ◌≡◌, ◌==◌, ◌<◌, ◌≤◌, nat_lt, if◌then◌else◌, List, [], All, map, length}
+use Rattle.std.specs.Prelude.{ℕ, ◌≡◌, ◌==◌, nat_lt, if◌then◌else◌, List, [], length}
 use Rattle.std.specs.Prelude.{Result, Ok, Err}
-use Rattle.mltl_base.specs.declared.limits.TheConstants.{MAX_LINE_BYTES, MAX_SIGNALS}
-use Rattle.mltl_base.specs.declared.program.Columns.{Columns}
+use Rattle.mltl_base.specs.declared.limits.TheConstants.{MAX_LINE_BYTES}
 use Rattle.mltl_base.specs.declared.program.Program.{Program}
-use Rattle.obs_verify.specs.Bound.{AreDifferent, bound}
 use Rattle.obs_files.specs.declared.fault.FileFault.{FileFault}
 use Rattle.obs_files.specs.declared.fault.FileFault.TheVariants as file
 use Rattle.obs_files.specs.Faults.{opened}
 use Rattle.trace_feed.specs.declared.header_fault.HeaderFault.{HeaderFault}
 use Rattle.trace_feed.specs.declared.header_fault.HeaderFault.TheVariants as header
-use Rattle.trace_feed.specs.Header.{header_meaning}
+use Rattle.trace_feed.specs.Header.{bound_to}
 use Rattle.mltl_monitor.specs.declared.state.State.{State}
 use Rattle.mltl_monitor.specs.Bytes.{bytes_of, monitor_bytes}
 use Rattle.mltl_monitor.specs.Monitoring.{IsDrained, Stands, program_of}
@@ -30,36 +28,21 @@ of_header (header.Missing name) = opening.Missing name
 of_header (header.Twice name) = opening.Twice name
 of_header header.Memory = opening.Memory
 
--- what a file gives, with the fault of an opening in place of its own
-abbrev pub unless_refused : Result Program FileFault → Result Program OpeningFault
-unless_refused (Ok program) = Ok program
-unless_refused (Err fault) = Err (of_file fault)
+-- what was found, with the fault of an opening in place of its own
+abbrev pub with_fault : {E : Type 0} → (E → OpeningFault) → Result Program E → Result Program OpeningFault
+with_fault opening_of (Ok program) = Ok program
+with_fault opening_of (Err fault) = Err (opening_of fault)
 
 -- the program that these bytes spell, or their first fault
 abbrev pub program_by : List ℕ → Result Program OpeningFault
-program_by bytes = unless_refused (opened bytes)
-
--- a program over the columns that were found
-abbrev pub bound_over : Program → Result Columns HeaderFault → Result Program OpeningFault
-bound_over program (Ok columns) = Ok (bound program columns.width columns.of_signal)
-bound_over program (Err fault) = Err (of_header fault)
-
--- these are the columns that a header gives the signals of a program that stores them
-pub record GivesColumns (line : List ℕ) (program : Program) (columns : Columns) : Type 0 where
-  pub stored : program.version ≡ 2
-  pub short : length line < MAX_LINE_BYTES
-  pub found : header_meaning (map (λ s. s.name) program.signals) line ≡ Ok columns
-  pub narrow : columns.width ≤ MAX_SIGNALS
-  pub one_each : length columns.of_signal ≡ length program.signals
-  pub below : All (λ column. column < columns.width) columns.of_signal
-  pub different : AreDifferent columns.of_signal
+program_by bytes = with_fault of_file (opened bytes)
 
 -- a program with its signals in the columns that a header names; one of version 1 stores no signals
 abbrev pub bound_by : List ℕ → Program → Result Program OpeningFault
 bound_by line program =
     if program.version == 2
-    then (if nat_lt (length line) MAX_LINE_BYTES then bound_over program
-    (header_meaning (map (λ s. s.name) program.signals) line) else Err opening.LongHeader)
+    then (if nat_lt (length line) MAX_LINE_BYTES then with_fault of_header (bound_to program line)
+    else Err opening.LongHeader)
     else Err opening.NoSignals
 
 -- the same of what was found before

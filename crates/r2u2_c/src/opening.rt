@@ -1,16 +1,17 @@
 //! Monitors from the bytes of a program, and the header that binds its signals.
 
-ghost use Rattle.std.specs.Prelude.{◌≡◌, ◌≢◌, ◌≤◌, Ok, Err, IfOk, IfErr, length};
+ghost use Rattle.std.specs.Prelude.{◌≡◌, ◌≢◌, ◌≤◌, ◌<◌, Ok, Err, IfOk, IfErr, OnOk, length};
+ghost use Rattle.mltl_base.specs.declared.limits.TheConstants.{MAX_LINE_BYTES};
 ghost use Rattle.mltl_monitor.specs.Monitoring.{program_of};
-ghost use Rattle.r2u2_c.specs.Opening.{GivesColumns, Starts, bound_by, of_file, of_header, program_by, program_under};
+ghost use Rattle.r2u2_c.specs.Opening.{Starts, bound_by, of_file, of_header, program_by, program_under};
 
 use mltl_base::limits::MAX_LINE_BYTES;
-use mltl_base::{Columns, Name};
+use mltl_base::{Name, Program};
 use mltl_monitor::Monitor;
 use obs_files::{FileFault, ProgramFault, open};
-use obs_verify::{Checked, rebind};
+use obs_verify::Checked;
 use std::alloc::{AllocError, AllocFailed, Global};
-use trace_feed::{HeaderFault, header_of};
+use trace_feed::{HeaderFault, bind_to_header};
 
 /// Why no monitor is opened.
 #[derive(Drop)]
@@ -105,24 +106,23 @@ fn bind(alloc: Global, checked: Checked, header: &[u8]) -> Result<Checked, Openi
     ensures refused { IfErr result (λ why. why ≢ OpeningFault.Memory
         → bound_by header.now checked ≡ Err why) }
 {
-    let columns = columns_in(alloc, &checked, header)?;
-    Ok(rebind(checked, &columns))
+    takes_header(checked.program(), header)?;
+    Ok(bind_to_header(alloc, checked, header)?)
 }
 
-/// The columns that a header gives a program's signals.
-fn columns_in(alloc: Global, checked: &Checked, header: &[u8]) -> Result<Columns, OpeningFault>
-    ensures columns { IfOk result (GivesColumns header.now checked.now) }
-    ensures refused { IfErr result (λ why. why ≢ OpeningFault.Memory
-        → bound_by header.now checked.now ≡ Err why) }
+/// Whether a program stores signals, and a header is short enough to name their columns.
+fn takes_header(program: &Program, header: &[u8]) -> Result<(), OpeningFault>
+    ensures stored { OnOk result (program.now.version ≡ 2) }
+    ensures short { OnOk result (length header.now < MAX_LINE_BYTES) }
+    ensures refused { IfErr result (λ why. bound_by header.now program.now ≡ Err why) }
 {
-    if checked.program().version != 2 {
+    if program.version != 2 {
         return Err(OpeningFault::NoSignals);
     }
     if header.len() >= MAX_LINE_BYTES {
         return Err(OpeningFault::LongHeader);
     }
-    let columns = header_of(alloc, header, checked)?;
-    Ok(columns)
+    Ok(())
 }
 
 /// A monitor in memory of its own.

@@ -8,6 +8,8 @@ use Rattle.csv.specs.Machine.{Read, next_record}
 use Rattle.csv.specs.Reading.{default_config, strip_bom}
 use Rattle.csv.specs.declared.parser.State.TheVariants as state
 use Rattle.mltl_base.specs.declared.program.Columns.{Columns}
+use Rattle.mltl_base.specs.declared.program.Program.{Program}
+use Rattle.obs_verify.specs.Bound.{bound}
 use Rattle.trace_feed.specs.Blanks.{trimmed}
 use Rattle.trace_feed.specs.declared.header_fault.HeaderFault.{HeaderFault}
 use Rattle.trace_feed.specs.declared.header_fault.HeaderFault.TheVariants.{NoHeader, Missing, Twice}
@@ -64,6 +66,15 @@ of_width width (Err fault) = Err fault
 abbrev pub header_meaning : List (List ℕ) → List ℕ → Result Columns HeaderFault
 header_meaning signals line =
     if begins_header line then of_width (length (names_of line)) (columns_of (names_of line) signals) else Err NoHeader
+
+-- a program over the columns that were found
+abbrev pub bound_over : Program → Result Columns HeaderFault → Result Program HeaderFault
+bound_over program (Ok columns) = Ok (bound program columns.width columns.of_signal)
+bound_over program (Err fault) = Err fault
+
+-- a program with its stored signals in the columns that a header names
+abbrev pub bound_to : Program → List ℕ → Result Program HeaderFault
+bound_to program line = bound_over program (header_meaning (map (λ s. s.name) program.signals) line)
 
 -- without a header: each signal in the column of its number
 abbrev pub columns_in_order : ℕ → Columns

@@ -7,7 +7,7 @@ ghost use Rattle.csv.specs.Reading.{default_config, strip_bom};
 ghost use Rattle.csv.specs.Records.{fields_of};
 ghost use Rattle.csv.specs.declared.parser.State.TheVariants as state;
 ghost use Rattle.obs_verify.specs.Bound.{AreDifferent};
-ghost use Rattle.trace_feed.specs.Header.{AreDifferentNames, begins_header, columns_in_order, columns_of, first_record as csv_record, header_meaning, names_of, of_width};
+ghost use Rattle.trace_feed.specs.Header.{AreDifferentNames, begins_header, bound_to, columns_in_order, columns_of, first_record as csv_record, header_meaning, names_of, of_width};
 ghost use Rattle.trace_feed.specs.Places.{ArePlaces};
 
 use crate::header_fault::HeaderFault;
@@ -15,7 +15,7 @@ use crate::names::Places;
 use csv::{ByteRecord, ReaderBuilder};
 use mltl_base::limits::MAX_SIGNALS;
 use mltl_base::{Columns, List, Signal, StoredSignal};
-use obs_verify::Checked;
+use obs_verify::{Checked, rebind};
 use std::alloc::{AllocError, Global};
 
 /// The number of columns, and where names stand among them.
@@ -158,6 +158,20 @@ pub fn header_of(alloc: Global, line: &[u8], checked: &Checked) -> Result<Column
 {
     let named = read_header(alloc, line)?;
     columns_of_stored(alloc, &named, checked.program().signals.as_slice())
+}
+
+/// The program with its stored signals in the columns that a header names.
+///
+/// Errors: those of [`header_of`]; the program is dropped then.
+pub fn bind_to_header(alloc: Global, checked: Checked, line: &[u8]) -> Result<Checked, HeaderFault>
+    requires version { checked.version ≡ 2 }
+    requires short { length line.now < MAX_LINE_BYTES }
+    ensures bound { IfOk result (λ program. bound_to checked line.now ≡ Ok program) }
+    ensures fault { IfErr result (λ fault. fault ≢ HeaderFault.Memory
+        → bound_to checked line.now ≡ Err fault) }
+{
+    let columns = header_of(alloc, line, &checked)?;
+    Ok(rebind(checked, &columns))
 }
 
 /// The columns without a header: signal k stands in column k.

@@ -15,7 +15,7 @@ mod readings;
 mod rows;
 mod trace_why;
 
-pub use columns::{header, header_of, in_order};
+pub use columns::{bind_to_header, header, header_of, in_order};
 pub use fields::{FieldFault, Reading};
 pub use header_fault::HeaderFault;
 pub use laws::rows_are_fit;

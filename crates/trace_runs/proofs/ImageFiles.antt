@@ -21,7 +21,7 @@ use Rattle.obs_files.specs.Faults.{opened}
 use Rattle.obs_files.proofs.Spelled.{opened_spelled}
 use Rattle.trace_feed.specs.declared.header_fault.HeaderFault.{HeaderFault}
 use Rattle.trace_feed.specs.declared.header_fault.HeaderFault.TheVariants.{NoHeader}
-use Rattle.trace_feed.specs.Header.{begins_header, columns_of, header_meaning, names_of, of_width}
+use Rattle.trace_feed.specs.Header.{begins_header, bound_over, columns_of, header_meaning, names_of, of_width}
 use Rattle.trace_feed.proofs.ColumnLaws.{width_found}
 use Rattle.spec_compile.specs.Image.{image, plain_outputs}
 use Rattle.spec_compile.specs.ImageFiles.{IsFirstImageFile, IsImageFile, first_image_in, image_in, moved_image, stored_columns}
@@ -30,7 +30,8 @@ use Rattle.spec_compile.specs.Compiled.{outputs_in, signals_in}
 use Rattle.spec_compile.proofs.MovedImages.{bound_stored, image_called, image_reports, layout_of, moved_called, moved_reports, stored_names, stored_places}
 use Rattle.spec_compile.proofs.SimpleTelling.{moved_simple_called, moved_told, simple_image_called, simple_image_told}
 use Rattle.tool_words.specs.declared.file_kind.FileKind.TheVariants as kinds
-use Rattle.trace_runs.specs.ProgramBy.{bound_over, bound_under, opened_under, program_by}
+use Rattle.tool_runs.specs.Statuses.{with_status}
+use Rattle.trace_runs.specs.ProgramBy.{bound_under, header_status, opened_under, program_by}
 use Rattle.trace_runs.specs.Settled.{AreSettled, TellsText}
 use Rattle.trace_runs.specs.Formulas.{TellsImage, TellsProgram, TellsSimple, columns_under}
 use Rattle.trace_runs.proofs.OpenLaws.{under_line}
@@ -114,7 +115,7 @@ record IsBound (p program : Program) (found : Result Columns HeaderFault) : Type
   is : found ≡ Ok new
   moved : bound p new.width new.of_signal ≡ program
 
-bound_so : (p program : Program) (found : Result Columns HeaderFault) → bound_over p found ≡ Ok program → IsBound p program found
+bound_so : (p program : Program) (found : Result Columns HeaderFault) → with_status header_status (bound_over p found) ≡ Ok program → IsBound p program found
 bound_so p program (Ok new) is = record { new = new; is = refl; moved = (let same : bound p new.width new.of_signal ≡ program = cc in same) }
 bound_so p program (Err fault) is = absurd (cc)
 

@@ -1,16 +1,15 @@
 -- What a file and a header give, from the answers of the calls that read them.
 
-use Rattle.std.proofs.Common.{◌≡◌, ◌≢◌, ◌∙◌, ℕ, ◌==◌, if◌then◌else◌, Option, Some, None, Result, Ok, Err, List, map, IfOk, IfErr, refl, sym, ap, subst}
+use Rattle.std.proofs.Common.{◌≡◌, ◌≢◌, ◌∙◌, ℕ, ◌==◌, if◌then◌else◌, Option, Some, None, Result, Ok, Err, List, IfOk, IfErr, refl, sym, ap, subst}
 use Rattle.mltl_base.specs.declared.program.Columns.{Columns}
 use Rattle.mltl_base.specs.declared.program.Program.{Program}
 use Rattle.spec_tree.specs.ItemShape.{ItemShape}
 use Rattle.c2po_types.specs.Signals.{signals_of}
 use Rattle.c2po_types.specs.Outputs.{outputs_of}
-use Rattle.obs_verify.specs.Bound.{bound}
 use Rattle.obs_files.specs.declared.fault.FileFault.{FileFault}
 use Rattle.obs_files.specs.declared.fault.FileFault.TheVariants as file
 use Rattle.obs_files.specs.Faults.{Tells, opened}
-use Rattle.trace_feed.specs.Header.{header_meaning}
+use Rattle.trace_feed.specs.Header.{bound_to}
 use Rattle.spec_compile.specs.declared.fault.CompileFault.{CompileFault}
 use Rattle.spec_compile.specs.declared.fault.CompileFault.TheVariants as compile
 use Rattle.spec_compile.specs.Refusals.{header_refusal, IsFirstRefusal}
@@ -27,7 +26,7 @@ use Rattle.tool_runs.specs.declared.status.Status.{Status}
 use Rattle.tool_runs.specs.declared.status.Status.TheVariants.{Memory}
 use Rattle.tool_runs.specs.Files.{file_status}
 use Rattle.tool_runs.specs.Statuses.{with_status}
-use Rattle.trace_runs.specs.ProgramBy.{compile_status, refusal_of, file_refusal, bound_over, bound_under, opened_under, program_by}
+use Rattle.trace_runs.specs.ProgramBy.{compile_status, refusal_of, file_refusal, header_status, bound_under, opened_under, program_by}
 use Rattle.trace_runs.specs.Phases.{Opens}
 use Rattle.std.specs.Prelude.{option_map}
 
@@ -96,12 +95,9 @@ file_program kind bytes header program found is spells same =
     subst (λ s. program_by s bytes header ≡ found) (sym is) (ap (opened_under header) spells ∙ same)
 
 -- a program of version 2 under a header
-pub under_line : (line : List ℕ) (program : Program) → program.version ≡ 2 → bound_under (Some line) program ≡ bound_over program (header_meaning (map (λ s. s.name) program.signals) line)
+pub under_line : (line : List ℕ) (program : Program) → program.version ≡ 2 → bound_under (Some line) program ≡ with_status header_status (bound_to program line)
 under_line line program two =
-    ap (λ (n : ℕ). if n == 2 then bound_over program (header_meaning (map (λ s. s.name) program.signals) line) else Ok program) two
-
-pub bound_found : (line : List ℕ) (program : Program) (columns : Columns) (now : Program) → program.version ≡ 2 → header_meaning (map (λ s. s.name) program.signals) line ≡ Ok columns → now ≡ bound program columns.width columns.of_signal → bound_under (Some line) program ≡ Ok now
-bound_found line program columns now two found is = under_line line program two ∙ ap (bound_over program) found ∙ ap Ok (sym is)
+    ap (λ (n : ℕ). if n == 2 then with_status header_status (bound_to program line) else Ok program) two
 
 -- what was opened isn't refused by itself
 pub opens_unrefused : (made : Opened) (kind : FileKind) (bytes : List ℕ) → Opens made kind bytes → file_refusal kind bytes ≡ None

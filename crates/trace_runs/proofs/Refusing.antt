@@ -11,7 +11,7 @@ use Rattle.obs_files.specs.declared.fault.FileFault.TheVariants as file
 use Rattle.obs_files.specs.Faults.{opened}
 use Rattle.trace_feed.specs.declared.header_fault.HeaderFault.{HeaderFault}
 use Rattle.trace_feed.specs.declared.header_fault.HeaderFault.TheVariants as header_fault
-use Rattle.trace_feed.specs.Header.{begins_header, times, first_place, column_of, columns_of, in_front, of_width, names_of, header_meaning}
+use Rattle.trace_feed.specs.Header.{begins_header, times, first_place, column_of, columns_of, in_front, of_width, names_of, header_meaning, bound_over, bound_to}
 use Rattle.spec_compile.specs.declared.fault.CompileFault.{CompileFault}
 use Rattle.spec_compile.specs.declared.fault.CompileFault.TheVariants as compile
 use Rattle.spec_compile.specs.Refusals.{unless_refused}
@@ -27,7 +27,7 @@ use Rattle.tool_runs.specs.declared.status.Status.{Status}
 use Rattle.tool_runs.specs.declared.status.Status.TheVariants.{Refused, BadProgram, BadTrace, Memory}
 use Rattle.tool_runs.specs.Files.{file_status}
 use Rattle.tool_runs.specs.Statuses.{with_status}
-use Rattle.trace_runs.specs.ProgramBy.{compile_status, refusal_of, file_refusal, bound_over, bound_under, opened_under, program_by}
+use Rattle.trace_runs.specs.ProgramBy.{compile_status, refusal_of, file_refusal, header_status, bound_under, opened_under, program_by}
 
 -- a status by which there is no program
 abbrev pub Refuses : Status → Type 0
@@ -123,7 +123,7 @@ text_speaks bytes header marked =
     (under_speaks (signals_in bytes) (outputs_in bytes) (columns_by (signals_in bytes) header) (by_names (signals_in bytes) header marked))
 
 -- a program under a header
-over_speaks : (program : Program) (found : Result Columns HeaderFault) → Names found → IsFound (bound_over program found)
+over_speaks : (program : Program) (found : Result Columns HeaderFault) → Names found → IsFound (with_status header_status (bound_over program found))
 over_speaks program (Ok columns) names = tt
 over_speaks program (Err header_fault.NoHeader) names = absurd names
 over_speaks program (Err (header_fault.Missing name)) names = tt
@@ -133,7 +133,7 @@ over_speaks program (Err header_fault.Memory) names = tt
 bound_speaks : (header : Option (List ℕ)) (program : Program) → IsMarked header → IsFound (bound_under header program)
 bound_speaks None program marked = tt
 bound_speaks (Some line) program marked =
-    elim (program.version == 2) as (λ b. IsFound (if b then bound_over program (header_meaning (map (λ s. s.name) program.signals) line) else Ok program)) [
+    elim (program.version == 2) as (λ b. IsFound (if b then with_status header_status (bound_to program line) else Ok program)) [
       | true ↦ over_speaks program (header_meaning (map (λ s. s.name) program.signals) line) (line_names (map (λ s. s.name) program.signals) line marked)
       | false ↦ tt
     ]

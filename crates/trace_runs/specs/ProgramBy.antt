@@ -2,16 +2,14 @@
 -- trace, or a program file whose stored signals stand in the columns of that header.
 
 use Rattle.std.specs.Prelude.{ℕ, ◌==◌, Bool, true, false, if◌then◌else◌, Option, Some, None, option_map, Result, Ok}
-use Rattle.std.specs.Prelude.{Err, List, [], ◌∷◌, map}
-use Rattle.mltl_base.specs.declared.program.Columns.{Columns}
+use Rattle.std.specs.Prelude.{Err, List, [], ◌∷◌}
 use Rattle.mltl_base.specs.declared.program.Program.{Program}
 use Rattle.tool_io.specs.Cutting.{line_text}
-use Rattle.obs_verify.specs.Bound.{bound}
 use Rattle.obs_files.specs.declared.fault.FileFault.{FileFault}
 use Rattle.obs_files.specs.Faults.{opened}
 use Rattle.trace_feed.specs.declared.header_fault.HeaderFault.{HeaderFault}
 use Rattle.trace_feed.specs.declared.header_fault.HeaderFault.TheVariants as header_fault
-use Rattle.trace_feed.specs.Header.{begins_header, header_meaning}
+use Rattle.trace_feed.specs.Header.{begins_header, bound_to}
 use Rattle.trace_feed.specs.declared.trace_why.TraceWhy.TheVariants as trace
 use Rattle.spec_compile.specs.declared.fault.CompileFault.{CompileFault}
 use Rattle.spec_compile.specs.declared.fault.CompileFault.TheVariants as compile_fault
@@ -52,17 +50,11 @@ unfoldable pub file_refusal : FileKind → List ℕ → Option Status
 file_refusal kinds.Spec file = option_map compile_status (first_refusal file)
 file_refusal kinds.Program file = refusal_of (opened file)
 
--- a program over the columns that a header names
-abbrev pub bound_over : Program → Result Columns HeaderFault → Result Program Status
-bound_over program (Ok columns) = Ok (bound program columns.width columns.of_signal)
-bound_over program (Err fault) = Err (header_status fault)
-
 -- a program under the header of a trace, if it has one; version 1 stores no names, so its columns stay
 abbrev pub bound_under : Option (List ℕ) → Program → Result Program Status
 bound_under None program = Ok program
 bound_under (Some line) program =
-    if program.version == 2 then bound_over program (header_meaning (map (λ s. s.name) program.signals) line)
-    else Ok program
+    if program.version == 2 then with_status header_status (bound_to program line) else Ok program
 
 -- the same of a file, where it is a program
 abbrev pub opened_under : Option (List ℕ) → Result Program FileFault → Result Program Status

@@ -11,12 +11,12 @@ ghost use Rattle.trace_runs.specs.Phases.{Opens};
 
 use c2po_types::TypedSpec;
 use obs_files::open;
-use obs_verify::{Checked, rebind};
+use obs_verify::Checked;
 use spec_compile::{CompileFault, HeaderWhy, back, columns_of, front};
 use std::alloc::Global;
 use tool_runs::Status;
 use tool_words::FileKind;
-use trace_feed::{HeaderFault, header_of};
+use trace_feed::{HeaderFault, bind_to_header};
 use trace_watch::TraceWhy;
 
 /// A file that was read and isn't refused by itself.
@@ -83,7 +83,7 @@ pub(crate) fn program_for(
 {
     match opened {
         Opened::Spec(spec) => compiled(alloc, &spec, header),
-        Opened::Program(checked) => bound_to(alloc, checked, header),
+        Opened::Program(checked) => bound_under_header(alloc, checked, header),
     }
 }
 
@@ -103,7 +103,11 @@ fn compiled(alloc: Global, spec: &TypedSpec, header: Option<&[u8]>) -> Result<Ch
 }
 
 /// A program whose stored signals stand in the columns of a header. One of version 1 stores none.
-fn bound_to(alloc: Global, checked: Checked, header: Option<&[u8]>) -> Result<Checked, Status>
+fn bound_under_header(
+    alloc: Global,
+    checked: Checked,
+    header: Option<&[u8]>,
+) -> Result<Checked, Status>
     requires line { ForSome header (λ line. length line.now < MAX_LINE_BYTES) }
     ensures program { IfOk result (λ bound.
         bound_under (option_copied header.entry) checked ≡ Ok bound) }
@@ -112,22 +116,11 @@ fn bound_to(alloc: Global, checked: Checked, header: Option<&[u8]>) -> Result<Ch
     ensures no_call { IfErr result TellsNoCall }
 {
     match header {
-        Some(line) if checked.program().version == 2 => bound_by(alloc, checked, line),
+        Some(line) if checked.program().version == 2 => {
+            bind_to_header(alloc, checked, line).map_err(status_of_header)
+        }
         _ => Ok(checked),
     }
-}
-
-/// A program of version 2 whose stored signals stand in the columns of a header.
-fn bound_by(alloc: Global, checked: Checked, line: &[u8]) -> Result<Checked, Status>
-    requires version { checked.version ≡ 2 }
-    requires line { length line.now < MAX_LINE_BYTES }
-    ensures program { IfOk result (λ bound. bound_under (Some line.now) checked ≡ Ok bound) }
-    ensures refused { IfErr result (λ status. status ≢ Status.Memory →
-        bound_under (Some line.now) checked ≡ Err status) }
-    ensures no_call { IfErr result TellsNoCall }
-{
-    let columns = header_of(alloc, line, &checked).map_err(status_of_header)?;
-    Ok(rebind(checked, &columns))
 }
 
 fn status_of_compile(fault: CompileFault) -> Status

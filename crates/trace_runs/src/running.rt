@@ -9,7 +9,7 @@ ghost use Rattle.tool_runs.specs.Files.{file_limit};
 ghost use Rattle.mltl_monitor.specs.Monitoring.{IsDrained, Stands, program_of};
 ghost use Rattle.trace_watch.specs.Watch.{IsWatch, WatchCause, first_of};
 ghost use Rattle.trace_runs.specs.Outcome.{rows_by};
-ghost use Rattle.trace_runs.specs.Phases.{IsFirst, LoopLog, Opens, RanFile, RanLines, RanRows, RanTrace, status_of};
+ghost use Rattle.trace_runs.specs.Phases.{IsFirst, LoopLog, Opens, RanFile, RanLines, RanLoop, RanRows, RanTrace, status_of};
 
 use crate::opening::{Opened, open_file, program_for};
 use crate::reading::{header_line, read_first_line};
@@ -131,10 +131,28 @@ fn watch_rows<H: Host>(
     ensures log { OnLog (H.log host.old) (H.log host.new)
         (LoopLog checked (run_of asked.now) cut.old result kept.new) }
 {
-    let mut monitor = match Monitor::load(alloc, checked) {
-        Ok(monitor) => monitor,
-        Err(_) => return Status::Memory,
-    };
+    match Monitor::load(alloc, checked) {
+        Ok(monitor) => watch_loaded(monitor, asked, cut, host, kept),
+        Err(_) => Status::Memory,
+    }
+}
+
+/// Watches the trace with a fresh monitor, and keeps that.
+fn watch_loaded<H: Host>(
+    mut monitor: Monitor,
+    asked: &Run<'_>,
+    cut: &mut LineCut,
+    host: &mut H,
+    kept: &mut Option<Monitor>,
+) -> Status
+    requires no_rows { Stands monitor [] }
+    requires drained { IsDrained monitor }
+    requires mission { asked.now.mission ≤ MAX_MISSION }
+    requires numbered { cut.old.number ≤ 1 }
+    ensures cause { RunCause result (H.faults host.old) (H.faults host.new) }
+    ensures log { OnLog (H.log host.old) (H.log host.new)
+        (RanLoop (program_of monitor) (run_of asked.now) cut.old result kept.new) }
+{
     let watched = watch_asked(&mut monitor, cut, host, asked);
     *kept = Some(monitor);
     status_after(watched)

@@ -1,5 +1,6 @@
 use Rattle.std.proofs.Common.{◌≡◌, ◌∙◌, List, length, map, replicate, ap, sym, subst, arith}
 use Rattle.std.proofs.lemmas.List.{length-replicate}
+use Rattle.std.proofs.lemmas.Result.{IfOk-weaker}
 use Rattle.mltl_base.specs.declared.program.Out.{Out}
 use Rattle.mltl_base.specs.declared.program.Program.{Program}
 use Rattle.mltl_base.specs.declared.report.Style.TheVariants.{Each}
@@ -39,8 +40,9 @@ returns c =
     subst (λ (ts : List Tally). AreTallies ts told) (sym back) (played_all c.play.new.tallies monitor c.args.seed c.args.rows played) in
     let outs : c.as_slice-outs.result.now ≡ (program_of monitor).outs = c.as_slice-outs.ensures ∙ ap (λ (p : Program). p.outs) (c.program-2.ensures.program ∙ c.checked-2.ensures.program) in
     record {
-      summary = c.in_ok-summary.ensures told all ∙ ap (λ (os : List Out). summary_of c.args.rows (map listed_out os) told) outs ∙ summary_is (program_of monitor) c.args.seed c.args.rows played.program;
-      program = played.program;
-      stands = played.stands;
-      drained = played.drained;
+      summary = IfOk-weaker c.summary_of.result _ _ (λ text said.
+          said told all ∙ ap (λ (os : List Out). summary_of c.args.rows (map listed_out os) told) outs ∙ summary_is (program_of monitor) c.args.seed c.args.rows played.program) c.summary_of.ensures;
+      program = IfOk-weaker c.summary_of.result _ _ (λ _ _. played.program) c.summary_of.ensures;
+      stands = IfOk-weaker c.summary_of.result _ _ (λ _ _. played.stands) c.summary_of.ensures;
+      drained = IfOk-weaker c.summary_of.result _ _ (λ _ _. played.drained) c.summary_of.ensures;
     }

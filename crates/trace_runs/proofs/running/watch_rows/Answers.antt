@@ -1,20 +1,10 @@
-use Rattle.std.proofs.Common.{subst, refl, inr}
+use Rattle.std.proofs.Common.{subst, inr}
 use Rattle.tool_io.proofs.LogLaws.{OnLog-map}
-use Rattle.trace_watch.specs.Watch.{IsWatch, first_of}
 use Rattle.tool_words.specs.R2u2Words.{run_of}
-use Rattle.trace_runs.specs.Outcome.{rows_by}
+use Rattle.trace_runs.specs.Phases.{RanLoop}
 use Rattle.trace_runs.proofs.running.watch_rows.Goals as goal
 
-pub returns-clause-log : goal.returns-clause-log
-returns-clause-log g c =
-    let asked = c.args.asked.now in
-    let cut = c.args.cut.now in
-    OnLog-map _ _ _ c.watch_asked-watched.ensures.log
-    (λ events watch. inr (record {
-      cut = c.watch_asked-watched.new.cut;
-      monitor = c.watch_asked-watched.new.monitor;
-      ended_so = c.watch_asked-watched.result;
-      is = c.status_after.ensures;
-      watch = subst (λ program. IsWatch program asked.style (rows_by (run_of asked) program (first_of cut)) cut c.watch_asked-watched.new.cut c.watch_asked-watched.new.monitor c.watch_asked-watched.result events) c.in-Ok.ensures.program watch;
-      kept_is = refl;
-    }))
+pub returns-in-Ok-clause-log : goal.returns-in-Ok-clause-log
+returns-in-Ok-clause-log g c =
+    OnLog-map _ _ _ c.watch_loaded.ensures.log
+    (λ events ran. inr (subst (λ program. RanLoop program (run_of c.args.asked.now) c.args.cut.now c.watch_loaded.result c.watch_loaded.new.kept events) c.in-Ok.ensures.program ran))
