@@ -7,7 +7,7 @@ use Rattle.std.proofs.lemmas.Bool.Decides.{nat_tests}
 use Rattle.std.proofs.lemmas.List.{length-append}
 use Rattle.std.proofs.lemmas.Slice.Eq.{bytes_eq-Decides}
 use Rattle.mltl_base.specs.declared.limits.TheConstants.{MAX_SIGNALS}
-use Rattle.name_table.specs.Tables.{Table, entry_of, is_named}
+use Rattle.unfold.specs.Tables.{Table, entry_of, is_named}
 use Rattle.plain_nodes.proofs.Places.{at_push}
 use Rattle.spec_tree.specs.ItemShape.{FieldShape, TypeShape, BodyShape, ItemShape, structure, input, define, formula, contract}
 use Rattle.c2po_kinds.specs.declared.kind.Meaning.{Meaning}

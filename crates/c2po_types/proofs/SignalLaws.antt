@@ -7,7 +7,7 @@ use Rattle.std.proofs.lemmas.List.{append-nil}
 use Rattle.mltl_base.specs.declared.limits.TheConstants.{MAX_SIGNALS}
 use Rattle.mltl_base.specs.Ranges.{NoRange}
 use Rattle.spec_tree.specs.ItemShape.{TypeShape, FieldShape, BodyShape, ItemShape, type_named, set_of, structure, input, define, formula, contract}
-use Rattle.name_table.specs.Tables.{Table, entry_of, is_named}
+use Rattle.unfold.specs.Tables.{Table, entry_of, is_named}
 use Rattle.c2po_kinds.specs.declared.kind.Base.TheVariants as base
 use Rattle.c2po_kinds.specs.declared.kind.Kind.{Kind}
 use Rattle.c2po_kinds.specs.declared.kind.Meaning.{Meaning}

@@ -17,7 +17,7 @@ use Rattle.mltl_base.specs.declared.operators.CountOp.{CountOp}
 use Rattle.mltl_base.specs.declared.interval.Interval.{Interval}
 use Rattle.mltl_base.specs.Atoms.{Term}
 use Rattle.mltl_base.specs.Formula.{Formula}
-use Rattle.count_sets.specs.Counting as counting
+use Rattle.unfold.specs.Counting as counting
 use Rattle.spec_tree.specs.Shape as tree
 use Rattle.spec_tree.specs.Shape.{Shape, Shapes}
 use Rattle.plain_nodes.specs.Nodes.{Tree, number, formula, constant_formula, arithmetic, comparison, connected, windowed, ranged}

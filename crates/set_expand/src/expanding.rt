@@ -7,7 +7,7 @@ ghost use Rattle.mltl_base.specs.Formula.{Formula};
 ghost use Rattle.mltl_base.specs.Meaning.{count, sat};
 ghost use Rattle.spec_tree.specs.ItemShape.{spec_shape};
 ghost use Rattle.c2po_types.specs.Signals.{signals_of};
-ghost use Rattle.count_sets.specs.Counting.{compares, counting};
+ghost use Rattle.unfold.specs.Counting.{compares, counting};
 ghost use Rattle.plain_nodes.specs.Faults.{HasRanges};
 ghost use Rattle.plain_nodes.specs.Outputs.{IsSound, asked};
 ghost use Rattle.unfold.specs.Values.{counted_formula};

@@ -9,7 +9,7 @@ use Rattle.mltl_base.specs.declared.limits.TheConstants.{MAX_WEIGHT, MAX_SIGNALS
 use Rattle.mltl_base.specs.declared.interval.Engine.{Engine}
 use Rattle.mltl_base.specs.declared.signal.Signal.{Signal}
 use Rattle.mltl_base.specs.Ranges.{NoRange}
-use Rattle.name_table.specs.Tables.{Table, entry_of, is_named}
+use Rattle.unfold.specs.Tables.{Table, entry_of, is_named}
 use Rattle.spec_tree.specs.ItemShape.{type_named}
 use Rattle.c2po_kinds.specs.declared.kind.Kind.{Kind}
 use Rattle.c2po_kinds.specs.declared.kind.Meaning.{Meaning}

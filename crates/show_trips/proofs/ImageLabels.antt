@@ -16,7 +16,7 @@ use Rattle.mltl_base.proofs.Graphs.{program_names}
 use Rattle.mltl_simplify.specs.Outputs.{simple_outputs}
 use Rattle.plain_nodes.specs.Outputs.{asked_over}
 use Rattle.obs_build.specs.Image.{IsImageOf}
-use Rattle.name_table.specs.Tables.{entry_of, is_named}
+use Rattle.unfold.specs.Tables.{entry_of, is_named}
 use Rattle.spec_tree.specs.ItemShape as item
 use Rattle.spec_tree.specs.ItemShape.{BodyShape, ItemShape}
 use Rattle.c2po_kinds.specs.declared.fault.TypeFault.TheVariants as fault

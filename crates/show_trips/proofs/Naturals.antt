@@ -23,7 +23,7 @@ use Rattle.show_trips.specs.Written.{IsNumber}
 use Rattle.show_trips.proofs.GoodTrees.{HasNumbers, HaveNumbers}
 use Rattle.show_trips.proofs.GoodItems.{GoodBody, GoodItems}
 use Rattle.mltl_base.specs.Subformulas.{Asked, formulas_of}
-use Rattle.count_sets.specs.Counting as counting
+use Rattle.unfold.specs.Counting as counting
 use Rattle.spec_tree.specs.ItemShape as item
 use Rattle.spec_tree.specs.ItemShape.{BodyShape, ItemShape}
 use Rattle.spec_tree.specs.Shape as tree

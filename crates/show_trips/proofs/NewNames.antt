@@ -5,7 +5,7 @@ use Rattle.std.proofs.lemmas.List.{length-append}
 use Rattle.c2po_kinds.specs.declared.kind.Kind.{Kind}
 use Rattle.c2po_kinds.specs.declared.kind.Meaning.TheVariants.{Value}
 use Rattle.c2po_kinds.specs.declared.declarations.Declarations.{Declarations}
-use Rattle.name_table.specs.Tables.{is_named}
+use Rattle.unfold.specs.Tables.{is_named}
 use Rattle.c2po_kinds.specs.Expressions.{kind_of}
 use Rattle.c2po_kinds.specs.Items.{nothing, new, signal_kind}
 use Rattle.c2po_kinds.specs.Scopes.{outside}

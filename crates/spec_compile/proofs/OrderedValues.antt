@@ -15,7 +15,7 @@ use Rattle.mltl_base.specs.declared.signal.Signal.{Signal}
 use Rattle.mltl_base.specs.Formula.{Formula}
 use Rattle.mltl_base.specs.Settled.{IsOrdered}
 use Rattle.mltl_base.specs.Subformulas.{Asked, formulas_of}
-use Rattle.count_sets.specs.Counting as counting
+use Rattle.unfold.specs.Counting as counting
 use Rattle.spec_tree.specs.ItemShape as item
 use Rattle.spec_tree.specs.ItemShape.{BodyShape, ItemShape}
 use Rattle.spec_tree.specs.Shape as tree

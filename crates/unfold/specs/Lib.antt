@@ -8,3 +8,5 @@ pub mod Bodies
 pub mod Faults
 pub mod Parts
 pub mod Fields
+pub use Rattle.count_sets.specs.Counting
+pub use Rattle.name_table.specs.Tables
