@@ -1,49 +1,17 @@
-use Rattle.std.proofs.Common.{◌≡◌, ℕ, zero, suc, ◌+◌, Bool, true, false, List, [], ◌∷◌, ◌++◌, length, take, drop, refl, subst, Option, Some, None, Result, Ok, Err, nat_lt, inl, inr}
-use Rattle.std.specs.Prelude.{codes, is_some, ⊤}
+use Rattle.std.proofs.Common.{◌≡◌, ℕ, List, [], ◌∷◌, refl, Ok}
+use Rattle.std.specs.Prelude.{codes}
 use Rattle.std.proofs.lemmas.List.Sums.{AllPass-from_list_all}
-use Rattle.std.proofs.lemmas.Option.{same_Some, some_pair_parts}
-use Rattle.mltl_base.specs.declared.interval.Engine.{Engine}
-use Rattle.c2po_lexer.specs.declared.token.Sign.{Sign}
-use Rattle.c2po_lexer.specs.declared.token.Sign.TheVariants as sign
-use Rattle.c2po_lexer.specs.declared.token.Keyword.TheVariants as keyword
-use Rattle.c2po_lexer.specs.declared.token.What.{What}
-use Rattle.c2po_lexer.specs.declared.token.What.TheVariants as what
-use Rattle.c2po_lexer.specs.declared.token.Token.{Token}
 use Rattle.mltl_base.specs.Letters.{is_in_word}
+use Rattle.c2po_lexer.specs.declared.token.Token.{Token}
 use Rattle.c2po_lexer.specs.Tokens.{HasPlainName}
-use Rattle.spec_tree.specs.ItemShape.{TypeShape, FieldShape, BodyShape, ItemShape, type_named, set_of, structure, input, define, formula, contract}
-use Rattle.spec_tree.specs.Names.{IsPlainName, HasPlainType, ArePlainFields, ArePlain, IsPlainLabel, IsPlainBody, ArePlainItems}
-use Rattle.c2po_tree.specs.Fronts.{◌>>=◌, past, name_at}
-use Rattle.c2po_tree.specs.Splitting.{tree_of, at_end}
-use Rattle.c2po_tree.proofs.Walks.{bind-some, if-cases}
-use Rattle.c2po_tree.proofs.Words.{PlainWords, words-head, words-tail, words-cons, words-append, words-nil, word-plain}
-use Rattle.c2po_tree.proofs.Heads.{past-begins}
-use Rattle.c2po_tree.proofs.Operators.{name_at-names}
-use Rattle.c2po_tree.proofs.SplitSound.{at_end-is}
+use Rattle.spec_tree.specs.ItemShape.{FieldShape, BodyShape, ItemShape, structure, input, define, formula, contract}
+use Rattle.spec_tree.specs.Names.{IsPlainName, HasPlainNames, HasPlainType, ArePlainFields, ArePlain, IsPlainLabel, IsPlainBody, ArePlainItems}
+use Rattle.c2po_tree.proofs.Words.{PlainWords, word-plain}
 use Rattle.c2po_tree.proofs.PlainNames.{tree-names}
-use Rattle.c2po_parse.specs.declared.fault.ParseFault.{ParseFault}
-use Rattle.c2po_parse.specs.declared.fault.ParseFault.TheVariants.{TooManyTokens}
-use Rattle.c2po_parse.specs.declared.section.Section.{Section}
-use Rattle.c2po_parse.specs.declared.section.Section.TheVariants.{Struct, Input, Define, Output}
-use Rattle.c2po_parse.specs.Sections.{section_of, braces_after, Piece, item_of, left_over, is_end, chosen, pieces}
-use Rattle.c2po_parse.specs.Forms.{type_in, type_within, type_at, names_or, names_within, names_at, typed_at, fields_of, fields_or, fields_within, fields_at, struct_of, input_of, define_of, labelled, label_at, promise_at, contract_of, output_at, output_of, body_of}
-use Rattle.c2po_parse.specs.Specification.{piece_body, with_line, piece_tree, first_or, piece_trees, spec_of}
+use Rattle.c2po_parse.specs.Specification.{spec_of}
+use Rattle.c2po_parse.proofs.ItemWalk.{NamesHave, FieldsHave, BodyHas, ItemsHave, spec-have}
 
 -- The names of items stand among their tokens.
-
-past-words : (s : Sign) (ts rest : List Token) → past s ts ≡ Some rest → PlainWords ts → PlainWords rest
-past-words s ts rest h words = let begins = past-begins s ts rest h in words-tail begins.at rest (subst PlainWords begins.joined words)
-
--- what was read and what follows it have plain names
-record Read (P : Type 0) (rest : List Token) : Type 0 where
-  plain : P
-  words : PlainWords rest
-
-name-words : (ts : List Token) (x : List ℕ) (rest : List Token) → name_at ts ≡ Some (x, rest) → PlainWords ts → Read (IsPlainName x) rest
-name-words ts x rest h words =
-    let named = name_at-names ts x rest h in
-    let all : PlainWords (named.at ∷ rest) = subst PlainWords named.joined words in
-    record { plain = word-plain named.at.what x named.is (words-head named.at rest all); words = words-tail named.at rest all }
 
 bool_plain : IsPlainName (codes "bool")
 bool_plain = AllPass-from_list_all is_in_word (codes "bool") refl
@@ -51,269 +19,27 @@ bool_plain = AllPass-from_list_all is_in_word (codes "bool") refl
 int_plain : IsPlainName (codes "int")
 int_plain = AllPass-from_list_all is_in_word (codes "int") refl
 
--- what is read of a type, of names and their type, and of a label
-abbrev pub set_done : TypeShape → List Token → Option (TypeShape × List Token)
-set_done k ts = Some (set_of k, ts)
+-- what is said of items name by name is said of them as such
+names-plain : (xs : List (List ℕ)) → NamesHave IsPlainName xs → ArePlain xs
+names-plain [] h = tt
+names-plain (x ∷ xs) h = (h.0, names-plain xs h.1)
 
-abbrev pub typed_done : List (List ℕ) → TypeShape → List Token → Option (List (List ℕ) × TypeShape × List Token)
-typed_done xs k ts = Some (xs, k, ts)
+fields-plain : (fs : List FieldShape) → FieldsHave IsPlainName HasPlainType fs → ArePlainFields fs
+fields-plain [] h = tt
+fields-plain (f ∷ fs) h = (h.0, fields-plain fs h.1)
 
-abbrev pub label_done : List ℕ → List Token → Option (List ℕ × List Token)
-label_done x ts = Some (x, ts)
+body-plain : (b : BodyShape) → BodyHas IsPlainName HasPlainType IsPlainLabel HasPlainNames b → IsPlainBody b
+body-plain (structure x fs) h = (h.0, fields-plain fs h.1)
+body-plain (input xs k) h = (names-plain xs h.0, h.1)
+body-plain (define x e) h = h
+body-plain (formula engine label e) h = h
+body-plain (contract engine label e f) h = h
 
-type-done : (j k : TypeShape) (ts rest : List Token) → ◌≡◌ {A = Option (TypeShape × List Token)} (Some (j, ts)) (Some (k, rest)) → HasPlainType j →
-    PlainWords ts → Read (HasPlainType k) rest
-type-done j k ts rest h plain words =
-    let same = some_pair_parts j k ts rest h in record { plain = subst HasPlainType same.0 plain; words = subst PlainWords same.1 words }
-
-set-names : (n : ℕ) (ts : List Token) (k : TypeShape) (rest : List Token) →
-    ((us : List Token) (j : TypeShape) (vs : List Token) → type_within n us ≡ Some (j, vs) → PlainWords us → Read (HasPlainType j) vs) →
-    (past sign.Less ts >>= λ us. type_within n us >>= λ j. past sign.Greater j.1 >>= λ vs. set_done j.0 vs) ≡ Some (k, rest) → PlainWords ts → Read (HasPlainType k) rest
-set-names n ts k rest ih h words =
-    let less = bind-some (past sign.Less ts) (λ us. type_within n us >>= λ j. past sign.Greater j.1 >>= λ vs. set_done j.0 vs) (k, rest) h in
-    let inner = bind-some (type_within n less.0) (λ j. past sign.Greater j.1 >>= λ vs. set_done j.0 vs) (k, rest) less.2 in
-    let greater = bind-some (past sign.Greater inner.0.1) (λ vs. set_done inner.0.0 vs) (k, rest) inner.2 in
-    let read = ih less.0 inner.0.0 inner.0.1 inner.1 (past-words sign.Less ts less.0 less.1 words) in
-    type-done (set_of inner.0.0) k greater.0 rest greater.2 read.plain (past-words sign.Greater inner.0.1 greater.0 greater.1 read.words)
-
-type_in-names : (n : ℕ) (w : What) (ts : List Token) (k : TypeShape) (rest : List Token) →
-    ((us : List Token) (j : TypeShape) (vs : List Token) → type_within n us ≡ Some (j, vs) → PlainWords us → Read (HasPlainType j) vs) →
-    HasPlainName w → type_in (type_within n) w ts ≡ Some (k, rest) → PlainWords ts → Read (HasPlainType k) rest
-type_in-names n (what.Word x) ts k rest ih plain h words = type-done (type_named x) k ts rest h plain words
-type_in-names n (what.Reserved keyword.Bool) ts k rest ih plain h words = type-done (type_named (codes "bool")) k ts rest h bool_plain words
-type_in-names n (what.Reserved keyword.Int) ts k rest ih plain h words = type-done (type_named (codes "int")) k ts rest h int_plain words
-type_in-names n (what.Reserved keyword.Set) ts k rest ih plain h words = set-names n ts k rest ih h words
-type_in-names n _ ts k rest ih plain h words = absurd (cc)
-
-type-names : (n : ℕ) (ts : List Token) (k : TypeShape) (rest : List Token) → type_within n ts ≡ Some (k, rest) → PlainWords ts → Read (HasPlainType k) rest
-unfolding type_within
-type-names zero ts k rest h words = absurd (cc)
-type-names (suc n) [] k rest h words = absurd (cc)
-type-names (suc n) (t ∷ ts) k rest h words =
-    type_in-names n t.what ts k rest (λ us j vs is plain. type-names n us j vs is plain) (words-head t ts words) h (words-tail t ts words)
-
-names-done : (xs ys : List (List ℕ)) (ts rest : List Token) → ◌≡◌ {A = Option (List (List ℕ) × List Token)} (Some (xs, ts)) (Some (ys, rest)) → ArePlain xs →
-    PlainWords ts → Read (ArePlain ys) rest
-names-done xs ys ts rest h plain words =
-    let same = some_pair_parts xs ys ts rest h in record { plain = subst ArePlain same.0 plain; words = subst PlainWords same.1 words }
-
-more-names : (n : ℕ) (x : List ℕ) (ts : List Token) (v : Option (List Token)) (ys : List (List ℕ)) (rest : List Token) →
-    ((us : List Token) (zs : List (List ℕ)) (vs : List Token) → names_within n us ≡ Some (zs, vs) → PlainWords us → Read (ArePlain zs) vs) →
-    past sign.Comma ts ≡ v → IsPlainName x → names_or (names_within n) x ts v ≡ Some (ys, rest) → PlainWords ts → Read (ArePlain ys) rest
-more-names n x ts None ys rest ih is plain h words = names-done (x ∷ []) ys ts rest h (plain, tt) words
-more-names n x ts (Some us) ys rest ih is plain h words =
-    let tail = bind-some (names_within n us) (λ xs. Some (x ∷ xs.0, xs.1)) (ys, rest) h in
-    let read = ih us tail.0.0 tail.0.1 tail.1 (past-words sign.Comma ts us is words) in
-    names-done (x ∷ tail.0.0) ys tail.0.1 rest tail.2 (plain, read.plain) read.words
-
-names-names : (n : ℕ) (ts : List Token) (ys : List (List ℕ)) (rest : List Token) → names_within n ts ≡ Some (ys, rest) → PlainWords ts → Read (ArePlain ys) rest
-unfolding names_within
-names-names zero ts ys rest h words = absurd (cc)
-names-names (suc n) ts ys rest h words =
-    let x = bind-some (name_at ts) (λ x. names_or (names_within n) x.0 x.1 (past sign.Comma x.1)) (ys, rest) h in
-    let first = name-words ts x.0.0 x.0.1 x.1 words in
-    more-names n x.0.0 x.0.1 (past sign.Comma x.0.1) ys rest (λ us zs vs is plain. names-names n us zs vs is plain) refl first.plain x.2 first.words
-
--- names and their type
-record TypedRead (xs : List (List ℕ)) (k : TypeShape) (rest : List Token) : Type 0 where
-  names : ArePlain xs
-  kind : HasPlainType k
-  words : PlainWords rest
-
-typed-names : (ts : List Token) (d : List (List ℕ) × TypeShape × List Token) → typed_at ts ≡ Some d → PlainWords ts → TypedRead d.0 d.1 d.2
-typed-names ts d h words =
-    let xs = bind-some (names_at ts) (λ xs. past sign.Colon xs.1 >>= λ us. type_at us >>= λ k. typed_done xs.0 k.0 k.1) d h in
-    let colon = bind-some (past sign.Colon xs.0.1) (λ us. type_at us >>= λ k. typed_done xs.0.0 k.0 k.1) d xs.2 in
-    let k = bind-some (type_at colon.0) (λ k. typed_done xs.0.0 k.0 k.1) d colon.2 in
-    let names = names-names (length ts) ts xs.0.0 xs.0.1 xs.1 words in
-    let kind = type-names (length colon.0) colon.0 k.0.0 k.0.1 k.1 (past-words sign.Colon xs.0.1 colon.0 colon.1 names.words) in
-    let same : ◌≡◌ {A = List (List ℕ) × TypeShape × List Token} (xs.0.0, k.0.0, k.0.1) d = same_Some (xs.0.0, k.0.0, k.0.1) d k.2 in
-    subst (λ (e : List (List ℕ) × TypeShape × List Token). TypedRead e.0 e.1 e.2) same
-    (record { names = names.plain; kind = kind.plain; words = kind.words })
-
-fields-plain : (xs : List (List ℕ)) (k : TypeShape) → ArePlain xs → HasPlainType k → ArePlainFields (fields_of xs k)
-fields-plain [] k hs h = tt
-fields-plain (x ∷ xs) k hs h = ((hs.0, h), fields-plain xs k hs.1 h)
-
-fields-append : (fs gs : List FieldShape) → ArePlainFields fs → ArePlainFields gs → ArePlainFields (fs ++ gs)
-fields-append [] gs hf hg = hg
-fields-append (f ∷ fs) gs hf hg = (hf.0, fields-append fs gs hf.1 hg)
-
-fields-done : (fs gs : List FieldShape) (ts rest : List Token) → ◌≡◌ {A = Option (List FieldShape × List Token)} (Some (fs, ts)) (Some (gs, rest)) →
-    ArePlainFields fs → PlainWords ts → Read (ArePlainFields gs) rest
-fields-done fs gs ts rest h plain words =
-    let same = some_pair_parts fs gs ts rest h in record { plain = subst ArePlainFields same.0 plain; words = subst PlainWords same.1 words }
-
-more-fields : (n : ℕ) (fs : List FieldShape) (ts : List Token) (v : Option (List Token)) (gs : List FieldShape) (rest : List Token) →
-    ((us : List Token) (es : List FieldShape) (vs : List Token) → fields_within n us ≡ Some (es, vs) → PlainWords us → Read (ArePlainFields es) vs) →
-    past sign.RightCurly ts ≡ v → ArePlainFields fs → fields_or (fields_within n) fs ts v ≡ Some (gs, rest) → PlainWords ts → Read (ArePlainFields gs) rest
-more-fields n fs ts (Some us) gs rest ih is plain h words = fields-done fs gs us rest h plain (past-words sign.RightCurly ts us is words)
-more-fields n fs ts None gs rest ih is plain h words =
-    let tail = bind-some (fields_within n ts) (λ es. Some (fs ++ es.0, es.1)) (gs, rest) h in
-    let read = ih ts tail.0.0 tail.0.1 tail.1 words in
-    fields-done (fs ++ tail.0.0) gs tail.0.1 rest tail.2 (fields-append fs tail.0.0 plain read.plain) read.words
-
-fields-names : (n : ℕ) (ts : List Token) (gs : List FieldShape) (rest : List Token) → fields_within n ts ≡ Some (gs, rest) → PlainWords ts →
-    Read (ArePlainFields gs) rest
-unfolding fields_within
-fields-names zero ts gs rest h words = absurd (cc)
-fields-names (suc n) ts gs rest h words =
-    let d = bind-some (typed_at ts) (λ d. past sign.Semicolon d.2 >>= λ us. fields_or (fields_within n) (fields_of d.0 d.1) us (past sign.RightCurly us)) (gs, rest) h in
-    let semi = bind-some (past sign.Semicolon d.0.2) (λ us. fields_or (fields_within n) (fields_of d.0.0 d.0.1) us (past sign.RightCurly us)) (gs, rest) d.2 in
-    let typed = typed-names ts d.0 d.1 words in
-    more-fields n (fields_of d.0.0 d.0.1) semi.0 (past sign.RightCurly semi.0) gs rest (λ us es vs is plain. fields-names n us es vs is plain) refl
-    (fields-plain d.0.0 d.0.1 typed.names typed.kind) semi.2 (past-words sign.Semicolon d.0.2 semi.0 semi.1 typed.words)
-
-struct-names : (ts : List Token) (b : BodyShape) → struct_of ts ≡ Some b → PlainWords ts → IsPlainBody b
-unfolding struct_of
-struct-names ts b h words =
-    let x = bind-some (name_at ts) (λ x. past sign.Colon x.1 >>= λ us. past sign.LeftCurly us >>= λ vs. fields_at vs >>= λ fs. at_end (structure x.0 fs.0) fs.1) b h in
-    let colon = bind-some (past sign.Colon x.0.1) (λ us. past sign.LeftCurly us >>= λ vs. fields_at vs >>= λ fs. at_end (structure x.0.0 fs.0) fs.1) b x.2 in
-    let curly = bind-some (past sign.LeftCurly colon.0) (λ vs. fields_at vs >>= λ fs. at_end (structure x.0.0 fs.0) fs.1) b colon.2 in
-    let fs = bind-some (fields_at curly.0) (λ fs. at_end (structure x.0.0 fs.0) fs.1) b curly.2 in
-    let end = at_end-is (structure x.0.0 fs.0.0) b fs.0.1 fs.2 in
-    let name = name-words ts x.0.0 x.0.1 x.1 words in
-    let fields = fields-names (length curly.0) curly.0 fs.0.0 fs.0.1 fs.1
-    (past-words sign.LeftCurly colon.0 curly.0 curly.1 (past-words sign.Colon x.0.1 colon.0 colon.1 name.words)) in
-    subst IsPlainBody end.0 (name.plain, fields.plain)
-
-input-names : (ts : List Token) (b : BodyShape) → input_of ts ≡ Some b → PlainWords ts → IsPlainBody b
-unfolding input_of
-input-names ts b h words =
-    let d = bind-some (typed_at ts) (λ d. at_end (input d.0 d.1) d.2) b h in
-    let end = at_end-is (input d.0.0 d.0.1) b d.0.2 d.2 in
-    let typed = typed-names ts d.0 d.1 words in
-    subst IsPlainBody end.0 (typed.names, typed.kind)
-
-define-names : (ts : List Token) (b : BodyShape) → define_of ts ≡ Some b → PlainWords ts → IsPlainBody b
-unfolding define_of
-define-names ts b h words =
-    let x = bind-some (name_at ts) (λ x. past sign.Becomes x.1 >>= λ us. tree_of us >>= λ e. Some (define x.0 e)) b h in
-    let becomes = bind-some (past sign.Becomes x.0.1) (λ us. tree_of us >>= λ e. Some (define x.0.0 e)) b x.2 in
-    let e = bind-some (tree_of becomes.0) (λ e. Some (define x.0.0 e)) b becomes.2 in
-    let name = name-words ts x.0.0 x.0.1 x.1 words in
-    subst IsPlainBody (same_Some (define x.0.0 e.0) b e.2)
-    (name.plain, tree-names becomes.0 e.0 e.1 (past-words sign.Becomes x.0.1 becomes.0 becomes.1 name.words))
-
-labelled-names : (ts : List Token) (v : Option (List ℕ × List Token)) → (name_at ts >>= λ x. past sign.Colon x.1 >>= λ us. label_done x.0 us) ≡ v → PlainWords ts →
-    Read (IsPlainLabel (labelled ts v).0) (labelled ts v).1
-labelled-names ts None is words = record { plain = tt; words = words }
-labelled-names ts (Some r) is words =
-    let x = bind-some (name_at ts) (λ x. past sign.Colon x.1 >>= λ us. label_done x.0 us) r is in
-    let colon = bind-some (past sign.Colon x.0.1) (λ us. label_done x.0.0 us) r x.2 in
-    let name = name-words ts x.0.0 x.0.1 x.1 words in
-    let same : ◌≡◌ {A = List ℕ × List Token} (x.0.0, colon.0) r = same_Some (x.0.0, colon.0) r colon.2 in
-    subst (λ (q : List ℕ × List Token). Read (IsPlainName q.0) q.1) same
-    (record { plain = name.plain; words = past-words sign.Colon x.0.1 colon.0 colon.1 name.words })
-
-take-words : (n : ℕ) (ts : List Token) → PlainWords ts → PlainWords (take n ts)
-take-words zero ts words = words-nil
-take-words (suc n) [] words = words-nil
-take-words (suc n) (t ∷ ts) words = words-cons t (take n ts) (words-head t ts words) (take-words n ts (words-tail t ts words))
-
-drop-words : (n : ℕ) (ts : List Token) → PlainWords ts → PlainWords (drop n ts)
-drop-words zero ts words = words
-drop-words (suc n) [] words = words-nil
-drop-words (suc n) (t ∷ ts) words = drop-words n ts (words-tail t ts words)
-
-contract-names : (engine : Engine) (label : Option (List ℕ)) (left right : List Token) (b : BodyShape) → contract_of engine label left right ≡ Some b →
-    IsPlainLabel label → PlainWords left → PlainWords right → IsPlainBody b
-contract-names engine label left right b h plain left_words right_words =
-    elim (if-cases (is_some (promise_at 0 0 right)) None (tree_of left >>= λ e. tree_of right >>= λ f. Some (contract engine label e f)) (Some b) h) [
-      | inl p ↦ absurd (let none = p.1 in cc)
-      | inr p ↦
-          let e = bind-some (tree_of left) (λ e. tree_of right >>= λ f. Some (contract engine label e f)) b p.1 in
-          let f = bind-some (tree_of right) (λ f. Some (contract engine label e.0 f)) b e.2 in
-          subst IsPlainBody (same_Some (contract engine label e.0 f.0) b f.2)
-          (plain, (tree-names left e.0 e.1 left_words, tree-names right f.0 f.1 right_words))
-    ]
-
-output_at-names : (engine : Engine) (label : Option (List ℕ)) (ts : List Token) (v : Option ℕ) (b : BodyShape) → output_at engine label ts v ≡ Some b →
-    IsPlainLabel label → PlainWords ts → IsPlainBody b
-output_at-names engine label ts None b h plain words =
-    let e = bind-some (tree_of ts) (λ e. Some (formula engine label e)) b h in
-    subst IsPlainBody (same_Some (formula engine label e.0) b e.2) (plain, tree-names ts e.0 e.1 words)
-output_at-names engine label ts (Some n) b h plain words =
-    contract-names engine label (take n ts) (drop (n + 1) ts) b h plain (take-words n ts words) (drop-words (n + 1) ts words)
-
-output-names : (engine : Engine) (ts : List Token) (b : BodyShape) → output_of engine ts ≡ Some b → PlainWords ts → IsPlainBody b
-unfolding output_of label_at
-output-names engine ts b h words =
-    let label = labelled-names ts (name_at ts >>= λ x. past sign.Colon x.1 >>= λ us. label_done x.0 us) refl words in
-    output_at-names engine (label_at ts).0 (label_at ts).1 (promise_at 0 0 (label_at ts).1) b h label.plain label.words
-
-body-names : (section : Section) (ts : List Token) (b : BodyShape) → body_of section ts ≡ Some b → PlainWords ts → IsPlainBody b
-body-names Struct ts b h words = struct-names ts b h words
-body-names Input ts b h words = input-names ts b h words
-body-names Define ts b h words = define-names ts b h words
-body-names (Output engine) ts b h words = output-names engine ts b h words
-
--- pieces of plain tokens
-ArePlainPieces : List Piece → Type 0
-ArePlainPieces [] = ⊤
-ArePlainPieces (p ∷ ps) = PlainWords p.tokens × ArePlainPieces ps
-
-left_over-plain : (s : Option Section) (before : List Token) (ps : List Piece) → PlainWords before → ArePlainPieces ps → ArePlainPieces (left_over s before ++ ps)
-unfolding ArePlainPieces
-left_over-plain s [] ps words rest = rest
-left_over-plain s (t ∷ before) ps words rest = (words, rest)
-
-left_over-alone : (s : Option Section) (before : List Token) → PlainWords before → ArePlainPieces (left_over s before)
-unfolding ArePlainPieces
-left_over-alone s [] words = tt
-left_over-alone s (t ∷ before) words = (words, tt)
-
-chosen-plain : (v : Option Section) (b : Bool) (f : Section → List Piece) (x y : List Piece) → ((next : Section) → ArePlainPieces (f next)) →
-    ArePlainPieces x → ArePlainPieces y → ArePlainPieces (chosen v b f x y)
-chosen-plain (Some next) b f x y hf hx hy = hf next
-chosen-plain None true f x y hf hx hy = hx
-chosen-plain None false f x y hf hx hy = hy
-
-pieces-plain : (s : Option Section) (d : ℕ) (before ts : List Token) → PlainWords before → PlainWords ts → ArePlainPieces (pieces s d before ts)
-unfolding pieces ArePlainPieces
-pieces-plain s d before [] words rest = left_over-alone s before words
-pieces-plain s d before (t ∷ ts) words rest =
-    let tail = words-tail t ts rest in
-    chosen-plain (section_of t.what) (is_end s d t.what) (λ next. left_over s before ++ pieces (Some next) 0 [] ts)
-    (item_of s t.line before ∷ pieces s 0 [] ts) (pieces s (braces_after t.what d) (before ++ t ∷ []) ts)
-    (λ next. left_over-plain s before (pieces (Some next) 0 [] ts) words (pieces-plain (Some next) 0 [] ts words-nil tail))
-    (words, pieces-plain s 0 [] ts words-nil tail)
-    (pieces-plain s (braces_after t.what d) (before ++ t ∷ []) ts
-    (words-append before (t ∷ []) words (words-cons t [] (words-head t ts rest) words-nil)) tail)
-
-piece_body-names : (s : Option Section) (ended : Bool) (ts : List Token) (b : BodyShape) → piece_body s ended ts ≡ Some b → PlainWords ts → IsPlainBody b
-piece_body-names None ended ts b h words = absurd (cc)
-piece_body-names (Some section) true ts b h words = body-names section ts b h words
-piece_body-names (Some section) false ts b h words = absurd (cc)
-
-with_line-names : (line : ℕ) (v : Option BodyShape) (item : ItemShape) → ((b : BodyShape) → v ≡ Some b → IsPlainBody b) → with_line line v ≡ Ok item →
-    IsPlainBody item.body
-with_line-names line None item ih h = absurd (cc)
-with_line-names line (Some b) item ih h =
-    let made : ItemShape = record { line = line; body = b } in
-    let same : made ≡ item = cc in
-    subst (λ i. IsPlainBody i.body) same (ih b refl)
-
-piece_tree-names : (p : Piece) (item : ItemShape) → piece_tree p ≡ Ok item → PlainWords p.tokens → IsPlainBody item.body
-piece_tree-names p item h words =
-    elim (if-cases (nat_lt 1024 (length p.tokens)) (Err (TooManyTokens p.line)) (with_line p.line (piece_body p.section p.ended p.tokens)) (Ok item) h) [
-      | inl c ↦ absurd (let many = c.1 in cc)
-      | inr c ↦ with_line-names p.line (piece_body p.section p.ended p.tokens) item (λ b is. piece_body-names p.section p.ended p.tokens b is words) c.1
-    ]
-
-first-names : (r : Result ItemShape ParseFault) (others : Result (List ItemShape) ParseFault) (items : List ItemShape) →
-    ((item : ItemShape) → r ≡ Ok item → IsPlainBody item.body) → ((is : List ItemShape) → others ≡ Ok is → ArePlainItems is) →
-    first_or r others ≡ Ok items → ArePlainItems items
-first-names (Err fault) others items hr ho h = absurd (cc)
-first-names (Ok item) (Err fault) items hr ho h = absurd (cc)
-first-names (Ok item) (Ok is) items hr ho h = let same : item ∷ is ≡ items = cc in subst ArePlainItems same (hr item refl, ho is refl)
-
-trees-names : (ps : List Piece) (items : List ItemShape) → ArePlainPieces ps → piece_trees ps ≡ Ok items → ArePlainItems items
-unfolding piece_trees ArePlainPieces
-trees-names [] items plain h = let same : [] ≡ items = cc in subst ArePlainItems same tt
-trees-names (p ∷ ps) items plain h =
-    first-names (piece_tree p) (piece_trees ps) items (λ item is. piece_tree-names p item is plain.0) (λ is same. trees-names ps is plain.1 same) h
+items-plain : (is : List ItemShape) → ItemsHave IsPlainName HasPlainType IsPlainLabel HasPlainNames is → ArePlainItems is
+items-plain [] h = tt
+items-plain (i ∷ is) h = (body-plain i.body h.0, items-plain is h.1)
 
 pub spec-names : (ts : List Token) (items : List ItemShape) → spec_of ts ≡ Ok items → PlainWords ts → ArePlainItems items
-unfolding spec_of
-spec-names ts items h words = trees-names (pieces None 0 [] ts) items (pieces-plain None 0 [] ts words-nil words) h
+spec-names ts items h words =
+    items-plain items
+    (spec-have HasPlainName IsPlainName HasPlainType IsPlainLabel HasPlainNames word-plain (λ x h. h) bool_plain int_plain (λ k h. h) tt (λ x h. h) tree-names ts items h words)

@@ -8,6 +8,7 @@ use Rattle.c2po_lexer.specs.declared.token.Keyword.TheVariants as keyword
 use Rattle.c2po_lexer.specs.declared.token.What.{What}
 use Rattle.c2po_lexer.specs.declared.token.What.TheVariants as what
 use Rattle.c2po_lexer.specs.declared.token.Token.{Token}
+use Rattle.c2po_lexer.specs.Tokens.{HasPlainName}
 use Rattle.mltl_base.specs.declared.operators.BetweenOp.{BetweenOp}
 use Rattle.spec_tree.specs.declared.operator.Infix.{Infix}
 use Rattle.spec_tree.specs.declared.operator.Infix.TheVariants.{Logic, Between, Compare, Arith}
@@ -166,7 +167,7 @@ field-operator t n x is named = record {
   quiet = (plain-of 12 false n (what.Word x) named refl refl, tt);
   ends = ap ends_operand named;
   depth = ap (λ w. depth_after w 0) named;
-  names = λ words. word-plain n.what x named (words-head n [] words);
+  names = λ words. word-plain n.what x named (words-head HasPlainName n [] words);
 }
 
 field_of-front : (t : Token) (ts : List Token) (o : Operator) (rest : List Token) → t.what ≡ what.Sign sign.Dot →

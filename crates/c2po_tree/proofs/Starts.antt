@@ -89,7 +89,7 @@ one-start t w s is reads apart level ends depth names = record {
   ends = ap ends_operand is ∙ ends;
   depth = ap (λ v. depth_after v 0) is ∙ depth;
   some = omega arith;
-  names = λ words. names (subst HasPlainName is (words-head t [] words));
+  names = λ words. names (subst HasPlainName is (words-head HasPlainName t [] words));
 }
 
 one-front : (t : Token) (ts : List Token) (w : What) (s r : Start) (rest : List Token) → t.what ≡ w →
@@ -113,7 +113,7 @@ call-start t o x is opens = record {
   ends = ap ends_operand opens;
   depth = rw (is, opens) refl;
   some = omega arith;
-  names = λ words. word-plain t.what x is (words-head t (o ∷ []) words);
+  names = λ words. word-plain t.what x is (words-head HasPlainName t (o ∷ []) words);
 }
 
 -- a name alone, or a call
@@ -222,7 +222,7 @@ bind-start t o n c k q x is word opens named colon =
       ends = ap ends_operand colon;
       depth = rw (is, opens, named, colon) refl;
       some = omega arith;
-      names = λ words. word-plain n.what x named (words-head n (c ∷ []) (words-tail o (n ∷ c ∷ []) (words-tail t (o ∷ n ∷ c ∷ []) words)));
+      names = λ words. word-plain n.what x named (words-head HasPlainName n (c ∷ []) (words-tail HasPlainName o (n ∷ c ∷ []) (words-tail HasPlainName t (o ∷ n ∷ c ∷ []) words)));
     }
 
 bind-front : (t : Token) (k : Keyword) (q : Quantifier) (ts : List Token) (s : Start) (rest : List Token) → t.what ≡ what.Reserved k →

@@ -1,11 +1,14 @@
 -- Intervals of a simplified formula stay in bounds, and it has no operators of another tense and no other atoms.
-use Rattle.std.proofs.Common.{Bool, true, false, Option, Some, None, [], ◌⊎◌, inl, inr, arith}
+use Rattle.std.proofs.Common.{◌+◌, ◌≤◌, Bool, true, false, Option, Some, None, [], ◌⊎◌, inl, inr, arith}
 use Rattle.std.specs.Prelude.{if◌then◌else◌}
-use Rattle.mltl_base.specs.Formula.{Formula, truth, falsity, atom, negation, conjunction, disjunction, implication, equivalence, finally, globally, until, release, once, historically, since}
+use Rattle.mltl_base.specs.Formula.{EachAtom, EachInterval, Formula, truth, falsity, atom, negation, conjunction, disjunction, implication, equivalence, finally, globally, until, release, once, historically, since}
+use Rattle.mltl_base.specs.declared.interval.Interval.{Interval}
+use Rattle.mltl_base.specs.declared.limits.TheConstants.{MAX_BOUND}
 use Rattle.mltl_base.specs.Atoms.{Atom, holds}
 use Rattle.mltl_base.specs.Settled.{IsFuture, IsOrdered, IsPast}
+use Rattle.plain_nodes.specs.Nodes.{IsBounded}
 use Rattle.mltl_simplify.specs.Forms.{AreBounded, HasAtom}
-use Rattle.mltl_simplify.specs.Simplify.{both, either, equals, has_signal, implies, of_truth, simp, simple_and, simple_atom, simple_equals, simple_implies, simple_not, simple_or, as_truth, unless_false, unless_truth}
+use Rattle.mltl_simplify.specs.Simplify.{both, either, equals, has_signal, implies, joined, of_truth, simp, simple_and, simple_atom, simple_equals, simple_implies, simple_not, simple_or, as_truth, unless_false, unless_truth}
 use Rattle.mltl_simplify.proofs.Cases.{finally_cases, globally_cases, historically_cases, not_cases, once_cases}
 
 -- what truths have, and formulas that are joined without time
@@ -84,73 +87,50 @@ unless_false_has own (Some false) x h = own.false_has
 
 -- ---- intervals
 
-ordered : IsPlain IsOrdered
-ordered = record {
-  true_has = tt;
-  false_has = tt;
-  negation_has = λ x h. h;
-  operand_has = λ x h. h;
-  conjunction_has = λ x y h k. (h, k);
-  disjunction_has = λ x y h k. (h, k);
-  implication_has = λ x y h k. (h, k);
-  equivalence_has = λ x y h k. (h, k);
-}
+-- what each interval has, a sum of two has where it is in bounds
+module _ (P : Interval → Type 0) (sums : (i j : Interval) → i.hi + j.hi ≤ MAX_BOUND → P i → P j → P (joined i j)) where
+  abbrev OfIntervals : Formula → Type 0
+  OfIntervals p = EachInterval P p
+
+  intervals : IsPlain OfIntervals
+  intervals = record {
+    true_has = tt;
+    false_has = tt;
+    negation_has = λ x h. h;
+    operand_has = λ x h. h;
+    conjunction_has = λ x y h k. (h, k);
+    disjunction_has = λ x y h k. (h, k);
+    implication_has = λ x y h k. (h, k);
+    equivalence_has = λ x y h k. (h, k);
+  }
+
+  simp_each_interval : (p : Formula) → OfIntervals p → OfIntervals (simp p)
+  unfolding simp
+  simp_each_interval truth h = tt
+  simp_each_interval falsity h = tt
+  simp_each_interval (atom a) h = atom_has {P = OfIntervals} intervals a h
+  simp_each_interval (negation p) h = not_has {P = OfIntervals} intervals (simp p) (simp_each_interval p h)
+  simp_each_interval (conjunction p q) h = and_has {P = OfIntervals} intervals (simp p) (simp q) (simp_each_interval p h.0) (simp_each_interval q h.1)
+  simp_each_interval (disjunction p q) h = or_has {P = OfIntervals} intervals (simp p) (simp q) (simp_each_interval p h.0) (simp_each_interval q h.1)
+  simp_each_interval (implication p q) h = implies_has {P = OfIntervals} intervals (simp p) (simp q) (simp_each_interval p h.0) (simp_each_interval q h.1)
+  simp_each_interval (equivalence p q) h = equals_has {P = OfIntervals} intervals (simp p) (simp q) (simp_each_interval p h.0) (simp_each_interval q h.1)
+  simp_each_interval (finally i p) h =
+      finally_cases (λ x y. OfIntervals x → OfIntervals y) i (λ k. tt) (λ k. tt) (λ j z l k. (sums i j l h.0 k.0, k.1)) (λ x k. (h.0, k)) (simp p) (simp_each_interval p h.1)
+  simp_each_interval (globally i p) h =
+      globally_cases (λ x y. OfIntervals x → OfIntervals y) i (λ k. tt) (λ k. tt) (λ j z l k. (sums i j l h.0 k.0, k.1)) (λ x k. (h.0, k)) (simp p) (simp_each_interval p h.1)
+  simp_each_interval (until i p q) h = unless_truth_has {P = OfIntervals} intervals (as_truth (simp q)) (until i (simp p) (simp q)) (h.0, (simp_each_interval p h.1.0, simp_each_interval q h.1.1))
+  simp_each_interval (release i p q) h = unless_truth_has {P = OfIntervals} intervals (as_truth (simp q)) (release i (simp p) (simp q)) (h.0, (simp_each_interval p h.1.0, simp_each_interval q h.1.1))
+  simp_each_interval (once i p) h =
+      once_cases (λ x y. OfIntervals x → OfIntervals y) i (λ k. tt) (λ j z l k. (sums i j l h.0 k.0, k.1)) (λ x k. (h.0, k)) (simp p) (simp_each_interval p h.1)
+  simp_each_interval (historically i p) h =
+      historically_cases (λ x y. OfIntervals x → OfIntervals y) i (λ k. tt) (λ j z l k. (sums i j l h.0 k.0, k.1)) (λ x k. (h.0, k)) (simp p) (simp_each_interval p h.1)
+  simp_each_interval (since i p q) h = unless_false_has {P = OfIntervals} intervals (as_truth (simp q)) (since i (simp p) (simp q)) (h.0, (simp_each_interval p h.1.0, simp_each_interval q h.1.1))
 
 pub simp_ordered : (p : Formula) → IsOrdered p → IsOrdered (simp p)
-unfolding simp
-simp_ordered truth h = tt
-simp_ordered falsity h = tt
-simp_ordered (atom a) h = atom_has {P = IsOrdered} ordered a h
-simp_ordered (negation p) h = not_has {P = IsOrdered} ordered (simp p) (simp_ordered p h)
-simp_ordered (conjunction p q) h = and_has {P = IsOrdered} ordered (simp p) (simp q) (simp_ordered p h.0) (simp_ordered q h.1)
-simp_ordered (disjunction p q) h = or_has {P = IsOrdered} ordered (simp p) (simp q) (simp_ordered p h.0) (simp_ordered q h.1)
-simp_ordered (implication p q) h = implies_has {P = IsOrdered} ordered (simp p) (simp q) (simp_ordered p h.0) (simp_ordered q h.1)
-simp_ordered (equivalence p q) h = equals_has {P = IsOrdered} ordered (simp p) (simp q) (simp_ordered p h.0) (simp_ordered q h.1)
-simp_ordered (finally i p) h =
-    finally_cases (λ x y. IsOrdered x → IsOrdered y) i (λ k. tt) (λ k. tt) (λ j z l k. (omega (arith, h.0, k.0), k.1)) (λ x k. (h.0, k)) (simp p) (simp_ordered p h.1)
-simp_ordered (globally i p) h =
-    globally_cases (λ x y. IsOrdered x → IsOrdered y) i (λ k. tt) (λ k. tt) (λ j z l k. (omega (arith, h.0, k.0), k.1)) (λ x k. (h.0, k)) (simp p) (simp_ordered p h.1)
-simp_ordered (until i p q) h = unless_truth_has {P = IsOrdered} ordered (as_truth (simp q)) (until i (simp p) (simp q)) (h.0, (simp_ordered p h.1.0, simp_ordered q h.1.1))
-simp_ordered (release i p q) h = unless_truth_has {P = IsOrdered} ordered (as_truth (simp q)) (release i (simp p) (simp q)) (h.0, (simp_ordered p h.1.0, simp_ordered q h.1.1))
-simp_ordered (once i p) h =
-    once_cases (λ x y. IsOrdered x → IsOrdered y) i (λ k. tt) (λ j z l k. (omega (arith, h.0, k.0), k.1)) (λ x k. (h.0, k)) (simp p) (simp_ordered p h.1)
-simp_ordered (historically i p) h =
-    historically_cases (λ x y. IsOrdered x → IsOrdered y) i (λ k. tt) (λ j z l k. (omega (arith, h.0, k.0), k.1)) (λ x k. (h.0, k)) (simp p) (simp_ordered p h.1)
-simp_ordered (since i p q) h = unless_false_has {P = IsOrdered} ordered (as_truth (simp q)) (since i (simp p) (simp q)) (h.0, (simp_ordered p h.1.0, simp_ordered q h.1.1))
-
-bounded : IsPlain AreBounded
-bounded = record {
-  true_has = tt;
-  false_has = tt;
-  negation_has = λ x h. h;
-  operand_has = λ x h. h;
-  conjunction_has = λ x y h k. (h, k);
-  disjunction_has = λ x y h k. (h, k);
-  implication_has = λ x y h k. (h, k);
-  equivalence_has = λ x y h k. (h, k);
-}
+simp_ordered = simp_each_interval (λ i. i.lo ≤ i.hi) (λ i j l g h. omega (arith, g, h))
 
 pub simp_bounded : (p : Formula) → AreBounded p → AreBounded (simp p)
-unfolding simp
-simp_bounded truth h = tt
-simp_bounded falsity h = tt
-simp_bounded (atom a) h = atom_has {P = AreBounded} bounded a h
-simp_bounded (negation p) h = not_has {P = AreBounded} bounded (simp p) (simp_bounded p h)
-simp_bounded (conjunction p q) h = and_has {P = AreBounded} bounded (simp p) (simp q) (simp_bounded p h.0) (simp_bounded q h.1)
-simp_bounded (disjunction p q) h = or_has {P = AreBounded} bounded (simp p) (simp q) (simp_bounded p h.0) (simp_bounded q h.1)
-simp_bounded (implication p q) h = implies_has {P = AreBounded} bounded (simp p) (simp q) (simp_bounded p h.0) (simp_bounded q h.1)
-simp_bounded (equivalence p q) h = equals_has {P = AreBounded} bounded (simp p) (simp q) (simp_bounded p h.0) (simp_bounded q h.1)
-simp_bounded (finally i p) h =
-    finally_cases (λ x y. AreBounded x → AreBounded y) i (λ k. tt) (λ k. tt) (λ j z l k. ((omega (arith, h.0.0, k.0.0), l), k.1)) (λ x k. (h.0, k)) (simp p) (simp_bounded p h.1)
-simp_bounded (globally i p) h =
-    globally_cases (λ x y. AreBounded x → AreBounded y) i (λ k. tt) (λ k. tt) (λ j z l k. ((omega (arith, h.0.0, k.0.0), l), k.1)) (λ x k. (h.0, k)) (simp p) (simp_bounded p h.1)
-simp_bounded (until i p q) h = unless_truth_has {P = AreBounded} bounded (as_truth (simp q)) (until i (simp p) (simp q)) (h.0, (simp_bounded p h.1.0, simp_bounded q h.1.1))
-simp_bounded (release i p q) h = unless_truth_has {P = AreBounded} bounded (as_truth (simp q)) (release i (simp p) (simp q)) (h.0, (simp_bounded p h.1.0, simp_bounded q h.1.1))
-simp_bounded (once i p) h =
-    once_cases (λ x y. AreBounded x → AreBounded y) i (λ k. tt) (λ j z l k. ((omega (arith, h.0.0, k.0.0), l), k.1)) (λ x k. (h.0, k)) (simp p) (simp_bounded p h.1)
-simp_bounded (historically i p) h =
-    historically_cases (λ x y. AreBounded x → AreBounded y) i (λ k. tt) (λ j z l k. ((omega (arith, h.0.0, k.0.0), l), k.1)) (λ x k. (h.0, k)) (simp p) (simp_bounded p h.1)
-simp_bounded (since i p q) h = unless_false_has {P = AreBounded} bounded (as_truth (simp q)) (since i (simp p) (simp q)) (h.0, (simp_bounded p h.1.0, simp_bounded q h.1.1))
+simp_bounded = simp_each_interval IsBounded (λ i j l g h. (omega (arith, g.0, h.0), l))
 
 -- ---- tenses
 
@@ -215,6 +195,41 @@ simp_future (historically j p) h = absurd h
 simp_future (since j p q) h = absurd h
 
 -- ---- atoms
+
+-- what each atom has
+module _ (P : Atom → Type 0) where
+  abbrev OfAtoms : Formula → Type 0
+  OfAtoms p = EachAtom P p
+
+  atoms : IsPlain OfAtoms
+  atoms = record {
+    true_has = tt;
+    false_has = tt;
+    negation_has = λ x h. h;
+    operand_has = λ x h. h;
+    conjunction_has = λ x y h k. (h, k);
+    disjunction_has = λ x y h k. (h, k);
+    implication_has = λ x y h k. (h, k);
+    equivalence_has = λ x y h k. (h, k);
+  }
+
+  pub simp_each_atom : (p : Formula) → OfAtoms p → OfAtoms (simp p)
+  unfolding simp
+  simp_each_atom truth h = tt
+  simp_each_atom falsity h = tt
+  simp_each_atom (atom a) h = atom_has {P = OfAtoms} atoms a h
+  simp_each_atom (negation p) h = not_has {P = OfAtoms} atoms (simp p) (simp_each_atom p h)
+  simp_each_atom (conjunction p q) h = and_has {P = OfAtoms} atoms (simp p) (simp q) (simp_each_atom p h.0) (simp_each_atom q h.1)
+  simp_each_atom (disjunction p q) h = or_has {P = OfAtoms} atoms (simp p) (simp q) (simp_each_atom p h.0) (simp_each_atom q h.1)
+  simp_each_atom (implication p q) h = implies_has {P = OfAtoms} atoms (simp p) (simp q) (simp_each_atom p h.0) (simp_each_atom q h.1)
+  simp_each_atom (equivalence p q) h = equals_has {P = OfAtoms} atoms (simp p) (simp q) (simp_each_atom p h.0) (simp_each_atom q h.1)
+  simp_each_atom (finally i p) h = finally_cases (λ x y. OfAtoms x → OfAtoms y) i (λ k. tt) (λ k. tt) (λ j z l k. k) (λ x k. k) (simp p) (simp_each_atom p h)
+  simp_each_atom (globally i p) h = globally_cases (λ x y. OfAtoms x → OfAtoms y) i (λ k. tt) (λ k. tt) (λ j z l k. k) (λ x k. k) (simp p) (simp_each_atom p h)
+  simp_each_atom (until i p q) h = unless_truth_has {P = OfAtoms} atoms (as_truth (simp q)) (until i (simp p) (simp q)) (simp_each_atom p h.0, simp_each_atom q h.1)
+  simp_each_atom (release i p q) h = unless_truth_has {P = OfAtoms} atoms (as_truth (simp q)) (release i (simp p) (simp q)) (simp_each_atom p h.0, simp_each_atom q h.1)
+  simp_each_atom (once i p) h = once_cases (λ x y. OfAtoms x → OfAtoms y) i (λ k. tt) (λ j z l k. k) (λ x k. k) (simp p) (simp_each_atom p h)
+  simp_each_atom (historically i p) h = historically_cases (λ x y. OfAtoms x → OfAtoms y) i (λ k. tt) (λ j z l k. k) (λ x k. k) (simp p) (simp_each_atom p h)
+  simp_each_atom (since i p q) h = unless_false_has {P = OfAtoms} atoms (as_truth (simp q)) (since i (simp p) (simp q)) (simp_each_atom p h.0, simp_each_atom q h.1)
 
 -- each atom of the formula is one of these
 AreAmong : (Atom → Type 0) → Formula → Type 0

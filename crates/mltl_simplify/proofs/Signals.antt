@@ -9,15 +9,14 @@ use Rattle.mltl_base.specs.declared.interval.Interval.{Interval}
 use Rattle.mltl_base.specs.declared.limits.TheConstants.{MAX_BOUND}
 use Rattle.mltl_base.specs.Atoms.{Term, column, constant, negative, plus, minus, times, quotient, remainder, Atom, is_true, equal, less, at_most, different, greater, at_least, value, holds, term_over, atom_over}
 use Rattle.mltl_base.specs.Formula.{Formula, truth, falsity, atom, negation, conjunction, disjunction, implication, equivalence, finally, globally, until, release, once, historically, since, formula_over}
-use Rattle.mltl_base.specs.Kinds.{ReadsKinds, ReadsSignals}
+use Rattle.mltl_base.specs.Kinds.{AtomReadsKinds, ReadsKinds, ReadsSignals}
 use Rattle.mltl_base.specs.Reports.{Output, formula, contract}
 use Rattle.mltl_base.specs.Subformulas.{Asked}
 use Rattle.plain_nodes.specs.Outputs.{asked_over, output_over}
 use Rattle.mltl_simplify.specs.Outputs.{simple_asked, simple_output, simple_outputs}
 use Rattle.mltl_simplify.specs.Simplify.{both, either, equals, has_signal, if_joined, implies, joined, of_truth, reads_signal, simp, simple_and, simple_atom, simple_equals, simple_finally, simple_globally, simple_historically, simple_implies, simple_not, simple_once, simple_or, as_truth, unless_false, unless_truth}
-use Rattle.mltl_simplify.proofs.Cases.{finally_cases, globally_cases, historically_cases, once_cases}
 use Rattle.mltl_simplify.proofs.Ending.{kept_by}
-use Rattle.mltl_simplify.proofs.Forms.{IsPlain, and_has, atom_has, equals_has, implies_has, not_has, or_has, unless_false_has, unless_truth_has}
+use Rattle.mltl_simplify.proofs.Forms.{simp_each_atom}
 
 -- ---- kinds
 
@@ -25,35 +24,8 @@ module _ (kinds : List Bool) where
   abbrev Reads : Formula → Type 0
   Reads p = ReadsKinds kinds p
 
-  reading : IsPlain Reads
-  reading = record {
-    true_has = tt;
-    false_has = tt;
-    negation_has = λ x h. h;
-    operand_has = λ x h. h;
-    conjunction_has = λ x y h k. (h, k);
-    disjunction_has = λ x y h k. (h, k);
-    implication_has = λ x y h k. (h, k);
-    equivalence_has = λ x y h k. (h, k);
-  }
-
-  pub simp_kinds : (p : Formula) → ReadsKinds kinds p → ReadsKinds kinds (simp p)
-  unfolding simp
-  simp_kinds truth h = tt
-  simp_kinds falsity h = tt
-  simp_kinds (atom a) h = atom_has {P = Reads} reading a h
-  simp_kinds (negation p) h = not_has {P = Reads} reading (simp p) (simp_kinds p h)
-  simp_kinds (conjunction p q) h = and_has {P = Reads} reading (simp p) (simp q) (simp_kinds p h.0) (simp_kinds q h.1)
-  simp_kinds (disjunction p q) h = or_has {P = Reads} reading (simp p) (simp q) (simp_kinds p h.0) (simp_kinds q h.1)
-  simp_kinds (implication p q) h = implies_has {P = Reads} reading (simp p) (simp q) (simp_kinds p h.0) (simp_kinds q h.1)
-  simp_kinds (equivalence p q) h = equals_has {P = Reads} reading (simp p) (simp q) (simp_kinds p h.0) (simp_kinds q h.1)
-  simp_kinds (finally i p) h = finally_cases (λ x y. Reads x → Reads y) i (λ k. tt) (λ k. tt) (λ j z l k. k) (λ x k. k) (simp p) (simp_kinds p h)
-  simp_kinds (globally i p) h = globally_cases (λ x y. Reads x → Reads y) i (λ k. tt) (λ k. tt) (λ j z l k. k) (λ x k. k) (simp p) (simp_kinds p h)
-  simp_kinds (until i p q) h = unless_truth_has {P = Reads} reading (as_truth (simp q)) (until i (simp p) (simp q)) (simp_kinds p h.0, simp_kinds q h.1)
-  simp_kinds (release i p q) h = unless_truth_has {P = Reads} reading (as_truth (simp q)) (release i (simp p) (simp q)) (simp_kinds p h.0, simp_kinds q h.1)
-  simp_kinds (once i p) h = once_cases (λ x y. Reads x → Reads y) i (λ k. tt) (λ j z l k. k) (λ x k. k) (simp p) (simp_kinds p h)
-  simp_kinds (historically i p) h = historically_cases (λ x y. Reads x → Reads y) i (λ k. tt) (λ j z l k. k) (λ x k. k) (simp p) (simp_kinds p h)
-  simp_kinds (since i p q) h = unless_false_has {P = Reads} reading (as_truth (simp q)) (since i (simp p) (simp q)) (simp_kinds p h.0, simp_kinds q h.1)
+  pub simp_kinds : (p : Formula) → Reads p → Reads (simp p)
+  simp_kinds = simp_each_atom (AtomReadsKinds kinds)
 
   pub simple_kinds : (outs : List Asked) → All (ReadsSignals kinds) outs → All (ReadsSignals kinds) (simple_outputs outs)
   simple_kinds outs h = All-map (ReadsSignals kinds) simple_asked outs (All-weaker (ReadsSignals kinds) (λ a. ReadsSignals kinds (simple_asked a)) (λ a k. kept_by Reads simp_kinds a.output k) outs h)

@@ -14,10 +14,9 @@ use Rattle.mltl_base.proofs.Unfolding.{Each, each_from_all, all_push}
 use Rattle.mltl_base.proofs.Members.{all_from_each, each_append}
 use Rattle.plain_nodes.specs.Outputs.{asked_over, output_over}
 use Rattle.mltl_simplify.specs.Outputs.{simple_asked, simple_outputs}
-use Rattle.mltl_simplify.specs.Simplify.{simp, as_truth}
-use Rattle.mltl_simplify.proofs.Cases.{finally_cases, globally_cases, historically_cases, once_cases}
+use Rattle.mltl_simplify.specs.Simplify.{simp}
 use Rattle.mltl_simplify.proofs.Ending.{kept_by}
-use Rattle.mltl_simplify.proofs.Forms.{IsPlain, and_has, atom_has, equals_has, implies_has, not_has, or_has, unless_false_has, unless_truth_has}
+use Rattle.mltl_simplify.proofs.Forms.{simp_each_atom}
 use Rattle.spec_compile.specs.Simplified.{are_smaller, smaller_outputs}
 use Rattle.spec_compile.specs.Image.{over_columns}
 use Rattle.show_trips.specs.Named.{AreCounted}
@@ -199,35 +198,8 @@ each_natural_over columns (a ∷ outs) h =
 
 -- ---- simplified forms
 
-reading : IsPlain Natural
-reading = record {
-  true_has = tt;
-  false_has = tt;
-  negation_has = λ x h. h;
-  operand_has = λ x h. h;
-  conjunction_has = λ x y h k. (h, k);
-  disjunction_has = λ x y h k. (h, k);
-  implication_has = λ x y h k. (h, k);
-  equivalence_has = λ x y h k. (h, k);
-}
-
 simp_natural : (p : Formula) → Natural p → Natural (simp p)
-unfolding simp
-simp_natural truth h = tt
-simp_natural falsity h = tt
-simp_natural (atom a) h = atom_has {P = Natural} reading a h
-simp_natural (negation p) h = not_has {P = Natural} reading (simp p) (simp_natural p h)
-simp_natural (conjunction p q) h = and_has {P = Natural} reading (simp p) (simp q) (simp_natural p h.0) (simp_natural q h.1)
-simp_natural (disjunction p q) h = or_has {P = Natural} reading (simp p) (simp q) (simp_natural p h.0) (simp_natural q h.1)
-simp_natural (implication p q) h = implies_has {P = Natural} reading (simp p) (simp q) (simp_natural p h.0) (simp_natural q h.1)
-simp_natural (equivalence p q) h = equals_has {P = Natural} reading (simp p) (simp q) (simp_natural p h.0) (simp_natural q h.1)
-simp_natural (finally i p) h = finally_cases (λ x y. Natural x → Natural y) i (λ k. tt) (λ k. tt) (λ j z l k. k) (λ x k. k) (simp p) (simp_natural p h)
-simp_natural (globally i p) h = globally_cases (λ x y. Natural x → Natural y) i (λ k. tt) (λ k. tt) (λ j z l k. k) (λ x k. k) (simp p) (simp_natural p h)
-simp_natural (until i p q) h = unless_truth_has {P = Natural} reading (as_truth (simp q)) (until i (simp p) (simp q)) (simp_natural p h.0, simp_natural q h.1)
-simp_natural (release i p q) h = unless_truth_has {P = Natural} reading (as_truth (simp q)) (release i (simp p) (simp q)) (simp_natural p h.0, simp_natural q h.1)
-simp_natural (once i p) h = once_cases (λ x y. Natural x → Natural y) i (λ k. tt) (λ j z l k. k) (λ x k. k) (simp p) (simp_natural p h)
-simp_natural (historically i p) h = historically_cases (λ x y. Natural x → Natural y) i (λ k. tt) (λ j z l k. k) (λ x k. k) (simp p) (simp_natural p h)
-simp_natural (since i p q) h = unless_false_has {P = Natural} reading (as_truth (simp q)) (since i (simp p) (simp q)) (simp_natural p h.0, simp_natural q h.1)
+simp_natural = simp_each_atom AtomNatural
 
 pub simple_natural : (outs : List Asked) → All IsNaturalOutput outs → All IsNaturalOutput (simple_outputs outs)
 simple_natural outs h = All-map IsNaturalOutput simple_asked outs (All-weaker IsNaturalOutput (λ a. IsNaturalOutput (simple_asked a)) (λ a k. kept_by Natural simp_natural a.output k) outs h)

@@ -6,11 +6,11 @@ use Rattle.std.specs.Prelude.{slice_get, Bool, ◌||◌}
 use Rattle.mltl_base.specs.declared.interval.Engine.TheVariants.{Ft, Pt}
 use Rattle.mltl_base.specs.declared.limits.TheConstants.{MAX_WEIGHT}
 use Rattle.mltl_base.specs.declared.program.Program.{Program}
-use Rattle.mltl_base.specs.Atoms.{Term, column, constant, negative, plus, minus, times, quotient, remainder, Atom, is_true, equal, less, at_most, different, greater, at_least, term_over, atom_over}
+use Rattle.mltl_base.specs.Atoms.{Term, Atom, is_true, equal, less, at_most, different, greater, at_least, term_over, atom_over}
 use Rattle.mltl_base.specs.Formula as full
 use Rattle.mltl_base.specs.Formula.{Formula, falsity, atom, negation, conjunction, disjunction, implication, equivalence, finally, globally, until, release, once, historically, since, Core, plain, formula_over}
 use Rattle.mltl_base.specs.Programs.{Expression, whole, truth, expressions, cores_of}
-use Rattle.mltl_base.specs.Ranges.{NoRange, range, negated, summed, lessened, multiplied, divided, left_over, over, over_both, over_divisor}
+use Rattle.mltl_base.specs.Ranges.{NoRange}
 use Rattle.plain_nodes.specs.Faults.{why_none, or_later, term_fault, atom_fault, formula_fault}
 use Rattle.plain_nodes.specs.Tenses.{has_past, has_future}
 use Rattle.obs_build.proofs.Reading.{range_over}

@@ -15,7 +15,6 @@ use Rattle.c2po_lexer.specs.declared.token.Token.{Token}
 use Rattle.c2po_lexer.specs.declared.token.What.{What}
 use Rattle.c2po_lexer.specs.declared.token.What.TheVariants as what
 use Rattle.c2po_lexer.specs.declared.token.Keyword.{Keyword}
-use Rattle.c2po_lexer.specs.declared.token.Sign.{Sign}
 use Rattle.c2po_lexer.specs.declared.fault.LexFault.{LexFault}
 use Rattle.c2po_lexer.specs.declared.front.Front.{Front}
 use Rattle.c2po_lexer.specs.declared.front.Front.TheVariants as front

@@ -22,14 +22,15 @@ use Rattle.c2po_lexer.specs.declared.token.What.{What}
 use Rattle.c2po_lexer.specs.declared.token.What.TheVariants as what
 use Rattle.spec_tree.specs.declared.operator.Atom.{Atom}
 use Rattle.spec_tree.specs.declared.operator.Atom.TheVariants.{Number, Truth, Ref}
-use Rattle.spec_tree.specs.Shape as tree
 use Rattle.spec_tree.specs.Shape.{Shape, Shapes, of_list}
 use Rattle.show_trips.specs.Written.{IsNumber, IsToken}
 use Rattle.c2po_tree.specs.Tokens.{left_level, right_level}
 use Rattle.spec_tree.specs.Parts.{joined, prefixed, enclosed, quantified, leaf}
 use Rattle.c2po_tree.specs.Fronts.{infix_level, prefix_level, closing, past, name_at, interval_at, named_or_called, bound_start, word_start, word_quantifier, sign_start, start_in, start_at, ◌>>=◌}
 use Rattle.c2po_tree.specs.Splitting.{tree_of}
-use Rattle.show_trips.proofs.GoodWords.{GoodWords, words-head, words-tail, words-left, words-right}
+use Rattle.unfold.proofs.ValueWalk.{AllConstantsHave, ConstantsHave}
+use Rattle.c2po_tree.proofs.Words.{words-head, words-tail, words-left, words-right}
+use Rattle.show_trips.proofs.GoodWords.{GoodWords}
 use Rattle.c2po_tree.proofs.Starts.{IsStart}
 use Rattle.std.proofs.lemmas.Option.{some_pair_parts}
 use Rattle.c2po_tree.proofs.Rules as rules
@@ -37,28 +38,11 @@ use Rattle.c2po_tree.proofs.Rules.{Derives, DerivesAll, down, picks, behind, alo
 use Rattle.c2po_tree.proofs.Agree.{tree-derives}
 
 -- the numbers of a tree are numbers of the language
-abbrev mutual
-  pub HasNumbers : Shape → Type 0
-  HasNumbers (tree.number line n) = IsNumber n
-  HasNumbers (tree.truth line b) = ⊤
-  HasNumbers (tree.named line x) = ⊤
-  HasNumbers (tree.build line x es) = HaveNumbers es
-  HasNumbers (tree.group line es) = HaveNumbers es
-  HasNumbers (tree.pick line e x) = HasNumbers e
-  HasNumbers (tree.minus line e) = HasNumbers e
-  HasNumbers (tree.negation line e) = HasNumbers e
-  HasNumbers (tree.arith line op e f) = HasNumbers e × HasNumbers f
-  HasNumbers (tree.compare line op e f) = HasNumbers e × HasNumbers f
-  HasNumbers (tree.logic line op e f) = HasNumbers e × HasNumbers f
-  HasNumbers (tree.window line op a b e) = HasNumbers e
-  HasNumbers (tree.between line op a b e f) = HasNumbers e × HasNumbers f
-  HasNumbers (tree.each line x s e) = HasNumbers s × HasNumbers e
-  HasNumbers (tree.exists line x s e) = HasNumbers s × HasNumbers e
-  HasNumbers (tree.count line op x s n e) = HasNumbers s × HasNumbers e
+abbrev pub HasNumbers : Shape → Type 0
+HasNumbers e = ConstantsHave IsNumber e
 
-  pub HaveNumbers : Shapes → Type 0
-  HaveNumbers tree.none = ⊤
-  HaveNumbers (tree.more e es) = HasNumbers e × HaveNumbers es
+abbrev HaveNumbers : Shapes → Type 0
+HaveNumbers es = AllConstantsHave IsNumber es
 
 -- a start that is no number
 abbrev NotNumber : Option (Start × List Token) → Type 0
@@ -126,7 +110,7 @@ number_in (what.Sign s) l line n ts rest e h = absurd (subst NotNumber e (sign_n
 number_at_start : (ts : List Token) (line : ℕ) (n : ℤ) (rest : List Token) → start_at ts ≡ Some (Leaf line (Number n), rest) → GoodWords ts → IsNumber n
 unfolding start_at
 number_at_start [] line n rest e words = absurd (cc)
-number_at_start (t ∷ ts) line n rest e words = number_in t.what t.line line n ts rest e (words-head t ts words)
+number_at_start (t ∷ ts) line n rest e words = number_in t.what t.line line n ts rest e (words-head IsToken t ts words)
 
 leaf-numbers : (line : ℕ) (a : Atom) (us : List Token) → IsStart us (Leaf line a) → GoodWords us → HasNumbers (leaf line a)
 leaf-numbers line (Number n) us is words = number_at_start us line n [] (ap start_at (sym (append-nil us)) ∙ is.reads [] (λ e. refl)) words
@@ -157,22 +141,22 @@ mutual
   derived-numbers : (k : ℕ) (c : List Token) (e : Shape) → Derives k c e → GoodWords c → HasNumbers e
   derived-numbers _ _ _ (down k c e high d) words = derived-numbers (suc k) c e d words
   derived-numbers _ _ _ (rules.joins line op a t us b e f da o db) words =
-      joined-numbers line op e f (derived-numbers (left_level (infix_level op)) a e da (words-left a (t ∷ (us ++ b)) words))
-      (derived-numbers (right_level (infix_level op)) b f db (words-right us b (words-tail t (us ++ b) (words-right a (t ∷ (us ++ b)) words))))
-  derived-numbers _ _ _ (picks line x a t us e d o) words = derived-numbers 11 a e d (words-left a (t ∷ us) words)
-  derived-numbers _ _ _ (behind p us c e is d) words = prefixed-numbers p e (derived-numbers (prefix_level p) c e d (words-right us c words))
+      joined-numbers line op e f (derived-numbers (left_level (infix_level op)) a e da (words-left IsToken a (t ∷ (us ++ b)) words))
+      (derived-numbers (right_level (infix_level op)) b f db (words-right IsToken us b (words-tail IsToken t (us ++ b) (words-right IsToken a (t ∷ (us ++ b)) words))))
+  derived-numbers _ _ _ (picks line x a t us e d o) words = derived-numbers 11 a e d (words-left IsToken a (t ∷ us) words)
+  derived-numbers _ _ _ (behind p us c e is d) words = prefixed-numbers p e (derived-numbers (prefix_level p) c e d (words-right IsToken us c words))
   derived-numbers _ _ _ (alone line a us is) words = leaf-numbers line a us is words
-  derived-numbers _ _ _ (inside us c t e is d close) words = derived-numbers 1 c e d (words-left c (t ∷ []) (words-right us (c ++ t ∷ []) words))
-  derived-numbers _ _ _ (encloses b us c es is ds) words = enclosed-numbers b es (all-numbers (closing b) c es ds (words-right us c words))
+  derived-numbers _ _ _ (inside us c t e is d close) words = derived-numbers 1 c e d (words-left IsToken c (t ∷ []) (words-right IsToken us (c ++ t ∷ []) words))
+  derived-numbers _ _ _ (encloses b us c es is ds) words = enclosed-numbers b es (all-numbers (closing b) c es ds (words-right IsToken us c words))
   derived-numbers _ _ _ (binds line q x n us c m vs d t s e is ds middle de close) words =
-      let rest = words-right us (c ++ m ∷ (vs ++ (d ++ t ∷ []))) words in
-      let body = words-right vs (d ++ t ∷ []) (words-tail m (vs ++ (d ++ t ∷ [])) (words-right c (m ∷ (vs ++ (d ++ t ∷ []))) rest)) in
-      quantified-numbers line q x s n e (derived-numbers 1 c s ds (words-left c (m ∷ (vs ++ (d ++ t ∷ []))) rest)) (derived-numbers 1 d e de (words-left d (t ∷ []) body))
+      let rest = words-right IsToken us (c ++ m ∷ (vs ++ (d ++ t ∷ []))) words in
+      let body = words-right IsToken vs (d ++ t ∷ []) (words-tail IsToken m (vs ++ (d ++ t ∷ [])) (words-right IsToken c (m ∷ (vs ++ (d ++ t ∷ []))) rest)) in
+      quantified-numbers line q x s n e (derived-numbers 1 c s ds (words-left IsToken c (m ∷ (vs ++ (d ++ t ∷ []))) rest)) (derived-numbers 1 d e de (words-left IsToken d (t ∷ []) body))
 
   all-numbers : (s : Sign) (c : List Token) (es : List Shape) → DerivesAll s c es → GoodWords c → HaveNumbers (of_list es)
-  all-numbers _ _ _ (last s c t e d close) words = (derived-numbers 1 c e d (words-left c (t ∷ []) words), tt)
+  all-numbers _ _ _ (last s c t e d close) words = (derived-numbers 1 c e d (words-left IsToken c (t ∷ []) words), tt)
   all-numbers _ _ _ (and_more s c t d e es dc comma ds) words =
-      (derived-numbers 1 c e dc (words-left c (t ∷ d) words), all-numbers s d es ds (words-tail t d (words-right c (t ∷ d) words)))
+      (derived-numbers 1 c e dc (words-left IsToken c (t ∷ d) words), all-numbers s d es ds (words-tail IsToken t d (words-right IsToken c (t ∷ d) words)))
 
 pub tree-numbers : (ts : List Token) (e : Shape) → tree_of ts ≡ Some e → GoodWords ts → HasNumbers e
 tree-numbers ts e h words = derived-numbers 1 ts e (tree-derives ts e h) words

@@ -35,11 +35,11 @@ use Rattle.spec_compile.proofs.ImageLaws.{image_of}
 use Rattle.spec_compile.proofs.TellingLaws.{second_none, tensed}
 use Rattle.mltl_simplify.proofs.Ending.{simple_tensed}
 use Rattle.obs_show.specs.Text.{text}
-use Rattle.show_trips.specs.Written.{IsName}
+use Rattle.show_trips.specs.Written.{IsName, IsToken}
 use Rattle.show_trips.specs.Said.{HasName}
 use Rattle.show_trips.specs.Named.{AreNamed, AreLabelled, HasOwnWords}
 use Rattle.show_trips.proofs.GoodTokens.{tokens_good}
-use Rattle.show_trips.proofs.GoodWords.{words-all}
+use Rattle.c2po_tree.proofs.Words.{words-all}
 use Rattle.show_trips.proofs.GoodItems.{AreNames, GoodBody, GoodItems, spec-names}
 use Rattle.show_trips.proofs.Naturals.{outputs_natural}
 use Rattle.show_trips.proofs.Constants.{image_counted, simple_counted}
@@ -61,7 +61,7 @@ items_good source h =
     let lexed : tokens_of source ≡ Ok (tokens_in source) = read_ok token_refusal (tokens_of source) (first_none (refusal_in token_refusal (tokens_of source)) _ h) in
     let others = second_none (refusal_in token_refusal (tokens_of source)) _ h in
     let parsed : spec_of (tokens_in source) ≡ Ok (items_in source) = read_ok tree_refusal (spec_of (tokens_in source)) (first_none (refusal_in tree_refusal (spec_of (tokens_in source))) _ others) in
-    spec-names (tokens_in source) (items_in source) parsed (words-all (tokens_in source) (tokens_good source (tokens_in source) lexed))
+    spec-names (tokens_in source) (items_in source) parsed (words-all IsToken (tokens_in source) (tokens_good source (tokens_in source) lexed))
 
 -- ---- names of signals
 

@@ -1,6 +1,6 @@
 -- A program that has the lists of a specification is the image of its own text.
 
-use Rattle.std.proofs.Common.{◌≡◌, ◌∙◌, ℕ, List, [], map, All, None, refl, ap, sym, subst}
+use Rattle.std.proofs.Common.{◌≡◌, ◌∙◌, List, [], map, All, None, refl, ap, sym, subst}
 use Rattle.std.specs.Result.{result_unwrap_or}
 use Rattle.mltl_base.specs.declared.program.Columns.{Columns}
 use Rattle.mltl_base.specs.declared.program.Program.{Program}

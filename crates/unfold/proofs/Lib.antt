@@ -7,3 +7,4 @@ pub mod Members
 pub mod Nodes
 pub mod Parts
 pub mod Placing
+pub mod ValueWalk
