@@ -31,10 +31,10 @@ SHORT_CASES = /^case .*\(long\)$$/ { long = 1 } !long; /^$$/ { long = 0 }
 
 # As many proofs side by side as there are processors.
 all:
-	tools/prove $(PROGRAMS)
+	dev/prove $(PROGRAMS)
 
 $(PROGRAMS):
-	tools/prove $@
+	dev/prove $@
 
 # Only what isn't there is built before an installation.
 $(BUILT):
@@ -50,7 +50,7 @@ test:
 	@echo 'Unproved. The gate is "make check".'
 	@mkdir -p build
 	@(cd crates/worked_cases && awk '$(SHORT_CASES)' stdin | rt try --steps 1 --seconds 300) > build/cases.log 2>&1 & cases=$$!; \
-	    nice tools/test; tests=$$?; \
+	    nice dev/test; tests=$$?; \
 	    wait $$cases; played=$$?; \
 	    grep -v '^interpreter: ' build/cases.log; \
 	    [ $$tests -eq 0 ] && [ $$played -eq 0 ]
@@ -60,25 +60,25 @@ check:
 	rt ci
 	@mkdir -p build
 	cp $(wildcard crates/r2u2_c/out/libr2u2_c.a) $(foreach name,$(PROGRAMS),crates/$(name)/out/$(name)) build
-	tools/edges
+	dev/edges
 
 install: $(BUILT)
 	install -d $(INTO)/bin $(INTO)/share/man/man1 $(INTO)/share/man/man5 $(SHARED)/tools/lib $(SHARED)/vscode $(BASH) $(ZSH) $(FISH) $(VIM)/syntax $(VIM)/ftdetect
 	install -m 755 $(BUILT) $(INTO)/bin
 	install -m 755 $(TOOLS:%=tools/%) $(SHARED)/tools
-	install -m 644 tools/lib/*.* $(SHARED)/tools/lib
+	cd tools && find lib -name '*.*' -type f ! -name '*.pyc' -exec install -D -m 644 '{}' '$(abspath $(SHARED))/tools/{}' ';'
 	for tool in $(TOOLS); do ln -sf ../share/r2u2/tools/$$tool $(INTO)/bin/r2u2-$$tool; done
 	install -m 644 $(NAMES:%=docs/man/%.1) $(INTO)/share/man/man1
 	install -m 644 docs/man/c2po.5 $(INTO)/share/man/man5
-	install -m 644 desk/completions/r2u2.bash $(BASH)/r2u2
+	install -m 644 completions/r2u2.bash $(BASH)/r2u2
 	for name in $(filter-out r2u2,$(NAMES)); do ln -sf r2u2 $(BASH)/$$name; done
-	install -m 644 desk/completions/_r2u2 $(ZSH)
-	install -m 644 desk/completions/r2u2.fish $(FISH)
+	install -m 644 completions/_r2u2 $(ZSH)
+	install -m 644 completions/r2u2.fish $(FISH)
 	for name in $(filter-out r2u2,$(NAMES)); do ln -sf r2u2.fish $(FISH)/$$name.fish; done
-	install -m 644 desk/vim/syntax/c2po.vim $(VIM)/syntax
-	install -m 644 desk/vim/ftdetect/c2po.vim $(VIM)/ftdetect
-	cp -R desk/vscode/. $(SHARED)/vscode
-	sed "s/\"version\": \"0.0.0\"/\"version\": \"$(VERSION)\"/" desk/vscode/package.json > $(SHARED)/vscode/package.json
+	install -m 644 editors/vim/syntax/c2po.vim $(VIM)/syntax
+	install -m 644 editors/vim/ftdetect/c2po.vim $(VIM)/ftdetect
+	cp -R editors/vscode/. $(SHARED)/vscode
+	sed "s/\"version\": \"0.0.0\"/\"version\": \"$(VERSION)\"/" editors/vscode/package.json > $(SHARED)/vscode/package.json
 
 uninstall:
 	rm -f $(NAMES:%=$(INTO)/bin/%) $(NAMES:%=$(INTO)/share/man/man1/%.1) $(INTO)/share/man/man5/c2po.5 $(NAMES:%=$(BASH)/%) $(NAMES:%=$(FISH)/%.fish)

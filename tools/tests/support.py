@@ -10,6 +10,7 @@ from pathlib import Path
 
 ROOT = Path(__file__).resolve().parent.parent.parent
 TOOLS = ROOT / "tools"
+DEV = ROOT / "dev"
 sys.path.insert(0, str(TOOLS / "lib"))
 
 
@@ -22,9 +23,10 @@ def program(name):
 
 
 def tool(name, *words, give="", env=None):
-    """A run of a tool: its status, its output and its error output, as texts."""
+    """A run of a tool, or of a script of dev/: its status, its output and its error output, as texts."""
+    path = next(folder / name for folder in (TOOLS, DEV) if (folder / name).is_file())
     ran = subprocess.run(
-        [sys.executable, str(TOOLS / name), *map(str, words)],
+        [sys.executable, str(path), *map(str, words)],
         input=give,
         stdout=subprocess.PIPE,
         stderr=subprocess.PIPE,

@@ -1,4 +1,4 @@
-"""tools/figures: that each measurement it names stands in its page, with a date and a command."""
+"""dev/figures: that each measurement it names stands in its page, with a date and a command."""
 
 import re
 import subprocess
@@ -10,7 +10,7 @@ from support import ROOT
 
 class Figures(unittest.TestCase):
     def told(self, *words):
-        ran = subprocess.run([sys.executable, str(ROOT / "tools/figures"), *words], capture_output=True, encoding="utf-8")
+        ran = subprocess.run([sys.executable, str(ROOT / "dev/figures"), *words], capture_output=True, encoding="utf-8")
         self.assertEqual(ran.stderr, "")
         return ran.returncode, ran.stdout.splitlines()
 

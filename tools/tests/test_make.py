@@ -11,14 +11,14 @@ RT = '#!/bin/sh\necho "rt $* in ${PWD##*/}"\nexit "${RT_STATUS:-0}"\n'
 class Goals(Case):
     def setUp(self):
         super().setUp()
-        for folder in ("bin", "examples", "tools", *(f"crates/{name}/out" for name in ("r2u2", "c2po", "r2u2_c", "worked_cases"))):
+        for folder in ("bin", "examples", "tools", "dev", *(f"crates/{name}/out" for name in ("r2u2", "c2po", "r2u2_c", "worked_cases"))):
             (self.folder / folder).mkdir(parents=True)
         for name in ("Makefile", "VERSION"):
             shutil.copy(ROOT / name, self.folder)
         self.program("bin/rt", RT)
-        self.program("tools/test", "#!/bin/sh\necho 3 passed, 0 failed\n")
-        self.program("tools/edges", "#!/bin/sh\necho 2 passed, 0 failed\n")
-        self.program("tools/prove", "#!/bin/sh\necho prove $*\n")
+        self.program("dev/test", "#!/bin/sh\necho 3 passed, 0 failed\n")
+        self.program("dev/edges", "#!/bin/sh\necho 2 passed, 0 failed\n")
+        self.program("dev/prove", "#!/bin/sh\necho prove $*\n")
         self.file("crates/worked_cases/stdin", "")
         for name in ("grant.c2po", "grant.csv"):
             self.file(f"examples/{name}", "")
@@ -55,7 +55,7 @@ class Goals(Case):
         self.assertNotEqual(self.make("test", RT_STATUS=1)[0], 0)
 
     def test_test_fails_where_a_tool_does(self):
-        self.program("tools/test", "#!/bin/sh\necho 2 passed, 1 failed\nexit 1\n")
+        self.program("dev/test", "#!/bin/sh\necho 2 passed, 1 failed\nexit 1\n")
         self.assertNotEqual(self.make("test")[0], 0)
 
     def test_test_leaves_long_cases_out(self):

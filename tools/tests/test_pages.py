@@ -1,4 +1,4 @@
-"""tools/pages: that it finds what pages leave out, and what is no case."""
+"""dev/pages: that it finds what pages leave out, and what is no case."""
 
 import shutil
 import subprocess
@@ -8,7 +8,7 @@ import unittest
 from pathlib import Path
 
 ROOT = Path(__file__).resolve().parent.parent.parent
-PARTS = [".ci", "bench", "crates", "desk", "docs", "embed", "examples", "include", "tools"]
+PARTS = [".ci", "bench", "completions", "crates", "dev", "docs", "editors", "embed", "examples", "include", "tools"]
 
 # A file, what stands in it, what is put in its place, and what is to be told then.
 CHANGES = [
@@ -48,12 +48,12 @@ class Pages(unittest.TestCase):
         cls.folder.cleanup()
 
     def test_help(self):
-        ran = subprocess.run([sys.executable, str(ROOT / "tools/pages"), "--help"], capture_output=True, encoding="utf-8")
+        ran = subprocess.run([sys.executable, str(ROOT / "dev/pages"), "--help"], capture_output=True, encoding="utf-8")
         self.assertEqual((ran.returncode, ran.stderr), (0, ""))
-        self.assertIn("usage: tools/pages\n", ran.stdout)
+        self.assertIn("usage: dev/pages\n", ran.stdout)
 
     def told(self):
-        ran = subprocess.run([sys.executable, str(self.top / "tools/pages")], capture_output=True, encoding="utf-8")
+        ran = subprocess.run([sys.executable, str(self.top / "dev/pages")], capture_output=True, encoding="utf-8")
         self.assertEqual(ran.stderr, "")
         return ran.returncode, ran.stdout
 

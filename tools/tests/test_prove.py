@@ -1,4 +1,4 @@
-"""tools/prove and tools/edits: what they hand the gate and what they leave, with an rt that only says what it was given."""
+"""dev/prove and dev/mutants: what they hand the gate and what they leave, with an rt that only says what it was given."""
 
 import os
 import shutil
@@ -7,7 +7,7 @@ from support import ROOT, Case, shell
 
 # Says what it finds, "proves" two crates and builds each program, or fails.
 RT = r"""#!/bin/bash
-echo "$*: $(ls crates | xargs)" && cat crates.txt HANDLES && find . -name must-fail -o -name edits
+echo "$*: $(ls crates | xargs)" && cat crates.txt HANDLES && find . -name must-fail -o -name mutants
 [ -n "$RT_STATUS" ] && echo "error: no proof of low" && exit "$RT_STATUS"
 for name in low top; do echo "rt: $name proved"; done
 for main in crates/*/src/main.rt; do out=${main%src/main.rt}out; mkdir -p "$out" && echo built > "$out/$(basename "${out%/out}")"; done
@@ -18,7 +18,7 @@ CRATES = "# all\nlow: csv\nside: low\nc_side staticlib: low\ntop: low\nother: si
 class Proofs(Case):
     def setUp(self):
         super().setUp()
-        for folder in ("bin", "tools", "crates/low/must-fail", "crates/low/edits", "crates/low/out"):
+        for folder in ("bin", "dev", "crates/low/must-fail", "crates/low/mutants", "crates/low/out"):
             (self.folder / folder).mkdir(parents=True)
         for name in ("low", "side", "c_side", "top", "other"):
             (self.folder / f"crates/{name}/src").mkdir(parents=True)
@@ -26,11 +26,11 @@ class Proofs(Case):
         self.file("crates.txt", CRATES)
         self.file("HANDLES", "Handles allowed: none.\n")
         self.file("bin/rt", RT).chmod(0o755)
-        shutil.copy(ROOT / "tools/prove", self.folder / "tools")
+        shutil.copy(ROOT / "dev/prove", self.folder / "dev")
 
     def prove(self, words, **names):
         path = f"{self.folder}/bin:{os.environ['PATH']}"
-        return shell(f'"$FOLDER/tools/prove" {words}', FOLDER=self.folder, PATH=path, **names)
+        return shell(f'"$FOLDER/dev/prove" {words}', FOLDER=self.folder, PATH=path, **names)
 
     def log(self):
         return (self.folder / "build/prove.log").read_text().splitlines()
@@ -62,36 +62,38 @@ class Proofs(Case):
     def test_no_kit(self):
         tools = f"{os.path.dirname(shutil.which('python3'))}:/usr/bin:/bin"
         (self.folder / "bin/rt").unlink()
-        status, _, errors = shell('"$FOLDER/tools/prove" top', FOLDER=self.folder, PATH=tools)
+        status, _, errors = shell('"$FOLDER/dev/prove" top', FOLDER=self.folder, PATH=tools)
         self.assertEqual((status, errors), (1, "prove: rt, the command of Rattle's kit, is not on the path\n"))
 
 
-class Edits(Case):
-    """tools/edits, with an rt that only says how it was called."""
+class Mutants(Case):
+    """dev/mutants, with an rt that only says how it was called."""
 
     def setUp(self):
         super().setUp()
-        for folder in ("bin", "tools", "crates/low/edits", "crates/top"):
+        for folder in ("bin", "dev", "crates/low/mutants", "crates/top"):
             (self.folder / folder).mkdir(parents=True)
-        self.file("crates/low/edits/wrong.edit", "")
+        self.file("crates/low/mutants/wrong.edit", "")
+        self.file("crates.txt", "low:\n")
+        self.file("HANDLES", "Handles allowed: none.\n")
         self.file("bin/rt", '#!/bin/sh\necho "rt $*: $(ls crates/low/must-fail)"\n').chmod(0o755)
-        shutil.copy(ROOT / "tools/edits", self.folder / "tools")
+        shutil.copy(ROOT / "dev/mutants", self.folder / "dev")
 
-    def edits(self, words):
+    def mutants(self, words):
         path = f"{self.folder}/bin:{os.environ['PATH']}"
-        return shell(f'"$FOLDER/tools/edits" {words}', FOLDER=self.folder, PATH=path)
+        return shell(f'"$FOLDER/dev/mutants" {words}', FOLDER=self.folder, PATH=path)
 
-    def test_edits_are_lent_and_given_back(self):
+    def test_a_copy_is_tried(self):
         for words in ("", "low"):
-            self.assertEqual(self.edits(words), (0, "rt must-fail low: wrong.edit\n", ""))
+            self.assertEqual(self.mutants(words), (0, "rt must-fail low: wrong.edit\n", ""))
             self.assertFalse((self.folder / "crates/low/must-fail").exists())
 
-    def test_a_crate_without_edits(self):
+    def test_a_crate_without_mutants(self):
         for name in ("top", "nothing", "--all"):
-            self.assertEqual(self.edits(name), (2, "", f"tools/edits: no crate {name} has edits\n"))
-            self.assertEqual(self.edits(f"low {name}")[:2], (2, ""))
+            self.assertEqual(self.mutants(name), (2, "", f"dev/mutants: crate {name} has no mutants\n"))
+            self.assertEqual(self.mutants(f"low {name}")[:2], (2, ""))
 
     def test_help(self):
-        status, out, errors = self.edits("--help")
+        status, out, errors = self.mutants("--help")
         self.assertEqual((status, errors), (0, ""))
-        self.assertIn("tools/edits NAME..", out)
+        self.assertIn("dev/mutants NAME..", out)

@@ -2,7 +2,7 @@
 
 import shutil
 
-from support import TOOLS, Case, shell
+from support import DEV, Case, shell
 
 MIXED = """
 import unittest
@@ -18,11 +18,12 @@ class Mixed(unittest.TestCase):
 
 class Runner(Case):
     def run_over(self, words="", **files):
-        (self.folder / "tests").mkdir()
-        shutil.copy(TOOLS / "test", self.folder / "test")
+        for folder in ("dev", "tools/tests"):
+            (self.folder / folder).mkdir(parents=True)
+        shutil.copy(DEV / "test", self.folder / "dev/test")
         for name, text in files.items():
-            self.file(f"tests/test_{name}.py", text)
-        return shell(f'"$HERE/test" {words}', HERE=self.folder)
+            self.file(f"tools/tests/test_{name}.py", text)
+        return shell(f'"$HERE/dev/test" {words}', HERE=self.folder)
 
     def test_counts(self):
         status, out, _ = self.run_over(mixed=MIXED)

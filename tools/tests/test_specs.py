@@ -2,8 +2,8 @@
 
 from support import ROOT, Case, program, shell
 
-import specs
-from tell import Trouble
+from r2u2tools.common import specs
+from r2u2tools.common.cli import Trouble
 
 TEXT = """-- a comment; with a sign
 STRUCT Pair: { a: bool; b: int; };

@@ -10,9 +10,9 @@ import xml.etree.ElementTree as ElementTree
 
 from support import ROOT, TOOLS, Case, program, shell, spent, tool
 
-import timeline_html
-from timeline_model import Model, take_lines, take_trace
-from traces import Runs
+from r2u2tools.timeline import html_page
+from r2u2tools.timeline.model import Model, take_lines, take_trace
+from r2u2tools.common.traces import Runs
 
 TICKS = """tick:0,T
 granted:0,T
@@ -187,7 +187,7 @@ class Packing(Case):
         runs = Runs()
         for last, value in ((3, "T"), (500, "F"), (70000, "T")):
             runs.add(last, value)
-        kept = timeline_html.packed(runs, 2, 60000)
+        kept = html_page.packed(runs, 2, 60000)
         self.assertEqual(kept["values"], ["T", "F"])
         numbers, value, weight = [], 0, 1
         for part in __import__("base64").b64decode(kept["runs"]):

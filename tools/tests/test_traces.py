@@ -4,9 +4,9 @@ import time
 
 from support import Case
 
-import traces
-from specs import Signal
-from tell import Trouble
+from r2u2tools.common import traces
+from r2u2tools.common.specs import Signal
+from r2u2tools.common.cli import Trouble
 
 
 def runs(trace):

@@ -10,8 +10,8 @@ import xml.etree.ElementTree as ElementTree
 
 from support import ROOT, TOOLS, Case, program, shell, spent, tool
 
-import specs
-from left_sides import sides_of, watched
+from r2u2tools.common import specs
+from r2u2tools.verdicts.left_sides import sides_of, watched
 
 GRANTED = "granted:0,T\ngranted:1,T\ngranted:2,F\ngranted:3,T\ngranted:4,T\ngranted:5,T\n"
 RUNS = "granted:1,T\ngranted:2,F\ngranted:5,T\n"

@@ -7,10 +7,10 @@ from concurrent.futures import ThreadPoolExecutor
 
 import random_specs
 from support import ROOT, Case, program, tool
-from compiled import compiled
-from reasons import reasons_for
-from specs import read_spec
-from traces import read_trace
+from r2u2tools.common.compiled import compiled
+from r2u2tools.why.reasons import reasons_for
+from r2u2tools.common.specs import read_spec
+from r2u2tools.common.traces import read_trace
 
 SPECS, TIMES, CHANGES = 200, 2, 2
 AHEAD = 25

@@ -1,0 +1,45 @@
+"""The library, by ctypes: how many bytes a monitor of a program holds."""
+
+import ctypes
+import os
+
+from r2u2tools.common.programs import BUILT
+from r2u2tools.common.cli import Trouble
+
+DONE, NO_MEMORY = 0, 4
+# The repository, or the folder share/r2u2 of what `make install` put under a PREFIX.
+HOME = BUILT.parent
+INSTALLED = not (HOME / "Makefile").is_file()
+OWN = HOME.parent.parent / "lib/r2u2/libr2u2.so" if INSTALLED else BUILT / "libr2u2.so"
+MADE_BY = "`make install` puts it there" if INSTALLED else "`make python` builds it"
+
+
+class _Fault(ctypes.Structure):
+    _fields_ = [("kind", ctypes.c_uint32), ("part", ctypes.c_uint32), ("place", ctypes.c_uint64),
+                ("text", ctypes.c_char * 96)]
+
+
+def path():
+    """The file that R2U2_LIBRARY names, else the one in build/, or of installed tools the one that was installed with them."""
+    return os.environ.get("R2U2_LIBRARY") or str(OWN)
+
+
+def why_none():
+    """Why no library can be asked, in words; nothing where one is there."""
+    return "" if os.path.isfile(path()) else f"no {path()}: {MADE_BY}, and R2U2_LIBRARY may name another"
+
+
+def bytes_of(program):
+    """How many bytes a monitor of this program holds while it is open."""
+    try:
+        call = ctypes.CDLL(path()).r2u2_bytes
+    except (OSError, AttributeError) as fault:
+        raise Trouble(f"cannot use {path()}: {fault}") from None
+    number = ctypes.c_uint64
+    call.argtypes = [ctypes.c_char_p, ctypes.c_size_t, ctypes.POINTER(number), ctypes.POINTER(_Fault)]
+    call.restype = ctypes.c_uint32
+    found, fault = number(), _Fault()
+    code = call(program, len(program), found, fault)
+    if code != DONE:
+        raise Trouble("out of memory" if code == NO_MEMORY else fault.text.decode("ascii", "replace"))
+    return found.value

@@ -1,0 +1,43 @@
+"""Where r2u2 and c2po are, and how they are run."""
+
+import os
+import shutil
+import subprocess
+from pathlib import Path
+
+from r2u2tools.common.cli import Trouble
+
+BUILT = Path(__file__).resolve().parents[4] / "build"
+
+
+def program(name):
+    """The path of r2u2 or c2po: the variable R2U2 or C2PO, else build/, else one on the path."""
+    asked = os.environ.get(name.upper())
+    path = asked or next((it for it in (str(BUILT / name), shutil.which(name)) if it and os.access(it, os.X_OK)), None)
+    if not path or not os.access(path, os.X_OK):
+        where = asked or f"{name} in build/ or on the path"
+        raise Trouble(f"no program {where}: `make` builds it, and {name.upper()} may name another")
+    return path
+
+
+def ran(words, **more):
+    """A run to its end: its status, its output as bytes, and its message as one line."""
+    try:
+        done = subprocess.run(words, stdout=subprocess.PIPE, stderr=subprocess.PIPE, **more)
+    except OSError as fault:
+        raise Trouble(f"cannot run {words[0]}: {fault.strerror}") from None
+    return done.returncode, done.stdout, message(done.stderr)
+
+
+def message(raw):
+    """The last line of what a program wrote on its error output."""
+    lines = raw.decode("utf-8", "replace").strip().splitlines()
+    return lines[-1] if lines else ""
+
+
+def written(words, doing):
+    """The output of a run that has to succeed."""
+    status, out, text = ran(words)
+    if status:
+        raise Trouble(f"{doing}: {text or f'status {status}'}")
+    return out

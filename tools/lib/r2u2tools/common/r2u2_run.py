@@ -1,0 +1,103 @@
+"""A run of r2u2, or of any command that prints verdict lines: its words, and how it ends."""
+
+import signal
+import subprocess
+import sys
+import threading
+from pathlib import Path
+
+from r2u2tools.common import programs
+from r2u2tools.common.specs import read_spec
+from r2u2tools.common.cli import Trouble
+
+FLAGS = ("--source", "--runs", "--timed")
+KEPT = 4096
+
+
+class Words:
+    """The words of r2u2: its options, its specification or program, and its trace."""
+
+    def __init__(self, words):
+        self.flags, self.file, self.trace, self.source, self.demo = [], None, "-", False, False
+        rest, names = list(words), []
+        while rest:
+            word = rest.pop(0)
+            self.source |= word == "--source"
+            self.demo |= word.startswith("--demo")
+            if word in FLAGS:
+                self.flags.append(word)
+            elif word == "--mission-time" and rest:
+                self.flags += [word, rest.pop(0)]
+            elif word.startswith("--"):
+                self.flags.append(word)
+            else:
+                names.append(word)
+        self.file, self.trace = (names + [None, None])[0], (names + ["-", "-"])[1]
+
+    def with_file(self, file, source):
+        """The words of the same run with another specification or program."""
+        flags = [flag for flag in self.flags if flag != "--source"] + ["--source"] * source
+        return [*flags, str(file), self.trace]
+
+
+class Command:
+    """A command that prints verdict lines."""
+
+    def __init__(self, words, quiet=False):
+        self.quiet = quiet
+        self.r2u2 = Words(words[1:]) if Path(words[0]).name == "r2u2" else None
+        if self.r2u2 and self.r2u2.demo:
+            raise Trouble("--demo prints no verdict lines: it counts by itself")
+        self.words = [programs.program("r2u2") if words[0] == "r2u2" else words[0], *words[1:]]
+
+    def log(self):
+        """What the log is called: its trace."""
+        return self.r2u2.trace if self.r2u2 and self.r2u2.trace != "-" else None
+
+    def names(self):
+        """The outputs of what is run, where that can be read; r2u2 itself says what is wrong with it."""
+        if not self.r2u2 or self.r2u2.file in (None, "-"):
+            return []
+        try:
+            return [output.name for output in read_spec(self.r2u2.file).outputs]
+        except Trouble:
+            return []
+
+    def run(self, read, result):
+        """Runs the command, gives its output to `read`, and keeps its code and its message where it fails."""
+        try:
+            child = subprocess.Popen(self.words, stdout=subprocess.PIPE, stderr=subprocess.PIPE)
+        except OSError as fault:
+            raise Trouble(f"cannot run {self.words[0]}: {fault.strerror}") from None
+        tail = bytearray()
+        passing = threading.Thread(target=passed_on, args=(child.stderr, tail, self.quiet), daemon=True)
+        passing.start()
+        try:
+            read(child.stdout)
+        except BaseException:
+            child.terminate()
+            raise
+        code = child.wait()
+        passing.join()
+        if code:
+            text = programs.message(bytes(tail)) or killed(code)
+            result.failed.append({"log": result.log, "code": 128 - code if code < 0 else code, "message": text})
+
+
+def passed_on(errors, tail, quiet):
+    """What a command says on its error output goes on to ours, unless it is to be quiet, and the end of it is kept."""
+    while block := errors.read1(KEPT):
+        if not quiet:
+            sys.stderr.buffer.write(block)
+            sys.stderr.flush()
+        tail += block
+        del tail[:-KEPT]
+
+
+def killed(code):
+    if code >= 0:
+        return ""
+    try:
+        return f"killed by {signal.Signals(-code).name}"
+    except ValueError:
+        return f"killed by signal {-code}"

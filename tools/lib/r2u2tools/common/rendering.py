@@ -1,0 +1,265 @@
+"""A compiled program as text, as `c2po --show` writes it: its definitions, and how a formula is spelled.
+
+The text has the operators of the core alone. A formula is spelled with those
+of the language where they can be found again: `!(true U[0,3] !p)` as `G[0,3] p`.
+"""
+
+import re
+from dataclasses import dataclass, field
+from itertools import product
+
+from r2u2tools.common.cli import Trouble
+
+SIGNAL = re.compile(r"INPUT (\w+): (bool|int);")
+OUTPUT = re.compile(r"(FTSPEC|PTSPEC) (?:(\w+): )?(-?\w+)(?: => (-?\w+))?;")
+DEFINED = re.compile(r"DEFINE (\w+) := (.*);")
+UNARY = re.compile(r"([-!])(-?\w+)")
+BINARY = re.compile(r"(-?\w+) (\+|-|\*|/|%|==|<=?|&&|[US])(?:\[(\d+),(\d+)\])? (-?\w+)")
+
+# How tightly an operator binds, as the language has it.
+LEVELS = {"<->": 1, "->": 2, "||": 3, "&&": 4, "U": 5, "R": 5, "S": 5, "+": 8, "-": 8, "*": 9, "/": 9, "%": 9}
+LEVELS |= dict.fromkeys("!FGOH", 6) | dict.fromkeys(("==", "!=", "<", "<=", ">", ">="), 7)
+COMPARED, NEGATIVE, LEAF = 7, 10, 11
+# The levels of temporal operators and of denial.
+TEMPORAL = (5, 6)
+ATOMS = ("==", "<", "<=")
+DENIED = {"==": "!=", "<": ">=", "<=": ">"}
+TURNED = {"<": ">", "<=": ">=", ">": "<", ">=": "<="}
+DEEPEST = 60
+
+
+@dataclass(frozen=True)
+class Node:
+    """A definition: its operator and operands, and the interval of U and S."""
+
+    op: str
+    left: str
+    right: str = None
+    low: int = 0
+    high: int = 0
+
+    def operands(self):
+        return (self.left,) if self.right is None else (self.left, self.right)
+
+
+@dataclass(frozen=True)
+class Told:
+    """An output: its name, its section, one reference or the two of a contract, and how the specification writes them."""
+
+    name: str
+    section: str
+    left: str
+    right: str = None
+    texts: dict = field(default_factory=dict, compare=False)
+
+    def operands(self):
+        return (self.left,) if self.right is None else (self.left, self.right)
+
+
+@dataclass
+class Form:
+    """An operator of the language, what it stands between, each as it is or denied, and its interval."""
+
+    op: str
+    parts: list
+    window: str = ""
+
+
+@dataclass
+class Shown:
+    signals: dict = field(default_factory=dict)
+    nodes: dict = field(default_factory=dict)
+    outputs: list = field(default_factory=list)
+    # The names that the specification gives to formulas, by what they are without denials and whether they are denied.
+    called: dict = field(default_factory=dict)
+
+    def output(self, name):
+        for told in self.outputs:
+            if told.name == name:
+                return told
+        names = [told.name for told in self.outputs]
+        known = f"there {'is' if len(names) == 1 else 'are'} {', '.join(names[:20])}" if names else "there is none"
+        raise Trouble(f"no output {name}: {known}")
+
+    def op(self, ref):
+        return self.nodes[ref].op if ref in self.nodes else None
+
+    def below(self, *refs):
+        """All that formulas read, with themselves: signals, numbers, true and definitions."""
+        found, left = set(), list(refs)
+        while left:
+            ref = left.pop()
+            if ref not in found:
+                found.add(ref)
+                left += self.nodes[ref].operands() if ref in self.nodes else ()
+        return found
+
+    def is_truth(self, ref):
+        """Whether a reference is a formula, and not a whole number."""
+        if ref in self.nodes:
+            return self.nodes[ref].op in (*ATOMS, "!", "&&", "U", "S")
+        return ref == "true" or self.signals.get(ref) == "bool"
+
+    def is_leaf(self, ref):
+        """Whether a formula speaks of one row by itself: a signal, a comparison, true."""
+        return ref not in self.nodes or self.nodes[ref].op in ATOMS
+
+    def equals_of(self, other):
+        """Which definitions equal those of another text; both engines may have one."""
+        refs, equal = {}, {}
+        for ref, node in self.nodes.items():
+            refs.setdefault(node, []).append(ref)
+        for ref, node in other.nodes.items():
+            sides = [equal.get(operand, [None]) if operand in other.nodes else [operand] for operand in node.operands()]
+            looked_for = (Node(node.op, *pair, *[None] * (2 - len(pair)), node.low, node.high) for pair in product(*sides))
+            if found := [it for node in looked_for for it in refs.get(node, ())]:
+                equal[ref] = found
+        return equal
+
+    def signals_of(self, ref):
+        below = self.below(ref)
+        return [name for name in self.signals if name in below]
+
+    def is_negative(self, ref):
+        """Whether a formula is spelled shorter when it is denied: a denial without a name, or several joined by `&&`."""
+        left = [ref]
+        while left:
+            ref = left.pop()
+            if self.name(ref) or self.op(ref) not in ("!", "&&"):
+                return False
+            left += self.nodes[ref].operands() if self.op(ref) == "&&" else ()
+        return True
+
+    def bare(self, ref, denied=False):
+        """A formula without the denials around it, and whether it is then denied."""
+        while (inner := self.within(ref)) != ref:
+            ref, denied = inner, denied != (self.op(ref) == "!")
+        return ref, denied
+
+    def within(self, ref):
+        """What a formula denies, or joins with true; else itself."""
+        node = self.nodes.get(ref)
+        if node and node.op == "&&" and "true" in node.operands():
+            return node.left if node.right == "true" else node.right
+        return node.left if node and node.op == "!" else ref
+
+    def name(self, ref, denied=False):
+        return self.called.get(self.bare(ref, denied))
+
+    def form(self, ref, denied=False):
+        """A formula, or its denial, by its outermost operator; a leaf has no parts."""
+        ref, denied = self.bare(ref, denied)
+        if (ref, denied) in self.called:
+            return Form(self.called[ref, denied], [])
+        if denied and (ref in self.signals or (ref, False) in self.called):
+            return Form("!", [(ref, False)])
+        node = self.nodes.get(ref)
+        if node is None:
+            return Form("false" if denied else ref, [])
+        if node.op in ATOMS:
+            return self.compared(node, DENIED[node.op] if denied else node.op)
+        return self.denied(ref, node) if denied else self.plain(node)
+
+    def compared(self, node, op):
+        """A comparison, of an order with a number on its right side."""
+        parts = [(node.left, False), (node.right, False)]
+        return Form(TURNED[op], parts[::-1]) if op in TURNED and self.is_number(node.left) else Form(op, parts)
+
+    def is_number(self, ref):
+        node = self.nodes.get(ref)
+        return ref.lstrip("-").isdigit() or bool(node and node.op == "-" and not node.right and node.left.isdigit())
+
+    def plain(self, node):
+        window = f"[{node.low},{node.high}]" if node.op in "US" else ""
+        if window and node.left == "true":
+            return Form({"U": "F", "S": "O"}[node.op], [(node.right, False)], window)
+        if node.op == "&&" and (pair := self.equals(node)):
+            return Form("<->", pair)
+        return Form(node.op, [(part, False) for part in node.operands()], window)
+
+    def denied(self, ref, node):
+        window = f"[{node.low},{node.high}]" if node.op in "US" else ""
+        if window and node.left == "true":
+            return Form({"U": "G", "S": "H"}[node.op], [(node.right, True)], window)
+        negative = [self.is_negative(part) for part in node.operands()]
+        if node.op == "U" and all(negative):
+            return Form("R", [(node.left, True), (node.right, True)], window)
+        if node.op == "&&" and not self.equals(node):
+            if negative[0]:
+                return Form("||", [(node.left, True), (node.right, True)])
+            if self.form(node.right, True).op != "!":
+                return Form("->", [(node.left, False), (node.right, True)])
+        return Form("!", [(ref, False)])
+
+    def equals(self, node):
+        """The two sides of an equivalence, where a conjunction is one: !(x && !y) && !(y && !x)."""
+        if not all(self.op(part) == "!" for part in node.operands()):
+            return None
+        one, other = (self.nodes.get(self.nodes[part].left) for part in node.operands())
+        if not (one and other and one.op == other.op == "&&"):
+            return None
+        if self.are_opposite(other.left, one.right) and self.are_opposite(other.right, one.left):
+            return [(one.left, False), (one.right, True)]
+        return None
+
+    def are_opposite(self, one, other):
+        return self.nodes.get(one) == Node("!", other) or self.nodes.get(other) == Node("!", one)
+
+    def text(self, ref, denied=False, level=1, depth=0):
+        """A formula, or its denial, in the operators of the language; what lies too deep is three dots."""
+        form = self.form(ref, denied)
+        if not form.parts:
+            return form.op
+        if depth > DEEPEST:
+            return "..."
+        mine = NEGATIVE if form.op == "-" and len(form.parts) == 1 else LEVELS[form.op]
+        if len(form.parts) == 1:
+            text = form.op + form.window + (" " if form.window else "") + self.inner(form.parts[0], mine, mine, depth)
+        else:
+            sides = (mine + 1, mine) if form.op == "->" else (mine, mine + 1)
+            left, right = (self.inner(part, mine, side, depth) for part, side in zip(form.parts, sides))
+            text = f"{left} {form.op}{form.window} {right}"
+        return f"({text})" if mine < level else text
+
+    def uncalled(self, ref):
+        """A formula by its own operators, also where it has a name."""
+        bare = self.bare(ref)
+        name = self.called.pop(bare, None)
+        text = self.text(ref)
+        if name:
+            self.called[bare] = name
+        return text
+
+    def inner(self, part, mine, level, depth):
+        """A part of a formula; a comparison below a temporal operator or a denial has brackets, for the eye."""
+        compared = LEVELS.get(self.form(*part).op) == COMPARED
+        return self.text(*part, level if mine not in TEMPORAL or not compared else LEAF, depth + 1)
+
+
+def shortened(text, room=72):
+    return text if len(text) <= room else text[: room - 3] + "..."
+
+
+def node_of(form):
+    if found := UNARY.fullmatch(form):
+        return Node(*found.groups())
+    if found := BINARY.fullmatch(form):
+        left, op, low, high, right = found.groups()
+        return Node(op, left, right, int(low or 0), int(high or 0))
+    raise Trouble(f"cannot read what c2po --show wrote: {form}")
+
+
+def shown(text):
+    """What `c2po --show` wrote."""
+    found = Shown()
+    for line in text.splitlines():
+        if told := DEFINED.fullmatch(line):
+            found.nodes[told[1]] = node_of(told[2])
+        elif told := SIGNAL.fullmatch(line):
+            found.signals[told[1]] = told[2]
+        elif told := OUTPUT.fullmatch(line):
+            section, name, left, right = told.groups()
+            found.outputs.append(Told(name or str(len(found.outputs)), section, left, right))
+        else:
+            raise Trouble(f"cannot read what c2po --show wrote: {line}")
+    return found

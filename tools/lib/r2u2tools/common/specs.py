@@ -1,0 +1,166 @@
+"""What the tools have to know of a specification or of a compiled program: its signals and its outputs.
+
+c2po alone says what is a specification. Here its text is cut into items, so
+that names can be found; a text that c2po refuses may pass.
+"""
+
+import re
+import struct
+from dataclasses import dataclass, field
+
+from r2u2tools.common.cli import Trouble, told_os
+
+SECTIONS = ("STRUCT", "INPUT", "DEFINE", "FTSPEC", "PTSPEC")
+TOKEN = re.compile(
+    r"(?P<blank>[ \t\r\n]+|--[^\n]*)|(?P<word>[A-Za-z_]\w*)|(?P<number>[0-9]+)"
+    r"|(?P<sign><->|->|=>|:=|==|!=|<=|>=|&&|\|\||[(){}\[\],;:.!<>+\-*/%])",
+    re.ASCII,
+)
+MAGIC = b"MLTL"
+
+
+@dataclass
+class Token:
+    text: str
+    start: int
+    end: int
+    line: int
+
+
+@dataclass
+class Item:
+    """One item: its section, its name or None, and the tokens after the name and its sign."""
+
+    section: str
+    name: str
+    body: list
+    start: int = 0
+    end: int = 0
+
+
+@dataclass
+class Signal:
+    name: str
+    kind: str
+    column: int
+
+
+@dataclass
+class Output:
+    """A requirement: its name, its section, and in a specification the tokens of its formula or contract."""
+
+    name: str
+    section: str
+    body: list = field(default_factory=list)
+
+
+@dataclass
+class Spec:
+    """A specification, with its text, or a compiled program, with its bytes."""
+
+    path: str
+    signals: list
+    outputs: list
+    text: str = None
+    items: list = field(default_factory=list)
+    raw: bytes = b""
+
+    def is_program(self):
+        return self.text is None
+
+
+def tokens(text):
+    """The tokens of a text, without blanks and comments."""
+    found, place, line = [], 0, 1
+    while place < len(text):
+        part = TOKEN.match(text, place)
+        if not part:
+            raise Trouble(f"line {line}: bad character")
+        if part.lastgroup != "blank":
+            found.append(Token(part[0], part.start(), part.end(), line))
+        line += part[0].count("\n")
+        place = part.end()
+    return found
+
+
+def cut(found):
+    """The tokens cut into items: pairs of a section and the tokens before a `;` outside braces."""
+    section, item, depth = None, [], 0
+    for token in found:
+        if token.text in SECTIONS and not item:
+            section = token.text
+            continue
+        if section is None:
+            raise Trouble(f"line {token.line}: no section begins here")
+        depth += (token.text == "{") - (token.text == "}")
+        if token.text == ";" and depth <= 0:
+            yield section, item
+            item, depth = [], 0
+        else:
+            item.append(token)
+    if item:
+        raise Trouble(f"line {item[-1].line}: an item without its ;")
+
+
+def items(text):
+    """The items of a specification in their order."""
+    for section, item in cut(tokens(text)):
+        sign = {"DEFINE": ":=", "INPUT": None}.get(section, ":")
+        named = len(item) > 1 and item[1].text == sign
+        ends = (item[0].start, item[-1].end) if item else (0, 0)
+        yield Item(section, item[0].text if named else None, item[2:] if named else item, *ends)
+
+
+def declared(item):
+    """The names and the kind of one item of INPUT."""
+    names = [token.text for token in item.body]
+    if len(names) < 3 or names[-2] != ":":
+        raise Trouble("an item of INPUT isn't `names: type`")
+    return [(name, names[-1]) for name in names[:-2] if name != ","]
+
+
+def spec_of_text(path, text):
+    found = list(items(text))
+    pairs = [pair for item in found if item.section == "INPUT" for pair in declared(item)]
+    signals = [Signal(name, kind, column) for column, (name, kind) in enumerate(pairs)]
+    told = [item for item in found if item.section in ("FTSPEC", "PTSPEC")]
+    outputs = [Output(item.name or str(k), item.section, item.body) for k, item in enumerate(told)]
+    return Spec(path, signals, outputs, text, found)
+
+
+def spec_of_bytes(path, raw):
+    """The names that a compiled program stores."""
+    try:
+        version, _, _, bz, ft, pt, outs, _ = struct.unpack_from("<HHIIIIII", raw, 4)
+        count = struct.unpack_from("<I", raw, 32)[0] if version == 2 else 0
+        place = (40 if version == 2 else 32) + 24 * (bz + ft + pt)
+        told = [struct.unpack_from("<BB10xI8x", raw, place + 24 * k) for k in range(outs)]
+        place += 24 * outs
+        kept = [struct.unpack_from("<IBBH", raw, place + 8 * k) for k in range(count)]
+        place += 8 * count
+        outputs, signals = [], []
+        for _, engine, size in told:
+            name = raw[place : place + size].decode("ascii")
+            outputs.append(Output(name, "PTSPEC" if engine else "FTSPEC"))
+            place += size
+        for column, kind, size, _ in kept:
+            signals.append(Signal(raw[place : place + size].decode("ascii"), "bool" if kind else "int", column))
+            place += size
+    except (struct.error, UnicodeDecodeError):
+        raise Trouble(f"{path}: not a program that c2po wrote") from None
+    return Spec(path, signals, outputs, raw=raw)
+
+
+def read_spec(path):
+    """A specification or a compiled program, by what the file begins with."""
+    try:
+        with open(path, "rb") as file:
+            raw = file.read((1 << 24) + 1)
+    except OSError as fault:
+        raise told_os(path, "open", fault) from None
+    if raw.startswith(MAGIC):
+        return spec_of_bytes(path, raw)
+    try:
+        return spec_of_text(path, raw.decode("latin-1"))
+    except Trouble as trouble:
+        raise Trouble(f"{path}: {trouble}") from None

@@ -1,0 +1,37 @@
+"""A run of r2u2 for a timeline: over the same trace, with one output more that is told with every row."""
+
+import tempfile
+from types import SimpleNamespace
+
+from r2u2tools.common.rerun import as_text, fresh, made
+from r2u2tools.common.r2u2_run import Command
+from r2u2tools.common.cli import Trouble
+from r2u2tools.timeline.model import take_lines, take_trace
+
+
+def title_of(spec):
+    """The requirement, where a specification has one alone."""
+    told = [item for item in spec.items if item.section in ("FTSPEC", "PTSPEC")]
+    text = " ".join(spec.text[told[0].start : told[0].end].split()) if len(told) == 1 else ""
+    return text if len(text) <= 100 and "--" not in text else ""
+
+
+def run(words, model, every):
+    """Takes a run into the model; where r2u2 fails, the lines before that, and its message is returned."""
+    command = Command(words)
+    told = command.r2u2
+    if not told or told.file in (None, "-") or told.trace == "-":
+        raise Trouble("the command has to be r2u2 with a specification or program, and a trace, that are files")
+    result = SimpleNamespace(log=None, failed=[])
+    with tempfile.TemporaryDirectory() as folder:
+        spec, given = as_text(told.file, "timeline")
+        ticks = fresh(spec, "tick")
+        text = f"{spec.text}\nFTSPEC {ticks}: true;\n"
+        file = made(given, text, folder, "timeline")
+        for output in given.outputs:
+            model.lane(output.name)
+        model.title = title_of(given) if not given.is_program() else ""
+        take_trace(model, told.trace, given.signals, every)
+        again = Command([command.words[0], *told.with_file(file, not given.is_program())], quiet=True)
+        again.run(lambda lines: take_lines(model, lines, "", ticks), result)
+    return result.failed[0]["message"] if result.failed else None

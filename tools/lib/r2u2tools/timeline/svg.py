@@ -1,0 +1,330 @@
+"""The timeline as one picture, an SVG: a square for each time of a short trace, bars for a long one."""
+
+from html import escape
+
+from r2u2tools.common.cli import plain as printable
+
+# How a word is drawn: its short text, the colour of its square and of the text.
+LOOKS = {
+    "T": ("T", "#2f74c0", "#ffffff"),
+    "F": ("F", "#d1495b", "#ffffff"),
+    "inactive": ("", "#c9d3de", "#3b4754"),
+    "invalid": ("✗", "#d1495b", "#ffffff"),
+    "verified": ("✓", "#2f74c0", "#ffffff"),
+    None: ("?", "#ffffff", "#8a96a3"),
+}
+MEANINGS = {
+    "T": "true",
+    "F": "false",
+    "inactive": "inactive",
+    "invalid": "invalid",
+    "verified": "verified",
+    None: "undecided",
+}
+# Which word a dot shows that stands for several: the last of these.
+GRAVEST = {word: rank for rank, word in enumerate(("inactive", "T", "verified", None, "F", "invalid"))}
+SQUARE, LANE, GAP, EDGE, MARK = 26, 24, 8, 12, 14
+LETTER = 7.8
+SQUARES, WIDE, NARROWEST, LONGEST = 60, 1100, 8, 24
+INK, FAINT, GRID, PALE = "#1f2933", "#6b7785", "#d9dfe6", "#e8edf2"
+
+
+def plain(number):
+    """A number as short text, without a needless point."""
+    return f"{number:.1f}".removesuffix(".0")
+
+
+def step_of(times, dots, apart=64):
+    """The distance of labels on an axis: 1, 2 or 5 with zeros, so that they stand apart."""
+    step = 1
+    while step * dots / max(times, 1) < apart:
+        step = step * 2 if str(step)[0] in "15" else step * 5 // 2
+    return step
+
+
+class Sheet:
+    """Shapes and texts, drawn from the top down, over an axis of times."""
+
+    def __init__(self, model):
+        names = [column.name for column in model.columns] + list(model.lanes)
+        self.model, self.parts = model, []
+        self.left = EDGE + max([len(name) for name in names] + [4]) * LETTER + GAP
+        self.squares = model.times() <= SQUARES
+        self.cell = max(SQUARE, widest(model)) if self.squares else WIDE / model.times()
+        self.top, self.wide = EDGE, 0
+
+    def add(self, text):
+        self.parts.append(text)
+
+    def text(self, x, y, text, colour, size=12, anchor="start", weight=400):
+        bold = f' font-weight="{weight}"' if weight != 400 else ""
+        place = f' text-anchor="{anchor}"' if anchor != "start" else ""
+        head = f'<text x="{plain(x)}" y="{plain(y)}" fill="{colour}" font-size="{size}"{place}{bold}>'
+        self.add(f"{head}{escape(printable(text))}</text>")
+
+    def rect(self, x, y, wide, high, fill, more=""):
+        self.add(f'<rect x="{plain(x)}" y="{plain(y)}" width="{plain(wide)}" height="{plain(high)}" fill="{fill}"{more}/>')
+
+    def line(self, path, colour, width=1.0, more=""):
+        self.add(f'<path d="{path}" fill="none" stroke="{colour}" stroke-width="{plain(width)}"{more}/>')
+
+    def x(self, time):
+        return self.left + (time - self.model.first) * self.cell
+
+    def right(self):
+        return self.x(self.model.last + 1)
+
+    def name(self, name):
+        self.text(self.left - GAP, self.top + LANE / 2 + 4, name, INK, anchor="end")
+
+    def title(self, text):
+        if text:
+            self.text(EDGE, self.top + 14, text, INK, size=14, weight=600)
+            self.wide = max(self.wide, EDGE + len(text) * 8.6)
+            self.top += 16 + GAP
+
+    def rule(self):
+        self.line(f"M{EDGE} {plain(self.top)}H{plain(self.right())}", GRID)
+        self.top += GAP
+
+    def dots(self, runs, rank):
+        """Of each dot the values of the highest and of the lowest rank that it stands for, as runs of dots."""
+        first, last, cell = self.model.first, self.model.last, self.cell
+        ranks = {}
+        most, least = [None] * WIDE, [None] * WIDE
+        for begin, end, value in runs.between(first, last):
+            low, mine = int((begin - first) * cell), ranks.get(value)
+            if mine is None:
+                mine = ranks[value] = rank(value)
+            high = min(WIDE, max(low + 1, round((end - first + 1) * cell)))
+            for k in range(low, high):
+                if most[k] is None:
+                    most[k] = least[k] = value
+                elif mine > ranks[most[k]]:
+                    most[k] = value
+                elif mine < ranks[least[k]]:
+                    least[k] = value
+        return list(joined(list(zip(most, least))))
+
+    def svg(self):
+        width, height = max(self.right(), self.wide) + EDGE, self.top + EDGE
+        head = (
+            f'<svg xmlns="http://www.w3.org/2000/svg" width="{width:.0f}" height="{height:.0f}" '
+            f'viewBox="0 0 {width:.0f} {height:.0f}" font-family="DejaVu Sans, Verdana, sans-serif">'
+        )
+        back = f'<rect width="{width:.0f}" height="{height:.0f}" rx="6" fill="#ffffff"/>'
+        return "\n".join([head, back, *self.parts, "</svg>", ""])
+
+
+def joined(found):
+    """Runs of equal entries: first, one after the last, and the entry."""
+    first = 0
+    for k in range(1, len(found) + 1):
+        if k == len(found) or found[k] != found[first]:
+            yield first, k, found[first]
+            first = k
+
+
+def widest(model):
+    """The room that the longest number of a short trace needs."""
+    numbers = [column.runs for column in model.columns if column.kind != "bool"]
+    texts = [value for runs in numbers for _, _, value in runs.between(model.first, model.last)]
+    return max([0] + [min(len(text), LONGEST) * 7.8 + 4 for text in texts])
+
+
+def draw_level(sheet, column):
+    """A column of truths, as a line that is high where it is 1."""
+    sheet.name(column.name)
+    high, low = sheet.top + 5, sheet.top + LANE - 5
+    if not sheet.squares:
+        return draw_dense_level(sheet, column, high, low)
+    path = []
+    for begin, end, value in column.runs.between(sheet.model.first, sheet.model.last):
+        y = high if value == "1" else low
+        if value == "1":
+            sheet.rect(sheet.x(begin), high, (end - begin + 1) * sheet.cell, low - high, PALE)
+        path.append(f"{'L' if path else 'M'}{plain(sheet.x(begin))} {plain(y)}H{plain(sheet.x(end + 1))}")
+    sheet.line("".join(path) or "M0 0", INK, 1.5)
+    sheet.top += LANE + GAP / 2
+
+
+def draw_dense_level(sheet, column, high, low):
+    """The same of a long trace: a dot that stands for both truths is filled."""
+    path = []
+    for begin, end, (most, least) in sheet.dots(column.runs, lambda value: value == "1"):
+        if most is None:
+            continue
+        x, on = sheet.left + begin, most == "1"
+        if on:
+            sheet.rect(x, high, end - begin, low - high, PALE if least == "1" else INK)
+        path.append(f"{'L' if path else 'M'}{plain(x)} {plain(high if on else low)}H{plain(x + end - begin)}")
+    sheet.line("".join(path) or "M0 0", INK, 1)
+    sheet.top += LANE + GAP / 2
+
+
+def draw_numbers(sheet, column):
+    """A column of numbers: as their text, and over a long trace as a curve too."""
+    sheet.name(column.name)
+    if not sheet.squares:
+        draw_curve(sheet, column)
+    for begin, end, value in column.runs.between(sheet.model.first, sheet.model.last):
+        value = value if len(value) <= LONGEST else value[: LONGEST - 1] + "…"
+        if sheet.squares:
+            for time in range(begin, end + 1):
+                sheet.text(sheet.x(time + 0.5), sheet.top + LANE / 2 + 4, value, INK, 12, "middle")
+        elif (end - begin + 1) * sheet.cell > len(value) * 6.6 + 8:
+            sheet.text(sheet.x((begin + end + 1) / 2), sheet.top + LANE / 2 + 4, value, INK, 11, "middle")
+    sheet.top += LANE + GAP / 2
+
+
+def number(text):
+    try:
+        return float(text)
+    except ValueError:
+        return None
+
+
+def draw_curve(sheet, column):
+    """The least and the greatest number of each dot, as a band."""
+    shown = {value for _, _, value in column.runs.between(sheet.model.first, sheet.model.last)}
+    values = {text: number(text) for text in shown}
+    if None in values.values() or not values:
+        return
+    least, most = min(values.values()), max(values.values())
+    high, low = sheet.top + 2, sheet.top + LANE - 2
+
+    def y(value):
+        return low - (value - least) / (most - least or 1) * (low - high)
+
+    upper, lower = [], []
+    for begin, end, kept in sheet.dots(column.runs, values.get):
+        if kept[0] is not None:
+            left, right = plain(sheet.left + begin), plain(sheet.left + end)
+            upper.append(f"{left} {plain(y(values[kept[0]]))}H{right}")
+            lower.append(f"{right} {plain(y(values[kept[1]]))}H{left}")
+    if upper:
+        path = "M" + "L".join(upper + lower[::-1]) + "Z"
+        sheet.add(f'<path d="{path}" fill="#b9c4d0" stroke="#b9c4d0" stroke-width="1"/>')
+    for text, place in ((f"{most:g}", high + 7), (f"{least:g}", low)):
+        sheet.text(sheet.right() + 4, place, text, FAINT, 9)
+        sheet.wide = max(sheet.wide, sheet.right() + 4 + len(text) * 6)
+
+
+def draw_square(sheet, x, y, word, wide):
+    text, fill, ink = LOOKS[word]
+    dash = ' stroke="#8a96a3" stroke-dasharray="3 2"' if word is None else ""
+    sheet.rect(x + 1, y, wide - 2, LANE, fill, f' rx="3"{dash}')
+    if text:
+        sheet.text(x + wide / 2, y + LANE / 2 + 4, text, ink, anchor="middle", weight=600)
+
+
+def draw_lane(sheet, lane):
+    sheet.name(lane.name)
+    if sheet.squares:
+        for time in range(sheet.model.first, sheet.model.last + 1):
+            draw_square(sheet, sheet.x(time), sheet.top, lane.words.at(time), sheet.cell)
+    else:
+        for begin, end, (most, least) in sheet.dots(lane.words, GRAVEST.get):
+            draw_bar(sheet, begin, end, most, least)
+    sheet.top += LANE
+    draw_marks(sheet, lane)
+    sheet.top += GAP
+
+
+def draw_bar(sheet, begin, end, most, least):
+    """Dots of one word; or of several, of which the gravest stands above the least grave."""
+    text, fill, ink = LOOKS[most]
+    x, wide = sheet.left + begin, end - begin
+    dash = ' stroke="#8a96a3" stroke-dasharray="3 2"' if most is None else ""
+    sheet.rect(x, sheet.top, wide, LANE, fill, dash)
+    if most != least:
+        sheet.rect(x, sheet.top + LANE / 2, wide, LANE / 2, LOOKS[least][1])
+    elif text and wide > 30:
+        sheet.text(x + wide / 2, sheet.top + LANE / 2 + 4, text, ink, anchor="middle", weight=600)
+
+
+def draw_marks(sheet, lane):
+    """A dot at each row that told a word, and a line to it from the time of the word."""
+    if not len(lane.told):
+        return
+    model = sheet.model
+    if sheet.cell < NARROWEST:
+        delay = lane.delay(model.first, model.last)
+        if delay:
+            text = f"+{delay[0]}" if delay[0] == delay[1] else f"+{delay[0]} to +{delay[1]}"
+            sheet.text(sheet.right() + 4, sheet.top - LANE / 2 + 4, text, FAINT, 10)
+            sheet.wide = max(sheet.wide, sheet.right() + 4 + len(text) * 7)
+        return
+    high, low = sheet.top + 1, sheet.top + MARK - 3
+    path, rows = [], set()
+    for begin, end, row in lane.told.between(model.first, model.last):
+        for time in range(begin, end + 1):
+            foot = sheet.x(min(row, model.last + 0.5) + 0.5)
+            path.append(f"M{plain(sheet.x(time + 0.5))} {plain(high)}L{plain(foot)} {plain(low)}")
+        if row <= model.last:
+            rows.add(row)
+    sheet.line("".join(path), "#8a96a3", 0.8)
+    for row in sorted(rows):
+        sheet.add(f'<circle cx="{plain(sheet.x(row + 0.5))}" cy="{plain(low)}" r="2.5" fill="{INK}"/>')
+    sheet.top += MARK
+
+
+def draw_axis(sheet):
+    model = sheet.model
+    sheet.text(sheet.left - GAP, sheet.top + 8, model.axis(), FAINT, 11, "end")
+    step = 1 if sheet.squares else step_of(model.times(), WIDE)
+    begin = -(-model.first // step) * step
+    for time in range(begin, model.last + 1, step):
+        sheet.text(sheet.x(time + 0.5), sheet.top + 8, f"{time:,}", FAINT, 11, "middle")
+        if not sheet.squares:
+            sheet.line(f"M{plain(sheet.x(time + 0.5))} {plain(sheet.top - 6)}V{plain(sheet.top - 2)}", FAINT)
+    draw_stamps(sheet)
+    sheet.top += 12 + GAP
+
+
+def draw_stamps(sheet):
+    """A mark under each time that a line of the trace has as its stamp."""
+    model = sheet.model
+    places = {round(sheet.x(time + 0.5)) for time in model.stamps or [] if model.first <= time <= model.last}
+    if places:
+        sheet.line("".join(f"M{x} {plain(sheet.top + 12)}v4" for x in sorted(places)), INK, 1.2)
+
+
+def draw_legend(sheet):
+    model, x = sheet.model, EDGE
+    told = {value for lane in model.lanes.values() for _, _, value in lane.words.between(model.first, model.last)}
+    if any(lane.words.end() <= model.last for lane in model.lanes.values()):
+        told.add(None)
+    for word in (it for it in LOOKS if it in told):
+        draw_square(sheet, x, sheet.top, word, SQUARE)
+        sheet.text(x + SQUARE + 4, sheet.top + LANE / 2 + 4, MEANINGS[word], FAINT)
+        x += SQUARE + 12 + len(MEANINGS[word]) * 7
+    marks = any(len(lane.told) for lane in model.lanes.values())
+    notes = []
+    if marks and sheet.cell >= NARROWEST:
+        sheet.add(f'<circle cx="{plain(x + 8)}" cy="{plain(sheet.top + LANE / 2)}" r="2.5" fill="{INK}"/>')
+        sheet.text(x + 16, sheet.top + LANE / 2 + 4, f"told with this {model.axis()}", FAINT)
+        x += 24 + 19 * 7
+    elif marks:
+        notes.append("+: rows until a word was told")
+    if sheet.cell < 1:
+        notes.append(f"a dot is {1 / sheet.cell:,.0f} rows: where their words differ, the gravest is above")
+    text = "; ".join(notes)
+    if text:
+        sheet.text(x + 8, sheet.top + LANE / 2 + 4, text, FAINT, 11)
+    sheet.wide = max(sheet.wide, x + len(text) * 6.6)
+    sheet.top += LANE
+
+
+def svg(model):
+    sheet = Sheet(model)
+    sheet.title(model.title)
+    for column in model.columns:
+        (draw_level if column.kind == "bool" else draw_numbers)(sheet, column)
+    if model.columns and model.lanes:
+        sheet.rule()
+    for lane in model.lanes.values():
+        draw_lane(sheet, lane)
+    draw_axis(sheet)
+    draw_legend(sheet)
+    return sheet.svg()
