@@ -27,7 +27,7 @@ CHANGES = [
     ("docs/LANGUAGE.md", "| 3 | 1 | 0 | F | 4 |", "| 3 | 1 | 0 | F | 3 |", "a case tells lines after other rows"),
     ("examples/grant.csv", "0,1", "1,1", "examples/grant.csv: no case has this trace"),
     ("examples/grant.c2po", "F[0,3]", "F[0,4]", "examples/grant.c2po: no case has this specification"),
-    ("crates/spec_compile/src/fault.rt", '"mixed tense"', '"mixed times"', "no entry shows mixed times"),
+    ("crates/c2po_compile/src/fault.rt", '"mixed tense"', '"mixed times"', "no entry shows mixed times"),
     ("crates/c2po_lexer/src/token.rt", 'b"<->"', 'b"<-->"', "docs/LANGUAGE.md: no entry for <-->"),
 ]
 

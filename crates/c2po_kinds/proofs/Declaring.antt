@@ -1,6 +1,6 @@
 -- Faults of items.
 use Rattle.std.proofs.Common.{◌≡◌, ℕ, Bool, false, List, [], Err, sym, subst, if◌then◌else◌}
-use Rattle.spec_tree.specs.ItemShape.{FieldShape}
+use Rattle.c2po_ast.specs.ItemShape.{FieldShape}
 use Rattle.name_table.specs.Tables.{Table, is_named}
 use Rattle.c2po_kinds.specs.declared.declarations.Declarations.{Declarations}
 use Rattle.c2po_kinds.specs.declared.fault.TypeFault.{TypeFault}

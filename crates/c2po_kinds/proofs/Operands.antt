@@ -3,10 +3,10 @@ use Rattle.std.proofs.Common.{◌≡◌, ℕ, zero, suc, ◌+◌, ◌≤◌, ◌
 use Rattle.std.proofs.Math.ListN.{drop_of_length-le}
 use Rattle.std.proofs.Math.Nat.{suc-add}
 use Rattle.std.proofs.lemmas.List.{append-nil}
-use Rattle.spec_tree.specs.declared.tree.Expr.{Expr}
-use Rattle.spec_tree.specs.declared.tree.Node.{Node, Build, Group, Number, Truth, Ref, Build', Group', Pick', Minus', Not', Arith', Compare', Logic', Window', Between', Each', Exists', Count'}
-use Rattle.spec_tree.specs.Shape.{shape, node_shape, shapes}
-use Rattle.spec_tree.proofs.Rows.{shape_of-Build, shape_of-Group}
+use Rattle.c2po_ast.specs.declared.tree.Expr.{Expr}
+use Rattle.c2po_ast.specs.declared.tree.Node.{Node, Build, Group, Number, Truth, Ref, Build', Group', Pick', Minus', Not', Arith', Compare', Logic', Window', Between', Each', Exists', Count'}
+use Rattle.c2po_ast.specs.Shape.{shape, node_shape, shapes}
+use Rattle.c2po_ast.proofs.Rows.{shape_of-Build, shape_of-Group}
 use Rattle.c2po_kinds.specs.declared.kind.Kind.{Kind}
 use Rattle.c2po_kinds.specs.declared.fault.TypeFault.{TypeFault}
 use Rattle.name_table.specs.Tables.{Table}

@@ -2,8 +2,8 @@
 
 use Rattle.std.specs.Prelude.{ℕ, nat_le, ◌&&◌, List, [], ◌∷◌, Option, is_some, Ok, Err, if◌then◌else◌}
 use Rattle.mltl_base.specs.declared.limits.TheConstants.{MAX_BOUND, MAX_COUNT}
-use Rattle.spec_tree.specs.Shape.{Shape, Shapes, number, truth, named, build, group, pick, minus, negation, arith}
-use Rattle.spec_tree.specs.Shape.{compare, logic, window, between, each, exists, count, none, more}
+use Rattle.c2po_ast.specs.Shape.{Shape, Shapes, number, truth, named, build, group, pick, minus, negation, arith}
+use Rattle.c2po_ast.specs.Shape.{compare, logic, window, between, each, exists, count, none, more}
 use Rattle.c2po_kinds.specs.declared.kind.Kind.{Kind}
 use Rattle.c2po_kinds.specs.declared.fault.TypeFault.TheVariants as fault
 use Rattle.c2po_kinds.specs.Checking.{Checked, ◌>>=◌}

@@ -4,8 +4,8 @@ use Rattle.std.specs.Prelude.{ℕ, nat_le, Bool, true, false, List, [], ◌∷�
 use Rattle.std.specs.Prelude.{Err, if◌then◌else◌, ⊤}
 use Rattle.std.specs.Str.{bytes_eq}
 use Rattle.mltl_base.specs.declared.limits.TheConstants.{MAX_SIGNALS}
-use Rattle.spec_tree.specs.Shape.{Shape}
-use Rattle.spec_tree.specs.ItemShape.{TypeShape, FieldShape, type_named, set_of}
+use Rattle.c2po_ast.specs.Shape.{Shape}
+use Rattle.c2po_ast.specs.ItemShape.{TypeShape, FieldShape, type_named, set_of}
 use Rattle.c2po_kinds.specs.declared.kind.Base.TheVariants as base
 use Rattle.c2po_kinds.specs.declared.kind.Kind.{Kind}
 use Rattle.c2po_kinds.specs.declared.kind.Meaning.{Meaning}

@@ -1,7 +1,7 @@
 //! The kinds of expressions.
 
 ghost use Rattle.std.specs.Prelude.{◌≡◌};
-ghost use Rattle.spec_tree.specs.Shape.{shape, shapes};
+ghost use Rattle.c2po_ast.specs.Shape.{shape, shapes};
 ghost use Rattle.c2po_kinds.specs.Checking.{Gives, GivesAs};
 ghost use Rattle.c2po_kinds.specs.Kinds as kinds;
 ghost use Rattle.c2po_kinds.specs.Scopes.{meaning_of, visible};
@@ -13,7 +13,7 @@ use crate::operand::{
 use crate::{Kind, Scope, TypeFault};
 use mltl_base::Name;
 use mltl_base::limits::{MAX_BOUND, MAX_COUNT};
-use spec_tree::{Expr, Node};
+use c2po_ast::{Expr, Node};
 use std::alloc::Global;
 
 /// The kind of a formula over an interval, whose operands are truths where a test holds.

@@ -1,8 +1,8 @@
 //! What items declare, and their faults of names and kinds.
 
 ghost use Rattle.std.specs.Prelude.{◌≡◌, [], false, Ok, OnOk, map};
-ghost use Rattle.spec_tree.specs.Shape.{shape};
-ghost use Rattle.spec_tree.specs.ItemShape.{type_shape, field_shape};
+ghost use Rattle.c2po_ast.specs.Shape.{shape};
+ghost use Rattle.c2po_ast.specs.ItemShape.{type_shape, field_shape};
 ghost use Rattle.c2po_kinds.specs.Checking.{Gives, Makes, in_turn};
 ghost use Rattle.name_table.specs.Tables.{is_named};
 ghost use Rattle.c2po_kinds.specs.Items.{nothing, type_kind, signal_truth, with_field, with_struct, with_signal, with_input, define_kind, with_value, with_label, formula_kind, contract_kind};
@@ -11,7 +11,7 @@ use crate::operand::{TRUTH, WHOLE, are_same, expect, is_same, set_of};
 use crate::{Base, Declarations, Kind, Meaning, NameTable, Scope, Signal, TypeFault, kind_of};
 use mltl_base::limits::MAX_SIGNALS;
 use mltl_base::{List, Name};
-use spec_tree::{Expr, FieldDecl, TypeTree};
+use c2po_ast::{Expr, FieldDecl, TypeTree};
 use std::alloc::Global;
 
 /// The name of the type of whole numbers.

@@ -4,8 +4,8 @@ use Rattle.std.proofs.lemmas.List.Sums.{AllPass-from_list_all}
 use Rattle.mltl_base.specs.Letters.{is_in_word}
 use Rattle.c2po_lexer.specs.declared.token.Token.{Token}
 use Rattle.c2po_lexer.specs.Tokens.{HasPlainName}
-use Rattle.spec_tree.specs.ItemShape.{FieldShape, BodyShape, ItemShape, structure, input, define, formula, contract}
-use Rattle.spec_tree.specs.Names.{IsPlainName, HasPlainNames, HasPlainType, ArePlainFields, ArePlain, IsPlainLabel, IsPlainBody, ArePlainItems}
+use Rattle.c2po_ast.specs.ItemShape.{FieldShape, BodyShape, ItemShape, structure, input, define, formula, contract}
+use Rattle.c2po_ast.specs.Names.{IsPlainName, HasPlainNames, HasPlainType, ArePlainFields, ArePlain, IsPlainLabel, IsPlainBody, ArePlainItems}
 use Rattle.c2po_tree.proofs.Words.{PlainWords, word-plain}
 use Rattle.c2po_tree.proofs.PlainNames.{tree-names}
 use Rattle.c2po_parse.specs.Specification.{spec_of}

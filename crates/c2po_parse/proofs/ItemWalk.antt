@@ -8,8 +8,8 @@ use Rattle.c2po_lexer.specs.declared.token.Keyword.TheVariants as keyword
 use Rattle.c2po_lexer.specs.declared.token.What.{What}
 use Rattle.c2po_lexer.specs.declared.token.What.TheVariants as what
 use Rattle.c2po_lexer.specs.declared.token.Token.{Token}
-use Rattle.spec_tree.specs.Shape.{Shape}
-use Rattle.spec_tree.specs.ItemShape.{TypeShape, FieldShape, BodyShape, ItemShape, type_named, set_of, structure, input, define, formula, contract}
+use Rattle.c2po_ast.specs.Shape.{Shape}
+use Rattle.c2po_ast.specs.ItemShape.{TypeShape, FieldShape, BodyShape, ItemShape, type_named, set_of, structure, input, define, formula, contract}
 use Rattle.c2po_tree.specs.Fronts.{◌>>=◌, past, name_at}
 use Rattle.c2po_tree.specs.Splitting.{tree_of, at_end}
 use Rattle.c2po_tree.proofs.Walks.{bind-some, if-cases}

@@ -3,7 +3,7 @@ use Rattle.std.proofs.lemmas.Bool.Decides.{nat_tests}
 use Rattle.std.specs.Prelude.{is_none}
 use Rattle.std.proofs.lemmas.List.{append-nil}
 use Rattle.c2po_lexer.specs.declared.token.Token.{Token}
-use Rattle.spec_tree.specs.ItemShape.{ItemShape}
+use Rattle.c2po_ast.specs.ItemShape.{ItemShape}
 use Rattle.c2po_parse.specs.declared.fault.ParseFault.{ParseFault}
 use Rattle.c2po_parse.specs.declared.fault.ParseFault.TheVariants.{TooManyTokens, Grammar}
 use Rattle.c2po_parse.specs.declared.section.Section.{Section}

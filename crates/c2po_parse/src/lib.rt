@@ -16,4 +16,4 @@ pub mod section;
 
 pub use fault::ParseFault;
 pub use parser::parse;
-pub use spec_tree::{Body, Expr, FieldDecl, Item, Node, SpecTree, TypeTree};
+pub use c2po_ast::{Body, Expr, FieldDecl, Item, Node, SpecTree, TypeTree};

@@ -2,8 +2,8 @@
 
 ghost use Rattle.std.specs.Prelude.{◌≡◌, ◌≢◌, ◌<◌, ◌≤◌, ◌++◌, ◌∷◌, [], true, Ok, Err, length, map, All, IfOk, IfErr};
 ghost use Rattle.c2po_lexer.specs.Tokens.{HasPlainName};
-ghost use Rattle.spec_tree.specs.Names.{ArePlainItems};
-ghost use Rattle.spec_tree.specs.ItemShape.{item_shape, body_shape, spec_shape};
+ghost use Rattle.c2po_ast.specs.Names.{ArePlainItems};
+ghost use Rattle.c2po_ast.specs.ItemShape.{item_shape, body_shape, spec_shape};
 ghost use Rattle.c2po_parse.specs.Sections.{pieces, begins_item, ended_of, tail_of};
 ghost use Rattle.c2po_parse.specs.Specification.{piece_trees, with_first, reads_on, spec_of, with_line, piece_body};
 
@@ -14,7 +14,7 @@ use c2po_lexer::{Token, Tokens};
 use c2po_tree::TreeFault;
 use mltl_base::List;
 use mltl_base::limits::MAX_ITEM_TOKENS;
-use spec_tree::{Item, SpecTree};
+use c2po_ast::{Item, SpecTree};
 use std::alloc::Global;
 
 /// An item on a line from its tokens and what stands after them.

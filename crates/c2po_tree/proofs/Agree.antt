@@ -1,7 +1,7 @@
 use Rattle.std.proofs.Common.{◌≡◌, ℕ, ◌+◌, ◌*◌, ◌≤◌, List, [], ◌++◌, length, refl, ap, sym, ◌∙◌, subst, arith, Option, Some, None}
 use Rattle.std.proofs.lemmas.List.{append-nil}
 use Rattle.c2po_lexer.specs.declared.token.Token.{Token}
-use Rattle.spec_tree.specs.Shape.{Shape}
+use Rattle.c2po_ast.specs.Shape.{Shape}
 use Rattle.c2po_tree.specs.Tokens.{right_level}
 use Rattle.c2po_tree.specs.Splitting.{at_end, tree_of}
 use Rattle.c2po_tree.specs.Climbing.{climb, climb_all, Whole}

@@ -7,17 +7,17 @@ use Rattle.c2po_lexer.specs.declared.token.Sign.{Sign}
 use Rattle.c2po_lexer.specs.declared.token.Sign.TheVariants as sign
 use Rattle.c2po_lexer.specs.declared.token.What.TheVariants as what
 use Rattle.c2po_lexer.specs.declared.token.Token.{Token}
-use Rattle.spec_tree.specs.declared.operator.Infix.{Infix}
+use Rattle.c2po_ast.specs.declared.operator.Infix.{Infix}
 use Rattle.c2po_tree.specs.declared.operator.Operator.{Operator}
 use Rattle.c2po_tree.specs.declared.operator.Operator.TheVariants.{Binary, Field}
-use Rattle.spec_tree.specs.declared.operator.Prefix.{Prefix}
-use Rattle.spec_tree.specs.declared.operator.Quantifier.{Quantifier}
-use Rattle.spec_tree.specs.declared.operator.Bracket.{Bracket}
+use Rattle.c2po_ast.specs.declared.operator.Prefix.{Prefix}
+use Rattle.c2po_ast.specs.declared.operator.Quantifier.{Quantifier}
+use Rattle.c2po_ast.specs.declared.operator.Bracket.{Bracket}
 use Rattle.c2po_tree.specs.declared.operator.Start.{Start}
 use Rattle.c2po_tree.specs.declared.operator.Start.TheVariants.{Leaf, Before, Round, Open, Bind}
-use Rattle.spec_tree.specs.Shape.{Shape, pick}
+use Rattle.c2po_ast.specs.Shape.{Shape, pick}
 use Rattle.c2po_tree.specs.Tokens.{is_sign, token_level, is_separator, left_level, right_level, is_right_level, is_prefix_level}
-use Rattle.spec_tree.specs.Parts.{joined, prefixed, enclosed, quantified, leaf}
+use Rattle.c2po_ast.specs.Parts.{joined, prefixed, enclosed, quantified, leaf}
 use Rattle.c2po_tree.specs.Fronts.{◌>>=◌, past, operator_at, start_at, middle_at, infix_level, level_of, prefix_level, closing}
 use Rattle.c2po_tree.specs.Climbing.{Goal, Whole, Operand, Rest, Elements, Climbs, closed, operand, joins, rest_of, elements_of, climb_step, climb}
 use Rattle.c2po_tree.proofs.Walks.{bind-some, if-cases}

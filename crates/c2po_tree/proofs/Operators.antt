@@ -10,8 +10,8 @@ use Rattle.c2po_lexer.specs.declared.token.What.TheVariants as what
 use Rattle.c2po_lexer.specs.declared.token.Token.{Token}
 use Rattle.c2po_lexer.specs.Tokens.{HasPlainName}
 use Rattle.mltl_base.specs.declared.operators.BetweenOp.{BetweenOp}
-use Rattle.spec_tree.specs.declared.operator.Infix.{Infix}
-use Rattle.spec_tree.specs.declared.operator.Infix.TheVariants.{Logic, Between, Compare, Arith}
+use Rattle.c2po_ast.specs.declared.operator.Infix.{Infix}
+use Rattle.c2po_ast.specs.declared.operator.Infix.TheVariants.{Logic, Between, Compare, Arith}
 use Rattle.mltl_base.specs.declared.operators.ArithOp.TheVariants as arith_op
 use Rattle.mltl_base.specs.declared.operators.CompareOp.TheVariants as compare_op
 use Rattle.mltl_base.specs.declared.operators.LogicOp.TheVariants as logic_op
@@ -19,7 +19,7 @@ use Rattle.c2po_tree.specs.declared.operator.Operator.{Operator}
 use Rattle.c2po_tree.specs.declared.operator.Operator.TheVariants.{Binary, Field}
 use Rattle.c2po_tree.specs.Tokens.{is_sign, sign_level, word_level, token_level, ends_operand, depth_after, is_separator}
 use Rattle.c2po_tree.specs.Fronts.{◌>>=◌, word_in, name_at, interval_at, sign_infix, word_between, field_of, sign_operator, operator_in, operator_at, infix_level, level_of}
-use Rattle.spec_tree.specs.Names.{IsPlainName}
+use Rattle.c2po_ast.specs.Names.{IsPlainName}
 use Rattle.c2po_tree.proofs.Words.{PlainWords, words-head, word-plain}
 use Rattle.c2po_tree.proofs.Walks.{bind-some, ends_of, depth_of, Quiet}
 use Rattle.c2po_tree.proofs.Heads.{IsInterval, interval_at-front, plain-of}

@@ -2,22 +2,22 @@ use Rattle.std.proofs.Common.{◌≡◌, ℕ, suc, List, [], ◌∷◌, ◌++◌
 use Rattle.c2po_lexer.specs.declared.token.Sign.{Sign}
 use Rattle.c2po_lexer.specs.declared.token.Token.{Token}
 use Rattle.c2po_lexer.specs.Tokens.{HasPlainName}
-use Rattle.spec_tree.specs.declared.operator.Infix.{Infix}
-use Rattle.spec_tree.specs.declared.operator.Infix.TheVariants.{Logic, Between, Compare, Arith}
-use Rattle.spec_tree.specs.declared.operator.Prefix.{Prefix}
-use Rattle.spec_tree.specs.declared.operator.Prefix.TheVariants.{Not, Minus, Window}
-use Rattle.spec_tree.specs.declared.operator.Quantifier.{Quantifier}
-use Rattle.spec_tree.specs.declared.operator.Quantifier.TheVariants.{Each, Exists, Count}
-use Rattle.spec_tree.specs.declared.operator.Bracket.{Bracket}
-use Rattle.spec_tree.specs.declared.operator.Bracket.TheVariants.{Curly, Call}
-use Rattle.spec_tree.specs.declared.operator.Atom.{Atom}
-use Rattle.spec_tree.specs.declared.operator.Atom.TheVariants.{Number, Truth, Ref}
-use Rattle.spec_tree.specs.Shape.{Shape, of_list}
+use Rattle.c2po_ast.specs.declared.operator.Infix.{Infix}
+use Rattle.c2po_ast.specs.declared.operator.Infix.TheVariants.{Logic, Between, Compare, Arith}
+use Rattle.c2po_ast.specs.declared.operator.Prefix.{Prefix}
+use Rattle.c2po_ast.specs.declared.operator.Prefix.TheVariants.{Not, Minus, Window}
+use Rattle.c2po_ast.specs.declared.operator.Quantifier.{Quantifier}
+use Rattle.c2po_ast.specs.declared.operator.Quantifier.TheVariants.{Each, Exists, Count}
+use Rattle.c2po_ast.specs.declared.operator.Bracket.{Bracket}
+use Rattle.c2po_ast.specs.declared.operator.Bracket.TheVariants.{Curly, Call}
+use Rattle.c2po_ast.specs.declared.operator.Atom.{Atom}
+use Rattle.c2po_ast.specs.declared.operator.Atom.TheVariants.{Number, Truth, Ref}
+use Rattle.c2po_ast.specs.Shape.{Shape, of_list}
 use Rattle.c2po_tree.specs.Tokens.{left_level, right_level}
-use Rattle.spec_tree.specs.Parts.{joined, prefixed, enclosed, quantified, leaf}
+use Rattle.c2po_ast.specs.Parts.{joined, prefixed, enclosed, quantified, leaf}
 use Rattle.c2po_tree.specs.Fronts.{infix_level, prefix_level, closing}
 use Rattle.c2po_tree.specs.Splitting.{tree_of}
-use Rattle.spec_tree.specs.Names.{IsPlainName, HasPlainNames, HavePlainNames}
+use Rattle.c2po_ast.specs.Names.{IsPlainName, HasPlainNames, HavePlainNames}
 use Rattle.c2po_tree.proofs.Words.{PlainWords, words-tail, words-left, words-right}
 use Rattle.c2po_tree.proofs.Starts.{AtomNames, BracketNames}
 use Rattle.c2po_tree.proofs.Rules as rules

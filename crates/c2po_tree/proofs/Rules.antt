@@ -5,21 +5,21 @@ use Rattle.c2po_lexer.specs.declared.token.What.TheVariants as what
 use Rattle.c2po_lexer.specs.declared.token.Token.{Token}
 use Rattle.mltl_base.specs.declared.operators.ArithOp.TheVariants as arith_op
 use Rattle.mltl_base.specs.declared.operators.LogicOp.TheVariants as logic_op
-use Rattle.spec_tree.specs.declared.operator.Infix.{Infix}
-use Rattle.spec_tree.specs.declared.operator.Infix.TheVariants.{Logic, Between, Compare, Arith}
+use Rattle.c2po_ast.specs.declared.operator.Infix.{Infix}
+use Rattle.c2po_ast.specs.declared.operator.Infix.TheVariants.{Logic, Between, Compare, Arith}
 use Rattle.c2po_tree.specs.declared.operator.Operator.{Operator}
 use Rattle.c2po_tree.specs.declared.operator.Operator.TheVariants.{Binary, Field}
-use Rattle.spec_tree.specs.declared.operator.Prefix.{Prefix}
-use Rattle.spec_tree.specs.declared.operator.Prefix.TheVariants.{Not, Minus, Window}
-use Rattle.spec_tree.specs.declared.operator.Quantifier.{Quantifier}
-use Rattle.spec_tree.specs.declared.operator.Bracket.{Bracket}
-use Rattle.spec_tree.specs.declared.operator.Bracket.TheVariants.{Curly, Call}
-use Rattle.spec_tree.specs.declared.operator.Atom.{Atom}
+use Rattle.c2po_ast.specs.declared.operator.Prefix.{Prefix}
+use Rattle.c2po_ast.specs.declared.operator.Prefix.TheVariants.{Not, Minus, Window}
+use Rattle.c2po_ast.specs.declared.operator.Quantifier.{Quantifier}
+use Rattle.c2po_ast.specs.declared.operator.Bracket.{Bracket}
+use Rattle.c2po_ast.specs.declared.operator.Bracket.TheVariants.{Curly, Call}
+use Rattle.c2po_ast.specs.declared.operator.Atom.{Atom}
 use Rattle.c2po_tree.specs.declared.operator.Start.{Start}
 use Rattle.c2po_tree.specs.declared.operator.Start.TheVariants.{Leaf, Before, Round, Open, Bind}
-use Rattle.spec_tree.specs.Shape.{Shape, pick}
+use Rattle.c2po_ast.specs.Shape.{Shape, pick}
 use Rattle.c2po_tree.specs.Tokens.{is_sign, ends_operand, depth_after, is_separator, left_level, right_level, is_prefix_level}
-use Rattle.spec_tree.specs.Parts.{joined, prefixed, enclosed, quantified, leaf}
+use Rattle.c2po_ast.specs.Parts.{joined, prefixed, enclosed, quantified, leaf}
 use Rattle.c2po_tree.specs.Fronts.{infix_level, level_of, prefix_level, closing}
 use Rattle.c2po_tree.proofs.Walks.{ends_of, depth_of, IsPlain, IsQuiet, Quiet, ends_of-append, depth_of-append, Quiet-append, Quiet-weaker, Quiet-deeper, depth_of-deeper}
 use Rattle.c2po_tree.proofs.Operators.{IsOperator, is_field}

@@ -11,22 +11,22 @@ use Rattle.c2po_lexer.specs.declared.token.What.{What}
 use Rattle.c2po_lexer.specs.declared.token.What.TheVariants as what
 use Rattle.c2po_lexer.specs.declared.token.Token.{Token}
 use Rattle.mltl_base.specs.declared.operators.CountOp.TheVariants as count_op
-use Rattle.spec_tree.specs.declared.operator.Infix.{Infix}
+use Rattle.c2po_ast.specs.declared.operator.Infix.{Infix}
 use Rattle.c2po_tree.specs.declared.operator.Operator.{Operator}
 use Rattle.c2po_tree.specs.declared.operator.Operator.TheVariants.{Binary, Field}
-use Rattle.spec_tree.specs.declared.operator.Prefix.{Prefix}
-use Rattle.spec_tree.specs.declared.operator.Prefix.TheVariants.{Not, Minus, Window}
-use Rattle.spec_tree.specs.declared.operator.Quantifier.{Quantifier}
-use Rattle.spec_tree.specs.declared.operator.Quantifier.TheVariants.{Each, Exists, Count}
-use Rattle.spec_tree.specs.declared.operator.Bracket.{Bracket}
-use Rattle.spec_tree.specs.declared.operator.Bracket.TheVariants.{Curly, Call}
-use Rattle.spec_tree.specs.declared.operator.Atom.{Atom}
-use Rattle.spec_tree.specs.declared.operator.Atom.TheVariants.{Number, Truth, Ref}
+use Rattle.c2po_ast.specs.declared.operator.Prefix.{Prefix}
+use Rattle.c2po_ast.specs.declared.operator.Prefix.TheVariants.{Not, Minus, Window}
+use Rattle.c2po_ast.specs.declared.operator.Quantifier.{Quantifier}
+use Rattle.c2po_ast.specs.declared.operator.Quantifier.TheVariants.{Each, Exists, Count}
+use Rattle.c2po_ast.specs.declared.operator.Bracket.{Bracket}
+use Rattle.c2po_ast.specs.declared.operator.Bracket.TheVariants.{Curly, Call}
+use Rattle.c2po_ast.specs.declared.operator.Atom.{Atom}
+use Rattle.c2po_ast.specs.declared.operator.Atom.TheVariants.{Number, Truth, Ref}
 use Rattle.c2po_tree.specs.declared.operator.Start.{Start}
 use Rattle.c2po_tree.specs.declared.operator.Start.TheVariants.{Leaf, Before, Round, Open, Bind}
-use Rattle.spec_tree.specs.Shape.{Shape, pick}
+use Rattle.c2po_ast.specs.Shape.{Shape, pick}
 use Rattle.c2po_tree.specs.Tokens.{is_sign, level_after, ends_operand, depth_after, is_separator, left_level, right_level, is_right_level, is_prefix_level}
-use Rattle.spec_tree.specs.Parts.{joined, prefixed, enclosed, quantified, leaf}
+use Rattle.c2po_ast.specs.Parts.{joined, prefixed, enclosed, quantified, leaf}
 use Rattle.c2po_tree.specs.Fronts.{◌>>=◌, past, name_at, interval_at, word_window, word_quantifier, operator_at, named_or_called, bound_start, window_start, word_start, sign_start, start_in, start_at, middle_at, infix_level, level_of, prefix_level, closing}
 use Rattle.c2po_tree.specs.Splitting.{Cut, has_level, ends_expression, cut_first, cut_last, split_at, cut_inside, Reads, ReadsAll, at_end, sides, at_operators, at_prefixes, block, primary, split_step, more_or_end, elements_step, tree_within, trees_within}
 use Rattle.c2po_tree.proofs.Walks.{bind-some, ends_of, Quiet, Skips, cut_first-at, cut_first-none, cut_last-at, cut_last-none}

@@ -10,9 +10,9 @@ use Rattle.c2po_tree.specs.declared.operator.Operator.{Operator}
 use Rattle.c2po_tree.specs.declared.operator.Operator.TheVariants.{Binary, Field}
 use Rattle.c2po_tree.specs.declared.operator.Start.{Start}
 use Rattle.c2po_tree.specs.declared.operator.Start.TheVariants.{Leaf, Before, Round, Open, Bind}
-use Rattle.spec_tree.specs.Shape.{Shape, pick}
+use Rattle.c2po_ast.specs.Shape.{Shape, pick}
 use Rattle.c2po_tree.specs.Tokens.{is_sign, token_level, level_after, left_level, right_level, is_prefix_level, is_right_level}
-use Rattle.spec_tree.specs.Parts.{joined, prefixed, enclosed, quantified, leaf}
+use Rattle.c2po_ast.specs.Parts.{joined, prefixed, enclosed, quantified, leaf}
 use Rattle.c2po_tree.specs.Fronts.{◌>>=◌, past, operator_at, start_at, middle_at, infix_level, level_of, prefix_level, closing}
 use Rattle.c2po_tree.specs.Splitting.{Cut, has_level, ends_expression, cut_first, cut_last, split_at, cut_inside, Reads, ReadsAll, at_end, sides, at_operators, at_prefixes, block, primary, split_step, more_or_end, elements_step, tree_within, trees_within}
 use Rattle.c2po_tree.proofs.Walks.{bind-some, if-cases, Rejoins, cut_first-rejoins, cut_last-rejoins}

@@ -9,19 +9,19 @@ use Rattle.c2po_lexer.specs.declared.token.What.{What}
 use Rattle.c2po_lexer.specs.declared.token.What.TheVariants as what
 use Rattle.c2po_lexer.specs.declared.token.Token.{Token}
 use Rattle.mltl_base.specs.declared.operators.WindowOp.{WindowOp}
-use Rattle.spec_tree.specs.declared.operator.Prefix.TheVariants.{Not, Minus, Window}
-use Rattle.spec_tree.specs.declared.operator.Quantifier.{Quantifier}
-use Rattle.spec_tree.specs.declared.operator.Quantifier.TheVariants.{Each, Exists, Count}
-use Rattle.spec_tree.specs.declared.operator.Bracket.{Bracket}
-use Rattle.spec_tree.specs.declared.operator.Bracket.TheVariants.{Curly, Call}
-use Rattle.spec_tree.specs.declared.operator.Atom.{Atom}
-use Rattle.spec_tree.specs.declared.operator.Atom.TheVariants.{Number, Truth, Ref}
+use Rattle.c2po_ast.specs.declared.operator.Prefix.TheVariants.{Not, Minus, Window}
+use Rattle.c2po_ast.specs.declared.operator.Quantifier.{Quantifier}
+use Rattle.c2po_ast.specs.declared.operator.Quantifier.TheVariants.{Each, Exists, Count}
+use Rattle.c2po_ast.specs.declared.operator.Bracket.{Bracket}
+use Rattle.c2po_ast.specs.declared.operator.Bracket.TheVariants.{Curly, Call}
+use Rattle.c2po_ast.specs.declared.operator.Atom.{Atom}
+use Rattle.c2po_ast.specs.declared.operator.Atom.TheVariants.{Number, Truth, Ref}
 use Rattle.c2po_tree.specs.declared.operator.Start.{Start}
 use Rattle.c2po_tree.specs.declared.operator.Start.TheVariants.{Leaf, Before, Round, Open, Bind}
 use Rattle.c2po_tree.specs.Tokens.{word_level, level_after, ends_operand, depth_after, is_separator}
 use Rattle.c2po_tree.specs.Fronts.{◌>>=◌, past, name_at, natural_in, natural_at, interval_at, word_window, word_quantifier, named_or_called, bound_start, window_start, word_start, sign_start, start_in, start_at, number_at, middle_at}
 use Rattle.c2po_lexer.specs.Tokens.{HasPlainName}
-use Rattle.spec_tree.specs.Names.{IsPlainName}
+use Rattle.c2po_ast.specs.Names.{IsPlainName}
 use Rattle.c2po_tree.proofs.Words.{PlainWords, words-head, words-tail, word-plain}
 use Rattle.c2po_tree.proofs.Walks.{bind-some, ends_of, depth_of, Quiet}
 use Rattle.c2po_tree.proofs.Heads.{past-begins, past-at, natural_at-counts, natural_at-at, natural-flat, IsInterval, interval_at-front, plain-of}

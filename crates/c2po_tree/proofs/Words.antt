@@ -4,7 +4,7 @@ use Rattle.c2po_lexer.specs.declared.token.What.{What}
 use Rattle.c2po_lexer.specs.declared.token.What.TheVariants as what
 use Rattle.c2po_lexer.specs.declared.token.Token.{Token}
 use Rattle.c2po_lexer.specs.Tokens.{HasPlainName}
-use Rattle.spec_tree.specs.Names.{IsPlainName}
+use Rattle.c2po_ast.specs.Names.{IsPlainName}
 
 -- Token lists whose tokens all have something.
 pub AllHave : (What → Type 0) → List Token → Type 0

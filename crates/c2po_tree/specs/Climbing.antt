@@ -3,14 +3,14 @@ use Rattle.c2po_lexer.specs.declared.token.Sign.TheVariants as sign
 use Rattle.c2po_lexer.specs.declared.token.Token.{Token}
 use Rattle.c2po_tree.specs.declared.operator.Operator.{Operator}
 use Rattle.c2po_tree.specs.declared.operator.Operator.TheVariants.{Binary, Field}
-use Rattle.spec_tree.specs.declared.operator.Bracket.{Bracket}
-use Rattle.spec_tree.specs.declared.operator.Quantifier.{Quantifier}
-use Rattle.spec_tree.specs.declared.operator.Prefix.{Prefix}
-use Rattle.spec_tree.specs.Shape.{Shape, pick}
+use Rattle.c2po_ast.specs.declared.operator.Bracket.{Bracket}
+use Rattle.c2po_ast.specs.declared.operator.Quantifier.{Quantifier}
+use Rattle.c2po_ast.specs.declared.operator.Prefix.{Prefix}
+use Rattle.c2po_ast.specs.Shape.{Shape, pick}
 use Rattle.c2po_tree.specs.Tokens.{right_level}
-use Rattle.spec_tree.specs.Parts.{joined, prefixed}
+use Rattle.c2po_ast.specs.Parts.{joined, prefixed}
 use Rattle.c2po_tree.specs.Fronts.{◌>>=◌, past, operator_at, start_at, middle_at, level_of}
-use Rattle.spec_tree.specs.Parts.{enclosed, quantified, leaf}
+use Rattle.c2po_ast.specs.Parts.{enclosed, quantified, leaf}
 use Rattle.c2po_tree.specs.Fronts.{prefix_level, closing}
 use Rattle.c2po_tree.specs.Splitting.{at_end}
 use Rattle.c2po_tree.specs.declared.operator.Start.{Start}

@@ -15,17 +15,17 @@ use Rattle.c2po_lexer.specs.declared.token.Keyword.TheVariants as keyword
 use Rattle.c2po_lexer.specs.declared.token.What.{What}
 use Rattle.c2po_lexer.specs.declared.token.What.TheVariants as what
 use Rattle.c2po_lexer.specs.declared.token.Token.{Token}
-use Rattle.spec_tree.specs.declared.operator.Infix.{Infix}
-use Rattle.spec_tree.specs.declared.operator.Infix.TheVariants.{Logic, Between, Compare, Arith}
+use Rattle.c2po_ast.specs.declared.operator.Infix.{Infix}
+use Rattle.c2po_ast.specs.declared.operator.Infix.TheVariants.{Logic, Between, Compare, Arith}
 use Rattle.c2po_tree.specs.declared.operator.Operator.{Operator}
 use Rattle.c2po_tree.specs.declared.operator.Operator.TheVariants.{Binary, Field}
-use Rattle.spec_tree.specs.declared.operator.Prefix.{Prefix}
-use Rattle.spec_tree.specs.declared.operator.Prefix.TheVariants.{Not, Minus, Window}
-use Rattle.spec_tree.specs.declared.operator.Quantifier.{Quantifier}
-use Rattle.spec_tree.specs.declared.operator.Quantifier.TheVariants.{Each, Exists, Count}
-use Rattle.spec_tree.specs.declared.operator.Bracket.{Bracket}
-use Rattle.spec_tree.specs.declared.operator.Bracket.TheVariants.{Curly, Call}
-use Rattle.spec_tree.specs.declared.operator.Atom.TheVariants.{Number, Truth, Ref}
+use Rattle.c2po_ast.specs.declared.operator.Prefix.{Prefix}
+use Rattle.c2po_ast.specs.declared.operator.Prefix.TheVariants.{Not, Minus, Window}
+use Rattle.c2po_ast.specs.declared.operator.Quantifier.{Quantifier}
+use Rattle.c2po_ast.specs.declared.operator.Quantifier.TheVariants.{Each, Exists, Count}
+use Rattle.c2po_ast.specs.declared.operator.Bracket.{Bracket}
+use Rattle.c2po_ast.specs.declared.operator.Bracket.TheVariants.{Curly, Call}
+use Rattle.c2po_ast.specs.declared.operator.Atom.TheVariants.{Number, Truth, Ref}
 use Rattle.c2po_tree.specs.declared.operator.Start.{Start}
 use Rattle.c2po_tree.specs.declared.operator.Start.TheVariants.{Leaf, Before, Round, Open, Bind}
 use Rattle.c2po_tree.specs.Tokens.{is_sign}

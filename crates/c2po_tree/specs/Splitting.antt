@@ -5,12 +5,12 @@ use Rattle.c2po_lexer.specs.declared.token.Sign.TheVariants as sign
 use Rattle.c2po_lexer.specs.declared.token.Token.{Token}
 use Rattle.c2po_tree.specs.declared.operator.Operator.{Operator}
 use Rattle.c2po_tree.specs.declared.operator.Operator.TheVariants.{Binary, Field}
-use Rattle.spec_tree.specs.Shape.{Shape, pick}
+use Rattle.c2po_ast.specs.Shape.{Shape, pick}
 use Rattle.c2po_tree.specs.Tokens.{level_after, ends_operand, depth_after, is_separator, is_right_level}
 use Rattle.c2po_tree.specs.Tokens.{is_prefix_level, left_level, right_level}
-use Rattle.spec_tree.specs.Parts.{joined, prefixed}
+use Rattle.c2po_ast.specs.Parts.{joined, prefixed}
 use Rattle.c2po_tree.specs.Fronts.{◌>>=◌, past, operator_at, start_at, middle_at, prefix_level}
-use Rattle.spec_tree.specs.Parts.{enclosed, quantified, leaf}
+use Rattle.c2po_ast.specs.Parts.{enclosed, quantified, leaf}
 use Rattle.c2po_tree.specs.Fronts.{closing}
 use Rattle.c2po_tree.specs.declared.operator.Start.{Start}
 use Rattle.c2po_tree.specs.declared.operator.Start.TheVariants.{Leaf, Before, Round, Open, Bind}

@@ -2,7 +2,7 @@
 
 ghost use Rattle.std.specs.Prelude.{◌≡◌, ◌+◌, ◌<◌, ◌≤◌, length, suc, map, MatchResult};
 ghost use Rattle.c2po_tree.specs.declared.fault.TreeFault.TheVariants.{NoTree};
-ghost use Rattle.spec_tree.specs.Shape.{shape};
+ghost use Rattle.c2po_ast.specs.Shape.{shape};
 ghost use Rattle.c2po_tree.specs.Gives.{Gives};
 ghost use Rattle.c2po_tree.specs.Tokens.{right_level};
 ghost use Rattle.c2po_tree.specs.Splitting.{tree_of};
@@ -17,7 +17,7 @@ use crate::{Expr, TreeFault};
 use c2po_lexer::{Sign, Token};
 use mltl_base::Name;
 use mltl_base::limits::MAX_ITEM_TOKENS;
-use spec_tree::node::{enclose, leaf_of, quantify};
+use c2po_ast::node::{enclose, leaf_of, quantify};
 use std::alloc::Global;
 
 /// What is left of the room for nested steps after one step.

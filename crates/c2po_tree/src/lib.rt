@@ -3,7 +3,7 @@
 //! The tree of an expression is found by splitting its tokens at the loosest operator outside brackets, level by level:
 //! at the last one, or at the first for `->`. That definition stands in this crate's `specs/`, and `read_expression`
 //! gives its tree, though it goes through the tokens once, from the left, and climbs the levels. The trees themselves, their
-//! shapes and their copies stand in `spec_tree`, whose items this crate gives on.
+//! shapes and their copies stand in `c2po_ast`, whose items this crate gives on.
 //!
 //! ```text
 //! let tokens = lex(alloc, b"!a && b")?;
@@ -19,7 +19,7 @@ pub mod operator;
 
 pub use expression::read_expression;
 pub use fault::TreeFault;
-pub use spec_tree::{
+pub use c2po_ast::{
     Body, Expr, FieldDecl, Item, Node, SpecTree, TypeTree, copy_tree, copy_type, field_names, item,
     tree,
 };

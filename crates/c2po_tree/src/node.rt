@@ -1,8 +1,8 @@
 //! The making of trees from what was read, and the levels of operators.
 
 ghost use Rattle.std.specs.Prelude.{◌≡◌, ◌++◌, [], ◌∷◌, Some, map};
-ghost use Rattle.spec_tree.specs.Shape.{shape, pick};
-ghost use Rattle.spec_tree.specs.Parts.{joined, prefixed};
+ghost use Rattle.c2po_ast.specs.Shape.{shape, pick};
+ghost use Rattle.c2po_ast.specs.Parts.{joined, prefixed};
 ghost use Rattle.c2po_tree.specs.Fronts.{prefix_level, infix_level, closing, level_of};
 ghost use Rattle.c2po_tree.specs.Gives.{Gives};
 
@@ -10,7 +10,7 @@ use crate::operator::{Bracket, Infix, Operator, Prefix};
 use crate::{Expr, Node, TreeFault};
 use c2po_lexer::Sign;
 use mltl_base::{ArithOp, LogicOp, Name};
-use spec_tree::node::{joined_by, prefixed_by};
+use c2po_ast::node::{joined_by, prefixed_by};
 use std::alloc::Global;
 
 /// Two operands put into boxes and joined by an operator.

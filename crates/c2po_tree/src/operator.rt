@@ -1,7 +1,7 @@
 //! What tokens can begin: the start of an operand, and the operator after one.
 
 use mltl_base::Name;
-pub use spec_tree::operator::{Atom, Bracket, Infix, Prefix, Quantifier};
+pub use c2po_ast::operator::{Atom, Bracket, Infix, Prefix, Quantifier};
 
 /// What goes on after an operand: an operator with its line, or a picked field with the line of its name.
 #[derive(Drop)]

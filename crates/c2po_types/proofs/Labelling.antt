@@ -8,8 +8,8 @@ use Rattle.std.proofs.lemmas.List.{length-append}
 use Rattle.std.proofs.lemmas.Fmt.{decimal_by_steps}
 use Rattle.std.proofs.lemmas.List.Elements.{All-nil, All-cons, All-push, All-append}
 use Rattle.mltl_base.specs.Letters.{is_in_word}
-use Rattle.spec_tree.specs.Names.{IsPlainName, IsPlainLabel, IsPlainBody, ArePlainItems}
-use Rattle.spec_tree.specs.ItemShape.{BodyShape, ItemShape, structure, input, define, formula, contract}
+use Rattle.c2po_ast.specs.Names.{IsPlainName, IsPlainLabel, IsPlainBody, ArePlainItems}
+use Rattle.c2po_ast.specs.ItemShape.{BodyShape, ItemShape, structure, input, define, formula, contract}
 use Rattle.c2po_types.specs.Outputs.{Place, before, name_of, asked_at, place_after, asked_from, outputs_of, HasPlainName}
 
 digit_in_word : (d : ℕ) → d < 10 → is_in_word (48 + d) ≡ true

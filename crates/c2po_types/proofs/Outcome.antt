@@ -4,22 +4,22 @@ use Rattle.std.specs.Prelude.{All}
 use Rattle.std.proofs.lemmas.List.{append-nil}
 use Rattle.std.proofs.Math.ListN.{drop_of_length-le}
 use Rattle.std.proofs.Math.Numerals.{suc-eq-add-one}
-use Rattle.spec_tree.specs.ItemShape.{ItemShape, item_shape}
+use Rattle.c2po_ast.specs.ItemShape.{ItemShape, item_shape}
 use Rattle.mltl_base.specs.declared.signal.Signal.{Signal}
 use Rattle.c2po_kinds.specs.declared.fault.TypeFault.{TypeFault}
 use Rattle.c2po_kinds.specs.declared.fault.TypeFault.TheVariants.{Memory}
 use Rattle.c2po_kinds.specs.Checking.{Fails, in_turn}
 use Rattle.c2po_kinds.proofs.Turns.{drop-first, turn-map}
-use Rattle.spec_tree.specs.declared.item.Item.{Item}
+use Rattle.c2po_ast.specs.declared.item.Item.{Item}
 use Rattle.c2po_types.specs.declared.progress.Progress.{Progress}
 use Rattle.c2po_types.specs.Reaching.{state_of}
-use Rattle.unfold.specs.Environment.{Env, no_names, declare, value, signal_value}
+use Rattle.c2po_unfold.specs.Environment.{Env, no_names, declare, value, signal_value}
 use Rattle.c2po_types.specs.FirstFault.{State, start, item_step, checked, fault_of, first_fault, with_signals}
 use Rattle.mltl_base.specs.Subformulas.{IsTensed}
-use Rattle.plain_nodes.specs.declared.nodes.Expanded.{Expanded}
-use Rattle.plain_nodes.specs.Nodes.{trees, AreSound}
-use Rattle.plain_nodes.specs.Outputs.{NamesFormulas, asked_by, asked, IsSound}
-use Rattle.unfold.specs.Holding.{nodes_of}
+use Rattle.c2po_nodes.specs.declared.nodes.Expanded.{Expanded}
+use Rattle.c2po_nodes.specs.Nodes.{trees, AreSound}
+use Rattle.c2po_nodes.specs.Outputs.{NamesFormulas, asked_by, asked, IsSound}
+use Rattle.c2po_unfold.specs.Holding.{nodes_of}
 use Rattle.c2po_types.specs.Outputs.{asked_from, outputs_of}
 use Rattle.c2po_types.specs.Signals.{signals_of}
 use Rattle.c2po_types.specs.Unfolded.{Leaves}

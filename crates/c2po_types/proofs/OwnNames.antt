@@ -7,9 +7,9 @@ use Rattle.std.proofs.lemmas.Bool.Decides.{nat_tests}
 use Rattle.std.proofs.lemmas.List.{length-append}
 use Rattle.std.proofs.lemmas.Slice.Eq.{bytes_eq-Decides}
 use Rattle.mltl_base.specs.declared.limits.TheConstants.{MAX_SIGNALS}
-use Rattle.unfold.specs.Tables.{Table, entry_of, is_named}
-use Rattle.plain_nodes.proofs.Places.{at_push}
-use Rattle.spec_tree.specs.ItemShape.{FieldShape, TypeShape, BodyShape, ItemShape, structure, input, define, formula, contract}
+use Rattle.c2po_unfold.specs.Tables.{Table, entry_of, is_named}
+use Rattle.c2po_nodes.proofs.Places.{at_push}
+use Rattle.c2po_ast.specs.ItemShape.{FieldShape, TypeShape, BodyShape, ItemShape, structure, input, define, formula, contract}
 use Rattle.c2po_kinds.specs.declared.kind.Meaning.{Meaning}
 use Rattle.c2po_kinds.specs.declared.kind.Meaning.TheVariants.{Struct, Value}
 use Rattle.mltl_base.specs.declared.signal.Signal.{Signal}
@@ -18,9 +18,9 @@ use Rattle.c2po_kinds.specs.declared.fault.TypeFault.TheVariants.{Twice}
 use Rattle.c2po_kinds.specs.Checking.{◌>>=◌, in_turn}
 use Rattle.c2po_kinds.specs.Items.{Labels, with_field, signal_kind, type_kind, signal_truth, with_struct, with_signal, with_input, define_kind, with_value, with_label, formula_kind, contract_kind}
 use Rattle.mltl_base.specs.Ranges.{NoRange}
-use Rattle.unfold.specs.Environment.{value_of}
-use Rattle.unfold.specs.Values as values
-use Rattle.unfold.specs.Faults.{value_fault}
+use Rattle.c2po_unfold.specs.Environment.{value_of}
+use Rattle.c2po_unfold.specs.Values as values
+use Rattle.c2po_unfold.specs.Faults.{value_fault}
 use Rattle.c2po_types.specs.FirstFault.{State, start, with_out, body_step, item_step, checked, first_fault}
 use Rattle.c2po_types.specs.Signals.{signals_of}
 use Rattle.c2po_types.proofs.Parts.{is-ok, bind-ok, unless-ok, when-ok, when_ranged-ok, ok-inj}

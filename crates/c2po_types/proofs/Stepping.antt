@@ -8,24 +8,24 @@ use Rattle.mltl_base.specs.declared.interval.Engine.{Engine}
 use Rattle.mltl_base.specs.Formula.{Formula}
 use Rattle.mltl_base.specs.Reports as output
 use Rattle.mltl_base.specs.Subformulas.{Asked}
-use Rattle.plain_nodes.specs.declared.nodes.Plain.{Plain}
-use Rattle.plain_nodes.specs.declared.nodes.Plain.TheVariants.{Truth, Flag, Number, Signal, Minus, Arith, Compare, Not, Logic, Window, Between}
-use Rattle.plain_nodes.specs.declared.nodes.PlainOut.{PlainOut}
-use Rattle.plain_nodes.specs.declared.nodes.PlainOut.TheVariants as out
-use Rattle.plain_nodes.specs.Nodes.{Tree, formula, formula_at, trees, Has, Grows, IsFormed, AreSound}
-use Rattle.plain_nodes.specs.Outputs.{NamesFormulas, asked_by}
-use Rattle.plain_nodes.proofs.Pushing.{formula_in_place, is_formula}
-use Rattle.spec_tree.specs.declared.item.Item.{Item}
-use Rattle.spec_tree.specs.Shape.{Shape}
-use Rattle.spec_tree.specs.ItemShape as item
-use Rattle.spec_tree.specs.ItemShape.{BodyShape, ItemShape, item_shape}
+use Rattle.c2po_nodes.specs.declared.nodes.Plain.{Plain}
+use Rattle.c2po_nodes.specs.declared.nodes.Plain.TheVariants.{Truth, Flag, Number, Signal, Minus, Arith, Compare, Not, Logic, Window, Between}
+use Rattle.c2po_nodes.specs.declared.nodes.PlainOut.{PlainOut}
+use Rattle.c2po_nodes.specs.declared.nodes.PlainOut.TheVariants as out
+use Rattle.c2po_nodes.specs.Nodes.{Tree, formula, formula_at, trees, Has, Grows, IsFormed, AreSound}
+use Rattle.c2po_nodes.specs.Outputs.{NamesFormulas, asked_by}
+use Rattle.c2po_nodes.proofs.Pushing.{formula_in_place, is_formula}
+use Rattle.c2po_ast.specs.declared.item.Item.{Item}
+use Rattle.c2po_ast.specs.Shape.{Shape}
+use Rattle.c2po_ast.specs.ItemShape as item
+use Rattle.c2po_ast.specs.ItemShape.{BodyShape, ItemShape, item_shape}
 use Rattle.c2po_kinds.proofs.Turns.{drop-first}
 use Rattle.c2po_types.specs.Signals.{body_signals}
-use Rattle.unfold.specs.declared.unfolding.Unfolded.{Unfolded}
-use Rattle.unfold.specs.declared.unfolding.Unfolding.{Unfolding}
-use Rattle.unfold.specs.Environment.{no_names, value_of}
-use Rattle.unfold.specs.Values.{formula_of}
-use Rattle.unfold.specs.Holding.{StandsFor, nodes_of}
+use Rattle.c2po_unfold.specs.declared.unfolding.Unfolded.{Unfolded}
+use Rattle.c2po_unfold.specs.declared.unfolding.Unfolding.{Unfolding}
+use Rattle.c2po_unfold.specs.Environment.{no_names, value_of}
+use Rattle.c2po_unfold.specs.Values.{formula_of}
+use Rattle.c2po_unfold.specs.Holding.{StandsFor, nodes_of}
 use Rattle.c2po_types.specs.declared.progress.Progress.{Progress}
 use Rattle.c2po_types.specs.Outputs.{Place, before, name_of, values_after, asked_at, place_after, asked_from, outputs_of}
 use Rattle.c2po_types.specs.Unfolded.{AskFor, StandsAt, HasUnfolded, Leaves}

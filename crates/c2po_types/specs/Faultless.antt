@@ -1,11 +1,11 @@
 -- Specifications without a fault.
 
 use Rattle.std.specs.Prelude.{◌≡◌, List, None, length}
-use Rattle.spec_tree.specs.ItemShape.{ItemShape}
-use Rattle.spec_tree.specs.Names.{ArePlainItems}
+use Rattle.c2po_ast.specs.ItemShape.{ItemShape}
+use Rattle.c2po_ast.specs.Names.{ArePlainItems}
 use Rattle.mltl_base.specs.declared.signal.Signal.{Signal}
-use Rattle.plain_nodes.specs.declared.nodes.Expanded.{Expanded}
-use Rattle.plain_nodes.specs.Outputs.{IsSound, asked}
+use Rattle.c2po_nodes.specs.declared.nodes.Expanded.{Expanded}
+use Rattle.c2po_nodes.specs.Outputs.{IsSound, asked}
 use Rattle.c2po_types.specs.FirstFault.{first_fault}
 use Rattle.c2po_types.specs.Outputs.{outputs_of}
 use Rattle.c2po_types.specs.Signals.{signals_of}

@@ -8,9 +8,9 @@ use Rattle.mltl_base.specs.declared.interval.Engine.{Engine}
 use Rattle.mltl_base.specs.declared.interval.Engine.TheVariants.{Ft, Pt}
 use Rattle.mltl_base.specs.Formula.{Formula}
 use Rattle.mltl_base.specs.Ranges.{NoRange, divisor, wide}
-use Rattle.spec_tree.specs.Shape.{Shape}
-use Rattle.spec_tree.specs.ItemShape.{TypeShape, FieldShape, BodyShape, ItemShape, structure, input, define, formula}
-use Rattle.spec_tree.specs.ItemShape.{contract}
+use Rattle.c2po_ast.specs.Shape.{Shape}
+use Rattle.c2po_ast.specs.ItemShape.{TypeShape, FieldShape, BodyShape, ItemShape, structure, input, define, formula}
+use Rattle.c2po_ast.specs.ItemShape.{contract}
 use Rattle.mltl_base.specs.declared.signal.Signal.{Signal}
 use Rattle.c2po_kinds.specs.declared.declarations.Declarations.{Declarations}
 use Rattle.c2po_kinds.specs.declared.fault.TypeFault.{TypeFault}
@@ -18,11 +18,11 @@ use Rattle.c2po_kinds.specs.declared.fault.TypeFault.TheVariants as fault
 use Rattle.c2po_kinds.specs.Checking.{Checked, ◌>>=◌, in_turn}
 use Rattle.c2po_kinds.specs.Items.{Labels, nothing, with_struct, with_input, define_kind, with_value, with_label}
 use Rattle.c2po_kinds.specs.Items.{formula_kind, contract_kind}
-use Rattle.plain_nodes.specs.Faults.{formula_fault, or_later}
-use Rattle.plain_nodes.specs.Tenses.{has_past, has_future}
-use Rattle.unfold.specs.Environment.{Env, no_names, declare, fields, value, signal_value, value_of}
-use Rattle.unfold.specs.Values.{Value, weight, formula_of}
-use Rattle.unfold.specs.Faults.{value_fault}
+use Rattle.c2po_nodes.specs.Faults.{formula_fault, or_later}
+use Rattle.c2po_nodes.specs.Tenses.{has_past, has_future}
+use Rattle.c2po_unfold.specs.Environment.{Env, no_names, declare, fields, value, signal_value, value_of}
+use Rattle.c2po_unfold.specs.Values.{Value, weight, formula_of}
+use Rattle.c2po_unfold.specs.Faults.{value_fault}
 
 -- What is known after some items: what they declare, the names of outputs, what names stand for, and the weight of the
 -- outputs together.

@@ -3,11 +3,11 @@
 use Rattle.std.specs.Prelude.{ℕ, ◌+◌, Option, Some, None, List, [], ◌∷◌, ◌++◌, length, map, decimal}
 use Rattle.mltl_base.specs.Reports.{formula, contract}
 use Rattle.mltl_base.specs.Subformulas.{Asked}
-use Rattle.spec_tree.specs.ItemShape as item
-use Rattle.spec_tree.specs.ItemShape.{BodyShape, ItemShape}
-use Rattle.spec_tree.specs.Names.{IsPlainName}
-use Rattle.unfold.specs.Values.{formula_of}
-use Rattle.unfold.specs.Environment.{Env, no_names, declare, fields, value, value_of}
+use Rattle.c2po_ast.specs.ItemShape as item
+use Rattle.c2po_ast.specs.ItemShape.{BodyShape, ItemShape}
+use Rattle.c2po_ast.specs.Names.{IsPlainName}
+use Rattle.c2po_unfold.specs.Values.{formula_of}
+use Rattle.c2po_unfold.specs.Environment.{Env, no_names, declare, fields, value, value_of}
 use Rattle.c2po_types.specs.FirstFault.{with_signals}
 use Rattle.c2po_types.specs.Signals.{body_signals}
 

@@ -3,7 +3,7 @@
 use Rattle.std.specs.Prelude.{Bool, false, List, [], codes, map}
 use Rattle.std.specs.List.{flat_map}
 use Rattle.std.specs.Str.{bytes_eq}
-use Rattle.spec_tree.specs.ItemShape.{TypeShape, BodyShape, ItemShape, type_named, set_of, input}
+use Rattle.c2po_ast.specs.ItemShape.{TypeShape, BodyShape, ItemShape, type_named, set_of, input}
 use Rattle.mltl_base.specs.declared.signal.Signal.{Signal}
 
 -- whether a type is that of truths

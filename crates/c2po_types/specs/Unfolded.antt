@@ -2,14 +2,14 @@
 
 use Rattle.std.specs.Prelude.{ℕ, ◌≡◌, List, ◌++◌, length, map, All, OnOk, ⊤}
 use Rattle.mltl_base.specs.Subformulas.{Asked}
-use Rattle.plain_nodes.specs.declared.nodes.Plain.{Plain}
-use Rattle.plain_nodes.specs.declared.nodes.PlainOut.{PlainOut}
-use Rattle.plain_nodes.specs.Nodes.{trees, AreSound}
-use Rattle.plain_nodes.specs.Outputs.{asked_by, NamesFormulas}
-use Rattle.spec_tree.specs.ItemShape.{BodyShape, ItemShape}
+use Rattle.c2po_nodes.specs.declared.nodes.Plain.{Plain}
+use Rattle.c2po_nodes.specs.declared.nodes.PlainOut.{PlainOut}
+use Rattle.c2po_nodes.specs.Nodes.{trees, AreSound}
+use Rattle.c2po_nodes.specs.Outputs.{asked_by, NamesFormulas}
+use Rattle.c2po_ast.specs.ItemShape.{BodyShape, ItemShape}
 use Rattle.c2po_kinds.specs.Checking.{Checked}
-use Rattle.unfold.specs.declared.unfolding.Unfolding.{Unfolding}
-use Rattle.unfold.specs.Holding.{StandsFor, nodes_of}
+use Rattle.c2po_unfold.specs.declared.unfolding.Unfolding.{Unfolding}
+use Rattle.c2po_unfold.specs.Holding.{StandsFor, nodes_of}
 use Rattle.c2po_types.specs.declared.progress.Progress.{Progress}
 use Rattle.c2po_types.specs.Outputs.{Place, place_after, asked_at, asked_from, outputs_of}
 

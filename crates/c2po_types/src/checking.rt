@@ -1,8 +1,8 @@
 //! The check of a whole specification.
 
 ghost use Rattle.std.specs.Prelude.{◌≡◌, ◌≢◌, [], None, Some, map, IfOk, IfErr, OnOk};
-ghost use Rattle.spec_tree.specs.Names.{ArePlainItems};
-ghost use Rattle.spec_tree.specs.ItemShape.{item_shape, spec_shape};
+ghost use Rattle.c2po_ast.specs.Names.{ArePlainItems};
+ghost use Rattle.c2po_ast.specs.ItemShape.{item_shape, spec_shape};
 ghost use Rattle.c2po_types.specs.FirstFault.{checked, first_fault};
 ghost use Rattle.c2po_types.specs.Reaching.{Comes};
 ghost use Rattle.c2po_types.specs.Unfolded.{Leaves};
@@ -10,8 +10,8 @@ ghost use Rattle.c2po_types.specs.Unfolded.{Leaves};
 use crate::TypedSpec;
 use crate::progress::Progress;
 use c2po_kinds::TypeFault;
-use plain_nodes::Expanded;
-use spec_tree::{Item, SpecTree, copy_tree};
+use c2po_nodes::Expanded;
+use c2po_ast::{Item, SpecTree, copy_tree};
 use std::alloc::Global;
 
 /// What is known after all items.

@@ -3,7 +3,7 @@
 
 ghost use Rattle.std.specs.Prelude.{◌≡◌, ◌≤◌, None, List as Seq, length};
 ghost use Rattle.mltl_base.specs.declared.limits.TheConstants.{MAX_SIGNALS};
-ghost use Rattle.spec_tree.specs.ItemShape.{ItemShape};
+ghost use Rattle.c2po_ast.specs.ItemShape.{ItemShape};
 ghost use Rattle.c2po_types.specs.FirstFault.{first_fault};
 ghost use Rattle.c2po_types.specs.Signals.{signals_of};
 ghost use Rattle.mltl_base.specs.Kinds.{HaveOwnNames};

@@ -1,16 +1,16 @@
 //! How far the check of a specification has come.
 
 ghost use Rattle.std.specs.Prelude.{◌≡◌, []};
-ghost use Rattle.unfold.specs.Environment.{no_names};
-ghost use Rattle.unfold.specs.Holding.{StandsFor};
+ghost use Rattle.c2po_unfold.specs.Environment.{no_names};
+ghost use Rattle.c2po_unfold.specs.Holding.{StandsFor};
 ghost use Rattle.c2po_types.specs.FirstFault.{start};
 ghost use Rattle.c2po_types.specs.Outputs.{before};
 
 use c2po_kinds::{Declarations, NameTable};
 use mltl_base::List;
-use plain_nodes::PlainOut;
+use c2po_nodes::PlainOut;
 use std::alloc::Global;
-use unfold::Unfolding;
+use c2po_unfold::Unfolding;
 
 /// What is known after some items.
 #[derive(Drop)]

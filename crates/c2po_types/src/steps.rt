@@ -5,13 +5,13 @@ ghost use Rattle.mltl_base.specs.declared.limits.TheConstants.{MAX_WEIGHT};
 ghost use Rattle.mltl_base.specs.Ranges.{NoRange as Why};
 ghost use Rattle.mltl_base.specs.Subformulas.{Asked};
 ghost use Rattle.mltl_ranges.specs.Answers.{reason};
-ghost use Rattle.spec_tree.specs.Shape.{Shape, shape};
-ghost use Rattle.spec_tree.specs.ItemShape.{body_shape, contract, define, field_shape, formula, input, item_shape, structure, type_shape};
-ghost use Rattle.plain_nodes.specs.Facts.{told_fault};
-ghost use Rattle.plain_nodes.specs.Nodes.{AreSound, Grows, Has, formula as formula_tree};
-ghost use Rattle.unfold.specs.Environment.{Env, value_of};
-ghost use Rattle.unfold.specs.Holding.{StandsFor, Unfolds, nodes_of};
-ghost use Rattle.unfold.specs.Values.{Value, formula_of};
+ghost use Rattle.c2po_ast.specs.Shape.{Shape, shape};
+ghost use Rattle.c2po_ast.specs.ItemShape.{body_shape, contract, define, field_shape, formula, input, item_shape, structure, type_shape};
+ghost use Rattle.c2po_nodes.specs.Facts.{told_fault};
+ghost use Rattle.c2po_nodes.specs.Nodes.{AreSound, Grows, Has, formula as formula_tree};
+ghost use Rattle.c2po_unfold.specs.Environment.{Env, value_of};
+ghost use Rattle.c2po_unfold.specs.Holding.{StandsFor, Unfolds, nodes_of};
+ghost use Rattle.c2po_unfold.specs.Values.{Value, formula_of};
 ghost use Rattle.c2po_types.specs.FirstFault.{item_step, struct_step, input_step, define_step, formula_step, contract_step, one_out, two_out, with_out, other_tense, range_fault, with_signals};
 ghost use Rattle.c2po_types.specs.Outputs.{Place, asked_at, place_after, name_of};
 ghost use Rattle.c2po_types.specs.Reaching.{Reaches, state_of, unfold_fault};
@@ -23,10 +23,10 @@ use c2po_kinds::{Signal, TypeFault, check_contract, check_define, check_formula,
 use mltl_base::limits::MAX_WEIGHT;
 use mltl_base::{Engine, List, Name};
 use mltl_ranges::NoRange;
-use plain_nodes::{PlainOut, Tenses, first_fault};
-use spec_tree::{Body, Expr, FieldDecl, Item, TypeTree, field_names};
+use c2po_nodes::{PlainOut, Tenses, first_fault};
+use c2po_ast::{Body, Expr, FieldDecl, Item, TypeTree, field_names};
 use std::alloc::Global;
-use unfold::{UnfoldFault, Unfolded, Unfolding};
+use c2po_unfold::{UnfoldFault, Unfolded, Unfolding};
 
 /// The fault of an item that isn't unfolded.
 fn too_wide(line: u32, why: UnfoldFault) -> TypeFault

@@ -3,18 +3,18 @@
 ghost use Rattle.std.specs.Prelude.{◌≡◌, ◌≤◌, None, All, length};
 ghost use Rattle.mltl_base.specs.declared.limits.TheConstants.{MAX_SIGNALS};
 ghost use Rattle.mltl_base.specs.Kinds.{HaveOwnNames};
-ghost use Rattle.spec_tree.specs.ItemShape.{spec_shape};
-ghost use Rattle.spec_tree.specs.Names.{ArePlainItems};
-ghost use Rattle.plain_nodes.specs.Faults.{HasRanges};
-ghost use Rattle.plain_nodes.specs.Outputs.{IsSound, asked};
+ghost use Rattle.c2po_ast.specs.ItemShape.{spec_shape};
+ghost use Rattle.c2po_ast.specs.Names.{ArePlainItems};
+ghost use Rattle.c2po_nodes.specs.Faults.{HasRanges};
+ghost use Rattle.c2po_nodes.specs.Outputs.{IsSound, asked};
 ghost use Rattle.c2po_types.specs.FirstFault.{first_fault};
 ghost use Rattle.c2po_types.specs.Outputs.{HasPlainName, outputs_of};
 ghost use Rattle.c2po_types.specs.Signals.{signals_of};
 
 use c2po_kinds::Signal;
 use mltl_base::List;
-use plain_nodes::Expanded;
-use spec_tree::SpecTree;
+use c2po_nodes::Expanded;
+use c2po_ast::SpecTree;
 use std::marker::Model;
 
 /// A specification without a fault, which contracts see as its tree.
@@ -26,10 +26,10 @@ pub struct TypedSpec {
 }
 
 impl Model for TypedSpec {
-    ghost use Rattle.spec_tree.specs.declared.item.SpecTree.{SpecTree as Tree};
-    ghost use Rattle.spec_tree.specs.contracts.item.TypeTree as types;
-    ghost use Rattle.spec_tree.specs.contracts.tree.Expr as exprs;
-    ghost use Rattle.spec_tree.specs.ItemShape.{spec_shape};
+    ghost use Rattle.c2po_ast.specs.declared.item.SpecTree.{SpecTree as Tree};
+    ghost use Rattle.c2po_ast.specs.contracts.item.TypeTree as types;
+    ghost use Rattle.c2po_ast.specs.contracts.tree.Expr as exprs;
+    ghost use Rattle.c2po_ast.specs.ItemShape.{spec_shape};
     ghost use Rattle.c2po_types.specs.Faultless.{IsFaultless};
     ghost use Rattle.std.specs.Coded.{codes};
 

@@ -10,7 +10,7 @@ use crate::graph::GraphFault;
 use crate::vertex::Vertex;
 use crate::walk::completion;
 use mltl_base::{Engine, Part};
-use plain_nodes::PlainOut;
+use c2po_nodes::PlainOut;
 use std::alloc::{AllocError, Global};
 
 /// The vertices of a part in order, and for each vertex of the forest its place in that order.

@@ -8,7 +8,7 @@ use crate::forest::Forest;
 use crate::listing::Listing;
 use crate::vertex::Vertex;
 use mltl_base::{ArithOp, BzOp, Engine, FtOp, List, Out, PtOp};
-use plain_nodes::PlainOut;
+use c2po_nodes::PlainOut;
 use std::alloc::{AllocError, Global};
 
 /// The instructions of the Booleanizer.

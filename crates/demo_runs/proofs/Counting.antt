@@ -16,8 +16,8 @@ use Rattle.mltl_base.specs.Formula.{truth}
 use Rattle.mltl_base.specs.Programs.{output_of, outputs}
 use Rattle.mltl_base.specs.Reports.{IsRising, Output, formula, reports, reports_after, same_word}
 use Rattle.mltl_base.proofs.Telling.{reports_push, reports_rise}
-use Rattle.mltl_monitor.specs.declared.state.State.{State}
-use Rattle.mltl_monitor.specs.Monitoring.{IsDrained, Stands, TakesRow, open_of, program_of}
+use Rattle.r2u2_monitor.specs.declared.state.State.{State}
+use Rattle.r2u2_monitor.specs.Monitoring.{IsDrained, Stands, TakesRow, open_of, program_of}
 use Rattle.demo_runs.specs.declared.tally.Tally.{Tally}
 use Rattle.demo_runs.specs.Tallies.{AreCounted, AreTallies, count_in, count_of, none}
 

@@ -7,19 +7,19 @@ use Rattle.mltl_base.specs.declared.program.Program.{Program}
 use Rattle.mltl_base.specs.declared.signal.Signal.{Signal}
 use Rattle.c2po_lexer.specs.declared.token.Token.{Token}
 use Rattle.c2po_lexer.specs.Tokens.{tokens_of}
-use Rattle.spec_tree.specs.ItemShape.{ItemShape}
+use Rattle.c2po_ast.specs.ItemShape.{ItemShape}
 use Rattle.c2po_parse.specs.Specification.{spec_of}
 use Rattle.c2po_types.specs.FirstFault.{first_fault}
 use Rattle.c2po_types.specs.Signals.{signals_of}
 use Rattle.c2po_types.specs.Outputs.{outputs_of}
-use Rattle.mltl_monitor.specs.Header.{columns_in_order}
-use Rattle.spec_compile.specs.declared.fault.CompileFault.{CompileFault}
-use Rattle.spec_compile.specs.declared.fault.CompileFault.TheVariants.{Memory}
-use Rattle.spec_compile.specs.Compiled.{columns_by, image_of_text, outputs_in, signals_in}
-use Rattle.spec_compile.specs.Front.{first_refusal, items_in}
-use Rattle.spec_compile.specs.Image.{image, over_columns}
-use Rattle.spec_compile.specs.Limits.{limit_refusal}
-use Rattle.spec_compile.proofs.CompiledLaws.{compiled}
+use Rattle.r2u2_monitor.specs.Header.{columns_in_order}
+use Rattle.c2po_compile.specs.declared.fault.CompileFault.{CompileFault}
+use Rattle.c2po_compile.specs.declared.fault.CompileFault.TheVariants.{Memory}
+use Rattle.c2po_compile.specs.Compiled.{columns_by, image_of_text, outputs_in, signals_in}
+use Rattle.c2po_compile.specs.Front.{first_refusal, items_in}
+use Rattle.c2po_compile.specs.Image.{image, over_columns}
+use Rattle.c2po_compile.specs.Limits.{limit_refusal}
+use Rattle.c2po_compile.proofs.CompiledLaws.{compiled}
 use Rattle.demo_runs.specs.Text.{demo_outputs, demo_text}
 use Rattle.demo_runs.proofs.DemoTokens.{demo_tokens, tokens_found}
 use Rattle.demo_runs.proofs.DemoTrees.{demo_items, items_found}

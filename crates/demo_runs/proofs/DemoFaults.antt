@@ -3,8 +3,8 @@
 use Rattle.std.proofs.Common.{◌≡◌, refl}
 use Rattle.std.specs.Prelude.{None}
 use Rattle.mltl_base.specs.Ranges.{range}
-use Rattle.plain_nodes.specs.Faults.{formula_fault}
-use Rattle.plain_nodes.specs.Tenses.{has_past, has_future}
+use Rattle.c2po_nodes.specs.Faults.{formula_fault}
+use Rattle.c2po_nodes.specs.Tenses.{has_past, has_future}
 use Rattle.c2po_types.specs.FirstFault.{checked, first_fault}
 use Rattle.demo_runs.proofs.DemoTrees.{demo_items}
 

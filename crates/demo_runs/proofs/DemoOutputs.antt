@@ -7,9 +7,9 @@ use Rattle.mltl_base.specs.Formula.{core, formula_over, neg}
 use Rattle.mltl_base.specs.Queues.{greatest, numbered_after}
 use Rattle.mltl_base.specs.Subformulas.{add_expressions, add_subformulas, add_terms, listed, place_of, same, same_atom, same_expression, same_term}
 use Rattle.c2po_types.specs.Outputs.{asked_from, outputs_of}
-use Rattle.spec_compile.specs.Image.{over_columns}
-use Rattle.spec_compile.specs.Limits.{limit_refusal}
-use Rattle.mltl_monitor.specs.Header.{columns_in_order}
+use Rattle.c2po_compile.specs.Image.{over_columns}
+use Rattle.c2po_compile.specs.Limits.{limit_refusal}
+use Rattle.r2u2_monitor.specs.Header.{columns_in_order}
 use Rattle.demo_runs.specs.Text.{demo_outputs}
 use Rattle.demo_runs.proofs.DemoTrees.{demo_items}
 

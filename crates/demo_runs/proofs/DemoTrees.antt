@@ -7,8 +7,8 @@ use Rattle.mltl_base.specs.declared.operators.CompareOp.TheVariants.{Lt}
 use Rattle.mltl_base.specs.declared.operators.LogicOp.TheVariants.{Implies}
 use Rattle.mltl_base.specs.declared.operators.WindowOp.TheVariants.{F, G, O}
 use Rattle.c2po_lexer.specs.declared.token.Token.{Token}
-use Rattle.spec_tree.specs.Shape.{Shape, number, named, compare, logic, window}
-use Rattle.spec_tree.specs.ItemShape.{ItemShape, type_named, input, formula, contract}
+use Rattle.c2po_ast.specs.Shape.{Shape, number, named, compare, logic, window}
+use Rattle.c2po_ast.specs.ItemShape.{ItemShape, type_named, input, formula, contract}
 use Rattle.c2po_tree.specs.Fronts.{◌>>=◌, interval_at, operator_at, start_at, middle_at}
 use Rattle.c2po_tree.specs.Splitting.{tree_of}
 use Rattle.c2po_tree.specs.Climbing.{climb, climb_all}

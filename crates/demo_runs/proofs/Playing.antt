@@ -8,9 +8,9 @@ use Rattle.mltl_base.specs.declared.report.Style.TheVariants.{Each}
 use Rattle.mltl_base.specs.Atoms.{Row}
 use Rattle.mltl_base.specs.Programs.{IsFit, outputs}
 use Rattle.mltl_base.specs.Reports.{reports}
-use Rattle.mltl_monitor.specs.declared.state.State.{State}
-use Rattle.mltl_monitor.specs.Monitoring.{IsDrained, Stands, TakesRow, program_of, taken_by}
-use Rattle.spec_compile.specs.Compiled.{image_of_text}
+use Rattle.r2u2_monitor.specs.declared.state.State.{State}
+use Rattle.r2u2_monitor.specs.Monitoring.{IsDrained, Stands, TakesRow, program_of, taken_by}
+use Rattle.c2po_compile.specs.Compiled.{image_of_text}
 use Rattle.demo_runs.specs.declared.tally.Tally.{Tally}
 use Rattle.demo_runs.specs.DemoRow.{demo_row}
 use Rattle.demo_runs.specs.Played.{Played}

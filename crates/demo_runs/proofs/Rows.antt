@@ -15,10 +15,10 @@ use Rattle.mltl_base.specs.Formula.{core, formula_over, neg}
 use Rattle.mltl_base.specs.Programs.{FitsRow, IsFit, outputs}
 use Rattle.mltl_base.specs.Reports.{reports}
 use Rattle.mltl_base.specs.Subformulas.{add_expressions, add_terms, listed as is_listed, place_of, same_atom, same_expression, same_term}
-use Rattle.spec_compile.specs.declared.fault.CompileFault.{CompileFault}
-use Rattle.spec_compile.specs.Compiled.{image_of_text}
-use Rattle.spec_compile.specs.Image.{image}
-use Rattle.spec_compile.proofs.TellingLaws.{text_reports}
+use Rattle.c2po_compile.specs.declared.fault.CompileFault.{CompileFault}
+use Rattle.c2po_compile.specs.Compiled.{image_of_text}
+use Rattle.c2po_compile.specs.Image.{image}
+use Rattle.c2po_compile.proofs.TellingLaws.{text_reports}
 use Rattle.demo_runs.specs.DemoRow.{bit, demo_row, demo_value}
 use Rattle.demo_runs.specs.Summary.{demo_rows, demo_summary, listed, listed_out, summary_of}
 use Rattle.demo_runs.specs.Text.{demo_outputs, demo_text}

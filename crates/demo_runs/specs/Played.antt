@@ -1,9 +1,9 @@
 -- A monitor of the demo's text after some rows.
 
 use Rattle.std.specs.Prelude.{◌≡◌, ℕ, None, Ok, List}
-use Rattle.mltl_monitor.specs.declared.state.State.{State}
-use Rattle.mltl_monitor.specs.Monitoring.{IsDrained, Stands, program_of, taken_by}
-use Rattle.spec_compile.specs.Compiled.{image_of_text}
+use Rattle.r2u2_monitor.specs.declared.state.State.{State}
+use Rattle.r2u2_monitor.specs.Monitoring.{IsDrained, Stands, program_of, taken_by}
+use Rattle.c2po_compile.specs.Compiled.{image_of_text}
 use Rattle.demo_runs.specs.declared.tally.Tally.{Tally}
 use Rattle.demo_runs.specs.Summary.{demo_rows}
 use Rattle.demo_runs.specs.Tallies.{AreCounted}

@@ -13,9 +13,9 @@ use Rattle.mltl_base.specs.Lines.{word_text}
 use Rattle.mltl_base.specs.Programs.{name_of}
 use Rattle.mltl_base.specs.Reports.{Output, formula, contract, reports}
 use Rattle.mltl_base.specs.Subformulas.{Asked}
-use Rattle.mltl_monitor.specs.Header.{columns_in_order}
-use Rattle.spec_compile.specs.Compiled.{outputs_in}
-use Rattle.spec_compile.specs.Image.{plain_outputs}
+use Rattle.r2u2_monitor.specs.Header.{columns_in_order}
+use Rattle.c2po_compile.specs.Compiled.{outputs_in}
+use Rattle.c2po_compile.specs.Image.{plain_outputs}
 use Rattle.demo_runs.specs.DemoRow.{demo_row}
 use Rattle.demo_runs.specs.Tallies.{count_of}
 use Rattle.demo_runs.specs.Text.{demo_text}

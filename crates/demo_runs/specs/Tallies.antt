@@ -8,8 +8,8 @@ use Rattle.mltl_base.specs.declared.report.Word.TheVariants.{T, F, Inactive, Inv
 use Rattle.mltl_base.specs.Atoms.{Row}
 use Rattle.mltl_base.specs.Programs.{outputs}
 use Rattle.mltl_base.specs.Reports.{reports, same_word}
-use Rattle.mltl_monitor.specs.declared.state.State.{State}
-use Rattle.mltl_monitor.specs.Monitoring.{open_of, program_of}
+use Rattle.r2u2_monitor.specs.declared.state.State.{State}
+use Rattle.r2u2_monitor.specs.Monitoring.{open_of, program_of}
 use Rattle.demo_runs.specs.declared.tally.Tally.{Tally}
 
 -- how many reports of output k have a word

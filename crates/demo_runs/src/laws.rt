@@ -1,7 +1,7 @@
 //! What the demo's text says: the law is the contract of a function with an empty body.
 
 ghost use Rattle.std.specs.Prelude.{◌≡◌, None, IsOk};
-ghost use Rattle.spec_compile.specs.Compiled.{image_of_text, outputs_in};
+ghost use Rattle.c2po_compile.specs.Compiled.{image_of_text, outputs_in};
 ghost use Rattle.demo_runs.specs.Text.{demo_outputs};
 
 use crate::text::DEMO_TEXT;

@@ -2,8 +2,8 @@
 
 ghost use Rattle.std.specs.Prelude.{◌≡◌, ◌≢◌, Err, ◌+◌, ◌≤◌, ◌<◌, ◌^◌, ◌++◌, ◌∷◌, [], length, List as Seq, None, Ok, IfOk, OnOk};
 ghost use Rattle.mltl_base.specs.Atoms.{Row};
-ghost use Rattle.mltl_monitor.specs.Monitoring.{IsDrained, Stands, program_of, taken_by};
-ghost use Rattle.spec_compile.specs.Compiled.{image_of_text};
+ghost use Rattle.r2u2_monitor.specs.Monitoring.{IsDrained, Stands, program_of, taken_by};
+ghost use Rattle.c2po_compile.specs.Compiled.{image_of_text};
 ghost use Rattle.demo_runs.specs.Played.{Played};
 ghost use Rattle.demo_runs.specs.Summary.{demo_rows, demo_summary};
 ghost use Rattle.demo_runs.specs.Tallies.{AreCounted};
@@ -12,8 +12,8 @@ use crate::row::demo_row;
 use crate::summary::summary_of;
 use crate::tally::Tally;
 use crate::text::DEMO_TEXT;
-use mltl_monitor::Monitor;
-use spec_compile::{CompileFault, compile};
+use r2u2_monitor::Monitor;
+use c2po_compile::{CompileFault, compile};
 use std::alloc::{AllocError, Global};
 
 /// A demo that ran: its monitor, and how many reports each output has of each word.

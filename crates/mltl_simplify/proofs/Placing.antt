@@ -14,13 +14,13 @@ use Rattle.mltl_base.specs.declared.operators.WindowOp as window
 use Rattle.mltl_base.specs.declared.operators.BetweenOp as between
 use Rattle.mltl_base.specs.Atoms.{Term, is_true}
 use Rattle.mltl_base.specs.Formula as plain
-use Rattle.plain_nodes.specs.declared.nodes.Plain.{Plain}
-use Rattle.plain_nodes.specs.declared.nodes.Plain.TheVariants as node
-use Rattle.plain_nodes.specs.Faults.{formula_fault}
-use Rattle.plain_nodes.specs.Nodes.{Tree, number, formula, term_at, formula_at, tree_of, trees, arithmetic, comparison, connected, windowed, ranged, constant_formula, Has, Grows, IsNumber, IsFormula, IsFormed, AreSound}
-use Rattle.plain_nodes.proofs.NoFaults.{neither}
-use Rattle.plain_nodes.proofs.Places.{at_push}
-use Rattle.plain_nodes.proofs.Pushing.{has_new, grows_append, sound_push, number_at, is_number, formula_in_place, is_formula}
+use Rattle.c2po_nodes.specs.declared.nodes.Plain.{Plain}
+use Rattle.c2po_nodes.specs.declared.nodes.Plain.TheVariants as node
+use Rattle.c2po_nodes.specs.Faults.{formula_fault}
+use Rattle.c2po_nodes.specs.Nodes.{Tree, number, formula, term_at, formula_at, tree_of, trees, arithmetic, comparison, connected, windowed, ranged, constant_formula, Has, Grows, IsNumber, IsFormula, IsFormed, AreSound}
+use Rattle.c2po_nodes.proofs.NoFaults.{neither}
+use Rattle.c2po_nodes.proofs.Places.{at_push}
+use Rattle.c2po_nodes.proofs.Pushing.{has_new, grows_append, sound_push, number_at, is_number, formula_in_place, is_formula}
 use Rattle.mltl_simplify.specs.declared.proxies.Proxy.{Proxy}
 use Rattle.mltl_simplify.specs.Numbers.{compared}
 use Rattle.mltl_simplify.specs.Nodes as simplified

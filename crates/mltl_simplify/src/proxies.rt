@@ -1,12 +1,12 @@
 //! What each node of a specification becomes: one pass over the nodes, operands first.
 
 ghost use Rattle.std.specs.Prelude.{◌≡◌, ◌<◌, [], length, IfOk};
-ghost use Rattle.plain_nodes.specs.Nodes.{Has, Tree};
+ghost use Rattle.c2po_nodes.specs.Nodes.{Has, Tree};
 ghost use Rattle.mltl_simplify.specs.Nodes.{AreFormed, AreNumbered, AreSimplified, IsNumbered, Places, number_at as known_at, place_at as stands_at};
 
 use crate::numbers::{compared, computed, negated};
 use crate::rules::{between, connective, negation, window};
-use plain_nodes::{NodeList, Plain};
+use c2po_nodes::{NodeList, Plain};
 use std::alloc::{AllocError, Global};
 
 /// What a node became: the place of the node that stands for it, and its number, where it is a whole number without

@@ -3,13 +3,13 @@
 ghost use Rattle.std.specs.Prelude.{◌≡◌, ◌↔◌, ◌+◌, IsTrue, if◌then◌else◌, nat_le, None, Some, IfOk, slice_get};
 ghost use Rattle.mltl_base.specs.Formula.{Formula};
 ghost use Rattle.mltl_base.specs.declared.limits.TheConstants.{MAX_BOUND};
-ghost use Rattle.plain_nodes.specs.Nodes.{Has, IsBounded, formula};
+ghost use Rattle.c2po_nodes.specs.Nodes.{Has, IsBounded, formula};
 ghost use Rattle.mltl_simplify.specs.Nodes.{AreFormed, IsFormulaAt, KeepsNone, Puts, gives_truth, keeps_truth, simple_between, simple_logic, simple_window};
 ghost use Rattle.mltl_simplify.specs.Simplify.{joined as summed, simple_and, simple_equals, simple_implies, simple_not, simple_or, as_truth};
 
 use mltl_base::limits::MAX_BOUND;
 use mltl_base::{BetweenOp, Interval, LogicOp, WindowOp};
-use plain_nodes::{NodeList, Plain};
+use c2po_nodes::{NodeList, Plain};
 use std::alloc::AllocError;
 
 /// The truth that formula `n` is, if it is one.

@@ -5,15 +5,15 @@ ghost use Rattle.mltl_base.specs.Atoms.{Row};
 ghost use Rattle.mltl_base.specs.Formula.{Formula, wpd};
 ghost use Rattle.mltl_base.specs.Meaning.{sat};
 ghost use Rattle.mltl_base.specs.Settled.{IsOrdered, Settled};
-ghost use Rattle.plain_nodes.specs.Faults.{HasRanges};
-ghost use Rattle.plain_nodes.specs.Outputs.{IsSound, asked};
+ghost use Rattle.c2po_nodes.specs.Faults.{HasRanges};
+ghost use Rattle.c2po_nodes.specs.Outputs.{IsSound, asked};
 ghost use Rattle.mltl_simplify.specs.Nodes.{NamesNodes, out_over};
 ghost use Rattle.mltl_simplify.specs.Outputs.{simple_outputs};
 ghost use Rattle.mltl_simplify.specs.Simplify.{simp};
 
 use crate::proxies::{Proxy, place_at, read};
 use mltl_base::List;
-use plain_nodes::{Expanded, NodeList, PlainOut};
+use c2po_nodes::{Expanded, NodeList, PlainOut};
 use std::alloc::{AllocError, Global};
 
 /// An output over the places of the nodes that stand for its nodes.

@@ -21,19 +21,19 @@ use Rattle.tool_words.specs.R2u2Words.{RunAsked}
 use Rattle.tool_runs.specs.declared.status.Status.{Status}
 use Rattle.tool_runs.specs.declared.status.Status.TheVariants.{Done}
 use Rattle.tool_runs.specs.Files.{file_place}
-use Rattle.trace_watch.specs.Trace.{Clean}
-use Rattle.spec_compile.specs.Compiled.{columns_by, outputs_in, signals_in}
-use Rattle.spec_compile.specs.Image.{over_columns, plain_outputs}
-use Rattle.spec_compile.specs.ImageFiles.{stored_columns}
-use Rattle.plain_nodes.specs.Outputs.{asked_over}
-use Rattle.c2po_runs.specs.Asking.{ask, compile_asked, make, served}
-use Rattle.c2po_runs.specs.Images.{IsFileBy, IsFileUnder, header_of}
-use Rattle.c2po_runs.specs.Run.{IsMade}
+use Rattle.r2u2_watch.specs.Trace.{Clean}
+use Rattle.c2po_compile.specs.Compiled.{columns_by, outputs_in, signals_in}
+use Rattle.c2po_compile.specs.Image.{over_columns, plain_outputs}
+use Rattle.c2po_compile.specs.ImageFiles.{stored_columns}
+use Rattle.c2po_nodes.specs.Outputs.{asked_over}
+use Rattle.c2po_cli.specs.Asking.{ask, compile_asked, make, served}
+use Rattle.c2po_cli.specs.Images.{IsFileBy, IsFileUnder, header_of}
+use Rattle.c2po_cli.specs.Run.{IsMade}
 use Rattle.trace_runs.specs.Formulas.{TellsProgram, columns_under}
 use Rattle.trace_runs.specs.Outcome.{StopsBy, due_by, rows_over}
 use Rattle.trace_runs.specs.ProgramBy.{header_in, program_by, program_over}
 use Rattle.trace_runs.specs.Taken.{lines_in, trace_ended, trace_of}
-use Rattle.r2u2_runs.specs.Run.{IsRun}
+use Rattle.r2u2_cli.specs.Run.{IsRun}
 use Rattle.trace_runs.proofs.ImageFiles.{program_told}
 use Rattle.trace_runs.proofs.Telling.{over_found}
 use Rattle.mltl_tools.specs.Sentence.{HasCompiled, HasWatched, TellsFormulas, TellsText, lines_at}

@@ -18,19 +18,19 @@ use Rattle.tool_words.specs.C2poWords as compiling
 use Rattle.tool_words.specs.R2u2Words.{RunAsked, run}
 use Rattle.tool_words.specs.R2u2Words as watching
 use Rattle.tool_runs.specs.declared.status.Status.TheVariants.{Done}
-use Rattle.mltl_monitor.specs.declared.state.State.{State}
-use Rattle.trace_watch.specs.Trace.{Clean}
-use Rattle.spec_compile.specs.Compiled.{columns_by, outputs_in, signals_in}
-use Rattle.spec_compile.specs.Image.{plain_outputs}
-use Rattle.spec_compile.specs.ImageFiles.{stored_columns}
-use Rattle.spec_compile.specs.Simplified.{TellWords}
-use Rattle.c2po_runs.specs.Asking.{ask}
-use Rattle.c2po_runs.specs.Images.{header_of}
-use Rattle.c2po_runs.specs.Run.{IsMade}
+use Rattle.r2u2_monitor.specs.declared.state.State.{State}
+use Rattle.r2u2_watch.specs.Trace.{Clean}
+use Rattle.c2po_compile.specs.Compiled.{columns_by, outputs_in, signals_in}
+use Rattle.c2po_compile.specs.Image.{plain_outputs}
+use Rattle.c2po_compile.specs.ImageFiles.{stored_columns}
+use Rattle.c2po_compile.specs.Simplified.{TellWords}
+use Rattle.c2po_cli.specs.Asking.{ask}
+use Rattle.c2po_cli.specs.Images.{header_of}
+use Rattle.c2po_cli.specs.Run.{IsMade}
 use Rattle.trace_runs.specs.Outcome.{rows_over}
 use Rattle.trace_runs.specs.ProgramBy.{header_in, program_over}
 use Rattle.trace_runs.specs.Taken.{lines_in, trace_of}
-use Rattle.r2u2_runs.specs.Run.{IsRun}
+use Rattle.r2u2_cli.specs.Run.{IsRun}
 
 -- the lines of what was read at a place
 abbrev pub lines_at : Place → List Event → List (List ℕ)

@@ -6,14 +6,14 @@
 
 mod laws;
 
-pub use c2po_runs::c2po_main;
+pub use c2po_cli::c2po_main;
 pub use demo_runs::demo_row;
 pub use laws::compiled_and_watched;
-pub use mltl_monitor::Monitor;
+pub use r2u2_monitor::Monitor;
 pub use obs_files::{ProgramFault, image};
 pub use obs_table::instruction_table;
-pub use r2u2_runs::r2u2_main;
-pub use spec_compile::{CompileFault, HeaderWhy, Refusal, back, back_simple, compile, front};
+pub use r2u2_cli::r2u2_main;
+pub use c2po_compile::{CompileFault, HeaderWhy, Refusal, back, back_simple, compile, front};
 pub use tool_runs::{Status, Tool, message_of};
 pub use tool_words::{Words, words_of};
-pub use trace_watch::{TraceWhy, Watched, watch, watch_timed};
+pub use r2u2_watch::{TraceWhy, Watched, watch, watch_timed};

@@ -3,8 +3,8 @@
 ghost use Rattle.std.specs.Prelude.{◌≡◌, ◌≤◌, All, IfErr, IfOk, OnOk, length};
 ghost use Rattle.mltl_base.specs.Queues.{slot_count, worst_delays};
 ghost use Rattle.mltl_base.specs.Subformulas.{IsGraphOf, IsTensed};
-ghost use Rattle.plain_nodes.specs.Nodes.{AreSound, trees};
-ghost use Rattle.plain_nodes.specs.Outputs.{NamesFormulas, asked, asked_in};
+ghost use Rattle.c2po_nodes.specs.Nodes.{AreSound, trees};
+ghost use Rattle.c2po_nodes.specs.Outputs.{NamesFormulas, asked, asked_in};
 ghost use Rattle.core_graph.specs.Limits.{AreFew};
 ghost use Rattle.delay_sizes.specs.Sizing.{AreSizesOf, IsSizable};
 ghost use Rattle.obs_verify.specs.Layout.{HasLayout};
@@ -20,7 +20,7 @@ use delay_sizes::{DelayFault, SizeFault, delays, queue_sizes};
 use mltl_base::limits::{MAX_DELAY, MAX_SLOTS};
 use mltl_base::{Columns, Graph, List, Program, Signal, Sizes};
 use obs_verify::{Checked, VerifyFault, verify};
-use plain_nodes::Expanded;
+use c2po_nodes::Expanded;
 use std::alloc::Global;
 
 /// The checked program of a specification that is unfolded, over the columns of its signals.

@@ -28,7 +28,7 @@ use Rattle.std.specs.declared.option.Option.{Option}
 use Rattle.std.specs.declared.option.Option.TheVariants.{None, Some}
 use Rattle.std_alloc.specs.Box.Ownership.{box_owns}
 use Rattle.r2u2_c.specs.Handles.{heap, handle_owns}
-use Rattle.mltl_monitor.specs.contracts.monitor.Monitor.{the_row as R}
+use Rattle.r2u2_monitor.specs.contracts.monitor.Monitor.{the_row as R}
 use Rattle.r2u2_c.specs.contracts.handle.R2u2 as handle
 
 abbrev pub Hr : RattleType

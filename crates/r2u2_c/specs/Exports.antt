@@ -5,11 +5,11 @@ use Rattle.mltl_base.specs.declared.program.Program.{Program}
 use Rattle.mltl_base.specs.declared.report.Report.{Report}
 use Rattle.mltl_base.specs.declared.report.Style.{Style}
 use Rattle.mltl_base.specs.Atoms.{Row}
-use Rattle.mltl_monitor.specs.declared.state.State.{State}
-use Rattle.mltl_monitor.specs.Monitoring.{HasGiven, Stands, TakesRow, open_of, program_of}
-use Rattle.mltl_monitor.specs.declared.row_fault.RowFault.{RowFault}
-use Rattle.mltl_monitor.specs.declared.row_fault.RowFault.TheVariants.{ReportsLeft, NotARow, TooManyRows}
-use Rattle.mltl_monitor.specs.RowFaults.{IsRowCause}
+use Rattle.r2u2_monitor.specs.declared.state.State.{State}
+use Rattle.r2u2_monitor.specs.Monitoring.{HasGiven, Stands, TakesRow, open_of, program_of}
+use Rattle.r2u2_monitor.specs.declared.row_fault.RowFault.{RowFault}
+use Rattle.r2u2_monitor.specs.declared.row_fault.RowFault.TheVariants.{ReportsLeft, NotARow, TooManyRows}
+use Rattle.r2u2_monitor.specs.RowFaults.{IsRowCause}
 use Rattle.r2u2_c.specs.declared.codes.TheConstants.{NOT_A_ROW, NOT_OPEN, REPORTS_LEFT, TOO_MANY_ROWS}
 use Rattle.r2u2_c.specs.declared.fault.Fault.{Fault}
 use Rattle.r2u2_c.specs.declared.opening.OpeningFault.{OpeningFault}

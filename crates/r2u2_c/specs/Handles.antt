@@ -6,8 +6,8 @@ use denote.RawPtr.{Ptr, block_ptr, null_ptr}
 use Rattle.std.specs.declared.alloc.Global.{Global}
 use Rattle.std.specs.contracts.impls.GlobalAllocator.TheImpl.{ghosts}
 use Rattle.std_alloc.specs.Box.Ownership.{box_owns}
-use Rattle.mltl_monitor.specs.declared.state.State.{State}
-use Rattle.mltl_monitor.specs.contracts.monitor.Monitor.{the_row}
+use Rattle.r2u2_monitor.specs.declared.state.State.{State}
+use Rattle.r2u2_monitor.specs.contracts.monitor.Monitor.{the_row}
 
 -- the C library's heap
 abbrev pub heap : Global

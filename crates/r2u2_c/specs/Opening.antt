@@ -10,9 +10,9 @@ use Rattle.obs_files.specs.Faults.{opened}
 use Rattle.trace_feed.specs.declared.header_fault.HeaderFault.{HeaderFault}
 use Rattle.trace_feed.specs.declared.header_fault.HeaderFault.TheVariants as header
 use Rattle.trace_feed.specs.Header.{bound_to}
-use Rattle.mltl_monitor.specs.declared.state.State.{State}
-use Rattle.mltl_monitor.specs.Bytes.{bytes_of, monitor_bytes}
-use Rattle.mltl_monitor.specs.Monitoring.{IsDrained, Stands, program_of}
+use Rattle.r2u2_monitor.specs.declared.state.State.{State}
+use Rattle.r2u2_monitor.specs.Bytes.{bytes_of, monitor_bytes}
+use Rattle.r2u2_monitor.specs.Monitoring.{IsDrained, Stands, program_of}
 use Rattle.r2u2_c.specs.declared.opening.OpeningFault.{OpeningFault}
 use Rattle.r2u2_c.specs.declared.opening.OpeningFault.TheVariants as opening
 

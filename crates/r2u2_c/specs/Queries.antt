@@ -6,10 +6,10 @@ use Rattle.mltl_base.specs.declared.program.Program.{Program}
 use Rattle.mltl_base.specs.declared.program.StoredSignal.{StoredSignal}
 use Rattle.mltl_base.specs.Programs.{output_names, outputs}
 use Rattle.mltl_base.specs.Reports.{delay}
-use Rattle.mltl_monitor.specs.declared.state.State.{State}
-use Rattle.mltl_monitor.specs.Monitoring.{program_of, taken_by}
-use Rattle.mltl_monitor.specs.Running.{row_work}
-use Rattle.mltl_monitor.specs.Bytes.{monitor_bytes}
+use Rattle.r2u2_monitor.specs.declared.state.State.{State}
+use Rattle.r2u2_monitor.specs.Monitoring.{program_of, taken_by}
+use Rattle.r2u2_monitor.specs.Running.{row_work}
+use Rattle.r2u2_monitor.specs.Bytes.{monitor_bytes}
 use Rattle.r2u2_c.specs.declared.bytes.TheConstants.{MONITOR_BYTES}
 use Rattle.r2u2_c.specs.declared.opening.OpeningFault.{OpeningFault}
 

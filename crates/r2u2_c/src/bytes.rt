@@ -9,7 +9,7 @@ use crate::codes::{DONE, NO_MEMORY, REFUSED};
 use crate::exports::refuse;
 use crate::fault::Fault;
 use crate::opening::OpeningFault;
-use mltl_monitor::{Monitor, monitor_bytes};
+use r2u2_monitor::{Monitor, monitor_bytes};
 use obs_files::open;
 use std::alloc::Global;
 use std::mem::size_of;

@@ -1,9 +1,9 @@
 //! The calls of C.
 
 ghost use Rattle.std.specs.Prelude.{◌≡◌, ◌≢◌, ◌↔◌, ◌<◌, [], ◌∷◌, Contains, IsSome, IsSomeAnd, IfErr, IfOk, None};
-ghost use Rattle.mltl_monitor.specs.Monitoring.{IsDrained};
+ghost use Rattle.r2u2_monitor.specs.Monitoring.{IsDrained};
 ghost use Rattle.r2u2_c.specs.declared.opening.OpeningFault.TheVariants.{Memory};
-ghost use Rattle.mltl_monitor.specs.declared.row_fault.RowFault.TheVariants.{NotARow, ReportsLeft, TooManyRows};
+ghost use Rattle.r2u2_monitor.specs.declared.row_fault.RowFault.TheVariants.{NotARow, ReportsLeft, TooManyRows};
 ghost use Rattle.r2u2_c.specs.Exports.{BeginsAgain, HoldsBack, Opens, Refuses, Takes, Tells, TellsWhy, why_of};
 ghost use Rattle.r2u2_c.specs.Faults.{fault_of};
 ghost use Rattle.r2u2_c.specs.Opening.{program_by, program_under};
@@ -18,7 +18,7 @@ use crate::handle::R2u2;
 use crate::opening::{OpeningFault, open_monitor, open_under};
 use crate::report::{Told, next_of};
 use crate::row_why::RowWhy;
-use mltl_monitor::RowFault;
+use r2u2_monitor::RowFault;
 use std::alloc::Global;
 
 /// Opens the program that these bytes spell. Rows have the columns that it was compiled for.

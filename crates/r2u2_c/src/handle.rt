@@ -2,12 +2,12 @@
 
 ghost use Rattle.std.specs.Prelude.{◌≡◌, ◌↔◌, None, Some, IsSome, IsTrue, MatchOption, Option as Maybe};
 ghost use Rattle.std.specs.Coded.{coded_option};
-ghost use Rattle.mltl_monitor.specs.declared.state.State.{State};
-ghost use Rattle.mltl_monitor.specs.contracts.monitor.Monitor.{the_row};
+ghost use Rattle.r2u2_monitor.specs.declared.state.State.{State};
+ghost use Rattle.r2u2_monitor.specs.contracts.monitor.Monitor.{the_row};
 ghost use Rattle.r2u2_c.specs.Handles.{handle_owns};
 
 use crate::boxes::Loose;
-use mltl_monitor::Monitor;
+use r2u2_monitor::Monitor;
 use std::alloc::Global;
 use std::marker::Model;
 use std::mem;

@@ -2,12 +2,12 @@
 
 ghost use Rattle.std.specs.Prelude.{◌≡◌, ◌≢◌, ◌≤◌, ◌<◌, Ok, Err, IfOk, IfErr, OnOk, length};
 ghost use Rattle.mltl_base.specs.declared.limits.TheConstants.{MAX_LINE_BYTES};
-ghost use Rattle.mltl_monitor.specs.Monitoring.{program_of};
+ghost use Rattle.r2u2_monitor.specs.Monitoring.{program_of};
 ghost use Rattle.r2u2_c.specs.Opening.{Starts, bound_by, of_file, of_header, program_by, program_under};
 
 use mltl_base::limits::MAX_LINE_BYTES;
 use mltl_base::{Name, Program};
-use mltl_monitor::Monitor;
+use r2u2_monitor::Monitor;
 use obs_files::{FileFault, ProgramFault, open};
 use obs_verify::Checked;
 use std::alloc::{AllocError, AllocFailed, Global};

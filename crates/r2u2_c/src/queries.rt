@@ -7,7 +7,7 @@ use crate::handle::R2u2;
 use crate::names::write_name;
 use crate::version::VERSION;
 use mltl_base::StoredSignal;
-use mltl_monitor::{Monitor, delay_of, row_steps};
+use r2u2_monitor::{Monitor, delay_of, row_steps};
 use std::alloc::Global;
 
 /// The version of the library.

@@ -1,11 +1,11 @@
 //! Reports as C reads them.
 
 ghost use Rattle.std.specs.Prelude.{◌≡◌};
-ghost use Rattle.mltl_monitor.specs.Monitoring.{GivesNext};
+ghost use Rattle.r2u2_monitor.specs.Monitoring.{GivesNext};
 ghost use Rattle.r2u2_c.specs.Reports.{shown, style_of, word_number};
 
 use mltl_base::{Report, Word};
-use mltl_monitor::Monitor;
+use r2u2_monitor::Monitor;
 
 /// A report as C reads it: the word of output `output`, counted from 0, at `time`, in rows from 0.
 #[repr(C)]

@@ -4,7 +4,7 @@ ghost use Rattle.std.specs.Prelude.{◌≡◌};
 ghost use Rattle.r2u2_c.specs.Exports.{why_of};
 
 use crate::codes::{NOT_A_ROW, REPORTS_LEFT, TOO_MANY_ROWS};
-use mltl_monitor::RowFault;
+use r2u2_monitor::RowFault;
 
 /// Why a row isn't taken, as C reads it: the code that is answered, and of `NOT_A_ROW` the column, counted from 0.
 #[repr(C)]

@@ -5,18 +5,18 @@ ghost use Rattle.mltl_base.specs.declared.operators.CountOp.{CountOp as Op};
 ghost use Rattle.mltl_base.specs.Atoms.{Row};
 ghost use Rattle.mltl_base.specs.Formula.{Formula};
 ghost use Rattle.mltl_base.specs.Meaning.{count, sat};
-ghost use Rattle.spec_tree.specs.ItemShape.{spec_shape};
+ghost use Rattle.c2po_ast.specs.ItemShape.{spec_shape};
 ghost use Rattle.c2po_types.specs.Signals.{signals_of};
-ghost use Rattle.unfold.specs.Counting.{compares, counting};
-ghost use Rattle.plain_nodes.specs.Faults.{HasRanges};
-ghost use Rattle.plain_nodes.specs.Outputs.{IsSound, asked};
-ghost use Rattle.unfold.specs.Values.{counted_formula};
+ghost use Rattle.c2po_unfold.specs.Counting.{compares, counting};
+ghost use Rattle.c2po_nodes.specs.Faults.{HasRanges};
+ghost use Rattle.c2po_nodes.specs.Outputs.{IsSound, asked};
+ghost use Rattle.c2po_unfold.specs.Values.{counted_formula};
 ghost use Rattle.mltl_base.specs.Kinds.{ReadsSignals, kinds_of};
 ghost use Rattle.set_expand.specs.Outputs.{HasPlainName, outputs_of};
 
 use c2po_types::TypedSpec;
 use mltl_base::List;
-use plain_nodes::{Expanded, Plain, PlainOut};
+use c2po_nodes::{Expanded, Plain, PlainOut};
 use std::alloc::{AllocError, Global};
 
 /// Copies of nodes in order.

@@ -13,4 +13,4 @@
 pub mod expanding;
 
 pub use expanding::expand;
-pub use plain_nodes::{Expanded, Plain, PlainOut};
+pub use c2po_nodes::{Expanded, Plain, PlainOut};

@@ -6,9 +6,9 @@ use Rattle.tool_runs.specs.declared.message.Tool as tool
 use Rattle.tool_runs.specs.declared.status.Status as status
 use Rattle.obs_files.specs.declared.fault.FileFault.TheVariants.{Program}
 use Rattle.obs_files.specs.Texts.{file_fault_text}
-use Rattle.spec_compile.specs.declared.fault.CompileFault as compile
-use Rattle.spec_compile.specs.FaultTexts.{compile_fault_text}
-use Rattle.spec_compile.specs.HeaderTexts.{missing_text, twice_text}
+use Rattle.c2po_compile.specs.declared.fault.CompileFault as compile
+use Rattle.c2po_compile.specs.FaultTexts.{compile_fault_text}
+use Rattle.c2po_compile.specs.HeaderTexts.{missing_text, twice_text}
 use Rattle.trace_feed.specs.declared.trace_why.TraceWhy as trace
 
 -- the name of a program

@@ -2,15 +2,15 @@
 
 ghost use Rattle.std.specs.Prelude.{◌≡◌, ◌+◌, ◌≤◌, ◌++◌, length, decimal};
 ghost use Rattle.arrayvec.specs.ArrayVec.{array_vec_len};
-ghost use Rattle.spec_compile.specs.FaultTexts.{header_fault_of, line_text, refusal_text};
-ghost use Rattle.spec_compile.specs.HeaderTexts.{header_fault_text, missing_text, twice_text};
+ghost use Rattle.c2po_compile.specs.FaultTexts.{header_fault_of, line_text, refusal_text};
+ghost use Rattle.c2po_compile.specs.HeaderTexts.{header_fault_text, missing_text, twice_text};
 ghost use Rattle.tool_runs.specs.Messages.{message, usage, tool_name, trace_text, place_name, status_text};
 
 use crate::Status;
 use arrayvec::ArrayVec;
 use mltl_base::Name;
 use mltl_base::text::{add, add_number};
-use spec_compile::{HeaderWhy, Refusal};
+use c2po_compile::{HeaderWhy, Refusal};
 use tool_io::Place;
 use trace_feed::TraceWhy;
 

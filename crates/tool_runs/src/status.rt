@@ -5,7 +5,7 @@ ghost use Rattle.tool_runs.specs.Codes.{code_of};
 ghost use Rattle.tool_runs.specs.Files.{file_status};
 
 use obs_files::{FileFault, ProgramFault};
-use spec_compile::{HeaderWhy, Refusal};
+use c2po_compile::{HeaderWhy, Refusal};
 use std::alloc::AllocError;
 use tool_io::Place;
 use trace_feed::TraceWhy;

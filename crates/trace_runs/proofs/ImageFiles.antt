@@ -23,12 +23,12 @@ use Rattle.trace_feed.specs.declared.header_fault.HeaderFault.{HeaderFault}
 use Rattle.trace_feed.specs.declared.header_fault.HeaderFault.TheVariants.{NoHeader}
 use Rattle.trace_feed.specs.Header.{begins_header, bound_over, columns_of, header_meaning, names_of, of_width}
 use Rattle.trace_feed.proofs.ColumnLaws.{width_found}
-use Rattle.spec_compile.specs.Image.{image, plain_outputs}
-use Rattle.spec_compile.specs.ImageFiles.{IsFirstImageFile, IsImageFile, first_image_in, image_in, moved_image, stored_columns}
-use Rattle.spec_compile.specs.Simplified.{IsSimpleImageFile, TellsSettled, simple_image_in, smaller_outputs}
-use Rattle.spec_compile.specs.Compiled.{outputs_in, signals_in}
-use Rattle.spec_compile.proofs.MovedImages.{bound_stored, image_called, image_reports, layout_of, moved_called, moved_reports, stored_names, stored_places}
-use Rattle.spec_compile.proofs.SimpleTelling.{moved_simple_called, moved_told, simple_image_called, simple_image_told}
+use Rattle.c2po_compile.specs.Image.{image, plain_outputs}
+use Rattle.c2po_compile.specs.ImageFiles.{IsFirstImageFile, IsImageFile, first_image_in, image_in, moved_image, stored_columns}
+use Rattle.c2po_compile.specs.Simplified.{IsSimpleImageFile, TellsSettled, simple_image_in, smaller_outputs}
+use Rattle.c2po_compile.specs.Compiled.{outputs_in, signals_in}
+use Rattle.c2po_compile.proofs.MovedImages.{bound_stored, image_called, image_reports, layout_of, moved_called, moved_reports, stored_names, stored_places}
+use Rattle.c2po_compile.proofs.SimpleTelling.{moved_simple_called, moved_told, simple_image_called, simple_image_told}
 use Rattle.tool_words.specs.declared.file_kind.FileKind.TheVariants as kinds
 use Rattle.tool_runs.specs.Statuses.{with_status}
 use Rattle.trace_runs.specs.ProgramBy.{bound_under, header_status, opened_under, program_by}

@@ -15,16 +15,16 @@ use Rattle.tool_io.proofs.CutLaws.{lines_of-none, lines_of-long, is_long-row}
 use Rattle.tool_io.proofs.Prompting.{PromptBy, PromptBy-append, PromptBy-from, Prompt-from_by}
 use Rattle.tool_words.specs.declared.file_kind.FileKind.{FileKind}
 use Rattle.tool_words.specs.R2u2Words.{RunAsked}
-use Rattle.mltl_monitor.specs.declared.state.State.{State}
+use Rattle.r2u2_monitor.specs.declared.state.State.{State}
 use Rattle.trace_feed.specs.Header.{begins_header}
 use Rattle.trace_feed.specs.declared.trace_why.TraceWhy.TheVariants.{LongLine}
-use Rattle.trace_watch.specs.declared.status.Watched as watched
-use Rattle.trace_watch.specs.Trace.{TraceRows, stamped_rows, trace_rows, due}
-use Rattle.trace_watch.specs.Watch.{OnlyRun, IsTold, Outcome}
-use Rattle.trace_watch.proofs.LineLaws.{reads_prompt, OnlyRun-append, OnlyRun-reads, row_line}
+use Rattle.r2u2_watch.specs.declared.status.Watched as watched
+use Rattle.r2u2_watch.specs.Trace.{TraceRows, stamped_rows, trace_rows, due}
+use Rattle.r2u2_watch.specs.Watch.{OnlyRun, IsTold, Outcome}
+use Rattle.r2u2_watch.proofs.LineLaws.{reads_prompt, OnlyRun-append, OnlyRun-reads, row_line}
 use Rattle.tool_runs.specs.declared.status.Status as status
 use Rattle.tool_runs.specs.FirstLine.{begins_long, HasBegun}
-use Rattle.spec_compile.specs.Refusals.{unless_refused}
+use Rattle.c2po_compile.specs.Refusals.{unless_refused}
 use Rattle.trace_runs.specs.ProgramBy.{file_refusal, program_by, header_in, unless_long, program_over}
 use Rattle.trace_runs.specs.Outcome.{due_by, rows_by, AllTold, LinesOutcome}
 use Rattle.trace_runs.specs.Taken.{trace_of, trace_ended, lines_in, BegunFor, ReadsFirstLine}

@@ -3,21 +3,21 @@
 use Rattle.std.proofs.Common.{◌≡◌, ◌≢◌, ◌∙◌, ℕ, ◌==◌, if◌then◌else◌, Option, Some, None, Result, Ok, Err, List, IfOk, IfErr, refl, sym, ap, subst}
 use Rattle.mltl_base.specs.declared.program.Columns.{Columns}
 use Rattle.mltl_base.specs.declared.program.Program.{Program}
-use Rattle.spec_tree.specs.ItemShape.{ItemShape}
+use Rattle.c2po_ast.specs.ItemShape.{ItemShape}
 use Rattle.c2po_types.specs.Signals.{signals_of}
 use Rattle.c2po_types.specs.Outputs.{outputs_of}
 use Rattle.obs_files.specs.declared.fault.FileFault.{FileFault}
 use Rattle.obs_files.specs.declared.fault.FileFault.TheVariants as file
 use Rattle.obs_files.specs.Faults.{Tells, opened}
 use Rattle.trace_feed.specs.Header.{bound_to}
-use Rattle.spec_compile.specs.declared.fault.CompileFault.{CompileFault}
-use Rattle.spec_compile.specs.declared.fault.CompileFault.TheVariants as compile
-use Rattle.spec_compile.specs.Refusals.{header_refusal, IsFirstRefusal}
-use Rattle.spec_compile.specs.Front.{items_in, refusal_in, first_refusal}
-use Rattle.spec_compile.specs.Limits.{limit_refusal}
-use Rattle.spec_compile.specs.Image.{over_columns, image}
-use Rattle.spec_compile.specs.Compiled.{columns_by}
-use Rattle.spec_compile.proofs.CompiledLaws.{header_answer, back_answers, back_refuses}
+use Rattle.c2po_compile.specs.declared.fault.CompileFault.{CompileFault}
+use Rattle.c2po_compile.specs.declared.fault.CompileFault.TheVariants as compile
+use Rattle.c2po_compile.specs.Refusals.{header_refusal, IsFirstRefusal}
+use Rattle.c2po_compile.specs.Front.{items_in, refusal_in, first_refusal}
+use Rattle.c2po_compile.specs.Limits.{limit_refusal}
+use Rattle.c2po_compile.specs.Image.{over_columns, image}
+use Rattle.c2po_compile.specs.Compiled.{columns_by}
+use Rattle.c2po_compile.proofs.CompiledLaws.{header_answer, back_answers, back_refuses}
 use Rattle.tool_words.specs.declared.file_kind.FileKind.{FileKind}
 use Rattle.tool_words.specs.declared.file_kind.FileKind.TheVariants as kinds
 use Rattle.trace_runs.specs.declared.opening.Opened.{Opened}

@@ -12,15 +12,15 @@ use Rattle.obs_files.specs.Faults.{opened}
 use Rattle.trace_feed.specs.declared.header_fault.HeaderFault.{HeaderFault}
 use Rattle.trace_feed.specs.declared.header_fault.HeaderFault.TheVariants as header_fault
 use Rattle.trace_feed.specs.Header.{begins_header, times, first_place, column_of, columns_of, in_front, of_width, names_of, header_meaning, bound_over, bound_to}
-use Rattle.spec_compile.specs.declared.fault.CompileFault.{CompileFault}
-use Rattle.spec_compile.specs.declared.fault.CompileFault.TheVariants as compile
-use Rattle.spec_compile.specs.Refusals.{unless_refused}
-use Rattle.spec_compile.specs.Front.{first_refusal}
-use Rattle.spec_compile.specs.Limits.{limit_refusal}
-use Rattle.spec_compile.specs.Image.{over_columns, image}
-use Rattle.spec_compile.specs.Compiled.{columns_by, signals_in, outputs_in, image_under, image_of_text}
-use Rattle.spec_compile.proofs.RefusalLaws as text
-use Rattle.spec_compile.proofs.RefusalLaws.{IsHeaderless, first_headerless, limit_headerless}
+use Rattle.c2po_compile.specs.declared.fault.CompileFault.{CompileFault}
+use Rattle.c2po_compile.specs.declared.fault.CompileFault.TheVariants as compile
+use Rattle.c2po_compile.specs.Refusals.{unless_refused}
+use Rattle.c2po_compile.specs.Front.{first_refusal}
+use Rattle.c2po_compile.specs.Limits.{limit_refusal}
+use Rattle.c2po_compile.specs.Image.{over_columns, image}
+use Rattle.c2po_compile.specs.Compiled.{columns_by, signals_in, outputs_in, image_under, image_of_text}
+use Rattle.c2po_compile.proofs.RefusalLaws as text
+use Rattle.c2po_compile.proofs.RefusalLaws.{IsHeaderless, first_headerless, limit_headerless}
 use Rattle.tool_words.specs.declared.file_kind.FileKind.{FileKind}
 use Rattle.tool_words.specs.declared.file_kind.FileKind.TheVariants as kinds
 use Rattle.tool_runs.specs.declared.status.Status.{Status}

@@ -11,10 +11,10 @@ use Rattle.trace_feed.specs.declared.header_fault.HeaderFault.{HeaderFault}
 use Rattle.tool_words.specs.declared.file_kind.FileKind.{FileKind}
 use Rattle.tool_words.specs.declared.file_kind.FileKind.TheVariants as kinds
 use Rattle.tool_words.specs.R2u2Words.{RunAsked}
-use Rattle.spec_compile.specs.declared.fault.CompileFault.{CompileFault}
-use Rattle.spec_compile.specs.Front.{first_refusal}
-use Rattle.spec_compile.specs.Compiled.{columns_by, signals_in, outputs_in, image_under, image_of_text}
-use Rattle.spec_compile.proofs.TellingLaws.{not_refused, text_reports, text_names}
+use Rattle.c2po_compile.specs.declared.fault.CompileFault.{CompileFault}
+use Rattle.c2po_compile.specs.Front.{first_refusal}
+use Rattle.c2po_compile.specs.Compiled.{columns_by, signals_in, outputs_in, image_under, image_of_text}
+use Rattle.c2po_compile.proofs.TellingLaws.{not_refused, text_reports, text_names}
 use Rattle.tool_runs.specs.declared.status.Status.{Status}
 use Rattle.tool_runs.specs.FirstLine.{begins_long}
 use Rattle.tool_runs.specs.Statuses.{with_status}

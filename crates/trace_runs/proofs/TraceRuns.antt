@@ -11,8 +11,8 @@ use Rattle.tool_io.proofs.Prompting.{PromptBy-from, Prompt-from_by}
 use Rattle.tool_words.specs.declared.file_kind.FileKind.{FileKind}
 use Rattle.tool_words.specs.declared.file_kind.FileKind.TheVariants.{Spec, Program}
 use Rattle.tool_words.specs.R2u2Words.{RunAsked}
-use Rattle.mltl_monitor.specs.declared.state.State.{State}
-use Rattle.trace_watch.specs.Watch.{OnlyRun}
+use Rattle.r2u2_monitor.specs.declared.state.State.{State}
+use Rattle.r2u2_watch.specs.Watch.{OnlyRun}
 use Rattle.tool_runs.specs.declared.status.Status as status
 use Rattle.tool_runs.specs.Attaching.{OpensAsTold, ReadsAttached, is_attached}
 use Rattle.tool_runs.specs.Files.{file_place}

@@ -12,10 +12,10 @@ use Rattle.trace_feed.specs.declared.header_fault.HeaderFault.{HeaderFault}
 use Rattle.tool_words.specs.declared.file_kind.FileKind.{FileKind}
 use Rattle.tool_words.specs.declared.file_kind.FileKind.TheVariants as kinds
 use Rattle.tool_words.specs.R2u2Words.{RunAsked}
-use Rattle.spec_compile.specs.Compiled.{columns_by, outputs_in, signals_in}
-use Rattle.spec_compile.specs.Image.{plain_outputs}
-use Rattle.spec_compile.specs.ImageFiles.{IsFirstImageFile, IsImageFile, stored_columns}
-use Rattle.spec_compile.specs.Simplified.{IsSimpleImageFile, TellsSettled}
+use Rattle.c2po_compile.specs.Compiled.{columns_by, outputs_in, signals_in}
+use Rattle.c2po_compile.specs.Image.{plain_outputs}
+use Rattle.c2po_compile.specs.ImageFiles.{IsFirstImageFile, IsImageFile, stored_columns}
+use Rattle.c2po_compile.specs.Simplified.{IsSimpleImageFile, TellsSettled}
 use Rattle.tool_runs.specs.declared.status.Status.{Status}
 use Rattle.trace_runs.specs.Outcome.{rows_over}
 use Rattle.trace_runs.specs.Settled.{TellsOf, TellsText}

@@ -7,9 +7,9 @@ use Rattle.tool_io.specs.declared.host.Place.TheVariants.{Trace, Out}
 use Rattle.tool_io.specs.Log.{IsProperFront}
 use Rattle.tool_io.specs.Cutting.{lines_of}
 use Rattle.tool_words.specs.R2u2Words.{RunAsked}
-use Rattle.mltl_monitor.specs.declared.state.State.{State}
-use Rattle.trace_watch.specs.Trace.{TraceRows, Stop, Clean, Past, Bad, stamped_rows, trace_rows, due}
-use Rattle.trace_watch.specs.Watch.{HasTold, HasFront}
+use Rattle.r2u2_monitor.specs.declared.state.State.{State}
+use Rattle.r2u2_watch.specs.Trace.{TraceRows, Stop, Clean, Past, Bad, stamped_rows, trace_rows, due}
+use Rattle.r2u2_watch.specs.Watch.{HasTold, HasFront}
 use Rattle.tool_runs.specs.declared.status.Status.{Status}
 use Rattle.tool_runs.specs.declared.status.Status.TheVariants.{Done, Refused, BadProgram, BadTrace, TooLong, ReadFault}
 use Rattle.tool_runs.specs.declared.status.Status.TheVariants.{WriteFault, Memory}

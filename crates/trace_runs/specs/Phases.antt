@@ -8,17 +8,17 @@ use Rattle.mltl_base.specs.declared.program.Program.{Program}
 use Rattle.tool_io.specs.declared.host.Place as place
 use Rattle.tool_io.specs.Log.{Event, taken, given, ended_from, names_of, IsFront, Reads, meets_end, Prompt}
 use Rattle.tool_io.specs.Cutting.{Cutting, HasNoNewline, IsRow, OnlyWhereNeeded, line_text, next_number}
-use Rattle.spec_tree.specs.ItemShape.{spec_shape}
+use Rattle.c2po_ast.specs.ItemShape.{spec_shape}
 use Rattle.obs_files.specs.Faults.{opened}
-use Rattle.spec_compile.specs.Front.{items_in, first_refusal}
+use Rattle.c2po_compile.specs.Front.{items_in, first_refusal}
 use Rattle.tool_words.specs.declared.file_kind.FileKind.{FileKind}
 use Rattle.tool_words.specs.declared.file_kind.FileKind.TheVariants as kinds
 use Rattle.tool_words.specs.R2u2Words.{RunAsked}
 use Rattle.trace_feed.specs.Header.{begins_header}
-use Rattle.mltl_monitor.specs.declared.state.State.{State}
+use Rattle.r2u2_monitor.specs.declared.state.State.{State}
 use Rattle.trace_feed.specs.declared.trace_why.TraceWhy.TheVariants.{LongLine}
-use Rattle.trace_watch.specs.declared.status.Watched as watched
-use Rattle.trace_watch.specs.Watch.{OnlyRun, IsWatch, first_of}
+use Rattle.r2u2_watch.specs.declared.status.Watched as watched
+use Rattle.r2u2_watch.specs.Watch.{OnlyRun, IsWatch, first_of}
 use Rattle.trace_runs.specs.declared.opening.Opened.{Opened}
 use Rattle.trace_runs.specs.declared.opening.Opened.TheVariants as file
 use Rattle.tool_runs.specs.declared.status.Status as status

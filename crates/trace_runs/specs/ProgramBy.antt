@@ -11,12 +11,12 @@ use Rattle.trace_feed.specs.declared.header_fault.HeaderFault.{HeaderFault}
 use Rattle.trace_feed.specs.declared.header_fault.HeaderFault.TheVariants as header_fault
 use Rattle.trace_feed.specs.Header.{begins_header, bound_to}
 use Rattle.trace_feed.specs.declared.trace_why.TraceWhy.TheVariants as trace
-use Rattle.spec_compile.specs.declared.fault.CompileFault.{CompileFault}
-use Rattle.spec_compile.specs.declared.fault.CompileFault.TheVariants as compile_fault
-use Rattle.spec_compile.specs.declared.fault.HeaderWhy.TheVariants as why
-use Rattle.spec_compile.specs.Front.{first_refusal}
-use Rattle.spec_compile.specs.Compiled.{image_of_text}
-use Rattle.spec_compile.specs.Refusals.{unless_refused}
+use Rattle.c2po_compile.specs.declared.fault.CompileFault.{CompileFault}
+use Rattle.c2po_compile.specs.declared.fault.CompileFault.TheVariants as compile_fault
+use Rattle.c2po_compile.specs.declared.fault.HeaderWhy.TheVariants as why
+use Rattle.c2po_compile.specs.Front.{first_refusal}
+use Rattle.c2po_compile.specs.Compiled.{image_of_text}
+use Rattle.c2po_compile.specs.Refusals.{unless_refused}
 use Rattle.tool_words.specs.declared.file_kind.FileKind.{FileKind}
 use Rattle.tool_words.specs.declared.file_kind.FileKind.TheVariants as kinds
 use Rattle.tool_runs.specs.declared.status.Status.{Status}

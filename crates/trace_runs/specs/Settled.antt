@@ -9,8 +9,8 @@ use Rattle.mltl_base.specs.Atoms.{Row}
 use Rattle.mltl_base.specs.Lines.{lines}
 use Rattle.mltl_base.specs.Programs.{outputs, output_names}
 use Rattle.mltl_base.specs.Reports.{Output, words, meaning, delay, reports, told, IsRising, IsSettled}
-use Rattle.spec_compile.specs.Compiled.{outputs_in}
-use Rattle.spec_compile.specs.Image.{plain_outputs}
+use Rattle.c2po_compile.specs.Compiled.{outputs_in}
+use Rattle.c2po_compile.specs.Image.{plain_outputs}
 
 -- What the reports of outputs tell after some rows: each time once and in order, each word the meaning of its time
 -- whatever rows follow, and each time no later than its worst-case delay.

@@ -3,11 +3,11 @@
 //! The bytes of that file are compiled with [`front`] and [`back`], or opened as a program, over the header of the trace.
 //! Then a [`Monitor`] of the program runs over the trace by [`watch`], or by [`watch_timed`] where its rows are stamped.
 //!
-//! [`front`]: spec_compile::front
-//! [`back`]: spec_compile::back
-//! [`Monitor`]: mltl_monitor::Monitor
-//! [`watch`]: trace_watch::watch
-//! [`watch_timed`]: trace_watch::watch_timed
+//! [`front`]: c2po_compile::front
+//! [`back`]: c2po_compile::back
+//! [`Monitor`]: r2u2_monitor::Monitor
+//! [`watch`]: r2u2_watch::watch
+//! [`watch_timed`]: r2u2_watch::watch_timed
 #![tactic(auto)]
 
 mod laws;

@@ -12,12 +12,12 @@ ghost use Rattle.trace_runs.specs.Phases.{Opens};
 use c2po_types::TypedSpec;
 use obs_files::open;
 use obs_verify::Checked;
-use spec_compile::{CompileFault, HeaderWhy, back, columns_of, front};
+use c2po_compile::{CompileFault, HeaderWhy, back, columns_of, front};
 use std::alloc::Global;
 use tool_runs::Status;
 use tool_words::FileKind;
 use trace_feed::{HeaderFault, bind_to_header};
-use trace_watch::TraceWhy;
+use r2u2_watch::TraceWhy;
 
 /// A file that was read and isn't refused by itself.
 #[derive(Drop)]

@@ -12,7 +12,7 @@ ghost use Rattle.trace_runs.specs.Phases.{FirstLog, IsFirst, header_at};
 
 use tool_io::{Host, Line, LineCut, Place};
 use tool_runs::Status;
-use trace_watch::TraceWhy;
+use r2u2_watch::TraceWhy;
 
 /// Reads the first line of the trace, and lets the cut give it once more. Answers whether there is one.
 pub(crate) fn read_first_line<H: Host>(cut: &mut LineCut, host: &mut H) -> Result<bool, Status>

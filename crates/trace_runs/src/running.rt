@@ -6,20 +6,20 @@ ghost use Rattle.tool_io.specs.Log.{OnLog};
 ghost use Rattle.tool_words.specs.R2u2Words.{run_of};
 ghost use Rattle.tool_runs.specs.Causes.{RunCause};
 ghost use Rattle.tool_runs.specs.Files.{file_limit};
-ghost use Rattle.mltl_monitor.specs.Monitoring.{IsDrained, Stands, program_of};
-ghost use Rattle.trace_watch.specs.Watch.{IsWatch, WatchCause, first_of};
+ghost use Rattle.r2u2_monitor.specs.Monitoring.{IsDrained, Stands, program_of};
+ghost use Rattle.r2u2_watch.specs.Watch.{IsWatch, WatchCause, first_of};
 ghost use Rattle.trace_runs.specs.Outcome.{rows_by};
 ghost use Rattle.trace_runs.specs.Phases.{IsFirst, LoopLog, Opens, RanFile, RanLines, RanLoop, RanRows, RanTrace, status_of};
 
 use crate::opening::{Opened, open_file, program_for};
 use crate::reading::{header_line, read_first_line};
-use mltl_monitor::Monitor;
+use r2u2_monitor::Monitor;
 use obs_verify::Checked;
 use std::alloc::Global;
 use tool_io::{Attached, Host, LineCut, Place};
 use tool_runs::Status;
 use tool_words::Run;
-use trace_watch::{Watched, watch, watch_timed};
+use r2u2_watch::{Watched, watch, watch_timed};
 
 /// Opens the bytes of the file, lets them go, and runs over the trace.
 pub fn run_bytes<H: Host>(

@@ -2,7 +2,7 @@
 
 use anyhow::{Context, Result, bail};
 use mltl_base::{ArithOp, BetweenOp, CompareOp, Interval, LogicOp, WindowOp};
-use mltl_plain::{Atom, Formula, Output, Term};
+use mltl_oracle::{Atom, Formula, Output, Term};
 use std::alloc::Global;
 
 /// Terms and outputs that no operator has taken yet.

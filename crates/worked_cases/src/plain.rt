@@ -8,7 +8,7 @@ ghost use Rattle.std.specs.Prelude.{◌^◌, ◌≤◌, length};
 use crate::operands::Operands;
 use anyhow::{Context, Error, Result, anyhow, bail};
 use mltl_base::{List, Style};
-use mltl_plain::{Fault, Output, meaning, reports, verdicts, words};
+use mltl_oracle::{Fault, Output, meaning, reports, verdicts, words};
 use std::alloc::Global;
 use std::fmt::Write;
 

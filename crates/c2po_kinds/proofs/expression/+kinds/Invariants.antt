@@ -1,5 +1,5 @@
 use Rattle.std.proofs.Common.{◌≡◌, drop}
-use Rattle.spec_tree.specs.Shape.{shapes}
+use Rattle.c2po_ast.specs.Shape.{shapes}
 use Rattle.c2po_kinds.specs.Scopes.{visible}
 use Rattle.c2po_kinds.specs.Expressions.{kinds_of}
 use Rattle.c2po_kinds.proofs.Operands.{ahead}

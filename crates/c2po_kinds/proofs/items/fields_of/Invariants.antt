@@ -1,5 +1,5 @@
 use Rattle.std.proofs.Common.{◌≡◌, drop, map, []}
-use Rattle.spec_tree.specs.ItemShape.{field_shape}
+use Rattle.c2po_ast.specs.ItemShape.{field_shape}
 use Rattle.c2po_kinds.specs.Checking.{in_turn}
 use Rattle.c2po_kinds.specs.Items.{with_field}
 use Rattle.c2po_kinds.proofs.items.fields_of.Given as goal

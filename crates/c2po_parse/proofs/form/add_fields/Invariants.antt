@@ -1,5 +1,5 @@
 use Rattle.std.proofs.Common.{◌≡◌, ◌++◌, map, take}
-use Rattle.spec_tree.specs.ItemShape.{type_shape, field_shape}
+use Rattle.c2po_ast.specs.ItemShape.{type_shape, field_shape}
 use Rattle.c2po_parse.specs.Forms.{fields_of}
 use Rattle.c2po_parse.proofs.form.add_fields.Given as goal
 

@@ -2,7 +2,7 @@ use Rattle.std.proofs.Common.{◌≡◌, ℕ, [], ◌-◌, List, take, drop, len
 use Rattle.std.proofs.lemmas.List.{take_all}
 use Rattle.std.proofs.lemmas.Result.{err_from_is_err_and}
 use Rattle.c2po_lexer.specs.declared.token.Token.{Token}
-use Rattle.spec_tree.specs.ItemShape.{item_shape}
+use Rattle.c2po_ast.specs.ItemShape.{item_shape}
 use Rattle.c2po_parse.specs.Sections.{pieces, ended_of, tail_of}
 use Rattle.c2po_parse.specs.Specification.{piece_trees, with_first, with_line, piece_body}
 use Rattle.c2po_parse.proofs.Spans.{many_pieces, faulty_pieces, read_pieces}

@@ -1,5 +1,5 @@
 use Rattle.std.proofs.Common.{◌≡◌, length, map, sym, ◌∙◌, Ok, rules}
-use Rattle.spec_tree.specs.ItemShape.{item_shape}
+use Rattle.c2po_ast.specs.ItemShape.{item_shape}
 use Rattle.c2po_lexer.specs.Tokens.{HasPlainName}
 use Rattle.c2po_tree.proofs.Words.{words-all}
 use Rattle.c2po_parse.specs.Specification.{spec_of}

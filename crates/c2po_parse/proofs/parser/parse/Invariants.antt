@@ -1,5 +1,5 @@
 use Rattle.std.proofs.Common.{◌≡◌, length, map}
-use Rattle.spec_tree.specs.ItemShape.{item_shape}
+use Rattle.c2po_ast.specs.ItemShape.{item_shape}
 use Rattle.c2po_parse.specs.Specification.{reads_on, spec_of}
 use Rattle.c2po_parse.proofs.parser.parse.Given as goal
 

@@ -1,7 +1,7 @@
 use Rattle.std.proofs.Common.{sym, map, ap, ◌∙◌, [], ◌∷◌}
 use Rattle.std.proofs.lemmas.List.{map-append}
 use Rattle.std.proofs.lemmas.Result.{err_from_is_err_and}
-use Rattle.spec_tree.specs.ItemShape.{item_shape}
+use Rattle.c2po_ast.specs.ItemShape.{item_shape}
 use Rattle.c2po_parse.specs.Specification.{reads_on}
 use Rattle.c2po_parse.proofs.Spans.{reads_section, reads-item, reads-fault}
 use Rattle.c2po_parse.proofs.parser.read_front.Goals as goal

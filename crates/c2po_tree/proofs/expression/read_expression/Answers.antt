@@ -1,5 +1,5 @@
 use Rattle.std.proofs.Common.{subst, arith}
-use Rattle.spec_tree.specs.Shape.{shape}
+use Rattle.c2po_ast.specs.Shape.{shape}
 use Rattle.c2po_tree.specs.Gives.{Gives}
 use Rattle.c2po_tree.proofs.Agree.{agree}
 use Rattle.c2po_tree.proofs.expression.read_expression.Goals as goal

@@ -1,7 +1,7 @@
 use Rattle.std.proofs.Common.{◌<◌, ◌^◌, ◌∙◌, refl, sym, ap, subst, map, length, arith}
-use Rattle.spec_tree.specs.ItemShape.{item_shape}
-use Rattle.plain_nodes.specs.declared.nodes.Expanded.{Expanded}
-use Rattle.plain_nodes.specs.Outputs.{IsSound}
+use Rattle.c2po_ast.specs.ItemShape.{item_shape}
+use Rattle.c2po_nodes.specs.declared.nodes.Expanded.{Expanded}
+use Rattle.c2po_nodes.specs.Outputs.{IsSound}
 use Rattle.c2po_types.specs.Outputs.{outputs_of}
 use Rattle.c2po_types.specs.Signals.{signals_of}
 use Rattle.c2po_types.specs.Reaching.{state_of}

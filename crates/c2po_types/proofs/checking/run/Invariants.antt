@@ -1,9 +1,9 @@
 use Rattle.std.proofs.Common.{◌≡◌, ◌≤◌, drop, map}
 use Rattle.mltl_base.specs.declared.limits.TheConstants.{MAX_WEIGHT}
-use Rattle.spec_tree.specs.ItemShape.{item_shape}
+use Rattle.c2po_ast.specs.ItemShape.{item_shape}
 use Rattle.c2po_kinds.specs.Checking.{in_turn}
-use Rattle.unfold.specs.Environment.{Env}
-use Rattle.unfold.specs.Holding.{StandsFor}
+use Rattle.c2po_unfold.specs.Environment.{Env}
+use Rattle.c2po_unfold.specs.Holding.{StandsFor}
 use Rattle.c2po_types.specs.FirstFault.{item_step, checked}
 use Rattle.c2po_types.specs.Reaching.{state_of}
 use Rattle.c2po_types.specs.Unfolded.{Leaves}

@@ -1,8 +1,8 @@
 use Rattle.std.proofs.Common.{◌∙◌, sym, subst, arith, ◌≡◌, ◌+◌, length}
-use Rattle.plain_nodes.proofs.Pushing.{grows_then}
-use Rattle.plain_nodes.specs.Nodes.{AreSound}
-use Rattle.unfold.specs.Environment.{declare, value, signal_value}
-use Rattle.unfold.specs.Holding.{StandsFor, nodes_of}
+use Rattle.c2po_nodes.proofs.Pushing.{grows_then}
+use Rattle.c2po_nodes.specs.Nodes.{AreSound}
+use Rattle.c2po_unfold.specs.Environment.{declare, value, signal_value}
+use Rattle.c2po_unfold.specs.Holding.{StandsFor, nodes_of}
 use Rattle.c2po_types.proofs.Outcome.{signals-more, signals-end}
 use Rattle.c2po_types.proofs.Stepping.{sound-more}
 use Rattle.c2po_types.proofs.steps.add_signals.Goals as goal

@@ -1,7 +1,7 @@
 use Rattle.std.proofs.Common.{◌≡◌, drop}
-use Rattle.plain_nodes.specs.Nodes.{AreSound, Grows}
-use Rattle.unfold.specs.Environment.{Env}
-use Rattle.unfold.specs.Holding.{StandsFor, nodes_of}
+use Rattle.c2po_nodes.specs.Nodes.{AreSound, Grows}
+use Rattle.c2po_unfold.specs.Environment.{Env}
+use Rattle.c2po_unfold.specs.Holding.{StandsFor, nodes_of}
 use Rattle.c2po_types.specs.FirstFault.{with_signals}
 use Rattle.c2po_types.proofs.steps.add_signals.Given as goal
 

@@ -1,6 +1,6 @@
 use Rattle.std.proofs.Common.{◌≡◌, List}
 use Rattle.mltl_base.specs.Atoms.{Row}
-use Rattle.mltl_monitor.specs.Monitoring.{Stands, left_to_tell, program_of, taken_by}
+use Rattle.r2u2_monitor.specs.Monitoring.{Stands, left_to_tell, program_of, taken_by}
 use Rattle.demo_runs.specs.Tallies.{AreCounted}
 use Rattle.demo_runs.proofs.run.drain.Given as goal
 

@@ -6,7 +6,7 @@ use Rattle.mltl_base.specs.declared.program.Program.{Program}
 use Rattle.mltl_base.specs.declared.report.Style.TheVariants.{Each}
 use Rattle.mltl_base.specs.Programs.{outputs}
 use Rattle.mltl_base.specs.Reports.{reports}
-use Rattle.mltl_monitor.specs.Monitoring.{program_of}
+use Rattle.r2u2_monitor.specs.Monitoring.{program_of}
 use Rattle.demo_runs.specs.declared.tally.Tally.{Tally}
 use Rattle.demo_runs.specs.Summary.{demo_rows, listed_out, summary_of}
 use Rattle.demo_runs.specs.Tallies.{AreTallies}

@@ -2,7 +2,7 @@
 use Rattle.std.proofs.Common.{◌∙◌, ap₂, refl}
 use Rattle.std.proofs.lemmas.Result.{err_from_is_err_and}
 use Rattle.mltl_base.specs.declared.program.Program.{Program}
-use Rattle.plain_nodes.specs.Outputs.{asked_in}
+use Rattle.c2po_nodes.specs.Outputs.{asked_in}
 use Rattle.obs_build.specs.Image.{stored_signals}
 use Rattle.obs_build.proofs.Building.{IsDraft, IsBuilt, sizable, built, reason}
 use Rattle.obs_build.proofs.assembly.build.Goals as goal

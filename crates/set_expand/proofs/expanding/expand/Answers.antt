@@ -1,12 +1,12 @@
 use Rattle.std.proofs.Common.{◌≡◌, Ok, Err, Result, length, sym, subst}
 use Rattle.std.specs.Prelude.{All, IfOk}
 use Rattle.mltl_base.specs.Kinds.{ReadsSignals, kinds_of}
-use Rattle.spec_tree.specs.ItemShape.{spec_shape}
+use Rattle.c2po_ast.specs.ItemShape.{spec_shape}
 use Rattle.c2po_types.specs.Signals.{signals_of}
-use Rattle.plain_nodes.specs.declared.nodes.Expanded.{Expanded}
-use Rattle.plain_nodes.specs.Faults.{HasRanges}
-use Rattle.plain_nodes.specs.Outputs.{IsSound, asked}
-use Rattle.unfold.proofs.Meaning.{counting_means}
+use Rattle.c2po_nodes.specs.declared.nodes.Expanded.{Expanded}
+use Rattle.c2po_nodes.specs.Faults.{HasRanges}
+use Rattle.c2po_nodes.specs.Outputs.{IsSound, asked}
+use Rattle.c2po_unfold.proofs.Meaning.{counting_means}
 use Rattle.set_expand.specs.Outputs.{HasPlainName, outputs_of}
 use Rattle.set_expand.proofs.Signalling.{outputs-read}
 use Rattle.set_expand.proofs.expanding.expand.Goals as goal

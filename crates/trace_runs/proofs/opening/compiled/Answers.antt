@@ -1,7 +1,7 @@
 use Rattle.std.proofs.Common.{rules, ◌≡◌}
 use Rattle.std.proofs.lemmas.Result.{err_from_is_err_and}
 use Rattle.std.specs.Option.{option_copied}
-use Rattle.spec_tree.specs.ItemShape.{spec_shape}
+use Rattle.c2po_ast.specs.ItemShape.{spec_shape}
 use Rattle.tool_runs.specs.Statuses.{with_status}
 use Rattle.tool_runs.proofs.StatusLaws.{told_fault, told_value}
 use Rattle.trace_runs.specs.ProgramBy.{compile_status}

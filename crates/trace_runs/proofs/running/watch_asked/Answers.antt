@@ -1,8 +1,8 @@
 use Rattle.std.proofs.Common.{ℕ, Bool, if◌then◌else◌, List, subst, sym}
-use Rattle.mltl_monitor.specs.Monitoring.{program_of}
+use Rattle.r2u2_monitor.specs.Monitoring.{program_of}
 use Rattle.tool_io.proofs.LogLaws.{OnLog-map}
-use Rattle.trace_watch.specs.Trace.{stamped_rows, trace_rows}
-use Rattle.trace_watch.specs.Watch.{IsWatch, first_of}
+use Rattle.r2u2_watch.specs.Trace.{stamped_rows, trace_rows}
+use Rattle.r2u2_watch.specs.Watch.{IsWatch, first_of}
 use Rattle.trace_runs.proofs.running.watch_asked.Goals as goal
 
 pub returns-then-asked-clause-log : goal.returns-then-asked-clause-log

@@ -1,6 +1,6 @@
 use Rattle.std.proofs.Common.{◌∙◌, sym, subst, map, []}
 use Rattle.std.proofs.lemmas.Result.{err_from_is_err_and}
-use Rattle.spec_tree.specs.ItemShape.{field_shape}
+use Rattle.c2po_ast.specs.ItemShape.{field_shape}
 use Rattle.c2po_kinds.specs.Checking.{Fails, in_turn}
 use Rattle.c2po_kinds.specs.Items.{with_field}
 use Rattle.c2po_kinds.proofs.Declaring.{struct-fails}

@@ -1,6 +1,6 @@
 -- The left formula is unfolded first.
 use Rattle.std.proofs.Common.{◌≡◌, Ok, length}
-use Rattle.spec_tree.specs.Shape.{shape}
+use Rattle.c2po_ast.specs.Shape.{shape}
 use Rattle.c2po_types.proofs.Parts.{ok_before}
 use Rattle.c2po_types.proofs.Stepping.{is_later}
 use Rattle.c2po_types.proofs.progress.Progress.put_contract.Goals as goal

@@ -1,7 +1,7 @@
 -- A formula that is unfolded is an output.
 use Rattle.std.proofs.Common.{◌≡◌, ◌++◌, ◌∙◌, Ok, length, ap, subst, sym}
-use Rattle.spec_tree.specs.Shape.{shape}
-use Rattle.spec_tree.specs.ItemShape as item
+use Rattle.c2po_ast.specs.Shape.{shape}
+use Rattle.c2po_ast.specs.ItemShape as item
 use Rattle.c2po_types.specs.declared.progress.Progress.{Progress}
 use Rattle.c2po_types.specs.Outputs.{asked_at, place_after, name_of}
 use Rattle.c2po_types.specs.Unfolded.{HasUnfolded}

@@ -1,10 +1,10 @@
 -- Two formulas that are unfolded are an output.
 use Rattle.std.proofs.Common.{◌≡◌, ◌++◌, ◌∙◌, Ok, length, ap, subst, sym}
-use Rattle.spec_tree.specs.Shape.{shape}
-use Rattle.spec_tree.specs.ItemShape as item
-use Rattle.plain_nodes.specs.Nodes.{formula}
-use Rattle.unfold.specs.Environment.{value_of}
-use Rattle.unfold.specs.Values.{formula_of}
+use Rattle.c2po_ast.specs.Shape.{shape}
+use Rattle.c2po_ast.specs.ItemShape as item
+use Rattle.c2po_nodes.specs.Nodes.{formula}
+use Rattle.c2po_unfold.specs.Environment.{value_of}
+use Rattle.c2po_unfold.specs.Values.{formula_of}
 use Rattle.c2po_types.specs.declared.progress.Progress.{Progress}
 use Rattle.c2po_types.specs.Outputs.{asked_at, place_after, name_of}
 use Rattle.c2po_types.specs.Unfolded.{HasUnfolded}

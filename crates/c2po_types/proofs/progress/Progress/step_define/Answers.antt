@@ -1,13 +1,13 @@
 -- A definition without a fault is known after it, and declares no signals.
 use Rattle.std.proofs.Common.{◌≡◌, Ok, length, refl, sym, ap, subst, arith, rules}
 use Rattle.std.specs.Prelude.{OnOk}
-use Rattle.spec_tree.specs.Shape.{shape}
-use Rattle.spec_tree.specs.ItemShape.{define}
+use Rattle.c2po_ast.specs.Shape.{shape}
+use Rattle.c2po_ast.specs.ItemShape.{define}
 use Rattle.c2po_kinds.specs.declared.declarations.Declarations.{Declarations}
 use Rattle.c2po_kinds.specs.Items.{with_value}
-use Rattle.plain_nodes.specs.Nodes.{AreSound, Grows}
-use Rattle.unfold.specs.Environment.{declare, value, value_of}
-use Rattle.unfold.specs.Holding.{StandsFor, nodes_of}
+use Rattle.c2po_nodes.specs.Nodes.{AreSound, Grows}
+use Rattle.c2po_unfold.specs.Environment.{declare, value, value_of}
+use Rattle.c2po_unfold.specs.Holding.{StandsFor, nodes_of}
 use Rattle.c2po_types.proofs.Parts.{ok-inj, ok_before}
 use Rattle.c2po_types.proofs.Stepping.{stands-after}
 use Rattle.c2po_types.proofs.progress.Progress.step_define.Goals as goal

@@ -2,12 +2,12 @@
 use Rattle.std.proofs.Common.{◌≡◌, ◌∙◌, ◌+◌, ◌++◌, refl, sym, ap, subst, drop, length, arith}
 use Rattle.std.proofs.Math.Seq.{drop-append_seam}
 use Rattle.std.proofs.lemmas.List.{length-append}
-use Rattle.spec_tree.specs.ItemShape.{input, type_shape}
-use Rattle.plain_nodes.specs.Nodes.{AreSound}
+use Rattle.c2po_ast.specs.ItemShape.{input, type_shape}
+use Rattle.c2po_nodes.specs.Nodes.{AreSound}
 use Rattle.c2po_types.specs.FirstFault.{with_signals}
 use Rattle.c2po_types.specs.Outputs.{values_after}
 use Rattle.c2po_types.specs.Signals.{body_signals}
-use Rattle.unfold.specs.Holding.{StandsFor, nodes_of}
+use Rattle.c2po_unfold.specs.Holding.{StandsFor, nodes_of}
 use Rattle.c2po_types.proofs.SignalLaws.{input-signals}
 use Rattle.c2po_types.proofs.Stepping.{stands-after}
 use Rattle.c2po_types.proofs.progress.Progress.step_input.Goals as goal

@@ -1,9 +1,9 @@
 -- A struct declares no signals, and unfolds to nothing.
 use Rattle.std.proofs.Common.{◌≡◌, ◌+◌, ◌∙◌, refl, sym, ap, subst, map, length, arith}
-use Rattle.spec_tree.specs.ItemShape.{structure, field_shape}
-use Rattle.plain_nodes.specs.Nodes.{AreSound}
-use Rattle.unfold.specs.Environment.{declare, fields}
-use Rattle.unfold.specs.Holding.{StandsFor, nodes_of}
+use Rattle.c2po_ast.specs.ItemShape.{structure, field_shape}
+use Rattle.c2po_nodes.specs.Nodes.{AreSound}
+use Rattle.c2po_unfold.specs.Environment.{declare, fields}
+use Rattle.c2po_unfold.specs.Holding.{StandsFor, nodes_of}
 use Rattle.c2po_types.proofs.SignalLaws.{struct-signals}
 use Rattle.c2po_types.proofs.Stepping.{stands-after}
 use Rattle.c2po_types.proofs.progress.Progress.step_struct.Goals as goal

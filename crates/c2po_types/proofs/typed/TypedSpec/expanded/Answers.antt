@@ -1,10 +1,10 @@
 use Rattle.std.proofs.Common.{◌<◌, ◌^◌, ◌∙◌, length, ap, sym, subst, arith}
 use Rattle.std.specs.Prelude.{All}
 use Rattle.std.proofs.lemmas.List.{length-map}
-use Rattle.spec_tree.specs.ItemShape.{spec_shape}
-use Rattle.plain_nodes.specs.Faults.{HasRanges}
-use Rattle.plain_nodes.specs.Nodes.{trees}
-use Rattle.plain_nodes.specs.Outputs.{asked_by}
+use Rattle.c2po_ast.specs.ItemShape.{spec_shape}
+use Rattle.c2po_nodes.specs.Faults.{HasRanges}
+use Rattle.c2po_nodes.specs.Nodes.{trees}
+use Rattle.c2po_nodes.specs.Outputs.{asked_by}
 use Rattle.c2po_types.specs.Outputs.{HasPlainName, outputs_of}
 use Rattle.c2po_types.proofs.Faultless.{faultless-ranged}
 use Rattle.c2po_types.proofs.Labelling.{plain_outputs}

@@ -2,7 +2,7 @@ use Rattle.std.proofs.Common.{◌≤◌, List, length, sym, subst}
 use Rattle.mltl_base.specs.declared.limits.TheConstants.{MAX_SIGNALS}
 use Rattle.mltl_base.specs.declared.signal.Signal.{Signal}
 use Rattle.mltl_base.specs.Kinds.{HaveOwnNames}
-use Rattle.spec_tree.specs.ItemShape.{spec_shape}
+use Rattle.c2po_ast.specs.ItemShape.{spec_shape}
 use Rattle.c2po_types.proofs.OwnNames.{own_names, few_signals}
 use Rattle.c2po_types.proofs.typed.TypedSpec.signals.Goals as goal
 

@@ -7,9 +7,9 @@ use denote.Memory.{lone}
 use denote.RawPtr.{Ptr, block_ptr, null_ptr}
 use denote.Param.Send.{IsSend, owning_send, part_keyless, sendable}
 use Rattle.std.proofs.Crossing.{frees}
-use Rattle.mltl_monitor.specs.declared.state.State.{State}
-use Rattle.mltl_monitor.specs.contracts.monitor.Monitor.{the_row as R}
-use Rattle.mltl_monitor.proofs.monitor.Monitor.TheSendSync.{the_send as monitor}
+use Rattle.r2u2_monitor.specs.declared.state.State.{State}
+use Rattle.r2u2_monitor.specs.contracts.monitor.Monitor.{the_row as R}
+use Rattle.r2u2_monitor.proofs.monitor.Monitor.TheSendSync.{the_send as monitor}
 use Rattle.r2u2_c.specs.Handles.{heap, handle_owns}
 use Rattle.r2u2_c.specs.contracts.handle.R2u2.{the_row, the_type}
 

@@ -28,7 +28,7 @@ use Rattle.std.proofs.alloc.Global.TheLaws.{the_row_laws as LZ}
 use Rattle.std.specs.contracts.impls.GlobalAllocator.TheImpl.{ghosts}
 use Rattle.std.specs.declared.option.Option.TheVariants.{None, Some}
 use Rattle.std_alloc.proofs.ResultValues.{and_tt}
-use Rattle.mltl_monitor.specs.contracts.monitor.Monitor.{the_row as R}
+use Rattle.r2u2_monitor.specs.contracts.monitor.Monitor.{the_row as R}
 use Rattle.r2u2_c.proofs.Values.{both, Loose, loose_good, loose_in}
 use Rattle.r2u2_c.proofs.Held.{Hr, al, lone_at, handle_good, handle_out, either_held}
 use Rattle.r2u2_c.specs.contracts.handle.R2u2.into_loose.{ended, clauses}

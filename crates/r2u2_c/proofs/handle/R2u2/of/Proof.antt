@@ -21,7 +21,7 @@ use Rattle.std.specs.contracts.alloc.Global.{the_row as Z}
 use Rattle.std.proofs.alloc.Global.TheLaws.{the_row_laws as LZ}
 use Rattle.std.specs.contracts.impls.GlobalAllocator.TheImpl.{ghosts}
 use Rattle.std.specs.declared.option.Option.TheVariants.{Some}
-use Rattle.mltl_monitor.specs.contracts.monitor.Monitor.{the_row as R}
+use Rattle.r2u2_monitor.specs.contracts.monitor.Monitor.{the_row as R}
 use Rattle.r2u2_c.proofs.Values.{Loose, loose_good, loose_out}
 use Rattle.r2u2_c.proofs.Held.{Hr, lone_at, handle_good, handle_in}
 use Rattle.r2u2_c.specs.contracts.handle.R2u2.of.{ended, clauses}

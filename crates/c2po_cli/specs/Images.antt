@@ -1,0 +1,37 @@
+-- What is written of a specification: a file that is its image.
+
+use Rattle.std.specs.Prelude.{◌≡◌, ℕ, Bool, true, false, Option, Some, None, Ok, List, ⊤}
+use Rattle.mltl_base.specs.declared.program.Columns.{Columns}
+use Rattle.c2po_compile.specs.Compiled.{columns_by, signals_in}
+use Rattle.c2po_compile.specs.ImageFiles.{IsImageFile}
+use Rattle.c2po_compile.specs.Simplified.{IsSimpleImageFile}
+use Rattle.c2po_cli.specs.declared.make.Form.{Form}
+use Rattle.c2po_cli.specs.declared.make.Product.{Product}
+use Rattle.c2po_cli.specs.declared.make.Product.TheVariants.{Compiled, Upgrade, Show}
+use Rattle.c2po_cli.specs.Made.{first_line}
+
+-- a file has the bytes of the image of a text, as it stands or in simplified form
+abbrev pub IsFileBy : Bool → List ℕ → Columns → List ℕ → Type 0
+IsFileBy false text columns file = IsImageFile text columns file
+IsFileBy true text columns file = IsSimpleImageFile text columns file
+
+-- so it has over the columns that a header line, or the order of declaration, gives the signals of the text
+pub record IsFileUnder (simplify : Bool) (text : List ℕ) (header : Option (List ℕ)) (file : List ℕ) : Type 0 where
+  pub columns : Columns
+  pub found : columns_by (signals_in text) header ≡ Ok columns
+  pub is_image : IsFileBy simplify text columns file
+
+-- the header of a compilation: the first line of the header file, where one is named
+abbrev pub header_of : Option (List ℕ) → List (List ℕ) → Option (List ℕ)
+header_of None lines = None
+header_of (Some name) lines = Some (first_line lines)
+
+-- what is written of a text in this form, its table aside, is such a file
+abbrev pub WritesImage : Form → List ℕ → Option (List ℕ) → List ℕ → Type 0
+WritesImage form text header file = form.table ≡ false → IsFileUnder form.simplify text header file
+
+-- so are the bytes that are made by a compilation; of those of an upgrade and of a text nothing is said here
+abbrev pub GivesImage : Product → Option (List ℕ) → List ℕ → List (List ℕ) → List ℕ → Type 0
+GivesImage (Compiled form) header file lines bytes = WritesImage form file (header_of header lines) bytes
+GivesImage Upgrade header file lines bytes = ⊤
+GivesImage Show header file lines bytes = ⊤

@@ -1,0 +1,171 @@
+-- What each phase of a run tells.
+
+use Rattle.std.specs.Prelude.{◌≡◌, ℕ, ◌⊎◌, Bool, true, false, Option, Some, None, is_some, Result, Ok, Err, IfOk, List}
+use Rattle.std.specs.Prelude.{[], ◌∷◌, Vec, ⊤}
+use Rattle.std.specs.declared.alloc.Global.{Global}
+use Rattle.tool_io.specs.declared.host.Place as place
+use Rattle.tool_io.specs.Log.{Event, Attached, Missed, Took, Gave, given, names_of, IsFront, IsProperFront, Writes}
+use Rattle.tool_io.specs.Log.{WritesFront}
+use Rattle.tool_io.specs.Host.{IsSource}
+use Rattle.tool_io.specs.Whole.{Takes}
+use Rattle.tool_io.specs.Cutting.{lines_of}
+use Rattle.c2po_compile.specs.Front.{first_refusal}
+use Rattle.tool_runs.specs.declared.status.Status as status
+use Rattle.tool_runs.specs.Attaching.{is_attached, ReadsAttached, OpensAsTold}
+use Rattle.tool_runs.specs.FirstLine.{HasBegun}
+use Rattle.c2po_cli.specs.declared.make.Form.{Form}
+use Rattle.c2po_cli.specs.declared.make.Product.{Product}
+use Rattle.c2po_cli.specs.declared.make.Product.TheVariants.{Compiled, Upgrade, Show}
+use Rattle.c2po_cli.specs.Asking.{MakeAsked, read_names, place_named}
+use Rattle.c2po_cli.specs.Images.{WritesImage}
+use Rattle.c2po_cli.specs.Made.{bytes_of, first_line, made_of_text, opened_as, text_within}
+use Rattle.obs_files.specs.Faults.{opened}
+use Rattle.c2po_cli.specs.Run.{seen, is_tried, IsFaultless, Makes, MakeOutcome, WritesAttached}
+
+-- a status by which a file, a header or a limit refuses, that of a text that is to be written too, or out of memory
+abbrev pub Refuses : status.Status → Type 0
+Refuses (status.TheVariants.Refused line refusal) = ⊤
+Refuses (status.TheVariants.BadProgram fault) = ⊤
+Refuses (status.TheVariants.BadHeader why) = ⊤
+Refuses (status.TheVariants.TextTooLong place.TheVariants.Out) = ⊤
+Refuses status.TheVariants.Memory = ⊤
+Refuses answer = ⊥
+
+-- one by which no header does
+abbrev pub RefusesAlone : status.Status → Type 0
+RefusesAlone (status.TheVariants.BadHeader why) = ⊥
+RefusesAlone answer = Refuses answer
+
+-- reads of an attached header file gave its first line, or met its end before one, or there is no end of that line
+pub record ReadsLine (form : Form) (text : List ℕ) (found : Result (List ℕ) status.Status)
+    (log : List Event) : Type 0 where
+  pub bytes : List ℕ
+  pub ended : Bool
+  pub takes : Takes place.TheVariants.Header bytes ended log
+  pub begun : HasBegun ended (lines_of ended bytes)
+  pub makes : (name : List ℕ) → made_of_text form (Some name) text (lines_of ended bytes) ≡ found
+  pub image : IfOk found (WritesImage form text (Some (first_line (lines_of ended bytes))))
+
+-- reads that gave nothing
+pub record ReadsNone (log : List Event) : Type 0 where
+  pub bytes : List ℕ
+  pub ended : Bool
+  pub takes : Takes place.TheVariants.Header bytes ended log
+
+-- reads that met no end, and gave no line yet
+pub record ReadsNoLine (log : List Event) : Type 0 where
+  pub bytes : List ℕ
+  pub takes : Takes place.TheVariants.Header bytes false log
+  pub no_line : lines_of false bytes ≡ []
+
+-- the log under the first line of an attached header file, by a text that isn't refused
+abbrev pub LineLog : Result (Vec ℕ Global) status.Status → Form → List ℕ → List Event → Type 0
+LineLog (Ok bytes) form text log = ReadsLine form text (Ok bytes.items) log
+LineLog (Err (status.TheVariants.ReadFault place.TheVariants.Header)) form text log = ReadsNoLine log
+LineLog (Err status.TheVariants.Memory) form text log = ReadsNone log
+LineLog (Err (status.TheVariants.TextTooLong place.TheVariants.Header)) form text log =
+    ReadsLine form text (Err (status.TheVariants.TextTooLong place.TheVariants.Header)) log
+LineLog (Err answer) form text log = Refuses answer × ReadsLine form text (Err answer) log
+
+-- the same where the header file is to be attached
+abbrev pub HeaderLog : Result (Vec ℕ Global) status.Status → Form → List ℕ → List ℕ → List Event → Type 0
+HeaderLog (Err (status.TheVariants.OpenFault place.TheVariants.Header)) form name text events =
+    (events ≡ Missed place.TheVariants.Header name ∷ []) ⊎ (events ≡ [])
+HeaderLog result form name text events =
+    (log : List Event) × (events ≡ Attached place.TheVariants.Header name ∷ log) × LineLog result form text log
+
+-- nothing was called, and this refuses what was there
+abbrev pub RefusedLog : Result (Vec ℕ Global) status.Status → Result (List ℕ) status.Status → List Event → Type 0
+RefusedLog (Ok bytes) found events = ⊥
+RefusedLog (Err status.TheVariants.Memory) found events = events ≡ []
+RefusedLog (Err answer) found events = (events ≡ []) × RefusesAlone answer × (found ≡ Err answer)
+
+-- nothing was called, and this was made of what was there
+abbrev pub MadeLog : Result (Vec ℕ Global) status.Status → Result (List ℕ) status.Status → List Event → Type 0
+MadeLog (Ok bytes) found events = (events ≡ []) × (found ≡ Ok bytes.items)
+MadeLog result found events = RefusedLog result found events
+
+-- after a specification without a fault
+abbrev pub SpecLog : Result (Vec ℕ Global) status.Status → Form → Option (List ℕ) → List ℕ → List Event → Type 0
+SpecLog result form None text events =
+    MadeLog result (made_of_text form None text []) events
+    × IfOk result (λ bytes. WritesImage form text None bytes.items)
+SpecLog result form (Some name) text events = HeaderLog result form name text events
+
+-- after the text of a specification: it is refused, or it has no fault
+abbrev pub TextLog : Result (Vec ℕ Global) status.Status → Form → Option (List ℕ) → List ℕ → List Event → Type 0
+TextLog result form header text events =
+    RefusedLog result (made_of_text form header text []) events
+    ⊎ ((first_refusal text ≡ None) × SpecLog result form header text events)
+
+-- after the bytes of a file
+abbrev pub FileMadeLog : Product → Result (Vec ℕ Global) status.Status → Option (List ℕ) → List ℕ → List Event → Type 0
+FileMadeLog (Compiled form) result header file events = TextLog result form header file events
+FileMadeLog Upgrade result header file events = MadeLog result (opened_as bytes_of (opened file)) events
+FileMadeLog Show result header file events = MadeLog result (opened_as text_within (opened file)) events
+
+-- after the bytes of the file that the words ask for
+abbrev pub AfterLog : Result (Vec ℕ Global) status.Status → MakeAsked → List ℕ → List Event → Type 0
+AfterLog result asked file events = FileMadeLog asked.product result asked.header file events
+
+-- the events are calls at places that are read
+abbrev pub OnlySources : List Event → Type 0
+OnlySources [] = ⊤
+OnlySources (Attached p name ∷ events) = IsSource p × OnlySources events
+OnlySources (Missed p name ∷ events) = IsSource p × OnlySources events
+OnlySources (Took p piece ∷ events) = IsSource p × OnlySources events
+OnlySources (Gave p piece ∷ events) = ⊥
+
+-- all was read, and gave these bytes
+pub record Gathered (asked : MakeAsked) (bytes : List ℕ) (events : List Event) : Type 0 where
+  pub names : names_of events ≡ read_names asked
+  pub sources : OnlySources events
+  pub reads : ReadsAttached [] events
+  pub makes : Makes asked (seen asked events) (Ok bytes)
+  pub tries : is_tried place.TheVariants.Header (names_of events) ≡ true → IsFaultless asked (seen asked events)
+
+-- something failed or was refused
+pub record NotGathered (asked : MakeAsked) (answer : status.Status) (events : List Event) : Type 0 where
+  pub names : IsFront (names_of events) (read_names asked)
+  pub sources : OnlySources events
+  pub reads : ReadsAttached [] events
+  pub outcome : MakeOutcome answer asked (seen asked events)
+  pub tries : is_tried place.TheVariants.Header (names_of events) ≡ true → IsFaultless asked (seen asked events)
+  pub opened : OpensAsTold answer events
+
+-- the log up to the bytes that are to be written, or to what failed or was refused
+abbrev pub GatherLog : Result (Vec ℕ Global) status.Status → MakeAsked → List Event → Type 0
+GatherLog (Ok bytes) asked events = Gathered asked bytes.items events
+GatherLog (Err answer) asked events = NotGathered asked answer events
+
+-- the bytes went out, or a front of them
+abbrev pub GivenLog : status.Status → List ℕ → List Event → Type 0
+GivenLog status.TheVariants.Done bytes events = Writes place.TheVariants.Out bytes events
+GivenLog (status.TheVariants.WriteFault place.TheVariants.Out) bytes events =
+    WritesFront place.TheVariants.Out bytes events
+GivenLog answer bytes events = ⊥
+
+-- the events are calls at Out
+abbrev pub OnlyOut : List Event → Type 0
+OnlyOut [] = ⊤
+OnlyOut (Attached place.TheVariants.Out name ∷ events) = OnlyOut events
+OnlyOut (Missed place.TheVariants.Out name ∷ events) = OnlyOut events
+OnlyOut (Gave place.TheVariants.Out piece ∷ events) = OnlyOut events
+OnlyOut (event ∷ events) = ⊥
+
+-- how bytes are written, into a file where one is named
+abbrev pub PutOutcome : status.Status → Option (List ℕ) → List ℕ → List ℕ → Bool → Type 0
+PutOutcome status.TheVariants.Done out bytes sent attached = (sent ≡ bytes) × (attached ≡ is_some out)
+PutOutcome (status.TheVariants.WriteFault place.TheVariants.Out) out bytes sent attached =
+    IsProperFront sent bytes × (attached ≡ is_some out)
+PutOutcome (status.TheVariants.OpenFault place.TheVariants.Out) out bytes sent attached =
+    (is_some out ≡ true) × (sent ≡ []) × (attached ≡ false)
+PutOutcome answer out bytes sent attached = ⊥
+
+-- the log of writing bytes, into a file where one is named
+pub record PutLog (answer : status.Status) (out : Option (List ℕ)) (bytes : List ℕ) (events : List Event) : Type 0 where
+  pub names : IsFront (names_of events) (place_named place.TheVariants.Out out)
+  pub only : OnlyOut events
+  pub writes : WritesAttached (is_some out) events
+  pub outcome : PutOutcome answer out bytes (given place.TheVariants.Out events)
+      (is_attached place.TheVariants.Out events)

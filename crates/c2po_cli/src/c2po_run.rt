@@ -1,0 +1,82 @@
+//! The top call of the compiler.
+
+ghost use Rattle.std.specs.Prelude.{◌≡◌, ◌≢◌, ◌↔◌, None};
+ghost use Rattle.tool_io.specs.Log.{OnLog};
+ghost use Rattle.tool_io.specs.declared.host.Place.{Place as Where};
+ghost use Rattle.tool_io.specs.declared.host.Place.TheVariants.{Err};
+ghost use Rattle.tool_words.specs.declared.file_kind.FileKind.TheVariants.{Program};
+ghost use Rattle.tool_words.specs.C2poWords.{asked_of};
+ghost use Rattle.tool_runs.specs.Causes.{CauseAt, RunCause};
+ghost use Rattle.c2po_cli.specs.Asking.{ask, file_kind as kind_of, help, make as made_so, make_of, nothing, served};
+ghost use Rattle.c2po_cli.specs.Run.{IsMade, Ran};
+ghost use Rattle.c2po_cli.specs.Showing.{ShowsProgram};
+
+use crate::gathering::gather;
+use crate::make::{Make, compilation, showing, upgrading};
+use crate::writing::write_out;
+use std::alloc::Global;
+use tool_io::Host;
+use tool_runs::{Status, Tool, give_help, tell_user};
+use tool_words::{C2poAsk, Words, c2po_ask};
+
+/// Makes what was asked for, and writes it.
+fn make<H: Host>(alloc: Global, asked: &Make<'_>, host: &mut H) -> Status
+    requires header { kind_of asked.now.product ≡ Program → asked.now.header ≡ None }
+    ensures cause { RunCause result (H.faults host.old) (H.faults host.new) }
+    ensures log { OnLog (H.log host.old) (H.log host.new)
+        (Ran (made_so (make_of asked.now)) result) }
+{
+    match gather(alloc, asked, host) {
+        Ok(bytes) => write_out(asked.out, &bytes, host),
+        Err(status) => status,
+    }
+}
+
+/// Does what was asked for.
+fn run_asked<H: Host>(alloc: Global, asked: C2poAsk<'_>, host: &mut H) -> Status
+    ensures cause { RunCause result (H.faults host.old) (H.faults host.new) }
+    ensures log { OnLog (H.log host.old) (H.log host.new)
+        (Ran (served (asked_of asked.entry)) result) }
+{
+    match asked {
+        C2poAsk::Help => give_help(Tool::C2po, host),
+        C2poAsk::Compile(asked) => make(alloc, &compilation(&asked), host),
+        C2poAsk::Upgrade { out, program } => make(alloc, &upgrading(out, program), host),
+        C2poAsk::Show { out, program } => make(alloc, &showing(out, program), host),
+        C2poAsk::Nothing => Status::Usage,
+    }
+}
+
+/// Does what the words ask for.
+fn run<H: Host>(alloc: Global, words: &Words, host: &mut H) -> Status
+    ensures usage { result ≢ Status.Memory → (result ≡ Status.Usage) ↔ (ask words.now ≡ nothing) }
+    ensures helped { result ≡ Status.Helped → ask words.now ≡ help }
+    ensures cause { RunCause result (H.faults host.old) (H.faults host.new) }
+    ensures log { OnLog (H.log host.old) (H.log host.new) (Ran (ask words.now) result) }
+{
+    match c2po_ask(alloc, words) {
+        Ok(asked) => run_asked(alloc, asked, host),
+        Err(_) => Status::Memory,
+    }
+}
+
+/// The top call of c2po: does what the words ask for, and tells the user on `Err` what went wrong.
+///
+/// It writes the image of a specification or its instruction table, maybe in simplified form; a program in version 2, or
+/// its text; or it gives help. The output is attached, and written, only once the bytes stand whole; so an older file
+/// stays as it was where something is refused. The text of an image is a specification without a fault, whose image over
+/// the stored columns is the file.
+pub fn c2po_main<H: Host>(alloc: Global, words: &Words, host: &mut H) -> Status
+    ensures usage { result ≢ Status.Memory → (result ≡ Status.Usage) ↔ (ask words.now ≡ nothing) }
+    ensures helped { result ≡ Status.Helped → ask words.now ≡ help }
+    ensures cause { (p : Where) → p ≢ Err
+        → CauseAt result p (H.faults host.old p) (H.faults host.new p) }
+    ensures log { OnLog (H.log host.old) (H.log host.new)
+        (IsMade (ask words.now) result (H.faults host.old) (H.faults host.new)) }
+    ensures returns { OnLog (H.log host.old) (H.log host.new)
+        (ShowsProgram (ask words.now) result) }
+{
+    let status = run(alloc, words, host);
+    tell_user(Tool::C2po, &status, host);
+    status
+}

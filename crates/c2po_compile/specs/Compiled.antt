@@ -1,0 +1,57 @@
+-- The program that a text and a header line stand for, or why there is none.
+
+use Rattle.std.specs.Prelude.{◌≡◌, ℕ, List, map, length, Option, Some, None, Result, Ok, Err}
+use Rattle.mltl_base.specs.declared.program.Columns.{Columns}
+use Rattle.mltl_base.specs.declared.program.Program.{Program}
+use Rattle.mltl_base.specs.Subformulas.{Asked}
+use Rattle.mltl_base.specs.declared.signal.Signal.{Signal}
+use Rattle.c2po_ast.specs.ItemShape.{ItemShape}
+use Rattle.c2po_types.specs.Signals.{signals_of}
+use Rattle.c2po_types.specs.Outputs.{outputs_of}
+use Rattle.trace_feed.specs.declared.header_fault.HeaderFault.{HeaderFault}
+use Rattle.trace_feed.specs.Header.{header_meaning, columns_in_order}
+use Rattle.c2po_compile.specs.declared.fault.CompileFault.{CompileFault}
+use Rattle.c2po_compile.specs.Refusals.{header_refusal, unless_refused}
+use Rattle.c2po_compile.specs.Front.{items_in, first_refusal}
+use Rattle.c2po_compile.specs.Limits.{limit_refusal}
+use Rattle.c2po_compile.specs.Image.{over_columns, image}
+
+-- the signals that a text declares
+abbrev pub signals_in : List ℕ → List Signal
+signals_in text = signals_of (items_in text)
+
+-- the outputs of a text by the numbers of signals
+abbrev pub outputs_in : List ℕ → List Asked
+outputs_in text = outputs_of (items_in text)
+
+-- the columns of signals: those that a header line names; without one, each in the column of its number
+abbrev pub columns_by : List Signal → Option (List ℕ) → Result Columns HeaderFault
+columns_by signals None = Ok (columns_in_order (length signals))
+columns_by signals (Some line) = header_meaning (map (λ s. s.name) signals) line
+
+-- the refusal of what items say over columns, by the first limit that it exceeds
+abbrev pub limit_over : Columns → List ItemShape → Option CompileFault
+limit_over columns items = limit_refusal (over_columns columns (outputs_of items))
+
+-- the image over columns, unless a limit is exceeded
+abbrev pub image_within : List Signal → List Asked → Columns → Result Program CompileFault
+image_within signals outs columns =
+    unless_refused (limit_refusal (over_columns columns outs)) (Ok (image columns signals outs))
+
+-- the same over the columns of a header, where it has no fault
+abbrev pub image_under : List Signal → List Asked → Result Columns HeaderFault → Result Program CompileFault
+image_under signals outs (Ok columns) = image_within signals outs columns
+image_under signals outs (Err fault) = Err (header_refusal fault)
+
+-- the program of a text over the columns that a header line names, or over those of the order of declaration; else the
+-- first refusal: the text's, then the header's, then that of a limit
+unfoldable pub image_of_text : List ℕ → Option (List ℕ) → Result Program CompileFault
+image_of_text text header =
+    unless_refused (first_refusal text) (image_under (signals_in text) (outputs_in text)
+    (columns_by (signals_in text) header))
+
+-- a program is the image of a text over the columns that a header line, or the order of declaration, gives its signals
+pub record IsImageUnder (text : List ℕ) (header : Option (List ℕ)) (program : Program) : Type 0 where
+  pub columns : Columns
+  pub found : columns_by (signals_in text) header ≡ Ok columns
+  pub is_image : program ≡ image columns (signals_in text) (outputs_in text)

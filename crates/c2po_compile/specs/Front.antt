@@ -1,0 +1,33 @@
+-- What a text says, and its first refusal.
+
+use Rattle.std.specs.Prelude.{ℕ, List, [], Option, Some, None, option_map, Result, Ok, Err}
+use Rattle.std.specs.Option.{option_or}
+use Rattle.std.specs.Result.{result_unwrap_or}
+use Rattle.c2po_lexer.specs.declared.token.Token.{Token}
+use Rattle.c2po_lexer.specs.Tokens.{tokens_of}
+use Rattle.c2po_ast.specs.ItemShape.{ItemShape}
+use Rattle.c2po_parse.specs.Specification.{spec_of}
+use Rattle.c2po_types.specs.FirstFault.{first_fault}
+use Rattle.c2po_compile.specs.declared.fault.CompileFault.{CompileFault}
+use Rattle.c2po_compile.specs.Refusals.{token_refusal, tree_refusal, check_refusal}
+
+-- the tokens of a text, where it has no fault of tokens
+abbrev pub tokens_in : List ℕ → List Token
+tokens_in text = result_unwrap_or (tokens_of text) []
+
+-- the items that a text says, where each has a tree
+abbrev pub items_in : List ℕ → List ItemShape
+items_in text = result_unwrap_or (spec_of (tokens_in text)) []
+
+-- the refusal for a fault, where one was found
+abbrev pub refusal_in : {A E : Type 0} → (E → CompileFault) → Result A E → Option CompileFault
+refusal_in refusal (Ok found) = None
+refusal_in refusal (Err fault) = Some (refusal fault)
+
+-- the first refusal of a text: that of its tokens comes first, then that of the trees of its items, then that of the
+-- items' names, kinds, weights, ranges and tenses
+abbrev pub first_refusal : List ℕ → Option CompileFault
+first_refusal text =
+    option_or (refusal_in token_refusal (tokens_of text))
+    (option_or (refusal_in tree_refusal (spec_of (tokens_in text)))
+    (option_map check_refusal (first_fault (items_in text))))

@@ -1,0 +1,16 @@
+-- Specifications that are unfolded and can be built.
+
+use Rattle.std.specs.Prelude.{List, length, All}
+use Rattle.mltl_base.specs.declared.signal.Signal.{Signal}
+use Rattle.mltl_base.specs.Kinds.{ReadsSignals, kinds_of}
+use Rattle.c2po_nodes.specs.declared.nodes.Expanded.{Expanded}
+use Rattle.c2po_nodes.specs.Faults.{HasRanges}
+use Rattle.c2po_nodes.specs.Outputs.{IsSound, asked}
+use Rattle.c2po_types.specs.Outputs.{HasPlainName}
+
+-- outputs over signals: each reads signals that exist by their kinds, has ranges, and a name that can be written
+pub record IsUnfolded (signals : List Signal) (spec : Expanded) : Type 0 where
+  pub sound : IsSound spec (length signals)
+  pub ranged : All HasRanges (asked spec)
+  pub kinds : All (ReadsSignals (kinds_of signals)) (asked spec)
+  pub named : All HasPlainName (asked spec)

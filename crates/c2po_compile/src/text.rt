@@ -1,0 +1,30 @@
+//! From the text of a specification to its checked tree.
+
+ghost use Rattle.std.specs.Prelude.{◌≡◌, ◌≤◌, None, length, IfErr, IfOk, OnOk};
+ghost use Rattle.c2po_ast.specs.ItemShape.{spec_shape};
+ghost use Rattle.c2po_compile.specs.Refusals.{IsFirstRefusal};
+ghost use Rattle.c2po_compile.specs.Front.{first_refusal, items_in};
+
+use crate::CompileFault;
+use c2po_lexer::lex;
+use c2po_parse::parse;
+use c2po_types::{TypedSpec, check};
+use mltl_base::limits::MAX_SPEC_BYTES;
+use std::alloc::Global;
+
+/// The specification that a text of at most 1,048,576 bytes says.
+///
+/// Errors: `Refused` with the first fault of the text: one of its tokens, else one of the trees of its items, else one
+/// of names, kinds, weights, ranges or tenses; `Memory` when out of memory. `BadHeader` never comes.
+pub fn front(alloc: Global, text: &[u8]) -> Result<TypedSpec, CompileFault>
+    requires { length text.now ≤ MAX_SPEC_BYTES }
+    ensures faultless { OnOk result (first_refusal text.now ≡ None) }
+    ensures items { IfOk result (λ spec. spec_shape spec ≡ items_in text.now) }
+    ensures refused { IfErr result (λ fault. IsFirstRefusal (first_refusal text.now) fault) }
+{
+    let tokens = lex(alloc, text)?;
+    let tree = parse(alloc, &tokens)?;
+    drop(tokens);
+    let spec = check(alloc, &tree)?;
+    Ok(spec)
+}

@@ -1,0 +1,178 @@
+-- What the loops of unfolding keep.
+
+use Rattle.std.proofs.Common.{◌≡◌, ℕ, zero, suc, Bool, false, nat_eq, ◌+◌, ◌-◌, ◌<◌, ◌≤◌, Some, List, [], ◌∷◌, ◌++◌, map, fold, take, length, get_or, slice_get, sum_by, option_map, refl, sym, subst, ap, ◌∙◌, arith}
+use Rattle.std.proofs.lemmas.List.{take_more, take-map, map-append, length-map, length-take-le}
+use Rattle.std.proofs.lemmas.List.Sums.{fold_push, sum_by_push, sum_by-cons, sum_by_more_le}
+use Rattle.std.proofs.lemmas.Option.{slice_get_within, get_or_from_slice_get, slice_get-get_or, slice_get-map}
+use Rattle.mltl_base.specs.declared.operators.LogicOp.{LogicOp}
+use Rattle.mltl_base.specs.declared.operators.CountOp.{CountOp}
+use Rattle.c2po_nodes.specs.Nodes.{formula}
+use Rattle.c2po_ast.specs.declared.tree.Expr.{Expr}
+use Rattle.c2po_ast.specs.Shape.{shape, shapes}
+use Rattle.c2po_unfold.specs.declared.values.Stored.{Stored}
+use Rattle.c2po_unfold.specs.declared.scope.Scope.{Scope}
+use Rattle.c2po_unfold.specs.declared.scope.Head.{Head}
+use Rattle.c2po_unfold.specs.declared.operators.Bodies.{Bodies}
+use Rattle.c2po_unfold.specs.declared.operators.BinaryOp.{BinaryOp}
+use Rattle.c2po_unfold.specs.declared.operators.BinaryOp.TheVariants as binary
+use Rattle.c2po_unfold.specs.declared.unfolding.Unfolding.{Unfolding}
+use Rattle.c2po_unfold.specs.Values.{Value, leaf, list_of, weight, formula_of, members, connected_value, connected_all, counted, counted_some, counting_weight, truth_value}
+use Rattle.c2po_unfold.specs.Environment.{Env, bind, value_of, values_of}
+use Rattle.c2po_unfold.specs.Holding.{Holds, HoldAll, Fits, IsLater}
+use Rattle.c2po_unfold.specs.Heads.{Heads}
+use Rattle.c2po_unfold.specs.Operators.{binary_value, bodies_over}
+use Rattle.c2po_unfold.proofs.Later.{later_same, later_then, hold_all_later, fits_later}
+use Rattle.c2po_unfold.proofs.Members.{holds_weight, list_values, value_at}
+
+-- the first elements and one more
+pub take_next : {A : Type 0} (xs : List A) (i : ℕ) (x : A) → slice_get xs i ≡ Some x → take (i + 1) xs ≡ take i xs ++ x ∷ []
+take_next xs i x h =
+    take_more xs i x (slice_get_within xs i x h)
+    ∙ ap (λ y. take i xs ++ y ∷ []) (get_or_from_slice_get xs i x x h)
+
+-- the weight of parts
+pub parts_weight : List Expr → Env → ℕ
+parts_weight es env = sum_by weight (list_of (values_of (shapes es) env))
+
+pub weight_push : (es : List Expr) (e : Expr) (env : Env) →
+    sum_by weight (list_of (values_of (shapes (es ++ e ∷ [])) env)) ≡ sum_by weight (list_of (values_of (shapes es) env)) + weight (value_of (shape e) env)
+weight_push es e env =
+    let f = λ (x : Expr). value_of (shape x) env in
+    ap (sum_by weight) (list_values (es ++ e ∷ []) env ∙ map-append f es (e ∷ []))
+    ∙ (sum_by_push weight (map f es) (f e)
+    ∙ ap (λ (xs : List Value). sum_by weight xs + weight (value_of (shape e) env)) (sym (list_values es env)))
+
+-- the first of a list and one more weigh no more than all
+pub sum_within : (vs : List Value) (i : ℕ) (v : Value) → slice_get vs i ≡ Some v → sum_by weight (take i vs) + weight v ≤ sum_by weight vs
+sum_within vs i v h =
+    subst (λ x. sum_by weight (take i vs) + weight x ≤ sum_by weight vs) (get_or_from_slice_get vs i v v h)
+    (sum_by_more_le weight vs i v (slice_get_within vs i v h))
+
+pub weight_within : (es : List Expr) (i : ℕ) (e : Expr) (env : Env) → slice_get es i ≡ Some e →
+    sum_by weight (list_of (values_of (shapes (take i es)) env)) + weight (value_of (shape e) env) ≤ sum_by weight (list_of (values_of (shapes es) env))
+weight_within es i e env h =
+    let f = λ (x : Expr). value_of (shape x) env in
+    let same : list_of (values_of (shapes (take i es)) env) ≡ take i (list_of (values_of (shapes es) env)) =
+    list_values (take i es) env ∙ (sym (take-map f i es) ∙ ap (take i) (sym (list_values es env))) in
+    subst (λ xs. sum_by weight xs + weight (value_of (shape e) env) ≤ sum_by weight (list_of (values_of (shapes es) env))) (sym same)
+    (sum_within (list_of (values_of (shapes es) env)) i (value_of (shape e) env) (value_at es env i e h))
+
+hold_push : (es : List Expr) (u : Unfolding) (ss : List Stored) (s : Stored) (e : Expr) (env : Env) →
+    HoldAll u ss (values_of (shapes es) env) → Holds u s (value_of (shape e) env) → HoldAll u (ss ++ s ∷ []) (values_of (shapes (es ++ e ∷ [])) env)
+hold_push [] u ss s e env h k = (s, [], ap (λ xs. xs ++ s ∷ []) h, k, refl)
+hold_push (d ∷ es) u ss s e env h k =
+    (h.0, h.1 ++ s ∷ [], ap (λ xs. xs ++ s ∷ []) h.2, h.3, hold_push es u h.1 s e env h.4 k)
+
+-- the first parts of a struct's value or of a set
+pub record BuiltSoFar (old now : Unfolding) (scope : Scope) (es : List Expr) (done : List Stored) (room left : ℕ) : Type 0 where
+  pub later : IsLater old now
+  pub inside : left < room
+  pub holds : (env : Env) → Fits old scope env → HoldAll now done (values_of (shapes es) env)
+  pub weight : (env : Env) → Fits old scope env → room ≡ left + (1 + sum_by weight (list_of (values_of (shapes es) env)))
+
+pub built_start : (u : Unfolding) (scope : Scope) (room left : ℕ) → left + 1 ≡ room → BuiltSoFar u u scope [] [] room left
+built_start u scope room left e = record {
+  later = later_same u;
+  inside = omega arith;
+  holds = λ env h. refl;
+  weight = λ env h. omega arith;
+}
+
+pub built_more : (old now new : Unfolding) (scope : Scope) (es : List Expr) (i : ℕ) (e : Expr) (done : List Stored) (s : Stored) (room left : ℕ) →
+    BuiltSoFar old now scope (take i es) done room left → slice_get es i ≡ Some e → IsLater now new →
+    ((env : Env) → Fits now scope env → Holds new s (value_of (shape e) env)) → s.weight ≤ left →
+    BuiltSoFar old new scope (take (i + 1) es) (done ++ s ∷ []) room (left - s.weight)
+built_more old now new scope es i e done s room left b at next holds light =
+    subst (λ xs. BuiltSoFar old new scope xs (done ++ s ∷ []) room (left - s.weight)) (sym (take_next es i e at)) (record {
+      later = later_then old now new b.later next;
+      inside = omega (arith, b.inside);
+      holds = λ env h. hold_push (take i es) new done s e env (hold_all_later _ now new done next (b.holds env h)) (holds env (fits_later scope old now env b.later h));
+      weight = λ env h.
+          omega (arith, b.weight env h, weight_push (take i es) e env, holds_weight _ new s (holds env (fits_later scope old now env b.later h)));
+    })
+
+-- joined bodies
+pub joined_push : (op : LogicOp) (xs : List Value) (v : Value) → 0 < length xs → connected_all op (xs ++ v ∷ []) ≡ connected_value op (connected_all op xs) v
+joined_push op [] v h = absurd (omega arith)
+joined_push op (x ∷ xs) v h = fold_push (connected_value op) _ xs v
+
+fold_weight : (vs : List Value) (op : LogicOp) (a : Value) → weight (fold (connected_value op) a vs) ≡ weight a + sum_by weight vs + length vs
+fold_weight [] op a = omega arith
+fold_weight (v ∷ vs) op a =
+    let rest : weight (fold (connected_value op) a (v ∷ vs)) ≡ (1 + weight a + weight v) + sum_by weight vs + length vs = fold_weight vs op (connected_value op a v) in
+    omega (arith, rest, sum_by-cons weight v vs)
+
+pub joined_weight : (op : LogicOp) (vs : List Value) → weight (connected_all op vs) ≡ sum_by weight vs + (length vs - 1)
+joined_weight op [] = omega arith
+joined_weight op (v ∷ vs) =
+    let rest : weight (connected_all op (v ∷ vs)) ≡ weight v + sum_by weight vs + length vs = fold_weight vs op (leaf (formula (formula_of v)) (weight v)) in
+    omega (arith, rest, sum_by-cons weight v vs)
+
+pub joined_within : (op : LogicOp) (vs : List Value) (i : ℕ) (v : Value) → slice_get vs i ≡ Some v → 0 < i →
+    weight (connected_all op (take i vs)) + 1 + weight v ≤ weight (connected_all op vs)
+joined_within op vs i v h some =
+    omega (arith, joined_weight op (take i vs), joined_weight op vs, sum_within vs i v h, slice_get_within vs i v h, length-take-le i vs (omega (arith, slice_get_within vs i v h)))
+
+pub joined_first : (op : LogicOp) (vs : List Value) (v : Value) → slice_get vs 0 ≡ Some v → weight v ≤ weight (connected_all op vs)
+joined_first op vs v h = omega (arith, joined_weight op vs, sum_within vs 0 v h)
+
+-- the values of a body, one for each member of a set that a name stands for
+abbrev pub values_over : Expr → List ℕ → Env → Value → List Value
+values_over body name env s = map (λ v. value_of (shape body) (bind name v env)) (members s)
+
+-- the bodies of a quantifier that are joined so far
+pub record JoinedSoFar (old now : Unfolding) (scope : Scope) (set : Head) (q : Bodies) (op : LogicOp) (room i : ℕ) (all : Stored) : Type 0 where
+  pub later : IsLater old now
+  pub light : all.weight ≤ room
+  pub holds : (env : Env) (s : Value) → Fits old scope env → Heads old set s → Holds now all (connected_all op (take i (bodies_over q env s)))
+
+-- a member of a set, and the body with it
+pub member_at : (ms : List Value) (i n : ℕ) → n ≡ length ms → i < n → slice_get ms i ≡ Some (get_or ms i (truth_value false))
+member_at ms i n count inside = slice_get-get_or ms i (truth_value false) (omega arith)
+
+pub body_at : (q : Bodies) (env : Env) (s v : Value) (i : ℕ) → slice_get (members s) i ≡ Some v →
+    slice_get (bodies_over q env s) i ≡ Some (value_of (shape q.body.now) (bind q.name.now v env))
+body_at q env s v i h =
+    slice_get-map (λ x. value_of (shape q.body.now) (bind q.name.now x env)) (members s) i
+    ∙ ap (option_map (λ x. value_of (shape q.body.now) (bind q.name.now x env))) h
+
+pub none_left : {A : Type 0} (xs : List A) (n : ℕ) → n ≡ length xs → n ≡ 0 → xs ≡ []
+none_left [] n e z = refl
+none_left (x ∷ xs) n e z = absurd (omega arith)
+
+pub joined_one : (op : LogicOp) (vs : List Value) (v : Value) → slice_get vs 0 ≡ Some v →
+    leaf (formula (formula_of v)) (weight v) ≡ connected_all op (take 1 vs)
+joined_one op vs v h = sym (ap (connected_all op) (take_next vs 0 v h))
+
+pub joined_next : (op : LogicOp) (vs : List Value) (i : ℕ) (v : Value) → slice_get vs i ≡ Some v → 0 < i →
+    connected_value op (connected_all op (take i vs)) v ≡ connected_all op (take (i + 1) vs)
+joined_next op vs i v h some =
+    let inside : i < length vs = slice_get_within vs i v h in
+    let count : length (take i vs) ≡ i = length-take-le i vs (omega arith) in
+    sym (ap (connected_all op) (take_next vs i v h) ∙ joined_push op (take i vs) v (omega arith))
+
+pub bodies_count : (q : Bodies) (env : Env) (s : Value) → length (bodies_over q env s) ≡ length (members s)
+bodies_count q env s = length-map (members s) (λ v. value_of (shape q.body.now) (bind q.name.now v env))
+
+pub sum_next : (vs : List Value) (i : ℕ) (v : Value) → slice_get vs i ≡ Some v → sum_by weight (take (i + 1) vs) ≡ sum_by weight (take i vs) + weight v
+sum_next vs i v h = ap (sum_by weight) (take_next vs i v h) ∙ sum_by_push weight (take i vs) v
+
+-- counting quantifiers over some bodies
+pub counted_is_some : (op : CountOp) (m : ℕ) (vs : List Value) → 0 < length vs → counted op m vs ≡ counted_some op m vs
+counted_is_some op m [] h = absurd (omega arith)
+counted_is_some op m (v ∷ vs) h = refl
+
+pub counted_weight : (op : CountOp) (m : ℕ) (vs : List Value) → 0 < length vs → weight (counted op m vs) ≡ sum_by weight vs + counting_weight (length vs) m
+counted_weight op m vs h = ap weight (counted_is_some op m vs h)
+
+-- a number that is not 0
+pub some_left : (n : ℕ) (b : Bool) → b ≡ nat_eq n 0 → b ≡ false → 0 < n
+some_left zero b e f = cc
+some_left (suc n) b e f = omega arith
+
+-- the weight of an operator over two operands
+pub binary_weight : (op : BinaryOp) (v w : Value) → weight (binary_value op v w) ≡ 1 + weight v + weight w
+binary_weight (binary.Arith op) v w = refl
+binary_weight (binary.Compare op) v w = refl
+binary_weight (binary.Logic op) v w = refl
+binary_weight (binary.Between op a b) v w = refl

@@ -1,0 +1,86 @@
+-- What names stand for, and the values of expressions.
+
+use Rattle.std.specs.Prelude.{ℕ, Bool, true, false, List, [], map, if◌then◌else◌}
+use Rattle.std.specs.Str.{bytes_eq}
+use Rattle.mltl_base.specs.declared.operators.LogicOp.TheVariants.{And, Or}
+use Rattle.mltl_base.specs.Atoms.{is_true, column}
+use Rattle.mltl_base.specs.Formula.{atom}
+use Rattle.c2po_nodes.specs.Nodes.{number, formula}
+use Rattle.c2po_ast.specs.Shape as tree
+use Rattle.c2po_ast.specs.Shape.{Shape, Shapes}
+use Rattle.c2po_unfold.specs.Values.{Value, Values, leaf, none, more, number_value, truth_value, built, grouped, opposite}
+use Rattle.c2po_unfold.specs.Values.{inverted, computed, compared, connected_value, windowed_value, ranged_value, members}
+use Rattle.c2po_unfold.specs.Values.{picked, connected_all, counted}
+
+-- what a name stands for: a struct with these fields, or a value
+pub data Known : Type 0 where
+  nothing : Known
+  fields : List (List ℕ) → Known
+  value : Value → Known
+
+-- an environment: what each name stands for
+abbrev pub Env : Type 0
+Env = List ℕ → Known
+
+-- no name is known
+abbrev pub no_names : Env
+no_names x = nothing
+
+-- the name of a variable stands for a value
+abbrev pub bind : List ℕ → Value → Env → Env
+bind x v env y = if bytes_eq y x then value v else env y
+
+-- what a name stands for already; where it stands for nothing, something else
+abbrev pub or_else : Known → Known → Known
+or_else nothing k = k
+or_else (fields xs) k = fields xs
+or_else (value v) k = value v
+
+-- a name is declared: one that is known already keeps its meaning
+abbrev pub declare : List ℕ → Known → Env → Env
+declare x k env y = or_else (env y) (if bytes_eq y x then k else nothing)
+
+-- the value of the signal with a number, of kind bool or int
+abbrev pub signal_value : Bool → ℕ → Value
+signal_value true n = leaf (formula (atom (is_true n))) 1
+signal_value false n = leaf (number (column n)) 1
+
+-- the value that a name stands for: of other names nothing is asked
+abbrev pub value_in : Known → Value
+value_in (value v) = v
+value_in (fields xs) = truth_value false
+value_in nothing = truth_value false
+
+-- the fields of the struct that a name stands for: other names have none
+abbrev pub fields_in : Known → List (List ℕ)
+fields_in (fields xs) = xs
+fields_in (value v) = []
+fields_in nothing = []
+
+-- the value of an expression: a name stands for its value, a quantifier joins its bodies, one for each member of its
+-- set
+abbrev mutual
+  pub value_of : Shape → Env → Value
+  value_of (tree.number line n) env = number_value n
+  value_of (tree.truth line b) env = truth_value b
+  value_of (tree.named line x) env = value_in (env x)
+  value_of (tree.build line x es) env = built x (values_of es env)
+  value_of (tree.group line es) env = grouped (values_of es env)
+  value_of (tree.pick line e x) env = picked (λ y. fields_in (env y)) x (value_of e env)
+  value_of (tree.minus line e) env = opposite (value_of e env)
+  value_of (tree.negation line e) env = inverted (value_of e env)
+  value_of (tree.arith line op e f) env = computed op (value_of e env) (value_of f env)
+  value_of (tree.compare line op e f) env = compared op (value_of e env) (value_of f env)
+  value_of (tree.logic line op e f) env = connected_value op (value_of e env) (value_of f env)
+  value_of (tree.window line op a b e) env = windowed_value op a b (value_of e env)
+  value_of (tree.between line op a b e f) env = ranged_value op a b (value_of e env) (value_of f env)
+  value_of (tree.each line x s e) env = connected_all And
+      (map (λ v. value_of e (bind x v env)) (members (value_of s env)))
+  value_of (tree.exists line x s e) env = connected_all Or
+      (map (λ v. value_of e (bind x v env)) (members (value_of s env)))
+  value_of (tree.count line op x s m e) env =
+      counted op m (map (λ v. value_of e (bind x v env)) (members (value_of s env)))
+
+  pub values_of : Shapes → Env → Values
+  values_of tree.none env = none
+  values_of (tree.more e es) env = more (value_of e env) (values_of es env)

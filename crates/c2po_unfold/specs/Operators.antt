@@ -1,0 +1,49 @@
+-- The values of operators by the number of their operands, and of quantifiers by their bodies.
+
+use Rattle.std.specs.Prelude.{List, map}
+use Rattle.c2po_ast.specs.Shape.{shape}
+use Rattle.c2po_unfold.specs.declared.operators.UnaryOp.{UnaryOp}
+use Rattle.c2po_unfold.specs.declared.operators.UnaryOp.TheVariants as unary
+use Rattle.c2po_unfold.specs.declared.operators.BinaryOp.{BinaryOp}
+use Rattle.c2po_unfold.specs.declared.operators.BinaryOp.TheVariants as binary
+use Rattle.c2po_unfold.specs.declared.operators.Bodies.{Bodies}
+use Rattle.c2po_unfold.specs.declared.operators.Operation.{Operation}
+use Rattle.c2po_unfold.specs.declared.operators.Operation.TheVariants as operation
+use Rattle.c2po_unfold.specs.Values.{Value, opposite, inverted, windowed_value, computed, compared, connected_value}
+use Rattle.c2po_unfold.specs.Values.{ranged_value, members, number_value, truth_value, connected_all, counted}
+use Rattle.c2po_unfold.specs.Environment.{Env, bind, value_of}
+
+-- the value of an operator over the value of its operand
+abbrev pub unary_value : UnaryOp → Value → Value
+unary_value unary.Minus v = opposite v
+unary_value unary.Not v = inverted v
+unary_value (unary.Window op a b) v = windowed_value op a b v
+
+-- the value of an operator over the values of its two operands
+abbrev pub binary_value : BinaryOp → Value → Value → Value
+binary_value (binary.Arith op) v w = computed op v w
+binary_value (binary.Compare op) v w = compared op v w
+binary_value (binary.Logic op) v w = connected_value op v w
+binary_value (binary.Between op a b) v w = ranged_value op a b v w
+
+-- the value of a quantifier's body where its variable stands for a value
+abbrev pub body_value : Bodies → Env → Value → Value
+body_value q env v = value_of (shape q.body.now) (bind q.name.now v env)
+
+-- the values of a quantifier's bodies, one for each member of a set
+abbrev pub bodies_over : Bodies → Env → Value → List Value
+bodies_over q env s = map (body_value q env) (members s)
+
+-- the values of a quantifier's bodies, one for each member of its own set
+abbrev pub bodies_of : Bodies → Env → List Value
+bodies_of q env = bodies_over q env (value_of (shape q.set.now) env)
+
+-- the value of a number, a truth, an operator or a quantifier
+abbrev pub operation_value : Operation → Env → Value
+operation_value (operation.Number n) env = number_value n
+operation_value (operation.Truth b) env = truth_value b
+operation_value (operation.Unary op a) env = unary_value op (value_of (shape a.now) env)
+operation_value (operation.Binary op a b) env =
+    binary_value op (value_of (shape a.now) env) (value_of (shape b.now) env)
+operation_value (operation.Joined op bodies) env = connected_all op (bodies_of bodies env)
+operation_value (operation.Counted op m bodies) env = counted op m (bodies_of bodies env)

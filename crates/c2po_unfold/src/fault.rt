@@ -1,0 +1,47 @@
+//! Why an expression isn't unfolded.
+
+ghost use Rattle.std.specs.Prelude.{◌≡◌, ◌+◌, ◌<◌, IfOk, IfErr};
+ghost use Rattle.c2po_unfold.specs.declared.fault.UnfoldFault.TheVariants.{Heavy, Memory};
+
+use std::alloc::{AllocError, AllocFailed};
+
+/// Why an expression isn't unfolded.
+#[derive(Clone, Copy)]
+pub enum UnfoldFault {
+    /// Its weight is above the room that is left.
+    Heavy,
+    /// Out of memory.
+    Memory,
+}
+
+impl<T: Drop> From<AllocFailed<T>> for UnfoldFault {
+    ghost from_gives = { λ _ e. e ≡ Memory };
+
+    fn from(_refused: AllocFailed<T>) -> UnfoldFault {
+        UnfoldFault::Memory
+    }
+}
+
+impl From<AllocError> for UnfoldFault {
+    ghost from_gives = { λ _ e. e ≡ Memory };
+
+    fn from(_refused: AllocError) -> UnfoldFault {
+        UnfoldFault::Memory
+    }
+}
+
+/// The room that is left beside a weight.
+pub(crate) fn less(room: u32, weight: u32) -> Result<u32, UnfoldFault>
+    ensures left { IfOk result (λ left. left + weight ≡ room) }
+    ensures heavy { IfErr result (λ why. room < weight) }
+{
+    room.checked_sub(weight).ok_or(UnfoldFault::Heavy)
+}
+
+/// The number of levels that may be nested within one more level. The program's stack ends long before this number.
+pub(crate) fn deeper(levels: u32) -> Result<u32, UnfoldFault>
+    ensures left { IfOk result (λ left. left + 1 ≡ levels) }
+    ensures none { IfErr result (λ why. why ≡ Memory) }
+{
+    levels.checked_sub(1).ok_or(UnfoldFault::Memory)
+}

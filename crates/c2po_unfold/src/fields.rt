@@ -1,0 +1,59 @@
+//! The fields of a struct.
+
+ghost use Rattle.std.specs.Prelude.{◌≡◌, length, position, IfOk};
+ghost use Rattle.std.specs.Str.{bytes_eq};
+
+use crate::unfolding::next_place;
+use mltl_base::{List, Name};
+use name_table::NameTable;
+use std::alloc::{AllocError, Global};
+use std::marker::Model;
+
+/// The names of a struct's fields in order. The place of a field is found without going through the others.
+#[derive(Drop)]
+pub struct Fields {
+    names: List<Name>,
+    places: NameTable<u32>,
+}
+
+impl Model for Fields {
+    ghost use Rattle.std.specs.Prelude.{List as Members, ℕ};
+    ghost use Rattle.c2po_unfold.specs.Fields.{ArePlaces};
+
+    ghost Value = { Members (Members ℕ) };
+
+    ghost view = { λ fields. fields.names };
+
+    ghost invariant = { λ fields. ArePlaces fields.places fields.names };
+}
+
+impl Fields {
+    /// Fields of these names. Of two with one name the first is meant.
+    pub fn of(alloc: Global, names: List<Name>) -> Result<Fields, AllocError>
+        ensures { IfOk result (λ fields. fields ≡ names) }
+    {
+        let mut places = NameTable::new(alloc);
+        for i in 0..names.len() {
+            let name = &names.as_slice()[i];
+            let place = next_place(i)?;
+            if !places.contains(name) {
+                places.add(alloc, name, place)?;
+            }
+        }
+        Ok(Fields { names, places })
+    }
+
+    /// The number of fields.
+    pub fn len(&self) -> usize
+        ensures { result ≡ length self.now }
+    {
+        self.names.len()
+    }
+
+    /// The place of a field.
+    pub fn place(&self, field: &Name) -> Option<usize>
+        ensures { result ≡ position (bytes_eq field.now) self.now }
+    {
+        self.places.find(field).map(|place| place as usize)
+    }
+}

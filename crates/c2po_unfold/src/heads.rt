@@ -1,0 +1,237 @@
+//! What names and picked fields lead to, without a look at what they leave aside.
+
+ghost use Rattle.std.specs.Prelude.{◌≡◌, ℕ, Some, length, position, slice_get, IfOk, IfErr};
+ghost use Rattle.std.specs.Str.{bytes_eq};
+ghost use Rattle.c2po_ast.specs.Shape.{shape};
+ghost use Rattle.c2po_unfold.specs.declared.fault.UnfoldFault.TheVariants.{Memory};
+ghost use Rattle.c2po_unfold.specs.Environment.{Env, bind, fields_in, value_of};
+ghost use Rattle.c2po_unfold.specs.Heads.{Heads, HoldMembers, Names};
+ghost use Rattle.c2po_unfold.specs.Holding.{Fits, Holds, StandsFor};
+ghost use Rattle.c2po_unfold.specs.Values.{Value, members, picked};
+
+use crate::fault::deeper;
+use crate::scope::{Head, Named, Scope};
+use crate::values::{Entry, Location, Stored, Whole};
+use crate::visits::Visits;
+use crate::{UnfoldFault, Unfolding};
+use mltl_base::Name;
+use c2po_ast::{Expr, Node};
+
+impl Unfolding {
+    /// What a declared name stands for.
+    fn declared<'a>(&self, visits: &mut Visits, name: &Name) -> Named<'a>
+        ensures { (env : Env) → StandsFor self.now env → Names self.now result (env name.now) }
+    {
+        visits.seek(self.names.len(), name);
+        match self.names.find(name) {
+            None => Named::Nothing,
+            Some(Entry::Struct(i)) => Named::Struct(i),
+            Some(Entry::Value(stored)) => Named::Held(stored),
+        }
+    }
+
+    /// What a name stands for: the innermost variable of that name, else what is declared.
+    fn look<'a>(&self, visits: &mut Visits, scope: &'a Scope<'a>, name: &Name) -> Named<'a>
+        ensures { (env : Env) → Fits self.now scope.now env → Names self.now result (env name.now) }
+    {
+        match scope {
+            Scope::Top => self.declared(visits, name),
+            Scope::Open {
+                name: own,
+                expr,
+                within,
+                outer,
+            } => {
+                if name.bytes() == own.bytes() {
+                    Named::Open(within, expr)
+                } else {
+                    visits.pass();
+                    self.look(visits, outer, name)
+                }
+            }
+            Scope::Held {
+                name: own,
+                stored,
+                outer,
+            } => {
+                if name.bytes() == own.bytes() {
+                    Named::Held(*stored)
+                } else {
+                    visits.pass();
+                    self.look(visits, outer, name)
+                }
+            }
+        }
+    }
+
+    /// The place of a field among those of a struct.
+    fn field_place(
+        &self,
+        visits: &mut Visits,
+        scope: &Scope<'_>,
+        whole: &Name,
+        field: &Name,
+    ) -> Option<usize>
+        ensures { (env : Env) → Fits self.now scope.now env
+            → result ≡ position (bytes_eq field.now) (fields_in (env whole.now)) }
+    {
+        let Named::Struct(i) = self.look(visits, scope, whole) else {
+            return None;
+        };
+        let fields = self.structs.as_slice().get(i as usize)?;
+        visits.seek(fields.len(), field);
+        fields.place(field)
+    }
+
+    /// The part of a stored struct's value that a field names; another value is its own part.
+    fn held_part(
+        &self,
+        visits: &mut Visits,
+        scope: &Scope<'_>,
+        stored: Stored,
+        field: &Name,
+    ) -> Stored
+        ensures { (env : Env) (v : Value) → Fits self.now scope.now env → Holds self.now stored v
+            → Holds self.now result (picked (λ y. fields_in (env y)) field.now v) }
+    {
+        let Location::Parts(i) = stored.location else {
+            return stored;
+        };
+        let Some(parts) = self.parts.as_slice().get(i as usize) else {
+            return stored;
+        };
+        let Whole::Struct(whole) = &parts.whole else {
+            return stored;
+        };
+        let Some(place) = self.field_place(visits, scope, whole, field) else {
+            return stored;
+        };
+        match parts.members.as_slice().get(place) {
+            Some(part) => *part,
+            None => stored,
+        }
+    }
+
+    /// What an expression leads to.
+    #[cycle(heading)]
+    pub(crate) fn head<'a>(
+        &self,
+        visits: &mut Visits,
+        levels: u32,
+        scope: &'a Scope<'a>,
+        e: &'a Expr,
+    ) -> Result<Head<'a>, UnfoldFault>
+        ensures head { (env : Env) → Fits self.now scope.now env
+            → IfOk result (λ h. Heads self.now h (value_of (shape e.now) env)) }
+        ensures memory { IfErr result (λ why. why ≡ Memory) }
+    {
+        visits.visit()?;
+        let levels = deeper(levels)?;
+        match &e.node {
+            Node::Ref(name) => match self.look(visits, scope, name) {
+                Named::Open(within, expr) => self.head(visits, levels, within, expr),
+                Named::Held(stored) => Ok(Head::Held(stored)),
+                Named::Nothing | Named::Struct(_) => Ok(Head::Nothing),
+            },
+            Node::Pick(whole, field) => {
+                let whole = self.head(visits, levels, scope, whole)?;
+                self.part(visits, levels, scope, whole, field)
+            }
+            Node::Build(name, parts) => Ok(Head::Struct(scope, name, parts.as_slice())),
+            Node::Group(members) => Ok(Head::Set(scope, members.as_slice())),
+            _ => Ok(Head::Leaf(scope, e)),
+        }
+    }
+
+    /// What the part that a field names leads to; what has no such part is its own.
+    #[cycle(heading)]
+    fn part<'a>(
+        &self,
+        visits: &mut Visits,
+        levels: u32,
+        scope: &'a Scope<'a>,
+        whole: Head<'a>,
+        field: &Name,
+    ) -> Result<Head<'a>, UnfoldFault>
+        ensures head { (env : Env) (v : Value) → Fits self.now scope.now env
+            → Heads self.now whole.entry v
+            → IfOk result (λ h. Heads self.now h (picked (λ y. fields_in (env y)) field.now v)) }
+        ensures memory { IfErr result (λ why. why ≡ Memory) }
+    {
+        visits.visit()?;
+        let levels = deeper(levels)?;
+        match whole {
+            Head::Struct(within, name, parts) => {
+                let Some(place) = self.field_place(visits, scope, name, field) else {
+                    return Ok(whole);
+                };
+                match parts.get(place) {
+                    Some(part) => self.head(visits, levels, within, part),
+                    None => Ok(whole),
+                }
+            }
+            Head::Held(stored) => Ok(Head::Held(self.held_part(visits, scope, stored, field))),
+            Head::Nothing | Head::Set(..) | Head::Leaf(..) => Ok(whole),
+        }
+    }
+
+    /// The number of members of a set; nothing else has any.
+    pub(crate) fn member_count(&self, set: &Head<'_>) -> usize
+        ensures { (v : Value) → Heads self.now set.now v → result ≡ length (members v) }
+    {
+        match *set {
+            Head::Set(_, members) => members.len(),
+            Head::Held(stored) => self.held_members(stored).len(),
+            Head::Nothing | Head::Struct(..) | Head::Leaf(..) => 0,
+        }
+    }
+
+    /// The members of a stored set; nothing else has any.
+    fn held_members(&self, stored: Stored) -> &[Stored]
+        ensures { (v : Value) → Holds self.now stored v → HoldMembers self.now result.now v }
+    {
+        let Location::Parts(i) = stored.location else {
+            return &[];
+        };
+        let Some(parts) = self.parts.as_slice().get(i as usize) else {
+            return &[];
+        };
+        match &parts.whole {
+            Whole::Set => parts.members.as_slice(),
+            Whole::Struct(_) => &[],
+        }
+    }
+
+    /// The scope in which a variable stands for member `i` of a set.
+    pub(crate) fn member_scope<'a>(
+        &self,
+        scope: &'a Scope<'a>,
+        name: &'a Name,
+        set: &Head<'a>,
+        i: usize,
+    ) -> Scope<'a>
+        ensures { (env : Env) (s v : Value) → Fits self.now scope.now env → Heads self.now set.now s
+            → slice_get (members s) i ≡ Some v → Fits self.now result (bind name.now v env) }
+    {
+        match *set {
+            Head::Set(within, members) => match members.get(i) {
+                Some(expr) => Scope::Open {
+                    name,
+                    expr,
+                    within,
+                    outer: scope,
+                },
+                None => *scope,
+            },
+            Head::Held(stored) => match self.held_members(stored).get(i) {
+                Some(member) => Scope::Held {
+                    name,
+                    stored: *member,
+                    outer: scope,
+                },
+                None => *scope,
+            },
+            Head::Nothing | Head::Struct(..) | Head::Leaf(..) => *scope,
+        }
+    }
+}

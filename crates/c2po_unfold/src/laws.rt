@@ -1,0 +1,34 @@
+//! What the definitions of this crate say together: each law is the contract of a function with an empty body.
+
+ghost use Rattle.std.specs.Prelude.{◌≡◌, ◌+◌, ◌-◌, ◌≤◌, ℕ, List as Seq, length, map, sum_by};
+ghost use Rattle.mltl_base.specs.declared.limits.TheConstants.{MAX_BOUND};
+ghost use Rattle.mltl_base.specs.declared.operators.CountOp.{CountOp};
+ghost use Rattle.mltl_base.specs.declared.operators.LogicOp.{LogicOp};
+ghost use Rattle.mltl_base.specs.Atoms.{Row};
+ghost use Rattle.mltl_base.specs.Formula.{Formula};
+ghost use Rattle.mltl_base.specs.Meaning.{count, sat};
+ghost use Rattle.count_sets.specs.Counting.{compares, counting};
+ghost use Rattle.c2po_unfold.specs.Values.{Value, counted_formula, interval, connected_all, weight};
+
+/// A counting quantifier holds at a time exactly where the number of its bodies that hold there compares as it says.
+/// Equal bodies count each.
+#[tactic(auto, using(crate::proofs::Meaning::counting_means))]
+pub fn quantifiers_count()
+    ensures { (op : CountOp) (m : ℕ) (bodies : Seq Formula) (rows : Seq Row) (t : ℕ)
+        → sat rows (counted_formula bodies (counting op (length bodies) m)) t
+        ≡ compares op m (count rows bodies t) }
+{}
+
+/// Joined bodies weigh what they weigh, and one more for each operator between them.
+#[tactic(auto, using(crate::proofs::Loops::joined_weight))]
+pub fn joined_bodies_weigh()
+    ensures { (op : LogicOp) (bodies : Seq Value)
+        → weight (connected_all op bodies) ≡ sum_by weight bodies + (length bodies - 1) }
+{}
+
+/// An interval in bounds is itself.
+#[tactic(auto, using(crate::proofs::Meaning::interval_stays))]
+pub fn intervals_in_bounds_stay()
+    ensures { (low high : ℕ) → low ≤ high → high ≤ MAX_BOUND
+        → interval low high ≡ record { lo = low; hi = high } }
+{}

@@ -1,5 +1,0 @@
-use Rattle.scq_ring.specs.Runs.{Belongs}
-use Rattle.call_tests.proofs.rings.shows.Given as goal
-
-abbrev pub invariant-writes : goal.invariant-writes
-invariant-writes g l = Belongs l.ring l.slots

@@ -1,0 +1,38 @@
+//! A monitor in a program of one's own. It compiles a requirement, takes rows of numbers, and prints the line of each
+//! verdict as soon as the rows decide it.
+//!
+//! A program that watches its own signals does the same: it needs no trace, and no words of a command.
+#![tactic(auto)]
+
+use anyhow::Result;
+use r2u2_monitor::Monitor;
+use c2po_compile::compile;
+use std::str;
+
+/// Every request is granted within three steps.
+const REQUIREMENT: &[u8] = b"INPUT request, grant: bool; FTSPEC granted: request -> F[0,3] grant;";
+
+/// At each time whether something is requested, and whether it is granted.
+const ROWS: [[i64; 2]; 6] = [[1, 0], [0, 1], [1, 0], [0, 0], [0, 0], [0, 0]];
+
+fn main(rt: HostRuntime) -> Result<()> {
+    let checked = compile(rt.alloc(), REQUIREMENT, None)?;
+    watch(&rt, &mut Monitor::load(rt.alloc(), checked)?)
+}
+
+/// Lets the monitor take the rows, and prints what each of them decides.
+fn watch(rt: &impl Print, monitor: &mut Monitor) -> Result<()> {
+    for row in &ROWS {
+        monitor.take(row)?;
+        tell(rt, monitor)?;
+    }
+    Ok(())
+}
+
+/// Prints the line of each verdict that the rows so far decide and that isn't told yet.
+fn tell(rt: &impl Print, monitor: &mut Monitor) -> Result<()> {
+    while let Some(report) = monitor.next_report() {
+        print!(rt; "{}", str::from_utf8(&monitor.line_of(&report))?)?;
+    }
+    Ok(())
+}

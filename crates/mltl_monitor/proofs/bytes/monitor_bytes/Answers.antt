@@ -1,8 +1,0 @@
-use Rattle.std.proofs.Common.{subst, sym}
-use Rattle.obs_verify.specs.Running.{RunsPast}
-use Rattle.obs_verify.proofs.RunLaws.{runs_past}
-use Rattle.mltl_monitor.proofs.bytes.monitor_bytes.Goals as goal
-
-pub running_bytes-requires-clause-past : goal.running_bytes-requires-clause-past
-running_bytes-requires-clause-past c =
-    subst RunsPast (sym c.program-program.ensures.program) (runs_past c.args.checked.now c.program-program.ensures.layout c.program-program.ensures.well_formed)

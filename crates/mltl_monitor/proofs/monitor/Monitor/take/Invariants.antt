@@ -1,4 +1,0 @@
-use Rattle.mltl_monitor.proofs.monitor.Monitor.take.Given as goal
-
-abbrev pub ghosts-take_fit : goal.ghosts-take_fit
-ghosts-take_fit a = record { name = a.blank.name; parts = a.blank.parts }

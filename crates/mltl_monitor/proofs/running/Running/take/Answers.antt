@@ -1,6 +1,0 @@
-use Rattle.mltl_monitor.proofs.Taking.{takes_row}
-use Rattle.mltl_monitor.proofs.running.Running.take.Goals as goal
-
-pub returns-clause-takes : goal.returns-clause-takes
-returns-clause-takes g c =
-    takes_row c.args.self.now c.args.fields.now c.row.new.self c.row-2.new.self c.row-3.new.self c.requires.drained c.requires.early c.requires.fit c.row.ensures.numbers c.row-2.ensures.stands c.row-3.ensures.stands

@@ -1,0 +1,44 @@
+//! The run of the demo.
+
+ghost use Rattle.std.specs.Prelude.{◌≡◌, None, Some};
+ghost use Rattle.tool_io.specs.Log.{OnLog};
+ghost use Rattle.tool_runs.specs.Causes.{RunCause};
+ghost use Rattle.r2u2_cli.specs.Demo.{DemoLog, SummaryLog};
+
+use demo_runs::{Demo, run_demo};
+use r2u2_monitor::Monitor;
+use std::alloc::Global;
+use tool_io::{Host, Place, Put, put_all};
+use tool_runs::Status;
+
+/// Runs the demo over so many rows that are made from the seed, keeps its monitor, and writes its summary on `Out`.
+pub(crate) fn give_demo<H: Host>(
+    alloc: Global,
+    seed: u32,
+    rows: u32,
+    host: &mut H,
+    kept: &mut Option<Monitor>,
+) -> Status
+    requires none_kept { kept.old ≡ None }
+    ensures cause { RunCause result (H.faults host.old) (H.faults host.new) }
+    ensures log { OnLog (H.log host.old) (H.log host.new) (DemoLog result seed rows kept.new) }
+{
+    match run_demo(alloc, seed, rows) {
+        Ok(demo) => give_summary(demo, host, kept),
+        Err(_) => Status::Memory,
+    }
+}
+
+/// Keeps the monitor, and writes the summary on `Out`.
+fn give_summary<H: Host>(demo: Demo, host: &mut H, kept: &mut Option<Monitor>) -> Status
+    ensures kept { kept.new ≡ Some demo.monitor }
+    ensures cause { RunCause result (H.faults host.old) (H.faults host.new) }
+    ensures log { OnLog (H.log host.old) (H.log host.new) (SummaryLog result demo.summary.items) }
+{
+    let Demo { monitor, summary } = demo;
+    *kept = Some(monitor);
+    match put_all(host, Place::Out, &summary) {
+        Put::Wrote(_) => Status::Done,
+        Put::Failed => Status::WriteFault(Place::Out),
+    }
+}

@@ -1,0 +1,22 @@
+-- A monitor holds the bytes that its program takes.
+
+use Rattle.std.proofs.Common.{◌≡◌, [], length, arith}
+use Rattle.std.proofs.lemmas.List.{length-map}
+use Rattle.mltl_base.specs.Queues.{best_delays, best_of, worst_delays, worst_of}
+use Rattle.mltl_base.specs.declared.program.Program.{Program}
+use Rattle.delay_sizes.proofs.DelayLaws.{length-numbered_after}
+use Rattle.obs_verify.specs.Readers.{signal_read, signals_read}
+use Rattle.trace_feed.proofs.ReadingLaws.{length-readings_of}
+use Rattle.r2u2_monitor.specs.Bytes.{bytes_of, monitor_bytes}
+use Rattle.r2u2_monitor.specs.declared.state.State.{State}
+use Rattle.r2u2_monitor.specs.Monitoring.{IsSound, program_of}
+
+pub holds_what_it_takes : (monitor : State) → IsSound monitor → bytes_of monitor ≡ monitor_bytes (program_of monitor)
+holds_what_it_takes monitor sound =
+    let program : Program = program_of monitor in
+    let stand = sound.some.1.taken.stand in
+    let best : length (best_delays program.ft) ≡ length program.ft = omega (arith, length-numbered_after best_of [] program.ft) in
+    let worst : length (worst_delays program.ft) ≡ length program.ft = omega (arith, length-numbered_after worst_of [] program.ft) in
+    let read : length (signals_read program) ≡ length program.bz = length-map program.bz (signal_read program.signals) in
+    rw (best, worst, read, length-readings_of program, sound.numbers, stand.future.count, stand.future.total, stand.past.count, stand.past.total, stand.placed.count, sound.last_wide, sound.read_wide)
+    (omega arith)

@@ -1,0 +1,20 @@
+use Rattle.std.proofs.Common.{◌≡◌, ◌<◌, ◌^◌, length, subst, sym, ◌∙◌, ap}
+use Rattle.fixed_list.specs.Lending.{with_members}
+use Rattle.fixed_list.proofs.Members.{with_members_is}
+use Rattle.trace_feed.specs.Readings.{readings_of}
+use Rattle.r2u2_monitor.specs.declared.state.State.{State}
+use Rattle.r2u2_monitor.proofs.Keeping.{sound_after}
+use Rattle.r2u2_monitor.proofs.monitor.Monitor.advance.Goals as goal
+
+pub invariant_of-self : goal.invariant_of-self
+invariant_of-self g c =
+    let monitor : State = c.self.inside.state in
+    let early : monitor.running.taken < 2 ^ 40 = subst (λ (m : State). m.running.taken < 2 ^ 40) (sym c.self.view_is) c.requires.early in
+    let sound = c.self.invariant.0 in
+    let written : with_members monitor.last c.copy_from_slice.new.self ≡ c.args.fields.now =
+    with_members_is monitor.last c.copy_from_slice.new.self (c.copy_from_slice.ensures.len ∙ ap length c.as_mut_slice.ensures.value) ∙ c.copy_from_slice.ensures.after in
+    let wide = ap length (sym c.copy_from_slice.ensures.after) ∙ c.copy_from_slice.ensures.len ∙ ap length c.as_mut_slice.ensures.value ∙ sound.last_wide in (
+      sound_after monitor (record { running = c.take.new.self; last = with_members monitor.last c.copy_from_slice.new.self; read = monitor.read }) (c.args.fields.now) sound c.take.ensures.takes early written c.take.ensures.numbers (ap length written ∙ wide) sound.read_wide,
+      λ rows future past count known. c.start-self-inside.ensures c.take.new.self.checked rows c.take.new.self.outs,
+      c.self.invariant.2 ∙ ap readings_of (sym c.take.ensures.takes.program),
+    )

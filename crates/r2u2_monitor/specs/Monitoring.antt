@@ -1,0 +1,118 @@
+-- What a monitor stands for.
+
+use Rattle.std.specs.Prelude.{◌≡◌, ◌↔◌, ℕ, ◌+◌, ◌<◌, ◌≤◌, Option, List, [], ◌∷◌, ◌++◌, length, map, IfNone, IfSome}
+use Rattle.std.specs.Prelude.{IsNone}
+use Rattle.std.specs.List.{range_with_len}
+use Rattle.mltl_base.specs.declared.limits.TheConstants.{MAX_MISSION}
+use Rattle.mltl_base.specs.declared.program.Program.{Program}
+use Rattle.mltl_base.specs.declared.report.Report.{Report}
+use Rattle.mltl_base.specs.declared.report.Style.{Style}
+use Rattle.mltl_base.specs.Atoms.{Row}
+use Rattle.mltl_base.specs.Programs.{outputs}
+use Rattle.mltl_base.specs.Reports.{of_row}
+use Rattle.ft_engine.specs.Standing.{instruction_count, slot_total, slots_at}
+use Rattle.pt_boxes.specs.Standing.{room_total}
+use Rattle.r2u2_monitor.specs.declared.state.State.{State}
+use Rattle.r2u2_monitor.specs.Running as running
+
+-- the program that the monitor was loaded with
+abbrev pub program_of : State → Program
+program_of monitor = monitor.running.checked
+
+-- the number of rows that the monitor has taken
+abbrev pub taken_by : State → ℕ
+taken_by monitor = monitor.running.taken
+
+-- the next time of each output
+abbrev pub places_of : State → List ℕ
+places_of monitor = monitor.running.outs
+
+-- the slots of each future-time instruction
+abbrev pub slots_of : State → List ℕ
+slots_of monitor = map (slots_at monitor.running.ft) (range_with_len 0 (instruction_count monitor.running.ft))
+
+-- the slots of all future-time instructions together
+abbrev pub slot_total_of : State → ℕ
+slot_total_of monitor = slot_total monitor.running.ft
+
+-- the room for boxes of all past-time instructions together
+abbrev pub room_total_of : State → ℕ
+room_total_of monitor = room_total monitor.running.pt
+
+-- the last row that the monitor has taken
+abbrev pub last_of : State → Row
+last_of monitor = monitor.last
+
+-- the row that the monitor has read, to be taken next
+abbrev pub read_of : State → Row
+read_of monitor = monitor.read
+
+-- the monitor has taken these rows
+pub record Stands (monitor : State) (rows : List Row) : Type 0 where
+  pub taken : running.HasTaken monitor.running rows
+  pub last : (before : List Row) (row : Row) → rows ≡ before ++ row ∷ [] → last_of monitor ≡ row
+
+-- the reports that a monitor which stands for these rows has still to give
+abbrev pub open_of : Style → State → List Row → List Report
+open_of style monitor rows = running.open_of style monitor.running rows
+
+-- it has no report to give, in either style
+abbrev pub IsDrained : State → Type 0
+IsDrained monitor = running.IsDrained monitor.running
+
+-- the times of outputs that are left to tell, at most
+abbrev pub left_to_tell : State → ℕ
+left_to_tell monitor = running.left_to_tell monitor.running
+
+-- the answer is the first of the reports that were still to be given, and the others still are
+abbrev pub GivesFirst : Style → Option Report → State → State → List Row → Type 0
+GivesFirst style result before after rows = running.GivesFirst style result before.running after.running rows
+
+-- the report was given, and nothing else changed
+pub record HasGiven (report : Report) (before after : State) : Type 0 where
+  pub moved : after.running ≡ running.after_report report before.running
+  pub last : last_of after ≡ last_of before
+  pub read : read_of after ≡ read_of before
+
+-- A report was given: it is of an output that there is, at a time that was taken, one of the first 2 ^ 40. Nothing else
+-- changed, and fewer times are left to tell.
+pub record IsGiven (report : Report) (before after : State) : Type 0 where
+  pub moved : HasGiven report before after
+  pub exists : report.out < length (program_of before).outs
+  pub taken : report.time < taken_by before
+  pub early : report.time < MAX_MISSION
+  pub fewer : left_to_tell after < left_to_tell before
+
+-- The first report that was still to be given in a style was given, and the others still are; where there was none,
+-- nothing changed. The monitor stands for the same rows.
+pub record GivesNext (style : Style) (result : Option Report) (before after : State) : Type 0 where
+  pub first : (rows : List Row) → Stands before rows → GivesFirst style result before after rows
+  pub stands : (rows : List Row) → Stands before rows → Stands after rows
+  pub none : IsNone result ↔ IsDrained before
+  pub same : IfNone result (after ≡ before)
+  pub drained : IfNone result (IsDrained after)
+  pub given : IfSome result (λ report. IsGiven report before after)
+  pub program : program_of after ≡ program_of before
+  pub as_many : taken_by after ≡ taken_by before
+
+-- nothing changed of what the monitor stands for
+pub record IsSame (before after : State) : Type 0 where
+  pub running : after.running ≡ before.running
+  pub last : last_of after ≡ last_of before
+
+-- the monitor has taken one more row, and has all its reports still to give
+pub record TakesRow (row : Row) (before after : State) : Type 0 where
+  pub program : program_of after ≡ program_of before
+  pub taken : taken_by after ≡ taken_by before + 1
+  pub last : last_of after ≡ row
+  pub stands : (rows : List Row) → Stands before rows → Stands after (rows ++ row ∷ [])
+  pub opens : (style : Style) (rows : List Row) → Stands before rows
+      → open_of style after (rows ++ row ∷ []) ≡ of_row style 0 (outputs (program_of before)) rows row
+
+-- what holds of each monitor: it stands for some rows, at most 2 ^ 40 of them, and has room for a row
+pub record IsSound (monitor : State) : Type 0 where
+  pub some : (rows : List Row) × Stands monitor rows
+  pub early : taken_by monitor ≤ MAX_MISSION
+  pub numbers : length monitor.running.bz ≡ length (program_of monitor).bz
+  pub last_wide : length (last_of monitor) ≡ (program_of monitor).width
+  pub read_wide : length (read_of monitor) ≡ (program_of monitor).width

@@ -1,0 +1,71 @@
+-- What runs in a monitor, after some rows.
+
+use Rattle.std.specs.Prelude.{◌≡◌, ℕ, ◌+◌, ◌<◌, Option, None, Some, List, [], ◌∷◌, ◌++◌, All, length, slice_set}
+use Rattle.mltl_base.specs.declared.program.Program.{Program}
+use Rattle.mltl_base.specs.declared.report.Report.{Report}
+use Rattle.mltl_base.specs.declared.report.Style.{Style}
+use Rattle.mltl_base.specs.Atoms.{Row}
+use Rattle.mltl_base.specs.Programs.{IsFit, outputs}
+use Rattle.mltl_base.specs.Reports.{of_row}
+use Rattle.obs_verify.specs.Layout.{HasLayout}
+use Rattle.obs_verify.specs.WellFormed.{IsWellFormed}
+use Rattle.ft_engine.specs.Running as future
+use Rattle.pt_boxes.specs.Running as past
+use Rattle.contract_status.specs.declared.cursor.Cursor.{Cursor}
+use Rattle.contract_status.specs.Cursors.{FitsCursor}
+use Rattle.contract_status.specs.Open as status
+use Rattle.contract_status.specs.Standing.{StandFor}
+use Rattle.r2u2_monitor.specs.declared.running.Running.{Running}
+
+-- these rows were taken, each of which fits the well-formed program: both engines stand for them, and each output has
+-- its next time
+pub record HasTaken (running : Running) (rows : List Row) : Type 0 where
+  pub layout : HasLayout running.checked
+  pub formed : IsWellFormed running.checked
+  pub fit : All (IsFit running.checked) rows
+  pub stand : StandFor running.checked rows running.taken running.ft running.pt running.outs
+
+-- the reports that are open after these rows
+abbrev pub open_of : Style → Running → List Row → List Report
+open_of style running rows = status.open_of style running.checked rows running.outs
+
+-- no report is open, in either style
+abbrev pub IsDrained : Running → Type 0
+IsDrained running = (style : Style) (rows : List Row) → HasTaken running rows → open_of style running rows ≡ []
+
+-- the times of outputs that are left, at most
+abbrev pub left_to_tell : Running → ℕ
+left_to_tell running = status.times_left running.taken running.outs
+
+-- the same after a report was given: the next time of its output is the one after the report's
+abbrev pub after_report : Report → Running → Running
+after_report report running = record running { outs = slice_set running.outs report.out (report.time + 1) }
+
+-- A report was given: it is of an output that there is, at a time that was taken. Nothing but the next time of this
+-- output moved, so fewer times are left.
+pub record IsGiven (report : Report) (before after : Running) : Type 0 where
+  pub exists : report.out < length before.checked.outs
+  pub taken : report.time < before.taken
+  pub moved : after ≡ after_report report before
+  pub fewer : left_to_tell after < left_to_tell before
+
+-- the search for open reports may go on at this cursor
+abbrev pub Fits : Running → Cursor → Type 0
+Fits running cursor = FitsCursor running.checked running.taken running.ft running.pt running.outs cursor
+
+-- the answer is the first of the reports that were open, and the others still are
+abbrev pub GivesFirst : Style → Option Report → Running → Running → List Row → Type 0
+GivesFirst style None before after rows = open_of style before rows ≡ []
+GivesFirst style (Some report) before after rows = open_of style before rows ≡ report ∷ open_of style after rows
+
+-- one more row was taken, and all reports that it brings are open
+pub record TakesRow (row : Row) (before after : Running) : Type 0 where
+  pub program : after.checked ≡ before.checked
+  pub taken : after.taken ≡ before.taken + 1
+  pub stands : (rows : List Row) → HasTaken before rows → HasTaken after (rows ++ row ∷ [])
+  pub opens : (style : Style) (rows : List Row) → HasTaken before rows
+      → open_of style after (rows ++ row ∷ []) ≡ of_row style 0 (outputs before.checked) rows row
+
+-- the most steps of one row, in both engines
+abbrev pub row_work : Program → ℕ
+row_work program = future.row_work program + past.row_work program

@@ -1,0 +1,107 @@
+//! What the definitions of a monitor say together: each law is the contract of a function with an empty body.
+
+ghost use Rattle.std.specs.Prelude.{◌≡◌, ◌↔◌, ℕ, ◌+◌, ◌<◌, ◌≤◌, List, [], ◌∷◌, Some, Contains, length, slice_get, slice_index, sum};
+ghost use Rattle.mltl_base.specs.declared.program.Out.{Out as Reported};
+ghost use Rattle.mltl_base.specs.declared.program.Program.{Program as Observer};
+ghost use Rattle.mltl_base.specs.declared.report.Report.{Report as Given};
+ghost use Rattle.mltl_base.specs.declared.report.Style.{Style as Form};
+ghost use Rattle.mltl_base.specs.Atoms.{Row};
+ghost use Rattle.mltl_base.specs.Programs.{IsFit, outputs};
+ghost use Rattle.mltl_base.specs.Queues.{queue_lengths, reported, slot_count};
+ghost use Rattle.mltl_base.specs.Reports.{IsSettled, Output, delay};
+ghost use Rattle.ft_engine.specs.Standing.{lowest_at, width_of};
+ghost use Rattle.contract_status.specs.Open.{known_counts_of};
+ghost use Rattle.trace_feed.specs.Rows.{reading_of};
+ghost use Rattle.r2u2_monitor.specs.declared.state.State.{State as Shown};
+ghost use Rattle.r2u2_monitor.specs.Bytes.{bytes_of, monitor_bytes};
+ghost use Rattle.r2u2_monitor.specs.Monitoring.{IsDrained, IsSound, Stands, open_of, places_of, program_of, room_total_of, slot_total_of, slots_of};
+ghost use Rattle.r2u2_monitor.specs.RowFaults.{FitsColumn};
+
+/// Each future-time instruction has the slots that are stored for it, which are as many as it needs.
+#[tactic(auto, using(crate::proofs::Keeping::slots_needed))]
+pub fn slots_are_those_needed()
+    ensures stored { (monitor : Shown) (rows : List Row) → Stands monitor rows
+        → slots_of monitor ≡ (program_of monitor).sizes.ft }
+    ensures needed { (monitor : Shown) (rows : List Row) → Stands monitor rows
+        → (program_of monitor).sizes.ft
+        ≡ queue_lengths (program_of monitor).ft (program_of monitor).outs }
+{}
+
+/// The slots of all future-time instructions together, and the boxes that all past-time ones have room for, are as many
+/// as are stored, which are as many as the program needs. None is left over.
+#[tactic(auto, using(crate::proofs::Keeping::none_left_over))]
+pub fn no_slot_is_left_over()
+    ensures slots { (monitor : Shown) (rows : List Row) → Stands monitor rows
+        → slot_total_of monitor ≡ sum (program_of monitor).sizes.ft }
+    ensures boxes { (monitor : Shown) (rows : List Row) → Stands monitor rows
+        → room_total_of monitor ≡ sum (program_of monitor).sizes.pt }
+    ensures needed { (monitor : Shown) (rows : List Row) → Stands monitor rows
+        → slot_total_of monitor + room_total_of monitor ≡ slot_count
+        (program_of monitor).ft (program_of monitor).pt (program_of monitor).outs }
+{}
+
+/// A monitor holds the bytes that its program says, at any time.
+#[tactic(auto, using(crate::proofs::Holding::holds_what_it_takes))]
+pub fn monitors_keep_their_bytes()
+    ensures { (monitor : Shown) → IsSound monitor
+        → bytes_of monitor ≡ monitor_bytes (program_of monitor) }
+{}
+
+/// A monitor has no report to give exactly where nothing is open after rows that it stands for, in either style.
+pub fn drained_is_nothing_open()
+    ensures { (style : Form) (monitor : Shown) (rows : List Row) → Stands monitor rows
+        → IsDrained monitor ↔ (open_of style monitor rows ≡ []) }
+{}
+
+/// The queues keep the verdicts that an output reads from its next time on. Where all reports were given, this time is
+/// the number of its known words, and at least n less the width of each instruction that it reports.
+#[tactic(auto, using(crate::proofs::Keeping::entries_stay, crate::proofs::Keeping::told_places, crate::proofs::Keeping::told_wide))]
+pub fn reads_are_kept()
+    ensures kept { (monitor : Shown) (rows : List Row) (k g : ℕ) (output : Reported) →
+        Stands monitor rows → slice_get (program_of monitor).outs k ≡ Some output
+        → Contains (reported output) g
+        → lowest_at monitor.running.ft g ≤ slice_index (places_of monitor) k }
+    ensures drained { (monitor : Shown) (rows : List Row) →
+        Stands monitor rows → IsDrained monitor
+        → places_of monitor ≡ known_counts_of (program_of monitor) rows }
+    ensures wide { (monitor : Shown) (rows : List Row) (k g : ℕ) (output : Reported) →
+        Stands monitor rows → IsDrained monitor
+        → slice_get (program_of monitor).outs k ≡ Some output → Contains (reported output) g
+        → length rows ≤ slice_index (places_of monitor) k + width_of (program_of monitor) g }
+{}
+
+/// The first report that is open covers the times from its output's next time up to its own, and its word is settled at
+/// each of them.
+#[tactic(auto, using(crate::proofs::Settled::first_covers, crate::proofs::Settled::first_is_settled))]
+pub fn reports_are_settled()
+    ensures upward { (style : Form) (monitor : Shown) (rows : List Row)
+        (report : Given) (more : List Given) → open_of style monitor rows ≡ report ∷ more
+        → slice_index (places_of monitor) report.out ≤ report.time }
+    ensures settled { (style : Form) (monitor : Shown) (rows : List Row)
+        (report : Given) (more : List Given) (o : Output) (t : ℕ) →
+        open_of style monitor rows ≡ report ∷ more
+        → slice_get (outputs (program_of monitor)) report.out ≡ Some o
+        → slice_index (places_of monitor) report.out ≤ t → t ≤ report.time
+        → IsSettled rows o t report.word }
+{}
+
+/// Where all reports were given, each time below n less the delay of an output was told of it.
+#[tactic(auto, using(crate::proofs::Keeping::told_in_time))]
+pub fn reports_come_in_time()
+    ensures told { (monitor : Shown) (rows : List Row) (k : ℕ) (o : Output) →
+        Stands monitor rows → IsDrained monitor
+        → slice_get (outputs (program_of monitor)) k ≡ Some o
+        → length rows ≤ slice_index (places_of monitor) k + delay o }
+{}
+
+/// Numbers are a row of a program exactly where there is one for each column, and each column can hold its number.
+#[tactic(auto, using(crate::proofs::Fitting::fit_from_columns))]
+pub fn fit_rows_fit_each_column()
+    ensures wide { (program : Observer) (row : Row) → IsFit program row
+        → length row ≡ program.width }
+    ensures holds { (program : Observer) (row : Row) (c : ℕ) → IsFit program row
+        → FitsColumn (reading_of program.bz) row c }
+    ensures fits { (program : Observer) (row : Row) → length row ≡ program.width
+        → ((c : ℕ) → c < length row → FitsColumn (reading_of program.bz) row c)
+        → IsFit program row }
+{}

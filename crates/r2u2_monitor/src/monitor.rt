@@ -1,0 +1,269 @@
+//! The monitor.
+
+use crate::row_buffers::RowBuffers;
+use crate::row_fault::RowFault;
+use crate::running::Running;
+use crate::state::State;
+use crate::unfit::unfit_column;
+use arrayvec::ArrayVec;
+use contract_status::{Cursor, line_of};
+use mltl_base::limits::MAX_MISSION;
+use mltl_base::{Report, Style};
+use obs_verify::Checked;
+use scq_ring::steps::Steps;
+use std::alloc::{AllocError, Global};
+use std::marker::{Brand, Model};
+use std::mem;
+use std::sync::ledger::{Blank, Ledger};
+use trace_feed::{Readings, RowAnswer, row_fields_by};
+
+/// A monitor of a checked program. It takes rows one by one, and gives the reports that each row brings before it takes
+/// the next. All its memory is taken by `load`. Contracts see its state.
+#[derive(Drop)]
+pub struct Monitor {
+    state: State,
+    /// How the program reads each column.
+    readings: Readings,
+    /// Where the search for the next report of the last row goes on.
+    cursor: Cursor,
+}
+
+impl Model for Monitor {
+    ghost use Rattle.r2u2_monitor.specs.declared.state.State.{State as Shown};
+    ghost use Rattle.r2u2_monitor.specs.contracts.state.State.{the_row};
+    ghost use Rattle.std.specs.Prelude.{◌≡◌};
+    ghost use Rattle.r2u2_monitor.specs.Monitoring.{IsSound, program_of};
+    ghost use Rattle.r2u2_monitor.specs.Running.{Fits};
+    ghost use Rattle.trace_feed.specs.Readings.{readings_of};
+
+    ghost Value = { Shown };
+
+    ghost coded = { the_row.coded };
+
+    ghost view = { λ monitor. monitor.state };
+
+    ghost invariant = { λ monitor. IsSound monitor.state
+        × Fits monitor.state.running monitor.cursor
+        × (monitor.readings ≡ readings_of (program_of monitor.state)) };
+}
+
+impl Monitor {
+    ghost use Rattle.std.specs.Prelude.{◌≡◌, ◌+◌, ◌^◌, ◌<◌, ◌≤◌, ◌↔◌, List, [], IfErr, IfOk, IsOk, IsTrue, MatchOption, OnErr, OnOk, length};
+    ghost use Rattle.mltl_base.specs.declared.limits.TheConstants.{MAX_MISSION, TIME_END};
+    ghost use Rattle.arrayvec.specs.ArrayVec.{array_vec_len};
+    ghost use Rattle.mltl_base.specs.declared.report.Style.{Style as Form};
+    ghost use Rattle.mltl_base.specs.declared.report.Style.TheVariants.{Each, Runs};
+    ghost use Rattle.mltl_base.specs.Atoms.{Row};
+    ghost use Rattle.mltl_base.specs.Lines.{line};
+    ghost use Rattle.mltl_base.specs.Programs.{IsFit, output_names};
+    ghost use Rattle.r2u2_monitor.specs.Bytes.{bytes_of, monitor_bytes};
+    ghost use Rattle.r2u2_monitor.specs.Running.{row_work};
+    ghost use Rattle.trace_feed.specs.Rows.{Tells, line_meaning};
+    ghost use Rattle.r2u2_monitor.specs.TakingLines.{TakesLine};
+    ghost use Rattle.r2u2_monitor.specs.Monitoring.{GivesNext, IsDrained, IsSame, Stands, TakesRow, last_of, open_of, program_of, read_of, taken_by};
+    ghost use Rattle.r2u2_monitor.specs.RowFaults.{IsReady, IsRowCause, IsUnfitAt};
+
+    /// A monitor that has taken no rows. All its memory is taken here, in blocks of as many bytes as its program says.
+    pub fn load(alloc: Global, checked: Checked) -> Result<Monitor, AllocError>
+        ensures program { IfOk result (λ monitor. program_of monitor ≡ checked) }
+        ensures taken { IfOk result (λ monitor. taken_by monitor ≡ 0) }
+        ensures stands { IfOk result (λ monitor. Stands monitor []) }
+        ensures drained { IfOk result IsDrained }
+        ensures bytes { IfOk result (λ monitor. bytes_of monitor ≡ monitor_bytes checked) }
+    {
+        let RowBuffers {
+            last,
+            read,
+            readings,
+        } = RowBuffers::of(alloc, &checked)?;
+        let running = Running::load(alloc, checked)?;
+        Ok(Monitor {
+            state: State {
+                running,
+                last,
+                read,
+            },
+            readings,
+            cursor: Cursor::start(),
+        })
+    }
+
+    /// The monitor stands for no rows again, and can take up to 2 ^ 40 more. No memory is asked for or given back.
+    pub fn reset(&mut self)
+        ensures program { program_of self.new ≡ program_of self.old }
+        ensures taken { taken_by self.new ≡ 0 }
+        ensures stands { Stands self.new [] }
+        ensures drained { IsDrained self.new }
+    {
+        self.state.running.reset();
+        self.cursor = Cursor::start();
+    }
+
+    /// The program.
+    pub fn checked(&self) -> &Checked
+        ensures program { result.now ≡ program_of self.now }
+    {
+        &self.state.running.checked
+    }
+
+    /// The number of rows that it has taken, at most 2 ^ 40.
+    pub fn rows_taken(&self) -> u64
+        ensures taken { result ≡ taken_by self.now }
+        ensures early { result ≤ MAX_MISSION }
+    {
+        self.state.running.taken
+    }
+
+    /// Takes the next row, of one number for each column, if it is one and the monitor is ready for it. Otherwise nothing
+    /// changes, and the first cause is told. It takes no memory.
+    #[tactic(auto, using(crate::proofs::Fitting::unready))]
+    pub fn take(&mut self, row: &[i64]) -> Result<(), RowFault>
+        ensures takes { OnOk result (TakesRow row.now self.old self.new) }
+        ensures ready { IsOk result ↔ IsReady self.old row.now }
+        ensures cause { IfErr result (λ fault. IsRowCause fault self.old row.now) }
+        ensures same { OnErr result (self.new ≡ self.old) }
+    {
+        if !self.is_drained() {
+            return Err(RowFault::ReportsLeft);
+        }
+        if let Some(column) = self.unfit_column(row) {
+            return Err(RowFault::NotARow(column));
+        }
+        if self.rows_taken() >= MAX_MISSION {
+            return Err(RowFault::TooManyRows);
+        }
+        self.take_fit::<Brand>(row, Blank::new(1));
+        Ok(())
+    }
+
+    /// The first column from which the numbers aren't a row of the program. None where they are one.
+    fn unfit_column(&self, row: &[i64]) -> Option<u32>
+        ensures { MatchOption result (IsFit (program_of self.now) row.now)
+            (λ column. IsUnfitAt (program_of self.now) row.now column) }
+    {
+        unfit_column(&self.state.running.checked, &self.readings, row)
+    }
+
+    /// Takes a row over a counter of its own.
+    fn take_fit<L: Ledger>(&mut self, row: &[i64], blank: Blank)
+        requires name { blank.name ≡ L.name }
+        requires parts { blank.parts ≡ L.parts }
+        requires some_parts { 0 < blank.parts }
+        requires ready { IsReady self.old row.now }
+        ensures { TakesRow row.now self.old self.new }
+    {
+        self.advance(row, &mut Steps::<L>::start(blank));
+    }
+
+    /// Takes the next row, of one number for each column. Its steps are the reads and writes of queues and boxes.
+    pub fn advance<L: Ledger>(&mut self, fields: &[i64], steps: &mut Steps<L>)
+        requires drained { IsDrained self.old }
+        requires early { taken_by self.old < MAX_MISSION }
+        requires fit { IsFit (program_of self.old) fields.now }
+        ensures takes { TakesRow fields.now self.old self.new }
+        ensures counted { steps.new ≤ steps.old + row_work (program_of self.old) }
+    {
+        self.state.last.as_mut_slice().copy_from_slice(fields);
+        self.state.running.take(fields, steps);
+        self.cursor = Cursor::start();
+    }
+
+    /// Takes the row of a line, if the line is one. `Good`: its row was taken; otherwise nothing changed.
+    pub fn take_line<L: Ledger>(&mut self, line: &[u8], steps: &mut Steps<L>) -> RowAnswer
+        requires drained { IsDrained self.old }
+        requires early { taken_by self.old < MAX_MISSION }
+        ensures line { TakesLine result line.now self.old self.new }
+        ensures program { program_of self.new ≡ program_of self.old }
+        ensures counted { steps.new ≤ steps.old + row_work (program_of self.old) }
+    {
+        let answer = self.read_line(line);
+        if let RowAnswer::Good = answer {
+            self.take_read(steps);
+        }
+        answer
+    }
+
+    /// Reads the row of a line, if the line is one, and keeps it aside. Nothing else changes.
+    pub fn read_line(&mut self, line: &[u8]) -> RowAnswer
+        ensures told { Tells result (read_of self.new)
+            (line_meaning (program_of self.old) line.now) }
+        ensures fit { result ≡ RowAnswer.Good → IsFit (program_of self.old) (read_of self.new) }
+        ensures same { IsSame self.old self.new }
+    {
+        let state = &mut self.state;
+        row_fields_by(
+            line,
+            &state.running.checked,
+            &self.readings,
+            state.read.as_mut_slice(),
+        )
+    }
+
+    /// Takes the last row once more. A row that was read stays.
+    pub fn repeat_last<L: Ledger>(&mut self, steps: &mut Steps<L>)
+        requires begun { 0 < taken_by self.old }
+        requires drained { IsDrained self.old }
+        requires early { taken_by self.old < MAX_MISSION }
+        ensures takes { TakesRow (last_of self.old) self.old self.new }
+        ensures read { read_of self.new ≡ read_of self.old }
+        ensures counted { steps.new ≤ steps.old + row_work (program_of self.old) }
+    {
+        self.state.running.take(self.state.last.as_slice(), steps);
+        self.cursor = Cursor::start();
+    }
+
+    /// Takes the row that was read.
+    pub fn take_read<L: Ledger>(&mut self, steps: &mut Steps<L>)
+        requires fit { IsFit (program_of self.old) (read_of self.old) }
+        requires drained { IsDrained self.old }
+        requires early { taken_by self.old < MAX_MISSION }
+        ensures takes { TakesRow (read_of self.old) self.old self.new }
+        ensures counted { steps.new ≤ steps.old + row_work (program_of self.old) }
+    {
+        mem::swap(&mut self.state.last, &mut self.state.read);
+        self.state.running.take(self.state.last.as_slice(), steps);
+        self.cursor = Cursor::start();
+    }
+
+    /// The next report of the last row, in a style. `None`, and no change, where none is left.
+    #[inline(always)]
+    pub fn next(&mut self, style: Style) -> Option<Report>
+        ensures { GivesNext style result self.old self.new }
+    {
+        self.state.running.next(style, &mut self.cursor)
+    }
+
+    /// The next report of the last row, one for each newly known time. `None`, and no change, where none is left.
+    pub fn next_report(&mut self) -> Option<Report>
+        ensures { GivesNext Each result self.old self.new }
+    {
+        self.next(Style::Each)
+    }
+
+    /// The next report of the last row, one for each longest stretch of newly known times with one word, with its last
+    /// time. `None`, and no change, where none is left.
+    pub fn next_run(&mut self) -> Option<Report>
+        ensures { GivesNext Runs result self.old self.new }
+    {
+        self.next(Style::Runs)
+    }
+
+    /// The line of a report that was given: the name of its output, its time and its word, with a newline.
+    pub fn line_of(&self, report: &Report) -> ArrayVec<u8, 128>
+        requires exists { report.now.out < length (program_of self.now).outs }
+        requires early { report.now.time < TIME_END }
+        ensures line { result.items ≡ line (output_names (program_of self.now)) report.now }
+        ensures short { array_vec_len result ≤ 88 }
+    {
+        line_of(report, self.checked())
+    }
+
+    /// Whether all reports were given.
+    pub fn is_drained(&self) -> bool
+        ensures drained { IsTrue result ↔ IsDrained self.now }
+        ensures open { (style : Form) (rows : List Row) → Stands self.now rows
+            → IsTrue result ↔ (open_of style self.now rows ≡ []) }
+    {
+        self.state.running.is_drained()
+    }
+}

@@ -1,0 +1,123 @@
+//! What a monitor of a program takes and when it tells, as known from the program alone.
+
+ghost use Rattle.std.specs.Prelude.{◌≡◌, ◌+◌, ◌*◌, ◌^◌, ◌<◌, ◌≤◌, All, length, option_map, slice_get, slice_index, sum, sum_by};
+ghost use Rattle.mltl_base.specs.declared.interval.Engine.TheVariants.{Ft as Future};
+ghost use Rattle.mltl_base.specs.declared.limits.TheConstants.{MAX_SLOTS};
+ghost use Rattle.mltl_base.specs.Formula.{plain, wpd};
+ghost use Rattle.mltl_base.specs.Programs.{formula_at, output_of, outputs};
+ghost use Rattle.mltl_base.specs.Queues.{AreInOrder, IsAfterOperands, NamesInstructions};
+ghost use Rattle.mltl_base.specs.Reports.{delay};
+ghost use Rattle.ft_engine.specs.Queues.{operand_size, work_before, work_of};
+ghost use Rattle.obs_verify.specs.Running.{RunsFuture, RunsPast};
+ghost use Rattle.r2u2_monitor.specs.Running.{row_work};
+
+use mltl_base::{Engine, FtOp, Out, Program};
+use obs_verify::Checked;
+
+/// The worst-case delay of output `k`, counted from 0, in rows: the row at time `t + delay` tells its time `t` at the
+/// latest. `None` where there is no such output.
+pub fn delay_of(checked: &Checked, k: u32) -> Option<u32>
+    ensures { result ≡ option_map delay (slice_get (outputs checked.now) k) }
+{
+    let out = checked.program().outs.as_slice().get(k as usize)?;
+    Some(delay_of_output(checked, out))
+}
+
+fn delay_of_output(checked: &Checked, out: &Out) -> u32
+    requires { NamesInstructions (length checked.now.ft) (length checked.now.pt) out.now }
+    ensures { result ≡ delay (output_of checked.now out.now) }
+{
+    match out {
+        Out::Formula(engine, i, _) => delay_of_formula(checked, *engine, *i),
+        Out::Contract(engine, i, j, _) => {
+            delay_of_formula(checked, *engine, *i).max(delay_of_formula(checked, *engine, *j))
+        }
+    }
+}
+
+#[tactic(auto, using(crate::proofs::Delays::future_delay, crate::proofs::Delays::past_delay))]
+fn delay_of_formula(checked: &Checked, engine: Engine, i: u32) -> u32
+    requires { engine ≡ Future → i < length checked.now.ft }
+    ensures { result ≡ wpd (plain (formula_at checked.now engine i)) }
+{
+    match engine {
+        Engine::Ft => checked.delays().worst.as_slice()[i as usize],
+        Engine::Pt => 0,
+    }
+}
+
+/// The most steps of one row: reads and writes of queues and boxes.
+pub fn row_steps(checked: &Checked) -> u64
+    ensures { result ≡ row_work checked.now }
+{
+    let program = program_of(checked);
+    let sizes = &program.sizes;
+    future_steps(program.ft.as_slice(), sizes.ft.as_slice()) + past_steps(sizes.pt.as_slice())
+}
+
+/// The program of a checked one, which both engines can run.
+#[tactic(auto, using(obs_verify::proofs::RunLaws::runs_future))]
+fn program_of(checked: &Checked) -> &Program
+    ensures program { result.now ≡ checked.now }
+    ensures future { RunsFuture checked.now }
+    ensures past { RunsPast checked.now }
+    ensures future_sizes { length checked.now.sizes.ft ≡ length checked.now.ft }
+    ensures few_future { length checked.now.ft < 2 ^ 32 }
+    ensures few_past { length checked.now.sizes.pt < 2 ^ 32 }
+{
+    checked.program()
+}
+
+fn future_steps(ops: &[FtOp], sizes: &[u32]) -> u64
+    requires order { AreInOrder ops.now }
+    requires one_each { length sizes.now ≡ length ops.now }
+    requires few { length ops.now < 2 ^ 32 }
+    requires small { sum sizes.now ≤ MAX_SLOTS }
+    ensures steps { result ≡ work_before ops.now (slice_index sizes.now) (length ops.now) }
+    ensures few { result ≤ 2 ^ 28 * length ops.now }
+{
+    let mut steps = 0;
+    for i in 0..ops.len() {
+        steps += steps_of(&ops[i], sizes, i);
+    }
+    steps
+}
+
+/// The most steps of one instruction.
+fn steps_of(op: &FtOp, sizes: &[u32], i: usize) -> u64
+    requires order { IsAfterOperands i op.now }
+    requires inside { i < length sizes.now }
+    requires small { sum sizes.now ≤ MAX_SLOTS }
+    ensures steps { result ≡ work_of (slice_index sizes.now) op.now (slice_index sizes.now i) }
+    ensures few { result ≤ 2 ^ 28 }
+{
+    4 * (u64::from(operand_slots(op, sizes, i)) + u64::from(sizes[i]) + 2)
+}
+
+/// The most slots of an operand.
+fn operand_slots(op: &FtOp, sizes: &[u32], i: usize) -> u32
+    requires order { IsAfterOperands i op.now }
+    requires inside { i < length sizes.now }
+    requires small { sum sizes.now ≤ MAX_SLOTS }
+    ensures slots { result ≡ operand_size (slice_index sizes.now) op.now }
+    ensures few { result ≤ MAX_SLOTS }
+{
+    match *op {
+        FtOp::True | FtOp::Load(_) => 0,
+        FtOp::Not(g) => sizes[g as usize],
+        FtOp::And(l, r) | FtOp::Until(l, r, _) => sizes[l as usize].max(sizes[r as usize]),
+    }
+}
+
+fn past_steps(sizes: &[u32]) -> u64
+    requires few { length sizes.now < 2 ^ 32 }
+    requires small { sum sizes.now ≤ MAX_SLOTS }
+    ensures steps { result ≡ sum_by (λ size. size + 2) sizes.now }
+    ensures few { result ≤ 2 ^ 28 * length sizes.now }
+{
+    let mut steps = 0;
+    for size in sizes {
+        steps += u64::from(*size) + 2;
+    }
+    steps
+}

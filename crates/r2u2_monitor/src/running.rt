@@ -1,0 +1,135 @@
+//! What runs in a monitor.
+
+ghost use Rattle.std.specs.Prelude.{◌≡◌, [], length, IfOk};
+ghost use Rattle.contract_status.specs.Open.{known_counts_of};
+ghost use Rattle.contract_status.specs.Standing.{StandFor};
+
+use booleanizer::Bz;
+use contract_status::{Cursor, Outs};
+use ft_engine::Ft;
+use mltl_base::{Report, Style};
+use obs_verify::Checked;
+use pt_boxes::Pt;
+use scq_ring::steps::Steps;
+use std::alloc::{AllocError, Global};
+use std::sync::ledger::Ledger;
+
+/// A checked program, its Booleanizer, its engines, its outputs, and the number of rows that they have taken.
+#[derive(Drop)]
+pub struct Running {
+    pub checked: Checked,
+    pub bz: Bz,
+    pub ft: Ft,
+    pub pt: Pt,
+    pub outs: Outs,
+    pub taken: u64,
+}
+
+/// What runs a program, before its first row.
+#[derive(Drop)]
+struct Fresh {
+    bz: Bz,
+    ft: Ft,
+    pt: Pt,
+    outs: Outs,
+}
+
+/// The engines and the outputs of a program, before the first row.
+fn engines(alloc: Global, checked: &Checked) -> Result<Fresh, AllocError>
+    ensures numbers { IfOk result (λ fresh. length fresh.bz ≡ length checked.now.bz) }
+    ensures stand { IfOk result (λ fresh.
+        StandFor checked.now [] 0 fresh.ft fresh.pt fresh.outs) }
+    ensures drained { IfOk result (λ fresh. fresh.outs ≡ known_counts_of checked.now []) }
+{
+    let bz = Bz::make(alloc, checked)?;
+    let ft = Ft::make(alloc, checked)?;
+    let pt = Pt::make(alloc, checked)?;
+    let outs = Outs::make(alloc, checked)?;
+    Ok(Fresh { bz, ft, pt, outs })
+}
+
+impl Running {
+    ghost use Rattle.std.specs.Prelude.{◌≡◌, ◌+◌, ◌^◌, ◌<◌, ◌≤◌, ◌↔◌, List, [], length, IfOk, IfSome, IsNone, IsTrue};
+    ghost use Rattle.mltl_base.specs.declared.limits.TheConstants.{MAX_MISSION};
+    ghost use Rattle.mltl_base.specs.declared.report.Style.{Style as Form};
+    ghost use Rattle.mltl_base.specs.Atoms.{Row};
+    ghost use Rattle.mltl_base.specs.Programs.{IsFit};
+    ghost use Rattle.r2u2_monitor.specs.Running.{Fits, GivesFirst, HasTaken, IsDrained, IsGiven, TakesRow, open_of, row_work};
+
+    /// The engines of a program, before the first row. All memory is taken here.
+    pub fn load(alloc: Global, checked: Checked) -> Result<Running, AllocError>
+        ensures program { IfOk result (λ running. running.checked ≡ checked) }
+        ensures taken { IfOk result (λ running. running.taken ≡ 0) }
+        ensures numbers { IfOk result (λ running. length running.bz ≡ length checked.bz) }
+        ensures stands { IfOk result (λ running. HasTaken running []) }
+        ensures drained { IfOk result IsDrained }
+    {
+        let Fresh { bz, ft, pt, outs } = engines(alloc, &checked)?;
+        Ok(Running {
+            checked,
+            bz,
+            ft,
+            pt,
+            outs,
+            taken: 0,
+        })
+    }
+
+    /// Stands for no rows again, in the memory that it has.
+    pub fn reset(&mut self)
+        requires some { (rows : List Row) × HasTaken self.old rows }
+        ensures program { self.new.checked ≡ self.old.checked }
+        ensures taken { self.new.taken ≡ 0 }
+        ensures numbers { length self.new.bz ≡ length self.old.bz }
+        ensures stands { HasTaken self.new [] }
+        ensures drained { IsDrained self.new }
+    {
+        self.ft.reset(&self.checked);
+        self.pt.reset(&self.checked);
+        self.outs.reset();
+        self.taken = 0;
+    }
+
+    /// Takes a row. Its steps are the reads and writes of queues and boxes. It takes no memory.
+    pub fn take<L: Ledger>(&mut self, fields: &[i64], steps: &mut Steps<L>)
+        requires some { (rows : List Row) × HasTaken self.old rows }
+        requires drained { IsDrained self.old }
+        requires early { self.old.taken < MAX_MISSION }
+        requires numbers { length self.old.bz ≡ length self.old.checked.bz }
+        requires fit { IsFit self.old.checked fields.now }
+        ensures takes { TakesRow fields.now self.old self.new }
+        ensures numbers { length self.new.bz ≡ length self.old.checked.bz }
+        ensures counted { steps.new ≤ steps.old + row_work self.old.checked }
+    {
+        self.bz.row(&self.checked, fields);
+        self.ft.row(&self.checked, &self.bz, steps);
+        self.pt.row(&self.checked, &self.bz, steps);
+        self.taken += 1;
+    }
+
+    /// The first report that is open, in a style. `None`, and no change, where none is. The search goes on at the cursor.
+    #[inline(always)]
+    pub fn next(&mut self, style: Style, cursor: &mut Cursor) -> Option<Report>
+        requires some { (rows : List Row) × HasTaken self.old rows }
+        requires early { self.old.taken ≤ MAX_MISSION }
+        requires cursor { Fits self.old cursor.old }
+        ensures first { (rows : List Row) → HasTaken self.old rows
+            → GivesFirst style result self.old self.new rows }
+        ensures stands { (rows : List Row) → HasTaken self.old rows → HasTaken self.new rows }
+        ensures cursor { Fits self.new cursor.new }
+        ensures none { IsNone result → self.new ≡ self.old }
+        ensures given { IfSome result (λ report. IsGiven report self.old self.new) }
+    {
+        self.outs.next_at(style, cursor, &self.checked, &self.ft, &self.pt, self.taken)
+    }
+
+    /// Whether no report is open, in either style.
+    pub fn is_drained(&self) -> bool
+        requires some { (rows : List Row) × HasTaken self.now rows }
+        ensures open { (style : Form) (rows : List Row) → HasTaken self.now rows
+            → IsTrue result ↔ (open_of style self.now rows ≡ []) }
+    {
+        self.outs
+            .drained(&self.checked, &self.ft, &self.pt, self.taken)
+    }
+}

@@ -1,0 +1,53 @@
+//! Where numbers aren't a row.
+
+ghost use Rattle.std.specs.Prelude.{◌≡◌, ◌↔◌, ℕ, ◌<◌, IsTrue, MatchOption, length};
+ghost use Rattle.mltl_base.specs.Programs.{IsFit};
+ghost use Rattle.trace_feed.specs.declared.fields.Reading.{Reading as Way};
+ghost use Rattle.trace_feed.specs.Readings.{AreReadings, readings_of};
+ghost use Rattle.r2u2_monitor.specs.RowFaults.{CanHold, FitsColumn, IsFirstUnfit, IsUnfitAt};
+
+use obs_verify::Checked;
+use trace_feed::{Reading, Readings};
+
+/// The first column from which the numbers aren't a row of the program. None where they are one.
+pub(crate) fn unfit_column(checked: &Checked, readings: &Readings, row: &[i64]) -> Option<u32>
+    requires { readings.now ≡ readings_of checked.now }
+    ensures { MatchOption result
+        (IsFit checked.now row.now) (λ column. IsUnfitAt checked.now row.now column) }
+{
+    let width = checked.program().width;
+    if row.len() < (width as usize) {
+        Some(row.len() as u32)
+    } else if row.len() > (width as usize) {
+        Some(width)
+    } else {
+        first_unfit(readings.as_slice(), row, width)
+    }
+}
+
+/// The first column that can't hold its number.
+fn first_unfit(readings: &[Reading], row: &[i64], width: u32) -> Option<u32>
+    requires one_each { length readings.now ≡ width }
+    requires wide { length row.now ≡ width }
+    ensures { (reading : ℕ → Way) → AreReadings reading readings.now → MatchOption result
+        ((c : ℕ) → c < length row.now → FitsColumn reading row.now c)
+        (λ column. IsFirstUnfit reading row.now column) }
+{
+    for c in 0..width {
+        if !can_hold(readings[c as usize], row[c as usize]) {
+            return Some(c);
+        }
+    }
+    None
+}
+
+/// Whether a column that is read so can hold a number.
+fn can_hold(reading: Reading, number: i64) -> bool
+    ensures { IsTrue result ↔ CanHold reading number }
+{
+    match reading {
+        Reading::Unread => true,
+        Reading::Whole => i32::try_from(number).is_ok(),
+        Reading::Truth => number == 0 || number == 1,
+    }
+}

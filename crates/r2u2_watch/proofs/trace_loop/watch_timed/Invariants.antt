@@ -1,0 +1,4 @@
+use Rattle.r2u2_watch.proofs.trace_loop.watch_timed.Given as goal
+
+abbrev pub ghosts-turns : goal.ghosts-turns
+ghosts-turns g a = record { name = a.blank.name; parts = a.blank.parts }

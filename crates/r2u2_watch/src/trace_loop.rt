@@ -1,0 +1,252 @@
+//! The loop over a trace.
+
+ghost use Rattle.std.specs.Prelude.{◌≡◌, ◌≤◌, ◌<◌, ◌^◌, IsSome, List};
+ghost use Rattle.mltl_base.specs.Atoms.{Row};
+ghost use Rattle.tool_io.specs.Log.{OnLog};
+ghost use Rattle.r2u2_monitor.specs.Monitoring.{program_of, IsDrained, IsSame, Stands};
+ghost use Rattle.r2u2_watch.specs.Feed.{Feed, text_meaning};
+ghost use Rattle.r2u2_watch.specs.Trace.{is_marked, fed_rows, trace_rows, stamped_rows};
+ghost use Rattle.r2u2_watch.specs.Watch.{CanWatch, IsWatch, WatchCause, first_of};
+ghost use Rattle.r2u2_watch.specs.Endings.{told_as};
+ghost use Rattle.r2u2_watch.specs.Telling.{StepCause};
+ghost use Rattle.r2u2_watch.specs.Turns.{CanTake, Finds, IfRow, IsAtStart, IsUnderWay, LineSteps, MovesReader, StandsAt, TakesLine, Turns, begins_at, text_of};
+
+use crate::Watched;
+use crate::reader::{Found, Reader, read_fields, read_stamped};
+use crate::status::{Ending, LineFault};
+use crate::telling::take_after;
+use mltl_base::Style;
+use r2u2_monitor::Monitor;
+use scq_ring::steps::Steps;
+use std::marker::Brand;
+use std::ops::ControlFlow::{self, Break, Continue};
+use std::sync::ledger::{Blank, Ledger};
+use tool_io::{Host, Line, LineCut, Place};
+
+/// Whether the line of the last Row is the first of the trace and begins with `#`.
+fn is_header(cut: &LineCut) -> bool
+    requires row { IsSome cut.now.row }
+    ensures { result ≡ is_marked cut.now.number (text_of cut.now) }
+{
+    cut.number() == 1 && matches!(cut.line(), [b'#', ..])
+}
+
+/// How a trace is watched, and how far it was taken.
+#[derive(Drop)]
+struct Course {
+    /// How many lines after the header are taken at most, and which times.
+    mission: u64,
+    style: Style,
+    /// How many lines after the header were taken.
+    lines: u64,
+    /// How rows stand in the next.
+    reader: Reader,
+}
+
+impl Course {
+    /// The course of a trace of which no line was taken.
+    fn new(mission: u64, style: Style, reader: Reader) -> Course
+        ensures mission { result.mission ≡ mission }
+        ensures style { result.style ≡ style }
+        ensures lines { result.lines ≡ 0 }
+        ensures reader { result.reader ≡ reader }
+    {
+        Course {
+            mission,
+            style,
+            lines: 0,
+            reader,
+        }
+    }
+
+    /// Reads a line, and keeps its row aside. Nothing else of the monitor changes.
+    #[inline(always)]
+    fn read(&self, monitor: &mut Monitor, line: &[u8]) -> Found
+        requires under_way { IsUnderWay self.now monitor.old }
+        requires within { self.now.lines < self.now.mission }
+        ensures told { (rows : List Row) (feed : Feed) → Stands monitor.old rows
+            → StandsAt feed self.now.reader self.now.lines rows
+            → Finds result feed
+            (text_meaning (program_of monitor.old) self.now.mission feed line.now)
+            self.now.lines rows monitor.old monitor.new }
+        ensures ready { IfRow result (λ copies. CanTake copies monitor.new) }
+        ensures same { IsSame monitor.old monitor.new }
+        ensures drained { IsDrained monitor.new }
+    {
+        match self.reader {
+            Reader::Plain => read_fields(monitor, line, 0, Reader::Plain),
+            Reader::Stamped(last) => read_stamped(monitor, line, last, self.mission),
+        }
+    }
+
+    /// Takes the line of the last Row, and tells what it brings.
+    #[inline(always)]
+    fn take<H: Host, L: Ledger>(
+        &mut self,
+        monitor: &mut Monitor,
+        cut: &LineCut,
+        host: &mut H,
+        steps: &mut Steps<L>,
+    ) -> ControlFlow<Ending, ()>
+        requires row { IsSome cut.now.row }
+        requires under_way { IsUnderWay self.old monitor.old }
+        requires within { self.old.lines < self.old.mission }
+        ensures cause { StepCause (told_as result) (H.faults host.old) (H.faults host.new) }
+        ensures log { (rows : List Row) (feed : Feed) → Stands monitor.old rows
+            → StandsAt feed self.old.reader self.old.lines rows
+            → OnLog (H.log host.old) (H.log host.new)
+            (TakesLine (told_as result) (program_of monitor.old) self.old self.new feed rows
+            cut.now monitor.new) }
+        ensures program { program_of monitor.new ≡ program_of monitor.old }
+        ensures moves { MovesReader self.old self.new }
+    {
+        match self.read(monitor, cut.line()) {
+            Found::Row(copies, reader) => {
+                self.reader = reader;
+                if take_after(monitor, host, copies, self.style, steps) {
+                    Continue(())
+                } else {
+                    Break(Ending::WriteFault)
+                }
+            }
+            Found::Blank => Continue(()),
+            Found::Bad(fault) => Break(Ending::BadLine(cut.number(), fault)),
+            Found::Past => Break(Ending::TooLong),
+        }
+    }
+
+    /// Takes the line of the last Row, unless it is the header or past the mission time.
+    #[inline(always)]
+    fn step<H: Host, L: Ledger>(
+        &mut self,
+        monitor: &mut Monitor,
+        cut: &LineCut,
+        host: &mut H,
+        steps: &mut Steps<L>,
+    ) -> ControlFlow<Ending, ()>
+        requires row { IsSome cut.now.row }
+        requires under_way { IsUnderWay self.old monitor.old }
+        requires within { self.old.lines ≤ self.old.mission }
+        ensures cause { StepCause (told_as result) (H.faults host.old) (H.faults host.new) }
+        ensures log { (rows : List Row) (feed : Feed) → Stands monitor.old rows
+            → StandsAt feed self.old.reader self.old.lines rows
+            → OnLog (H.log host.old) (H.log host.new)
+            (LineSteps (told_as result) (program_of monitor.old) self.old self.new feed rows
+            cut.now monitor.new) }
+        ensures program { program_of monitor.new ≡ program_of monitor.old }
+    {
+        if is_header(cut) {
+            return Continue(());
+        }
+        if self.lines == self.mission {
+            return Break(Ending::TooLong);
+        }
+        self.take(monitor, cut, host, steps)?;
+        self.lines += 1;
+        Continue(())
+    }
+
+    /// Cuts one more line, and takes it.
+    #[inline(always)]
+    fn turn<H: Host, L: Ledger>(
+        &mut self,
+        monitor: &mut Monitor,
+        cut: &mut LineCut,
+        host: &mut H,
+        steps: &mut Steps<L>,
+    ) -> ControlFlow<Ending, ()>
+        requires under_way { IsUnderWay self.old monitor.old }
+        requires within { self.old.lines ≤ self.old.mission }
+        ensures cause { StepCause (told_as result) (H.faults host.old) (H.faults host.new) }
+        ensures log { (rows : List Row) (feed : Feed) → Stands monitor.old rows
+            → StandsAt feed self.old.reader self.old.lines rows
+            → OnLog (H.log host.old) (H.log host.new)
+            (Turns (told_as result) (program_of monitor.old) self.old self.new feed rows
+            cut.old cut.new monitor.new) }
+        ensures program { program_of monitor.new ≡ program_of monitor.old }
+    {
+        match cut.next_line(host, Place::Trace) {
+            Line::Row => self.step(monitor, cut, host, steps),
+            Line::End => Break(Ending::Done),
+            Line::ReadFault => Break(Ending::ReadFault),
+            Line::LongLine if self.lines == self.mission => Break(Ending::TooLong),
+            Line::LongLine => {
+                let number = cut.number().saturating_add(1);
+                Break(Ending::BadLine(number, LineFault::LongLine))
+            }
+        }
+    }
+}
+
+/// The loop, over a counter of its own.
+fn turns<H: Host, L: Ledger>(
+    monitor: &mut Monitor,
+    cut: &mut LineCut,
+    host: &mut H,
+    mut course: Course,
+    blank: Blank,
+) -> Watched
+    requires name { blank.name ≡ L.name }
+    requires parts { blank.parts ≡ L.parts }
+    requires some_parts { 0 < blank.parts }
+    requires ready { CanWatch monitor.old cut.old course.mission }
+    requires start { IsAtStart course }
+    ensures cause { WatchCause result (H.faults host.old) (H.faults host.new) }
+    ensures log { OnLog (H.log host.old) (H.log host.new)
+        (IsWatch (program_of monitor.old) course.style
+        (fed_rows (begins_at course.reader) (program_of monitor.old) course.mission
+        (first_of cut.old)) cut.old cut.new monitor.new result) }
+    ensures program { program_of monitor.new ≡ program_of monitor.old }
+{
+    let mut steps = Steps::<L>::start(blank);
+    loop {
+        if let Break(ending) = course.turn(monitor, cut, host, &mut steps) {
+            return ending.watched();
+        }
+    }
+}
+
+/// Watches a trace: takes its lines one by one from the place `Trace`, and writes the verdict lines that each brings to
+/// the place `Out` before it reads on. A header is passed over, and a line past `mission` lines after it ends the
+/// loop. It takes no memory.
+///
+/// Lines are counted from the first that the cut gives next, and numbered as the cut numbers them; the header is a
+/// line with the number 1 that begins with `#`. Where the loop ends by a fault, the lines of the rows before are out,
+/// or, after a failed write, a front of them.
+pub fn watch<H: Host>(
+    monitor: &mut Monitor,
+    cut: &mut LineCut,
+    host: &mut H,
+    mission: u64,
+    style: Style,
+) -> Watched
+    requires { CanWatch monitor.old cut.old mission }
+    ensures cause { WatchCause result (H.faults host.old) (H.faults host.new) }
+    ensures log { OnLog (H.log host.old) (H.log host.new) (IsWatch (program_of monitor.old) style
+        (trace_rows (program_of monitor.old) mission (first_of cut.old))
+        cut.old cut.new monitor.new result) }
+    ensures program { program_of monitor.new ≡ program_of monitor.old }
+{
+    let course = Course::new(mission, style, Reader::Plain);
+    turns::<H, Brand>(monitor, cut, host, course, Blank::new(1))
+}
+
+/// Watches a trace of stamped rows: as `watch`, but each row holds from the time of its stamp until that of the next.
+/// The mission time counts times too, and a row of that time or a later one ends the loop before its gap is filled.
+pub fn watch_timed<H: Host>(
+    monitor: &mut Monitor,
+    cut: &mut LineCut,
+    host: &mut H,
+    mission: u64,
+    style: Style,
+) -> Watched
+    requires { CanWatch monitor.old cut.old mission }
+    ensures cause { WatchCause result (H.faults host.old) (H.faults host.new) }
+    ensures log { OnLog (H.log host.old) (H.log host.new) (IsWatch (program_of monitor.old) style
+        (stamped_rows (program_of monitor.old) mission (first_of cut.old))
+        cut.old cut.new monitor.new result) }
+    ensures program { program_of monitor.new ≡ program_of monitor.old }
+{
+    let course = Course::new(mission, style, Reader::Stamped(None));
+    turns::<H, Brand>(monitor, cut, host, course, Blank::new(1))
+}

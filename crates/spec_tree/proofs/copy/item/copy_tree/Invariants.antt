@@ -1,6 +1,0 @@
-use Rattle.std.proofs.Common.{◌≡◌, map, take}
-use Rattle.spec_tree.specs.ItemShape.{item_shape}
-use Rattle.spec_tree.proofs.copy.item.copy_tree.Given as goal
-
-abbrev pub invariant-loop-item : goal.invariant-loop-item
-invariant-loop-item l = map item_shape l.items ≡ map item_shape (take l.item-index l.item-items)

@@ -1,6 +1,0 @@
-use Rattle.std.proofs.Common.{◌≡◌, map, take}
-use Rattle.spec_tree.specs.ItemShape.{field_shape}
-use Rattle.spec_tree.proofs.copy.item.field_names.Given as goal
-
-abbrev pub invariant-loop-field : goal.invariant-loop-field
-invariant-loop-field l = l.names ≡ map (λ f. f.name) (map field_shape (take l.field-index l.fields))

@@ -1,4 +1,0 @@
-use Rattle.trace_watch.proofs.trace_loop.watch.Given as goal
-
-abbrev pub ghosts-turns : goal.ghosts-turns
-ghosts-turns g a = record { name = a.blank.name; parts = a.blank.parts }

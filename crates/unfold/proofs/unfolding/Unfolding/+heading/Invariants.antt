@@ -1,7 +1,0 @@
-use Rattle.unfold.proofs.unfolding.Unfolding.+heading.Given as goal
-
-abbrev pub decreases-head : goal.decreases-head
-decreases-head l = l.levels
-
-abbrev pub decreases-part : goal.decreases-part
-decreases-part l = l.levels
