@@ -1,8 +1,8 @@
 //! The compilation of a text under a header line, as a call of its own.
 
+use c2po_compile::{CompileFault, HeaderWhy, compile};
 use mltl_base::BzOp;
 use mltl_base::limits::MAX_LINE_BYTES;
-use c2po_compile::{CompileFault, HeaderWhy, compile};
 use std::alloc::Global;
 use std::test::Fail;
 

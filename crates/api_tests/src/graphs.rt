@@ -5,9 +5,9 @@ ghost use Rattle.mltl_base.specs.Subformulas.{IsTensed};
 ghost use Rattle.c2po_nodes.specs.Nodes.{AreSound, trees};
 ghost use Rattle.c2po_nodes.specs.Outputs.{NamesFormulas, asked};
 
+use c2po_nodes::{Expanded, Nodes, Plain, PlainOut};
 use core_graph::{GraphFault, to_core};
 use mltl_base::{Columns, CompareOp, Engine, List, Name};
-use c2po_nodes::{Expanded, Nodes, Plain, PlainOut};
 use std::alloc::{AllocError, Global};
 use std::test::Fail;
 

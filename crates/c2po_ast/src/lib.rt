@@ -2,7 +2,7 @@
 //!
 //! A contract says which tree it means by its shape, which this crate's `specs/` define: two trees of one shape have the
 //! same nodes with the same lines. `copy_tree` gives a second tree of the same shape. How tokens are read into these trees
-//! is told in `c2po_tree` and `c2po_parse`; what needs only the trees stands on this crate alone.
+//! is told in `c2po_parse` and `c2po_parse`; what needs only the trees stands on this crate alone.
 //!
 //! ```text
 //! let expr = node::leaf_of(1, operator::Atom::Truth(true)); // the tree of `true` in line 1

@@ -6,14 +6,14 @@ use Rattle.tool_io.specs.declared.host.Place.TheVariants as at
 use Rattle.tool_io.specs.Log.{Event, given, names_of, Writes}
 use Rattle.tool_io.proofs.LogLaws.{WritesFront-misses, Writes-given, Writes-names}
 use Rattle.tool_words.specs.C2poWords as words
-use Rattle.tool_runs.specs.declared.message.Tool.TheVariants.{C2po}
-use Rattle.tool_runs.specs.declared.status.Status as status
-use Rattle.tool_runs.specs.declared.status.Status.TheVariants as answers
-use Rattle.tool_runs.specs.Messages.{usage}
-use Rattle.tool_runs.specs.Attaching.{OpensAsTold}
-use Rattle.tool_runs.specs.Telling.{is_used, HelpLog}
-use Rattle.tool_runs.proofs.AttachLaws.{no_reads_none, writes_unread}
-use Rattle.tool_runs.proofs.UseLaws.{writes_unused}
+use Rattle.tool_words.specs.declared.message.Tool.TheVariants.{C2po}
+use Rattle.tool_words.specs.declared.status.Status as status
+use Rattle.tool_words.specs.declared.status.Status.TheVariants as answers
+use Rattle.tool_words.specs.Messages.{usage}
+use Rattle.tool_words.specs.Attaching.{OpensAsTold}
+use Rattle.tool_words.specs.Telling.{is_used, HelpLog}
+use Rattle.tool_words.proofs.AttachLaws.{no_reads_none, writes_unread}
+use Rattle.tool_words.proofs.UseLaws.{writes_unused}
 use Rattle.c2po_cli.specs.Asking.{Ask, help, make, nothing, served, ask, asked_names}
 use Rattle.c2po_cli.specs.Run.{MakeOutcome, HelpOutcome, NothingOutcome, OutcomeOf, TriesOf, WritesAttached, names_out, seen, Ran}
 

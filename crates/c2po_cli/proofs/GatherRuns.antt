@@ -15,12 +15,12 @@ use Rattle.tool_io.proofs.LogLaws.{taken-append, ended_from-append, names_of-app
 use Rattle.tool_words.specs.declared.file_kind.FileKind.{FileKind}
 use Rattle.tool_words.specs.declared.file_kind.FileKind.TheVariants.{Spec, Program}
 use Rattle.c2po_compile.specs.Front.{first_refusal}
-use Rattle.tool_runs.specs.declared.status.Status as status
-use Rattle.tool_runs.specs.declared.status.Status.TheVariants as answers
-use Rattle.tool_runs.specs.Attaching.{is_attached, ReadsAttached, OpensAsTold}
-use Rattle.tool_runs.specs.Files.{file_place, file_limit}
-use Rattle.tool_runs.specs.Reading.{FileLog}
-use Rattle.tool_runs.proofs.AttachLaws.{is_attached-append, ReadsAttached-append, no_reads_none, missed_none, or_true}
+use Rattle.tool_words.specs.declared.status.Status as status
+use Rattle.tool_words.specs.declared.status.Status.TheVariants as answers
+use Rattle.tool_words.specs.Attaching.{is_attached, ReadsAttached, OpensAsTold}
+use Rattle.tool_words.specs.Files.{file_place, file_limit}
+use Rattle.tool_words.specs.FileReading.{FileLog}
+use Rattle.tool_words.proofs.AttachLaws.{is_attached-append, ReadsAttached-append, no_reads_none, missed_none, or_true}
 use Rattle.c2po_cli.specs.declared.make.Form.{Form}
 use Rattle.c2po_cli.specs.declared.make.Product.{Product}
 use Rattle.c2po_cli.specs.declared.make.Product.TheVariants.{Compiled, Upgrade, Show}

@@ -17,11 +17,11 @@ use Rattle.c2po_compile.specs.declared.fault.CompileFault.{CompileFault}
 use Rattle.c2po_compile.specs.declared.fault.HeaderWhy.TheVariants.{NoHeader}
 use Rattle.c2po_compile.specs.declared.fault.CompileFault.TheVariants as compile
 use Rattle.c2po_compile.proofs.CompiledLaws.{header_refused}
-use Rattle.tool_runs.specs.declared.status.Status as status
-use Rattle.tool_runs.specs.declared.status.Status.TheVariants as answers
-use Rattle.tool_runs.proofs.LineLaws.{text_short}
+use Rattle.tool_words.specs.declared.status.Status as status
+use Rattle.tool_words.specs.declared.status.Status.TheVariants as answers
+use Rattle.tool_words.proofs.LineLaws.{text_short}
 use Rattle.c2po_cli.specs.declared.make.Form.{Form}
-use Rattle.tool_runs.specs.FirstLine.{begins_long}
+use Rattle.tool_words.specs.FirstLine.{begins_long}
 use Rattle.c2po_cli.specs.Images.{WritesImage}
 use Rattle.c2po_cli.specs.Made.{compile_status, compiled_bytes, text_bytes, unless_long, first_line, made_of_text}
 use Rattle.c2po_cli.specs.Phases.{Refuses, RefusesAlone, ReadsLine, LineLog, HeaderLog, RefusedLog, MadeLog}

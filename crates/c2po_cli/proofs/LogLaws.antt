@@ -7,9 +7,9 @@ use Rattle.tool_io.specs.Log.{Event, Attached, Missed, Took, Gave, same_place, t
 use Rattle.tool_io.specs.Host.{IsSource}
 use Rattle.tool_io.specs.Whole.{Takes}
 use Rattle.tool_io.proofs.LogLaws.{Reads-names, Reads-taken, Reads-taken_elsewhere, Reads-ended, Reads-ended_elsewhere}
-use Rattle.tool_runs.specs.Attaching.{is_attached, ReadsAttached}
-use Rattle.tool_runs.specs.Telling.{is_used}
-use Rattle.tool_runs.proofs.AttachLaws.{split_at, file_attached, is_attached-append, or_true}
+use Rattle.tool_words.specs.Attaching.{is_attached, ReadsAttached}
+use Rattle.tool_words.specs.Telling.{is_used}
+use Rattle.tool_words.proofs.AttachLaws.{split_at, file_attached, is_attached-append, or_true}
 use Rattle.c2po_cli.specs.Run.{is_tried, WritesAttached}
 use Rattle.c2po_cli.specs.Phases.{OnlySources, OnlyOut}
 

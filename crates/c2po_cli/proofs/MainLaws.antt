@@ -10,17 +10,17 @@ use Rattle.tool_io.specs.Host.{WriteCause}
 use Rattle.tool_io.specs.Cutting.{lines_of}
 use Rattle.tool_io.specs.Whole.{PutAllLog}
 use Rattle.tool_io.proofs.LogLaws.{given-append, Writes-given}
-use Rattle.tool_runs.specs.declared.message.Tool.TheVariants.{C2po}
-use Rattle.tool_runs.specs.declared.status.Status as status
-use Rattle.tool_runs.specs.declared.status.Status.TheVariants as answers
-use Rattle.tool_runs.specs.Messages.{told_to_user}
-use Rattle.tool_runs.specs.Causes.{RunCause, NoOtherRose}
-use Rattle.tool_runs.specs.Files.{file_limit}
-use Rattle.tool_runs.specs.Telling.{ToldWhole}
-use Rattle.tool_runs.proofs.AttachLaws.{ReadsAttached-append, writes_unread, opened_still}
-use Rattle.tool_runs.proofs.CauseLaws.{rose_at, err_stays, message_rose}
-use Rattle.tool_runs.proofs.MessageLaws.{Leaves, message_leaves, unattached}
-use Rattle.tool_runs.proofs.UseLaws.{unused-given}
+use Rattle.tool_words.specs.declared.message.Tool.TheVariants.{C2po}
+use Rattle.tool_words.specs.declared.status.Status as status
+use Rattle.tool_words.specs.declared.status.Status.TheVariants as answers
+use Rattle.tool_words.specs.Messages.{told_to_user}
+use Rattle.tool_words.specs.Causes.{RunCause, NoOtherRose}
+use Rattle.tool_words.specs.Files.{file_limit}
+use Rattle.tool_words.specs.Telling.{ToldWhole}
+use Rattle.tool_words.proofs.AttachLaws.{ReadsAttached-append, writes_unread, opened_still}
+use Rattle.tool_words.proofs.CauseLaws.{rose_at, err_stays, message_rose}
+use Rattle.tool_words.proofs.MessageLaws.{Leaves, message_leaves, unattached}
+use Rattle.tool_words.proofs.UseLaws.{unused-given}
 use Rattle.c2po_cli.specs.Asking.{Ask, help, make, nothing, MakeAsked, file_kind}
 use Rattle.c2po_cli.specs.Run.{Seen, seen, place_of, TriesOf, TriesInTurn, WritesAttached, names_out, MakeOutcome, HelpOutcome, NothingOutcome, OutcomeOf, CompletesBy, Ran, IsMade}
 use Rattle.c2po_cli.specs.Made.{made}

@@ -7,11 +7,11 @@ use Rattle.tool_io.specs.declared.host.Place.TheVariants as at
 use Rattle.tool_io.specs.Log.{Event, Attached, Missed, Gave, taken, given, ended_from, names_of}
 use Rattle.tool_io.specs.Cutting.{lines_of}
 use Rattle.tool_io.proofs.LogLaws.{taken-append, given-append, ended_from-append, names_of-append, WritesFront-misses, Writes-given}
-use Rattle.tool_runs.specs.declared.status.Status as status
-use Rattle.tool_runs.specs.declared.status.Status.TheVariants as answers
-use Rattle.tool_runs.specs.Attaching.{is_attached, OpensAsTold}
-use Rattle.tool_runs.proofs.AttachLaws.{is_attached-append, ReadsAttached-append}
-use Rattle.tool_runs.proofs.UseLaws.{unused-append}
+use Rattle.tool_words.specs.declared.status.Status as status
+use Rattle.tool_words.specs.declared.status.Status.TheVariants as answers
+use Rattle.tool_words.specs.Attaching.{is_attached, OpensAsTold}
+use Rattle.tool_words.proofs.AttachLaws.{is_attached-append, ReadsAttached-append}
+use Rattle.tool_words.proofs.UseLaws.{unused-append}
 use Rattle.c2po_cli.specs.Asking.{make, MakeAsked, place_named, read_names}
 use Rattle.c2po_cli.specs.Run.{Seen, seen, place_of, is_tried, IsFaultless, IsOfOut, Makes, MakeOutcome, WritesAttached, Ran}
 use Rattle.c2po_cli.specs.Phases.{OnlyOut, Gathered, NotGathered, GivenLog, PutOutcome, PutLog}

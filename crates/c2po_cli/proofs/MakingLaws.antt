@@ -19,10 +19,10 @@ use Rattle.c2po_compile.specs.Compiled.{columns_by, image_of_text}
 use Rattle.c2po_compile.specs.Simplified.{simple_image}
 use Rattle.c2po_compile.proofs.CompiledLaws.{text_refused, header_answer, back_answers, back_refuses}
 use Rattle.c2po_compile.proofs.SimpleLaws.{simple_compiled, simple_refused}
-use Rattle.tool_runs.specs.declared.status.Status.{Status}
-use Rattle.tool_runs.specs.declared.status.Status.TheVariants.{Memory}
+use Rattle.tool_words.specs.declared.status.Status.{Status}
+use Rattle.tool_words.specs.declared.status.Status.TheVariants.{Memory}
 use Rattle.c2po_cli.specs.declared.make.Form.{Form}
-use Rattle.tool_runs.specs.FirstLine.{begins_long}
+use Rattle.tool_words.specs.FirstLine.{begins_long}
 use Rattle.c2po_cli.specs.Made.{compile_status, compiled_bytes, image_by, program_by, text_bytes, written_as, unless_long, first_line, made_of_text}
 use Rattle.c2po_cli.specs.Phases.{RefusesAlone}
 

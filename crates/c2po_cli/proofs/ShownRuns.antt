@@ -26,10 +26,10 @@ use Rattle.c2po_compile.specs.Simplified.{simple_image_in}
 use Rattle.c2po_compile.proofs.MovedImages.{layout_of}
 use Rattle.show_roundtrip.proofs.Images.{image_returns, simple_returns}
 use Rattle.show_roundtrip.proofs.ShownImages.{image_passes, simple_passes}
-use Rattle.tool_runs.specs.declared.message.Tool.TheVariants.{C2po}
-use Rattle.tool_runs.specs.declared.status.Status as status
-use Rattle.tool_runs.specs.Messages.{told_to_user}
-use Rattle.tool_runs.specs.Causes.{RunCause}
+use Rattle.tool_words.specs.declared.message.Tool.TheVariants.{C2po}
+use Rattle.tool_words.specs.declared.status.Status as status
+use Rattle.tool_words.specs.Messages.{told_to_user}
+use Rattle.tool_words.specs.Causes.{RunCause}
 use Rattle.c2po_cli.specs.declared.make.Product.{Product}
 use Rattle.c2po_cli.specs.declared.make.Product.TheVariants.{Compiled, Upgrade, Show}
 use Rattle.c2po_cli.specs.Asking.{Ask, help, make, nothing}

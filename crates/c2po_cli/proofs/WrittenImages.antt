@@ -13,7 +13,7 @@ use Rattle.c2po_compile.specs.Image.{AreColumnsFor}
 use Rattle.c2po_compile.specs.Compiled.{columns_by, outputs_in, signals_in}
 use Rattle.c2po_compile.specs.ImageFiles.{IsFileOf}
 use Rattle.tool_io.specs.Log.{Event}
-use Rattle.tool_runs.specs.declared.status.Status as status
+use Rattle.tool_words.specs.declared.status.Status as status
 use Rattle.c2po_cli.specs.declared.make.Form.{Form}
 use Rattle.c2po_cli.specs.Asking.{Ask, help, make, nothing}
 use Rattle.c2po_cli.specs.Images.{IsFileBy, WritesImage}

@@ -7,7 +7,7 @@ use Rattle.tool_words.specs.declared.file_kind.FileKind.{FileKind}
 use Rattle.tool_words.specs.declared.file_kind.FileKind.TheVariants.{Spec, Program}
 use Rattle.tool_words.specs.C2poWords.{Asked, CompileAsked}
 use Rattle.tool_words.specs.C2poWords as words
-use Rattle.tool_runs.specs.Files.{file_place}
+use Rattle.tool_words.specs.Files.{file_place}
 use Rattle.c2po_cli.specs.declared.make.Product.{Product}
 use Rattle.c2po_cli.specs.declared.make.Product.TheVariants.{Compiled, Upgrade, Show}
 use Rattle.c2po_cli.specs.declared.make.Make as told

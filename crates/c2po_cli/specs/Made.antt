@@ -17,7 +17,7 @@ use Rattle.obs_show.specs.declared.fault.ShowFault.{ShowFault}
 use Rattle.obs_show.specs.declared.fault.ShowFault.TheVariants as show_fault
 use Rattle.obs_show.specs.Limits.{show_fault as limit_of_text}
 use Rattle.obs_show.specs.Text.{text as text_of}
-use Rattle.obs_table.specs.Table.{table}
+use Rattle.obs_show.specs.Table.{table}
 use Rattle.c2po_compile.specs.declared.fault.CompileFault.{CompileFault}
 use Rattle.c2po_compile.specs.declared.fault.CompileFault.TheVariants as compile_fault
 use Rattle.c2po_compile.specs.declared.fault.Refusal.TheVariants.{Wide}
@@ -26,10 +26,10 @@ use Rattle.c2po_compile.specs.Compiled.{image_of_text}
 use Rattle.c2po_compile.specs.Refusals.{unless_refused}
 use Rattle.c2po_compile.specs.Image.{image}
 use Rattle.c2po_compile.specs.Simplified.{simple_image, simple_image_of_text}
-use Rattle.tool_runs.specs.declared.status.Status.{Status}
-use Rattle.tool_runs.specs.declared.status.Status.TheVariants.{Refused, BadProgram, BadHeader, TextTooLong, Memory}
-use Rattle.tool_runs.specs.Files.{file_status}
-use Rattle.tool_runs.specs.FirstLine.{begins_long}
+use Rattle.tool_words.specs.declared.status.Status.{Status}
+use Rattle.tool_words.specs.declared.status.Status.TheVariants.{Refused, BadProgram, BadHeader, TextTooLong, Memory}
+use Rattle.tool_words.specs.Files.{file_status}
+use Rattle.tool_words.specs.FirstLine.{begins_long}
 use Rattle.c2po_cli.specs.declared.make.Form.{Form}
 use Rattle.c2po_cli.specs.declared.make.Product.{Product}
 use Rattle.c2po_cli.specs.declared.make.Product.TheVariants.{Compiled, Upgrade, Show}

@@ -10,9 +10,9 @@ use Rattle.tool_io.specs.Host.{IsSource}
 use Rattle.tool_io.specs.Whole.{Takes}
 use Rattle.tool_io.specs.Cutting.{lines_of}
 use Rattle.c2po_compile.specs.Front.{first_refusal}
-use Rattle.tool_runs.specs.declared.status.Status as status
-use Rattle.tool_runs.specs.Attaching.{is_attached, ReadsAttached, OpensAsTold}
-use Rattle.tool_runs.specs.FirstLine.{HasBegun}
+use Rattle.tool_words.specs.declared.status.Status as status
+use Rattle.tool_words.specs.Attaching.{is_attached, ReadsAttached, OpensAsTold}
+use Rattle.tool_words.specs.FirstLine.{HasBegun}
 use Rattle.c2po_cli.specs.declared.make.Form.{Form}
 use Rattle.c2po_cli.specs.declared.make.Product.{Product}
 use Rattle.c2po_cli.specs.declared.make.Product.TheVariants.{Compiled, Upgrade, Show}

@@ -7,14 +7,14 @@ use Rattle.tool_io.specs.declared.host.Place as place
 use Rattle.tool_io.specs.Log.{Event, Gave, same_place, taken, given, ended_from, names_of, IsFront, IsProperFront}
 use Rattle.tool_io.specs.Cutting.{lines_of}
 use Rattle.c2po_compile.specs.Front.{first_refusal}
-use Rattle.tool_runs.specs.declared.message.Tool.TheVariants.{C2po}
-use Rattle.tool_runs.specs.declared.status.Status as status
-use Rattle.tool_runs.specs.Messages.{usage, told_to_user}
-use Rattle.tool_runs.specs.Causes.{NoOtherRose}
-use Rattle.tool_runs.specs.Attaching.{is_attached, ReadsAttached, OpensAsTold}
-use Rattle.tool_runs.specs.Files.{file_place, file_limit}
-use Rattle.tool_runs.specs.FirstLine.{HasBegun}
-use Rattle.tool_runs.specs.Telling.{is_used, ToldWhole, MessageLast}
+use Rattle.tool_words.specs.declared.message.Tool.TheVariants.{C2po}
+use Rattle.tool_words.specs.declared.status.Status as status
+use Rattle.tool_words.specs.Messages.{usage, told_to_user}
+use Rattle.tool_words.specs.Causes.{NoOtherRose}
+use Rattle.tool_words.specs.Attaching.{is_attached, ReadsAttached, OpensAsTold}
+use Rattle.tool_words.specs.Files.{file_place, file_limit}
+use Rattle.tool_words.specs.FirstLine.{HasBegun}
+use Rattle.tool_words.specs.Telling.{is_used, ToldWhole, MessageLast}
 use Rattle.c2po_cli.specs.Asking.{Ask, help, make, nothing, MakeAsked, file_kind, asked_names}
 use Rattle.c2po_cli.specs.Made.{made}
 use Rattle.c2po_cli.specs.Images.{GivesImage}

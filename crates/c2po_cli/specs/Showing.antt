@@ -12,8 +12,8 @@ use Rattle.obs_verify.specs.Upgrade.{up}
 use Rattle.c2po_compile.specs.Front.{first_refusal}
 use Rattle.c2po_compile.specs.ImageFiles.{IsImageFile, image_in, stored_columns}
 use Rattle.c2po_compile.specs.Simplified.{IsSimpleImageFile}
-use Rattle.tool_runs.specs.declared.status.Status.{Status}
-use Rattle.tool_runs.specs.declared.status.Status.TheVariants.{Done}
+use Rattle.tool_words.specs.declared.status.Status.{Status}
+use Rattle.tool_words.specs.declared.status.Status.TheVariants.{Done}
 use Rattle.c2po_cli.specs.declared.make.Product.{Product}
 use Rattle.c2po_cli.specs.declared.make.Product.TheVariants.{Show}
 use Rattle.c2po_cli.specs.Asking.{Ask, make}

@@ -6,7 +6,7 @@ ghost use Rattle.tool_io.specs.declared.host.Place.{Place as Where};
 ghost use Rattle.tool_io.specs.declared.host.Place.TheVariants.{Err};
 ghost use Rattle.tool_words.specs.declared.file_kind.FileKind.TheVariants.{Program};
 ghost use Rattle.tool_words.specs.C2poWords.{asked_of};
-ghost use Rattle.tool_runs.specs.Causes.{CauseAt, RunCause};
+ghost use Rattle.tool_words.specs.Causes.{CauseAt, RunCause};
 ghost use Rattle.c2po_cli.specs.Asking.{ask, file_kind as kind_of, help, make as made_so, make_of, nothing, served};
 ghost use Rattle.c2po_cli.specs.Run.{IsMade, Ran};
 ghost use Rattle.c2po_cli.specs.Showing.{ShowsProgram};
@@ -16,8 +16,7 @@ use crate::make::{Make, compilation, showing, upgrading};
 use crate::writing::write_out;
 use std::alloc::Global;
 use tool_io::Host;
-use tool_runs::{Status, Tool, give_help, tell_user};
-use tool_words::{C2poAsk, Words, c2po_ask};
+use tool_words::{C2poAsk, Status, Tool, Words, c2po_ask, give_help, tell_user};
 
 /// Makes what was asked for, and writes it.
 fn make<H: Host>(alloc: Global, asked: &Make<'_>, host: &mut H) -> Status

@@ -6,8 +6,8 @@ ghost use Rattle.c2po_ast.specs.ItemShape.{spec_shape};
 ghost use Rattle.c2po_compile.specs.Front.{first_refusal, items_in};
 ghost use Rattle.tool_io.specs.Log.{OnLog};
 ghost use Rattle.tool_words.specs.declared.file_kind.FileKind.TheVariants.{Program};
-ghost use Rattle.tool_runs.specs.Causes.{PhaseCause};
-ghost use Rattle.tool_runs.specs.Files.{file_limit};
+ghost use Rattle.tool_words.specs.Causes.{PhaseCause};
+ghost use Rattle.tool_words.specs.Files.{file_limit};
 ghost use Rattle.c2po_cli.specs.Asking.{file_kind as kind_of, make_of};
 ghost use Rattle.c2po_cli.specs.Phases.{AfterLog, GatherLog, SpecLog, TextLog};
 
@@ -15,11 +15,11 @@ use crate::heading::under_header;
 use crate::make::{Form, Make, Product};
 use crate::making::{compiled_bytes, status_of_compile};
 use crate::raising::{shown_text, upgraded_bytes};
-use c2po_types::TypedSpec;
 use c2po_compile::front;
+use c2po_types::TypedSpec;
 use std::alloc::Global;
 use tool_io::Host;
-use tool_runs::{Status, read_file};
+use tool_words::{Status, read_file};
 
 /// The bytes that are written of a specification without a fault, under a header file where one is named.
 fn of_spec<H: Host>(

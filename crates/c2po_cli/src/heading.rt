@@ -4,16 +4,16 @@ ghost use Rattle.std.specs.Prelude.{◌≡◌, List as Seq, None, ℕ};
 ghost use Rattle.c2po_ast.specs.ItemShape.{spec_shape};
 ghost use Rattle.c2po_compile.specs.Front.{first_refusal, items_in};
 ghost use Rattle.tool_io.specs.Log.{OnLog};
-ghost use Rattle.tool_runs.specs.Causes.{PhaseCause};
+ghost use Rattle.tool_words.specs.Causes.{PhaseCause};
 ghost use Rattle.c2po_cli.specs.Phases.{HeaderLog, LineLog};
 
 use crate::make::Form;
 use crate::making::compiled_bytes;
-use c2po_types::TypedSpec;
 use c2po_compile::HeaderWhy;
+use c2po_types::TypedSpec;
 use std::alloc::Global;
 use tool_io::{Attached, Host, Line, LineCut, Place};
-use tool_runs::Status;
+use tool_words::Status;
 
 /// What is written of a specification under the first line of a header file, which is attached before.
 pub(crate) fn under_header<H: Host>(

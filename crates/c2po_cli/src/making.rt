@@ -17,14 +17,14 @@ ghost use Rattle.c2po_cli.specs.Images.{WritesImage};
 ghost use Rattle.c2po_cli.specs.Made.{compile_status, image_by, text_bytes, written_as};
 
 use crate::make::Form;
+use c2po_compile::{CompileFault, back, back_simple, columns_of};
 use c2po_types::TypedSpec;
 use mltl_base::Columns;
 use obs_files::image;
-use obs_table::instruction_table;
+use obs_show::instruction_table;
 use obs_verify::Checked;
-use c2po_compile::{CompileFault, back, back_simple, columns_of};
 use std::alloc::Global;
-use tool_runs::Status;
+use tool_words::Status;
 
 /// The table of a program, or its bytes.
 pub(crate) fn written(alloc: Global, table: bool, checked: &Checked) -> Result<Vec<u8>, Status>

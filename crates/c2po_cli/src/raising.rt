@@ -8,14 +8,14 @@ ghost use Rattle.c2po_cli.specs.Made.{Making, bytes_of, opened_as, raised_as, sh
 ghost use Rattle.c2po_cli.specs.Phases.{RefusesAlone};
 
 use crate::making::written;
+use c2po_compile::Refusal;
 use mltl_base::Part;
 use obs_files::{ProgramFault, open, upgraded_names_fit};
 use obs_show::{ShowFault, show};
 use obs_verify::{Checked, UpgradeFault, upgrade};
-use c2po_compile::Refusal;
 use std::alloc::Global;
 use tool_io::Place;
-use tool_runs::Status;
+use tool_words::Status;
 
 /// A program in version 2.
 fn raised(alloc: Global, checked: Checked) -> Result<Checked, Status>

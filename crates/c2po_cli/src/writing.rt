@@ -2,11 +2,11 @@
 
 ghost use Rattle.std.specs.Prelude.{Some, option_map};
 ghost use Rattle.tool_io.specs.Log.{OnLog};
-ghost use Rattle.tool_runs.specs.Causes.{RunCause};
+ghost use Rattle.tool_words.specs.Causes.{RunCause};
 ghost use Rattle.c2po_cli.specs.Phases.{GivenLog, PutLog};
 
 use tool_io::{Attached, Host, Place, Put, put_all};
-use tool_runs::Status;
+use tool_words::Status;
 
 /// Writes the bytes on `Out`.
 fn give<H: Host>(bytes: &[u8], host: &mut H) -> Status

@@ -5,8 +5,8 @@ use Rattle.mltl_base.specs.declared.program.Columns.{Columns}
 use Rattle.mltl_base.specs.declared.program.Program.{Program}
 use Rattle.mltl_base.specs.Subformulas.{Asked}
 use Rattle.mltl_base.specs.declared.signal.Signal.{Signal}
-use Rattle.obs_build.specs.Image.{IsImageOf}
-use Rattle.obs_build.proofs.Building.{image_once}
+use Rattle.c2po_compile.specs.Images.{IsImageOf}
+use Rattle.c2po_compile.proofs.Building.{image_once}
 use Rattle.c2po_compile.specs.Image.{image}
 
 -- the image is one

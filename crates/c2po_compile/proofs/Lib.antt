@@ -9,3 +9,12 @@ pub mod MovedImages
 pub mod SimpleLaws
 pub mod OrderedValues
 pub mod SimpleTelling
+pub mod Parts
+pub mod Cores
+pub mod Reading
+pub mod Windows
+pub mod Outputs
+pub mod Columns
+pub mod Rules
+pub mod Building
+pub mod Tenses

@@ -8,9 +8,9 @@ use Rattle.mltl_base.specs.declared.limits.TheConstants.{MAX_DELAY, MAX_SLOTS}
 use Rattle.mltl_base.specs.Queues.{worst_delays}
 use Rattle.mltl_base.specs.Subformulas.{Asked, ft_list}
 use Rattle.core_graph.specs.Limits.{AreFew, AreMany}
-use Rattle.obs_build.specs.declared.fault.BuildFault.{BuildFault}
-use Rattle.obs_build.specs.declared.fault.BuildFault.TheVariants as build
-use Rattle.obs_build.specs.Limits.{IsWithinLimits, IsReason, AreInTime, IsLate, slots_of}
+use Rattle.c2po_compile.specs.declared.build_fault.BuildFault.{BuildFault}
+use Rattle.c2po_compile.specs.declared.build_fault.BuildFault.TheVariants as build
+use Rattle.c2po_compile.specs.BuildLimits.{IsWithinLimits, IsReason, AreInTime, IsLate, slots_of}
 use Rattle.c2po_compile.specs.Refusals.{IsFirstRefusal, build_refusal}
 use Rattle.c2po_compile.specs.Limits.{has_many_nodes, has_many_slots, is_late, limit_refusal}
 

@@ -23,8 +23,8 @@ use Rattle.obs_verify.specs.WellFormed.{IsWellFormed}
 use Rattle.obs_verify.proofs.MovedLaws.{over, atom_over as moved_atom}
 use Rattle.obs_verify.proofs.BoundOutputs.{moved_core, moved_formula, moved_output, outputs_bound, plain_moved}
 use Rattle.obs_verify.proofs.RunLaws.{runs_future, runs_past}
-use Rattle.obs_build.specs.Image.{stored_signals}
-use Rattle.obs_build.proofs.Tenses.{image_unfolds, image_names, image_tells}
+use Rattle.c2po_compile.specs.Images.{stored_signals}
+use Rattle.c2po_compile.proofs.Tenses.{image_unfolds, image_names, image_tells}
 use Rattle.set_expand.proofs.Signalling.{outputs-read}
 use Rattle.c2po_compile.specs.Compiled.{outputs_in, signals_in}
 use Rattle.c2po_compile.specs.Front.{items_in, first_refusal}

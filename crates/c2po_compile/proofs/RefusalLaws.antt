@@ -10,8 +10,8 @@ use Rattle.c2po_lexer.specs.Tokens.{tokens_of}
 use Rattle.c2po_parse.specs.declared.fault.ParseFault.{ParseFault}
 use Rattle.c2po_parse.specs.declared.fault.ParseFault.TheVariants as parsed
 use Rattle.c2po_parse.specs.Specification.{spec_of}
-use Rattle.c2po_kinds.specs.declared.fault.TypeFault.{TypeFault}
-use Rattle.c2po_kinds.specs.declared.fault.TypeFault.TheVariants as checked
+use Rattle.c2po_types.specs.declared.fault.TypeFault.{TypeFault}
+use Rattle.c2po_types.specs.declared.fault.TypeFault.TheVariants as checked
 use Rattle.c2po_types.specs.FirstFault.{first_fault}
 use Rattle.c2po_compile.specs.declared.fault.CompileFault.{CompileFault}
 use Rattle.c2po_compile.specs.declared.fault.CompileFault.TheVariants.{Refused, BadHeader, Memory}

@@ -14,9 +14,9 @@ use Rattle.c2po_nodes.specs.Outputs.{asked}
 use Rattle.mltl_simplify.specs.Outputs.{simple_asked, simple_outputs}
 use Rattle.mltl_simplify.proofs.Signals.{simple_kinds}
 use Rattle.c2po_types.specs.Outputs.{HasPlainName}
-use Rattle.obs_build.specs.declared.fault.BuildFault.{BuildFault}
-use Rattle.obs_build.specs.declared.fault.BuildFault.TheVariants as build
-use Rattle.obs_build.specs.Limits.{IsReason, slots_of}
+use Rattle.c2po_compile.specs.declared.build_fault.BuildFault.{BuildFault}
+use Rattle.c2po_compile.specs.declared.build_fault.BuildFault.TheVariants as build
+use Rattle.c2po_compile.specs.BuildLimits.{IsReason, slots_of}
 use Rattle.obs_files.specs.Names.{NamesFit}
 use Rattle.trace_feed.specs.declared.header_fault.HeaderFault.{HeaderFault}
 use Rattle.c2po_compile.specs.declared.fault.CompileFault.{CompileFault}

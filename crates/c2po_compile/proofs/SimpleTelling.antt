@@ -24,7 +24,7 @@ use Rattle.mltl_simplify.proofs.Ending.{simple_tensed}
 use Rattle.mltl_simplify.proofs.Meaning.{simp_sat}
 use Rattle.mltl_simplify.proofs.Signals.{simple_kinds, simple_over}
 use Rattle.c2po_nodes.specs.Outputs.{asked_over, output_over}
-use Rattle.obs_build.proofs.Tenses.{image_names, image_tells}
+use Rattle.c2po_compile.proofs.Tenses.{image_names, image_tells}
 use Rattle.set_expand.proofs.Signalling.{outputs-read}
 use Rattle.c2po_compile.specs.Compiled.{columns_by, outputs_in, signals_in}
 use Rattle.c2po_compile.specs.Front.{first_refusal, items_in}

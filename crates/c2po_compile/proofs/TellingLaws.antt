@@ -13,12 +13,12 @@ use Rattle.mltl_base.specs.Subformulas.{Asked, IsTensed, core_output}
 use Rattle.mltl_base.proofs.CoreMeaning.{core_delay}
 use Rattle.c2po_lexer.specs.Tokens.{tokens_of}
 use Rattle.c2po_parse.specs.Specification.{spec_of}
-use Rattle.c2po_kinds.specs.declared.fault.TypeFault.{TypeFault}
+use Rattle.c2po_types.specs.declared.fault.TypeFault.{TypeFault}
 use Rattle.mltl_base.specs.declared.signal.Signal.{Signal}
 use Rattle.c2po_types.specs.FirstFault.{first_fault}
 use Rattle.trace_feed.specs.declared.header_fault.HeaderFault.{HeaderFault}
 use Rattle.c2po_types.proofs.Faultless.{faultless-tensed}
-use Rattle.obs_build.proofs.Tenses.{image_unfolds, image_names, image_tells}
+use Rattle.c2po_compile.proofs.Tenses.{image_unfolds, image_names, image_tells}
 use Rattle.c2po_compile.specs.declared.fault.CompileFault.{CompileFault}
 use Rattle.c2po_compile.specs.Refusals.{token_refusal, tree_refusal, check_refusal, unless_refused}
 use Rattle.c2po_compile.specs.Front.{tokens_in, items_in, refusal_in, first_refusal}

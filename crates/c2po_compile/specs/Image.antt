@@ -10,7 +10,7 @@ use Rattle.mltl_base.specs.Subformulas.{Asked, bz_list, ft_list, pt_list, out_li
 use Rattle.c2po_nodes.specs.Outputs.{asked_over}
 use Rattle.mltl_base.specs.declared.signal.Signal.{Signal}
 use Rattle.obs_verify.specs.Bound.{AreDifferent}
-use Rattle.obs_build.specs.Image.{stored_signals}
+use Rattle.c2po_compile.specs.Images.{stored_signals}
 
 -- columns for so many signals: one for each, below the width and no two the same, in rows that aren't too wide
 pub record AreColumnsFor (signals : ℕ) (columns : Columns) : Type 0 where

@@ -8,3 +8,6 @@ pub mod Simplified
 pub mod Unfolded
 pub mod FaultTexts
 pub use Rattle.trace_feed.specs.HeaderTexts
+pub mod Conditions
+pub mod Images
+pub mod BuildLimits

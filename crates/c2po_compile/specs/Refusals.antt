@@ -5,10 +5,10 @@ use Rattle.c2po_lexer.specs.declared.fault.LexFault.{LexFault}
 use Rattle.c2po_lexer.specs.declared.fault.LexFault.TheVariants as lexed
 use Rattle.c2po_parse.specs.declared.fault.ParseFault.{ParseFault}
 use Rattle.c2po_parse.specs.declared.fault.ParseFault.TheVariants as parsed
-use Rattle.c2po_kinds.specs.declared.fault.TypeFault.{TypeFault}
-use Rattle.c2po_kinds.specs.declared.fault.TypeFault.TheVariants as checked
-use Rattle.obs_build.specs.declared.fault.BuildFault.{BuildFault}
-use Rattle.obs_build.specs.declared.fault.BuildFault.TheVariants as built
+use Rattle.c2po_types.specs.declared.fault.TypeFault.{TypeFault}
+use Rattle.c2po_types.specs.declared.fault.TypeFault.TheVariants as checked
+use Rattle.c2po_compile.specs.declared.build_fault.BuildFault.{BuildFault}
+use Rattle.c2po_compile.specs.declared.build_fault.BuildFault.TheVariants as built
 use Rattle.trace_feed.specs.declared.header_fault.HeaderFault.{HeaderFault}
 use Rattle.trace_feed.specs.declared.header_fault.HeaderFault.TheVariants as header
 use Rattle.c2po_compile.specs.declared.fault.HeaderWhy.TheVariants as why

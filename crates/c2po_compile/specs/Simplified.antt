@@ -13,7 +13,7 @@ use Rattle.mltl_base.specs.Programs.{outputs}
 use Rattle.mltl_base.specs.Reports.{Output, delay, meaning, reports, told, IsRising, IsSettled}
 use Rattle.mltl_base.specs.Subformulas.{Asked}
 use Rattle.mltl_simplify.specs.Outputs.{simple_outputs}
-use Rattle.obs_build.specs.Limits.{slots_of}
+use Rattle.c2po_compile.specs.BuildLimits.{slots_of}
 use Rattle.obs_verify.specs.Bound.{bound}
 use Rattle.obs_verify.specs.Layout.{HasLayout}
 use Rattle.obs_verify.specs.WellFormed.{IsWellFormed}

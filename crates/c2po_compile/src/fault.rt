@@ -4,11 +4,11 @@ ghost use Rattle.std.specs.Prelude.{◌≡◌, ◌≤◌, length};
 ghost use Rattle.c2po_compile.specs.FaultTexts.{header_fault_of, refusal_text};
 ghost use Rattle.c2po_compile.specs.Refusals.{build_refusal, check_refusal, header_refusal, token_refusal, tree_refusal};
 
+use crate::BuildFault;
 use c2po_lexer::LexFault;
 use c2po_parse::ParseFault;
 use c2po_types::TypeFault;
 use mltl_base::Name;
-use obs_build::BuildFault;
 use std::alloc::AllocError;
 use std::error::Error;
 use std::fmt;

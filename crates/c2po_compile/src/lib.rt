@@ -11,17 +11,24 @@
 //! ```
 #![tactic(auto)]
 
+mod assembly;
+mod build_fault;
 mod compiling;
 mod fault;
+mod image_laws;
 pub mod laws;
 mod names;
 mod program;
 mod signals;
 mod simple;
+mod stored;
 mod text;
 
+pub use assembly::build;
+pub use build_fault::BuildFault;
 pub use compiling::{columns_of, compile};
 pub use fault::{CompileFault, HeaderWhy, Refusal};
+pub use image_laws::{images_are_well_formed, images_tell_their_outputs};
 pub use program::back;
 pub use simple::back_simple;
 pub use text::front;

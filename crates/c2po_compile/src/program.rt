@@ -3,7 +3,7 @@
 ghost use Rattle.std.specs.Prelude.{◌≡◌, None, length, IfErr, IfOk, OnOk};
 ghost use Rattle.c2po_ast.specs.ItemShape.{spec_shape};
 ghost use Rattle.c2po_types.specs.Signals.{signals_of as declared};
-ghost use Rattle.obs_build.specs.Limits.{IsReason, IsWithinLimits};
+ghost use Rattle.c2po_compile.specs.BuildLimits.{IsReason, IsWithinLimits};
 ghost use Rattle.obs_files.specs.Names.{NamesFit};
 ghost use Rattle.c2po_nodes.specs.Outputs.{asked};
 ghost use Rattle.c2po_types.specs.Outputs.{outputs_of};
@@ -12,14 +12,13 @@ ghost use Rattle.c2po_compile.specs.Compiled.{limit_over};
 ghost use Rattle.c2po_compile.specs.Image.{AreColumnsFor, image, over_columns};
 ghost use Rattle.c2po_compile.specs.Unfolded.{IsUnfolded};
 
-use crate::CompileFault;
 use crate::names::are_countable;
 use crate::signals::signals_of;
+use crate::{BuildFault, CompileFault, build};
+use c2po_nodes::Expanded;
 use c2po_types::TypedSpec;
 use mltl_base::Columns;
-use obs_build::{BuildFault, build};
 use obs_verify::Checked;
-use c2po_nodes::Expanded;
 use set_expand::expand;
 use std::alloc::Global;
 

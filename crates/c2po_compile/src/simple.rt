@@ -10,13 +10,12 @@ ghost use Rattle.c2po_compile.specs.Compiled.{limit_over};
 ghost use Rattle.c2po_compile.specs.Image.{AreColumnsFor};
 ghost use Rattle.c2po_compile.specs.Simplified.{simple_image, slots_in};
 
-use crate::CompileFault;
 use crate::program::{back, built};
+use crate::{BuildFault, CompileFault};
 use c2po_types::TypedSpec;
 use delay_sizes::slot_count;
 use mltl_base::Columns;
 use mltl_simplify::simplify;
-use obs_build::BuildFault;
 use obs_verify::Checked;
 use std::alloc::Global;
 

@@ -8,8 +8,8 @@ use Rattle.mltl_base.specs.declared.operators.WindowOp as window
 use Rattle.mltl_base.specs.declared.operators.BetweenOp as between
 use Rattle.mltl_base.specs.Ranges.{Range, NoRange, Ranged, range, range_from, in_word, signal_range, negated, summed}
 use Rattle.mltl_base.specs.Ranges.{lessened, multiplied, divided, left_over, over, over_both, over_divisor}
-use Rattle.mltl_ranges.specs.declared.range.NoRange as answer
-use Rattle.mltl_ranges.specs.Answers.{reason}
+use Rattle.mltl_base.specs.declared.range.NoRange as answer
+use Rattle.mltl_base.specs.Answers.{reason}
 use Rattle.c2po_nodes.specs.declared.nodes.Plain.{Plain}
 use Rattle.c2po_nodes.specs.declared.nodes.Plain.TheVariants as plain
 use Rattle.c2po_nodes.specs.Nodes.{Tree, number, formula}

@@ -10,8 +10,7 @@ ghost use Rattle.c2po_nodes.specs.Facts.{told_fault};
 use crate::Plain;
 use crate::fact::{Fact, Tenses, any_fault_at, fact_of, tenses_at};
 use crate::node_list::NodeList;
-use mltl_base::List;
-use mltl_ranges::NoRange;
+use mltl_base::{List, NoRange};
 use std::alloc::{AllocError, Global};
 use std::marker::Model;
 

@@ -6,8 +6,8 @@ use Rattle.c2po_lexer.specs.declared.token.Token.{Token}
 use Rattle.c2po_lexer.specs.Tokens.{HasPlainName}
 use Rattle.c2po_ast.specs.ItemShape.{FieldShape, BodyShape, ItemShape, structure, input, define, formula, contract}
 use Rattle.c2po_ast.specs.Names.{IsPlainName, HasPlainNames, HasPlainType, ArePlainFields, ArePlain, IsPlainLabel, IsPlainBody, ArePlainItems}
-use Rattle.c2po_tree.proofs.Words.{PlainWords, word-plain}
-use Rattle.c2po_tree.proofs.PlainNames.{tree-names}
+use Rattle.c2po_parse.proofs.Words.{PlainWords, word-plain}
+use Rattle.c2po_parse.proofs.PlainNames.{tree-names}
 use Rattle.c2po_parse.specs.Specification.{spec_of}
 use Rattle.c2po_parse.proofs.ItemWalk.{NamesHave, FieldsHave, BodyHas, ItemsHave, spec-have}
 

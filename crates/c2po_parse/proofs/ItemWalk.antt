@@ -10,12 +10,12 @@ use Rattle.c2po_lexer.specs.declared.token.What.TheVariants as what
 use Rattle.c2po_lexer.specs.declared.token.Token.{Token}
 use Rattle.c2po_ast.specs.Shape.{Shape}
 use Rattle.c2po_ast.specs.ItemShape.{TypeShape, FieldShape, BodyShape, ItemShape, type_named, set_of, structure, input, define, formula, contract}
-use Rattle.c2po_tree.specs.Fronts.{◌>>=◌, past, name_at}
-use Rattle.c2po_tree.specs.Splitting.{tree_of, at_end}
-use Rattle.c2po_tree.proofs.Walks.{bind-some, if-cases}
-use Rattle.c2po_tree.proofs.Heads.{past-begins}
-use Rattle.c2po_tree.proofs.Operators.{name_at-names}
-use Rattle.c2po_tree.proofs.SplitSound.{at_end-is}
+use Rattle.c2po_parse.specs.Fronts.{◌>>=◌, past, name_at}
+use Rattle.c2po_parse.specs.Splitting.{tree_of, at_end}
+use Rattle.c2po_parse.proofs.Walks.{bind-some, if-cases}
+use Rattle.c2po_parse.proofs.Heads.{past-begins}
+use Rattle.c2po_parse.proofs.Operators.{name_at-names}
+use Rattle.c2po_parse.proofs.SplitSound.{at_end-is}
 use Rattle.c2po_parse.specs.declared.fault.ParseFault.{ParseFault}
 use Rattle.c2po_parse.specs.declared.fault.ParseFault.TheVariants.{TooManyTokens}
 use Rattle.c2po_parse.specs.declared.section.Section.{Section}
@@ -23,7 +23,7 @@ use Rattle.c2po_parse.specs.declared.section.Section.TheVariants.{Struct, Input,
 use Rattle.c2po_parse.specs.Sections.{section_of, braces_after, Piece, item_of, left_over, is_end, chosen, pieces}
 use Rattle.c2po_parse.specs.Forms.{type_in, type_within, type_at, names_or, names_within, names_at, typed_at, fields_of, fields_or, fields_within, fields_at, struct_of, input_of, define_of, labelled, label_at, promise_at, contract_of, output_at, output_of, body_of}
 use Rattle.c2po_parse.specs.Specification.{piece_body, with_line, piece_tree, first_or, piece_trees, spec_of}
-use Rattle.c2po_tree.proofs.Words.{AllHave, words-head, words-tail, words-cons, words-append, words-nil}
+use Rattle.c2po_parse.proofs.Words.{AllHave, words-head, words-tail, words-cons, words-append, words-nil}
 
 -- What the tokens of a text have, its items have.
 

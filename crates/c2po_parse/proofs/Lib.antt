@@ -1,3 +1,15 @@
 pub mod Spans
 pub mod ItemWalk
 pub mod ItemNames
+pub mod Words
+pub mod Walks
+pub mod Heads
+pub mod Operators
+pub mod Starts
+pub mod Rules
+pub mod SplitSound
+pub mod ClimbSound
+pub mod ClimbComplete
+pub mod SplitComplete
+pub mod Agree
+pub mod PlainNames

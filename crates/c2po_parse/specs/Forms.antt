@@ -8,9 +8,9 @@ use Rattle.c2po_lexer.specs.declared.token.What.TheVariants as what
 use Rattle.c2po_lexer.specs.declared.token.Token.{Token}
 use Rattle.c2po_ast.specs.ItemShape.{TypeShape, FieldShape, BodyShape, type_named, set_of, structure, input, define}
 use Rattle.c2po_ast.specs.ItemShape.{formula, contract}
-use Rattle.c2po_tree.specs.Tokens.{is_sign, depth_after}
-use Rattle.c2po_tree.specs.Fronts.{◌>>=◌, past, name_at}
-use Rattle.c2po_tree.specs.Splitting.{tree_of, at_end}
+use Rattle.c2po_parse.specs.Tokens.{is_sign, depth_after}
+use Rattle.c2po_parse.specs.Fronts.{◌>>=◌, past, name_at}
+use Rattle.c2po_parse.specs.Splitting.{tree_of, at_end}
 use Rattle.c2po_parse.specs.declared.section.Section.{Section}
 use Rattle.c2po_parse.specs.declared.section.Section.TheVariants.{Struct, Input, Define, Output}
 

@@ -6,7 +6,7 @@ use Rattle.c2po_lexer.specs.declared.token.Keyword.TheVariants as keyword
 use Rattle.c2po_lexer.specs.declared.token.What.{What}
 use Rattle.c2po_lexer.specs.declared.token.What.TheVariants as what
 use Rattle.c2po_lexer.specs.declared.token.Token.{Token}
-use Rattle.c2po_tree.specs.Tokens.{is_sign}
+use Rattle.c2po_parse.specs.Tokens.{is_sign}
 use Rattle.c2po_parse.specs.declared.section.Section.{Section}
 use Rattle.c2po_parse.specs.declared.section.Section.TheVariants.{Struct, Input, Define, Output}
 

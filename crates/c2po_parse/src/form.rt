@@ -1,19 +1,19 @@
 //! The forms of items, section by section.
 
 ghost use Rattle.std.specs.Prelude.{◌≡◌, ◌+◌, ◌≤◌, ◌<◌, ◌++◌, ◌∷◌, [], suc, length, codes, map, option_map, Some, MatchResult, IfSome};
-ghost use Rattle.c2po_tree.specs.declared.fault.TreeFault.TheVariants.{NoTree};
-ghost use Rattle.c2po_tree.specs.Gives.{Gives};
+ghost use Rattle.c2po_parse.specs.declared.tree_fault.TreeFault.TheVariants.{NoTree};
+ghost use Rattle.c2po_parse.specs.Gives.{Gives};
 ghost use Rattle.c2po_ast.specs.ItemShape.{type_shape, field_shape, body_shape};
-ghost use Rattle.c2po_tree.specs.Splitting.{at_end};
+ghost use Rattle.c2po_parse.specs.Splitting.{at_end};
 ghost use Rattle.c2po_parse.specs.Forms.{type_within, names_within, names_after, typed_at, fields_of, fields_within, fields_after, struct_of, input_of, define_of, label_at, contract_of, output_of, body_of};
 
+use crate::front::{take_name, take_sign};
 use crate::section::{Section, promise_place};
+use crate::{TreeFault, read_expression};
+use c2po_ast::{Body, FieldDecl, TypeTree, copy_type};
 use c2po_lexer::{Keyword, Sign, Token, What};
-use c2po_tree::front::{take_name, take_sign};
-use c2po_tree::{TreeFault, read_expression};
 use mltl_base::limits::MAX_ITEM_TOKENS;
 use mltl_base::{Engine, List, Name};
-use c2po_ast::{Body, FieldDecl, TypeTree, copy_type};
 use std::alloc::Global;
 
 /// What is left of the room for nested or repeated steps after one step.

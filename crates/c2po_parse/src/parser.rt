@@ -7,14 +7,13 @@ ghost use Rattle.c2po_ast.specs.ItemShape.{item_shape, body_shape, spec_shape};
 ghost use Rattle.c2po_parse.specs.Sections.{pieces, begins_item, ended_of, tail_of};
 ghost use Rattle.c2po_parse.specs.Specification.{piece_trees, with_first, reads_on, spec_of, with_line, piece_body};
 
-use crate::ParseFault;
 use crate::form::read_body;
 use crate::section::{Section, piece_end, section_begun};
+use crate::{ParseFault, TreeFault};
+use c2po_ast::{Item, SpecTree};
 use c2po_lexer::{Token, Tokens};
-use c2po_tree::TreeFault;
 use mltl_base::List;
 use mltl_base::limits::MAX_ITEM_TOKENS;
-use c2po_ast::{Item, SpecTree};
 use std::alloc::Global;
 
 /// An item on a line from its tokens and what stands after them.

@@ -1,7 +1,7 @@
 //! The sections of a specification, and where their items end.
 
 ghost use Rattle.std.specs.Prelude.{◌≡◌, ◌+◌, ◌^◌, ◌<◌, ◌≤◌, length, IfSome};
-ghost use Rattle.c2po_tree.specs.Tokens.{depth_after};
+ghost use Rattle.c2po_parse.specs.Tokens.{depth_after};
 ghost use Rattle.c2po_parse.specs.Sections.{section_of, braces_after, depth_within, piece_len};
 ghost use Rattle.c2po_parse.specs.Forms.{is_promise, promise_at};
 

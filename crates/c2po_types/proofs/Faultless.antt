@@ -11,9 +11,9 @@ use Rattle.mltl_base.specs.Ranges.{NoRange}
 use Rattle.mltl_base.specs.Subformulas.{Asked, IsOfTense, IsTensed}
 use Rattle.c2po_nodes.proofs.NoFaults.{neither}
 use Rattle.c2po_ast.specs.ItemShape.{BodyShape, ItemShape, structure, input, define, formula, contract}
-use Rattle.c2po_kinds.specs.declared.fault.TypeFault.TheVariants.{Wide, Tense}
-use Rattle.c2po_kinds.specs.Checking.{Checked, in_turn}
-use Rattle.c2po_kinds.specs.Items.{Labels, with_struct, with_input, define_kind, with_value, with_label, formula_kind, contract_kind}
+use Rattle.c2po_types.specs.declared.fault.TypeFault.TheVariants.{Wide, Tense}
+use Rattle.c2po_types.specs.Checking.{Checked, in_turn}
+use Rattle.c2po_types.specs.Items.{Labels, with_struct, with_input, define_kind, with_value, with_label, formula_kind, contract_kind}
 use Rattle.c2po_nodes.specs.Faults.{HasRanges, formula_fault}
 use Rattle.c2po_unfold.specs.Faults.{value_fault}
 use Rattle.c2po_unfold.specs.Values.{weight, formula_of}

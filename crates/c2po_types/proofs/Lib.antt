@@ -7,3 +7,6 @@ pub mod Tensing
 pub mod Faultless
 pub mod Labelling
 pub mod OwnNames
+pub mod Turns
+pub mod Operands
+pub mod Declaring

@@ -6,10 +6,10 @@ use Rattle.std.proofs.Math.ListN.{drop_of_length-le}
 use Rattle.std.proofs.Math.Numerals.{suc-eq-add-one}
 use Rattle.c2po_ast.specs.ItemShape.{ItemShape, item_shape}
 use Rattle.mltl_base.specs.declared.signal.Signal.{Signal}
-use Rattle.c2po_kinds.specs.declared.fault.TypeFault.{TypeFault}
-use Rattle.c2po_kinds.specs.declared.fault.TypeFault.TheVariants.{Memory}
-use Rattle.c2po_kinds.specs.Checking.{Fails, in_turn}
-use Rattle.c2po_kinds.proofs.Turns.{drop-first, turn-map}
+use Rattle.c2po_types.specs.declared.fault.TypeFault.{TypeFault}
+use Rattle.c2po_types.specs.declared.fault.TypeFault.TheVariants.{Memory}
+use Rattle.c2po_types.specs.Checking.{Fails, in_turn}
+use Rattle.c2po_types.proofs.Turns.{drop-first, turn-map}
 use Rattle.c2po_ast.specs.declared.item.Item.{Item}
 use Rattle.c2po_types.specs.declared.progress.Progress.{Progress}
 use Rattle.c2po_types.specs.Reaching.{state_of}

@@ -10,13 +10,13 @@ use Rattle.mltl_base.specs.declared.limits.TheConstants.{MAX_SIGNALS}
 use Rattle.c2po_unfold.specs.Tables.{Table, entry_of, is_named}
 use Rattle.c2po_nodes.proofs.Places.{at_push}
 use Rattle.c2po_ast.specs.ItemShape.{FieldShape, TypeShape, BodyShape, ItemShape, structure, input, define, formula, contract}
-use Rattle.c2po_kinds.specs.declared.kind.Meaning.{Meaning}
-use Rattle.c2po_kinds.specs.declared.kind.Meaning.TheVariants.{Struct, Value}
+use Rattle.c2po_types.specs.declared.kind.Meaning.{Meaning}
+use Rattle.c2po_types.specs.declared.kind.Meaning.TheVariants.{Struct, Value}
 use Rattle.mltl_base.specs.declared.signal.Signal.{Signal}
-use Rattle.c2po_kinds.specs.declared.declarations.Declarations.{Declarations}
-use Rattle.c2po_kinds.specs.declared.fault.TypeFault.TheVariants.{Twice}
-use Rattle.c2po_kinds.specs.Checking.{◌>>=◌, in_turn}
-use Rattle.c2po_kinds.specs.Items.{Labels, with_field, signal_kind, type_kind, signal_truth, with_struct, with_signal, with_input, define_kind, with_value, with_label, formula_kind, contract_kind}
+use Rattle.c2po_types.specs.declared.declarations.Declarations.{Declarations}
+use Rattle.c2po_types.specs.declared.fault.TypeFault.TheVariants.{Twice}
+use Rattle.c2po_types.specs.Checking.{◌>>=◌, in_turn}
+use Rattle.c2po_types.specs.Items.{Labels, with_field, signal_kind, type_kind, signal_truth, with_struct, with_signal, with_input, define_kind, with_value, with_label, formula_kind, contract_kind}
 use Rattle.mltl_base.specs.Ranges.{NoRange}
 use Rattle.c2po_unfold.specs.Environment.{value_of}
 use Rattle.c2po_unfold.specs.Values as values

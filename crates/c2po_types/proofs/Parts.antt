@@ -4,9 +4,9 @@ use Rattle.std.proofs.Common.{ℕ, Option, Some, None}
 use Rattle.std.specs.Result.{MatchResult, IsErrAnd}
 use Rattle.mltl_base.specs.Ranges.{NoRange}
 use Rattle.c2po_types.specs.FirstFault.{State, when_ranged, fault_of}
-use Rattle.c2po_kinds.specs.declared.fault.TypeFault.{TypeFault}
-use Rattle.c2po_kinds.specs.Checking.{Checked, ◌>>=◌, Fails}
-use Rattle.c2po_kinds.proofs.Turns.{fails-bind}
+use Rattle.c2po_types.specs.declared.fault.TypeFault.{TypeFault}
+use Rattle.c2po_types.specs.Checking.{Checked, ◌>>=◌, Fails}
+use Rattle.c2po_types.proofs.Turns.{fails-bind}
 
 pub ok-inj : {X : Type 0} (x y : X) → ◌≡◌ {A = Checked X} (Ok x) (Ok y) → x ≡ y
 ok-inj x y h = cc

@@ -8,15 +8,15 @@ use Rattle.mltl_base.specs.declared.limits.TheConstants.{MAX_SIGNALS}
 use Rattle.mltl_base.specs.Ranges.{NoRange}
 use Rattle.c2po_ast.specs.ItemShape.{TypeShape, FieldShape, BodyShape, ItemShape, type_named, set_of, structure, input, define, formula, contract}
 use Rattle.c2po_unfold.specs.Tables.{Table, entry_of, is_named}
-use Rattle.c2po_kinds.specs.declared.kind.Base.TheVariants as base
-use Rattle.c2po_kinds.specs.declared.kind.Kind.{Kind}
-use Rattle.c2po_kinds.specs.declared.kind.Meaning.{Meaning}
-use Rattle.c2po_kinds.specs.declared.kind.Meaning.TheVariants.{Struct, Value}
-use Rattle.c2po_kinds.specs.declared.declarations.Declarations.{Declarations}
-use Rattle.c2po_kinds.specs.declared.fault.TypeFault.TheVariants.{Twice, Signals, Kind as Kinds}
-use Rattle.c2po_kinds.specs.Checking.{Checked, ◌>>=◌, in_turn}
-use Rattle.c2po_kinds.specs.Kinds.{plain, same_base, truth, whole, set_kind}
-use Rattle.c2po_kinds.specs.Items.{Labels, new, with_field, signal_kind, struct_kind, type_kind, signal_truth, with_struct, with_signal, with_input, define_kind, with_value, with_label, formula_kind, contract_kind}
+use Rattle.c2po_types.specs.declared.kind.Base.TheVariants as base
+use Rattle.c2po_types.specs.declared.kind.Kind.{Kind}
+use Rattle.c2po_types.specs.declared.kind.Meaning.{Meaning}
+use Rattle.c2po_types.specs.declared.kind.Meaning.TheVariants.{Struct, Value}
+use Rattle.c2po_types.specs.declared.declarations.Declarations.{Declarations}
+use Rattle.c2po_types.specs.declared.fault.TypeFault.TheVariants.{Twice, Signals, Kind as Kinds}
+use Rattle.c2po_types.specs.Checking.{Checked, ◌>>=◌, in_turn}
+use Rattle.c2po_types.specs.Kinds.{plain, same_base, truth, whole, set_kind}
+use Rattle.c2po_types.specs.Items.{Labels, new, with_field, signal_kind, struct_kind, type_kind, signal_truth, with_struct, with_signal, with_input, define_kind, with_value, with_label, formula_kind, contract_kind}
 use Rattle.c2po_unfold.specs.Environment.{value_of}
 use Rattle.c2po_unfold.specs.Values as values
 use Rattle.c2po_unfold.specs.Faults.{value_fault}

@@ -19,7 +19,7 @@ use Rattle.c2po_ast.specs.declared.item.Item.{Item}
 use Rattle.c2po_ast.specs.Shape.{Shape}
 use Rattle.c2po_ast.specs.ItemShape as item
 use Rattle.c2po_ast.specs.ItemShape.{BodyShape, ItemShape, item_shape}
-use Rattle.c2po_kinds.proofs.Turns.{drop-first}
+use Rattle.c2po_types.proofs.Turns.{drop-first}
 use Rattle.c2po_types.specs.Signals.{body_signals}
 use Rattle.c2po_unfold.specs.declared.unfolding.Unfolded.{Unfolded}
 use Rattle.c2po_unfold.specs.declared.unfolding.Unfolding.{Unfolding}

@@ -12,12 +12,12 @@ use Rattle.c2po_ast.specs.Shape.{Shape}
 use Rattle.c2po_ast.specs.ItemShape.{TypeShape, FieldShape, BodyShape, ItemShape, structure, input, define, formula}
 use Rattle.c2po_ast.specs.ItemShape.{contract}
 use Rattle.mltl_base.specs.declared.signal.Signal.{Signal}
-use Rattle.c2po_kinds.specs.declared.declarations.Declarations.{Declarations}
-use Rattle.c2po_kinds.specs.declared.fault.TypeFault.{TypeFault}
-use Rattle.c2po_kinds.specs.declared.fault.TypeFault.TheVariants as fault
-use Rattle.c2po_kinds.specs.Checking.{Checked, ◌>>=◌, in_turn}
-use Rattle.c2po_kinds.specs.Items.{Labels, nothing, with_struct, with_input, define_kind, with_value, with_label}
-use Rattle.c2po_kinds.specs.Items.{formula_kind, contract_kind}
+use Rattle.c2po_types.specs.declared.declarations.Declarations.{Declarations}
+use Rattle.c2po_types.specs.declared.fault.TypeFault.{TypeFault}
+use Rattle.c2po_types.specs.declared.fault.TypeFault.TheVariants as fault
+use Rattle.c2po_types.specs.Checking.{Checked, ◌>>=◌, in_turn}
+use Rattle.c2po_types.specs.Items.{Labels, nothing, with_struct, with_input, define_kind, with_value, with_label}
+use Rattle.c2po_types.specs.Items.{formula_kind, contract_kind}
 use Rattle.c2po_nodes.specs.Faults.{formula_fault, or_later}
 use Rattle.c2po_nodes.specs.Tenses.{has_past, has_future}
 use Rattle.c2po_unfold.specs.Environment.{Env, no_names, declare, fields, value, signal_value, value_of}

@@ -4,3 +4,8 @@ pub mod Signals
 pub mod Outputs
 pub mod Reaching
 pub mod Unfolded
+pub mod Checking
+pub mod Kinds
+pub mod Scopes
+pub mod Expressions
+pub mod Items

@@ -7,7 +7,7 @@ use Rattle.c2po_nodes.specs.declared.nodes.PlainOut.{PlainOut}
 use Rattle.c2po_nodes.specs.Nodes.{trees, AreSound}
 use Rattle.c2po_nodes.specs.Outputs.{asked_by, NamesFormulas}
 use Rattle.c2po_ast.specs.ItemShape.{BodyShape, ItemShape}
-use Rattle.c2po_kinds.specs.Checking.{Checked}
+use Rattle.c2po_types.specs.Checking.{Checked}
 use Rattle.c2po_unfold.specs.declared.unfolding.Unfolding.{Unfolding}
 use Rattle.c2po_unfold.specs.Holding.{StandsFor, nodes_of}
 use Rattle.c2po_types.specs.declared.progress.Progress.{Progress}

@@ -7,11 +7,10 @@ ghost use Rattle.c2po_types.specs.FirstFault.{checked, first_fault};
 ghost use Rattle.c2po_types.specs.Reaching.{Comes};
 ghost use Rattle.c2po_types.specs.Unfolded.{Leaves};
 
-use crate::TypedSpec;
 use crate::progress::Progress;
-use c2po_kinds::TypeFault;
-use c2po_nodes::Expanded;
+use crate::{TypeFault, TypedSpec};
 use c2po_ast::{Item, SpecTree, copy_tree};
+use c2po_nodes::Expanded;
 use std::alloc::Global;
 
 /// What is known after all items.

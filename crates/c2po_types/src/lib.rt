@@ -11,12 +11,26 @@
 #![tactic(auto)]
 
 pub mod checking;
+pub mod declarations;
+pub mod expression;
+pub mod fault;
+pub mod items;
+pub mod kind;
 pub mod laws;
 pub mod names;
+pub mod operand;
 pub mod progress;
+pub mod scope;
 pub mod steps;
 pub mod typed;
 
-pub use c2po_kinds::{Signal, TypeFault};
+pub use crate::{Signal, TypeFault};
 pub use checking::check;
+pub use declarations::Declarations;
+pub use expression::kind_of;
+pub use fault::TypeFault;
+pub use items::{check_contract, check_define, check_formula, declare_label};
+pub use kind::{Base, Kind, Meaning};
+pub use mltl_base::{NameTable, Signal};
+pub use scope::Scope;
 pub use typed::TypedSpec;

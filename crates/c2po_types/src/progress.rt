@@ -6,11 +6,11 @@ ghost use Rattle.c2po_unfold.specs.Holding.{StandsFor};
 ghost use Rattle.c2po_types.specs.FirstFault.{start};
 ghost use Rattle.c2po_types.specs.Outputs.{before};
 
-use c2po_kinds::{Declarations, NameTable};
-use mltl_base::List;
+use crate::{Declarations, NameTable};
 use c2po_nodes::PlainOut;
-use std::alloc::Global;
 use c2po_unfold::Unfolding;
+use mltl_base::List;
+use std::alloc::Global;
 
 /// What is known after some items.
 #[derive(Drop)]

@@ -4,7 +4,7 @@ ghost use Rattle.std.specs.Prelude.{◌≡◌, ◌+◌, ◌≤◌, ◌∷◌, �
 ghost use Rattle.mltl_base.specs.declared.limits.TheConstants.{MAX_WEIGHT};
 ghost use Rattle.mltl_base.specs.Ranges.{NoRange as Why};
 ghost use Rattle.mltl_base.specs.Subformulas.{Asked};
-ghost use Rattle.mltl_ranges.specs.Answers.{reason};
+ghost use Rattle.mltl_base.specs.Answers.{reason};
 ghost use Rattle.c2po_ast.specs.Shape.{Shape, shape};
 ghost use Rattle.c2po_ast.specs.ItemShape.{body_shape, contract, define, field_shape, formula, input, item_shape, structure, type_shape};
 ghost use Rattle.c2po_nodes.specs.Facts.{told_fault};
@@ -19,14 +19,13 @@ ghost use Rattle.c2po_types.specs.Unfolded.{HasUnfolded, Puts};
 
 use crate::names::output_name;
 use crate::progress::Progress;
-use c2po_kinds::{Signal, TypeFault, check_contract, check_define, check_formula, declare_label};
-use mltl_base::limits::MAX_WEIGHT;
-use mltl_base::{Engine, List, Name};
-use mltl_ranges::NoRange;
-use c2po_nodes::{PlainOut, Tenses, first_fault};
+use crate::{Signal, TypeFault, check_contract, check_define, check_formula, declare_label};
 use c2po_ast::{Body, Expr, FieldDecl, Item, TypeTree, field_names};
-use std::alloc::Global;
+use c2po_nodes::{PlainOut, Tenses, first_fault};
 use c2po_unfold::{UnfoldFault, Unfolded, Unfolding};
+use mltl_base::limits::MAX_WEIGHT;
+use mltl_base::{Engine, List, Name, NoRange};
+use std::alloc::Global;
 
 /// The fault of an item that isn't unfolded.
 fn too_wide(line: u32, why: UnfoldFault) -> TypeFault

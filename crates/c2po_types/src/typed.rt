@@ -11,10 +11,10 @@ ghost use Rattle.c2po_types.specs.FirstFault.{first_fault};
 ghost use Rattle.c2po_types.specs.Outputs.{HasPlainName, outputs_of};
 ghost use Rattle.c2po_types.specs.Signals.{signals_of};
 
-use c2po_kinds::Signal;
-use mltl_base::List;
-use c2po_nodes::Expanded;
+use crate::Signal;
 use c2po_ast::SpecTree;
+use c2po_nodes::Expanded;
+use mltl_base::List;
 use std::marker::Model;
 
 /// A specification without a fault, which contracts see as its tree.

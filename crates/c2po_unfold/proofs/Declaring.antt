@@ -2,7 +2,7 @@
 
 use Rattle.std.proofs.Common.{◌≡◌, ℕ, true, false, Bool, Option, Some, None, List, [], ◌∷◌, ◌++◌, if◌then◌else◌, refl, sym, subst, ap}
 use Rattle.std.specs.Str.{bytes_eq}
-use Rattle.name_table.specs.Tables.{entry_of}
+use Rattle.mltl_base.specs.Tables.{entry_of}
 use Rattle.c2po_unfold.specs.declared.values.Entry.{Entry}
 use Rattle.c2po_unfold.specs.declared.values.Entry.TheVariants as entry
 use Rattle.c2po_unfold.specs.declared.unfolding.Unfolding.{Unfolding}

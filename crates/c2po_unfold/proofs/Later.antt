@@ -2,7 +2,7 @@
 
 use Rattle.std.proofs.Common.{◌≡◌, List, Option, Some, None, refl, sym, subst, ◌∙◌}
 use Rattle.c2po_nodes.proofs.Pushing.{grows_same, grows_then}
-use Rattle.name_table.specs.Tables.{entry_of}
+use Rattle.mltl_base.specs.Tables.{entry_of}
 use Rattle.c2po_unfold.specs.declared.values.Stored.{Stored}
 use Rattle.c2po_unfold.specs.declared.values.Whole.TheVariants as whole
 use Rattle.c2po_unfold.specs.declared.values.Entry.{Entry}

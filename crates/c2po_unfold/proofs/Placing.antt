@@ -7,7 +7,7 @@ use Rattle.std.proofs.lemmas.Iterator.Adapters.{position_from-zero}
 use Rattle.std.proofs.lemmas.List.{take_more}
 use Rattle.std.proofs.lemmas.Option.{get_or_from_slice_get, slice_get_within}
 use Rattle.std.proofs.lemmas.Slice.Eq.{bytes_eq-Decides}
-use Rattle.name_table.specs.Tables.{entry_of, is_named}
+use Rattle.mltl_base.specs.Tables.{entry_of, is_named}
 use Rattle.c2po_unfold.specs.Fields.{ArePlaces}
 use Rattle.c2po_unfold.proofs.Declaring.{or_entry, entry_push}
 

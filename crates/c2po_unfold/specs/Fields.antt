@@ -2,7 +2,7 @@
 
 use Rattle.std.specs.Prelude.{ℕ, ◌≡◌, List, position}
 use Rattle.std.specs.Str.{bytes_eq}
-use Rattle.name_table.specs.Tables.{Table, entry_of}
+use Rattle.mltl_base.specs.Tables.{Table, entry_of}
 
 -- a table has the place of each name among names, the first one where there are two
 pub record ArePlaces (table : Table ℕ) (names : List (List ℕ)) : Type 0 where

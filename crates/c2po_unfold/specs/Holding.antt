@@ -3,7 +3,7 @@
 use Rattle.std.specs.Prelude.{ℕ, ◌≡◌, Option, Some, None, List, [], ◌∷◌, slice_get}
 use Rattle.c2po_nodes.specs.declared.nodes.Plain.{Plain}
 use Rattle.c2po_nodes.specs.Nodes.{Has, Grows, AreSound}
-use Rattle.name_table.specs.Tables.{entry_of}
+use Rattle.mltl_base.specs.Tables.{entry_of}
 use Rattle.c2po_ast.specs.Shape.{shape}
 use Rattle.c2po_unfold.specs.declared.values.Location.TheVariants.{Node, Parts as PartsAt}
 use Rattle.c2po_unfold.specs.declared.values.Stored.{Stored}

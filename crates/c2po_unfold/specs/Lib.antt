@@ -9,4 +9,4 @@ pub mod Faults
 pub mod Parts
 pub mod Fields
 pub use Rattle.count_sets.specs.Counting
-pub use Rattle.name_table.specs.Tables
+pub use Rattle.mltl_base.specs.Tables

@@ -18,9 +18,9 @@ use crate::scope::{Head, Site};
 use crate::values::{Location, Stored, Whole};
 use crate::visits::Visits;
 use crate::{UnfoldFault, Unfolding};
-use mltl_base::{CountOp, List, LogicOp};
-use c2po_nodes::Plain;
 use c2po_ast::Expr;
+use c2po_nodes::Plain;
+use mltl_base::{CountOp, List, LogicOp};
 
 impl Unfolding {
     /// The value of an expression.

@@ -12,9 +12,9 @@ ghost use Rattle.c2po_unfold.specs.Holding.{IsLater};
 ghost use Rattle.c2po_unfold.specs.Values.{counted_formula, counting_weight};
 
 use crate::{UnfoldFault, Unfolding};
+use c2po_nodes::Plain;
 use count_sets::{Gate, network};
 use mltl_base::{CountOp, LogicOp};
-use c2po_nodes::Plain;
 use std::alloc::{AllocError, Global};
 
 /// The weight of a counting quantifier over `n` bodies beside those.

@@ -4,8 +4,7 @@ ghost use Rattle.std.specs.Prelude.{◌≡◌, length, position, IfOk};
 ghost use Rattle.std.specs.Str.{bytes_eq};
 
 use crate::unfolding::next_place;
-use mltl_base::{List, Name};
-use name_table::NameTable;
+use mltl_base::{List, Name, NameTable};
 use std::alloc::{AllocError, Global};
 use std::marker::Model;
 

@@ -14,8 +14,8 @@ use crate::scope::{Head, Named, Scope};
 use crate::values::{Entry, Location, Stored, Whole};
 use crate::visits::Visits;
 use crate::{UnfoldFault, Unfolding};
-use mltl_base::Name;
 use c2po_ast::{Expr, Node};
+use mltl_base::Name;
 
 impl Unfolding {
     /// What a declared name stands for.

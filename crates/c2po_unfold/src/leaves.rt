@@ -14,9 +14,9 @@ use crate::fault::less;
 use crate::operators::{BinaryOp, UnaryOp};
 use crate::values::{Location, Stored};
 use crate::{UnfoldFault, Unfolding};
+use c2po_nodes::{Nodes, Plain};
 use mltl_base::limits::MAX_BOUND;
 use mltl_base::{ArithOp, BetweenOp, CompareOp, Interval, LogicOp, WindowOp};
-use c2po_nodes::{Nodes, Plain};
 use std::alloc::AllocError;
 
 /// What a node unfolds to.

@@ -6,8 +6,8 @@ ghost use Rattle.c2po_unfold.specs.Environment.{Env, value_of};
 ghost use Rattle.c2po_unfold.specs.Heads.{is_operator};
 ghost use Rattle.c2po_unfold.specs.Operators.{operation_value};
 
-use mltl_base::{ArithOp, BetweenOp, CompareOp, CountOp, LogicOp, Name, WindowOp};
 use c2po_ast::{Expr, Node};
+use mltl_base::{ArithOp, BetweenOp, CompareOp, CountOp, LogicOp, Name, WindowOp};
 
 /// An operator over one operand.
 #[derive(Clone, Copy)]

@@ -1,8 +1,8 @@
 //! Variables of quantifiers, which stand for members of sets that aren't unfolded yet.
 
 use crate::values::Stored;
-use mltl_base::Name;
 use c2po_ast::Expr;
+use mltl_base::Name;
 use std::alloc::Global;
 
 /// The variables around an expression, the innermost first.

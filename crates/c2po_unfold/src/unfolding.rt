@@ -20,11 +20,9 @@ use crate::fields::Fields;
 use crate::scope::{Scope, Site};
 use crate::values::{Entry, Location, Parts, Stored, Whole};
 use crate::visits::Visits;
-use mltl_base::{List, Name};
-use mltl_ranges::NoRange;
-use name_table::NameTable;
-use c2po_nodes::{Nodes, Plain, Tenses, first_fault};
 use c2po_ast::Expr;
+use c2po_nodes::{Nodes, Plain, Tenses, first_fault};
+use mltl_base::{List, Name, NameTable, NoRange};
 use std::alloc::{AllocError, Global};
 
 /// How deep an expression may be nested: deeper than any stack is.

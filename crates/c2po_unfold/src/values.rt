@@ -1,7 +1,6 @@
 //! Values that are unfolded.
 
-use mltl_base::{List, Name};
-use mltl_ranges::NoRange;
+use mltl_base::{List, Name, NoRange};
 
 /// Where a value is stored: as a node of plain formulas, or as parts of a struct or a set.
 #[derive(Clone, Copy)]

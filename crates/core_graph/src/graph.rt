@@ -16,8 +16,8 @@ use crate::listing::list;
 use crate::ops::{bz_ops, ft_ops, numbered_outs, pt_ops};
 use crate::reach::reached;
 use crate::reading::read;
-use mltl_base::{Columns, Graph, Part};
 use c2po_nodes::{Expanded, Plain, PlainOut};
+use mltl_base::{Columns, Graph, Part};
 use std::alloc::{AllocError, Global};
 use thiserror::Error;
 

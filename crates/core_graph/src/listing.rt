@@ -9,8 +9,8 @@ use crate::forest::Forest;
 use crate::graph::GraphFault;
 use crate::vertex::Vertex;
 use crate::walk::completion;
-use mltl_base::{Engine, Part};
 use c2po_nodes::PlainOut;
+use mltl_base::{Engine, Part};
 use std::alloc::{AllocError, Global};
 
 /// The vertices of a part in order, and for each vertex of the forest its place in that order.

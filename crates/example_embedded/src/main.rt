@@ -5,8 +5,8 @@
 #![tactic(auto)]
 
 use anyhow::Result;
-use r2u2_monitor::Monitor;
 use c2po_compile::compile;
+use r2u2_monitor::Monitor;
 use std::str;
 
 /// Every request is granted within three steps.

@@ -26,3 +26,4 @@ pub mod Graphs
 pub mod Returning
 pub mod Ranging
 pub mod Rooms
+pub mod Lookups

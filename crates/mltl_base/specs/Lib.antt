@@ -15,3 +15,6 @@ pub mod Room
 pub mod Kinds
 pub mod Blanks
 pub mod Letters
+pub mod Entries
+pub mod Tables
+pub mod Answers

@@ -7,9 +7,9 @@ ghost use Rattle.c2po_nodes.specs.Nodes.{Has, IsBounded, formula};
 ghost use Rattle.mltl_simplify.specs.Nodes.{AreFormed, IsFormulaAt, KeepsNone, Puts, gives_truth, keeps_truth, simple_between, simple_logic, simple_window};
 ghost use Rattle.mltl_simplify.specs.Simplify.{joined as summed, simple_and, simple_equals, simple_implies, simple_not, simple_or, as_truth};
 
+use c2po_nodes::{NodeList, Plain};
 use mltl_base::limits::MAX_BOUND;
 use mltl_base::{BetweenOp, Interval, LogicOp, WindowOp};
-use c2po_nodes::{NodeList, Plain};
 use std::alloc::AllocError;
 
 /// The truth that formula `n` is, if it is one.

@@ -12,8 +12,8 @@ ghost use Rattle.mltl_simplify.specs.Outputs.{simple_outputs};
 ghost use Rattle.mltl_simplify.specs.Simplify.{simp};
 
 use crate::proxies::{Proxy, place_at, read};
-use mltl_base::List;
 use c2po_nodes::{Expanded, NodeList, PlainOut};
+use mltl_base::List;
 use std::alloc::{AllocError, Global};
 
 /// An output over the places of the nodes that stand for its nodes.

@@ -18,9 +18,9 @@ use Rattle.tool_words.specs.declared.file_kind.FileKind.{FileKind}
 use Rattle.tool_words.specs.declared.file_kind.FileKind.TheVariants as file
 use Rattle.tool_words.specs.C2poWords as compiling
 use Rattle.tool_words.specs.R2u2Words.{RunAsked}
-use Rattle.tool_runs.specs.declared.status.Status.{Status}
-use Rattle.tool_runs.specs.declared.status.Status.TheVariants.{Done}
-use Rattle.tool_runs.specs.Files.{file_place}
+use Rattle.tool_words.specs.declared.status.Status.{Status}
+use Rattle.tool_words.specs.declared.status.Status.TheVariants.{Done}
+use Rattle.tool_words.specs.Files.{file_place}
 use Rattle.r2u2_watch.specs.Trace.{Clean}
 use Rattle.c2po_compile.specs.Compiled.{columns_by, outputs_in, signals_in}
 use Rattle.c2po_compile.specs.Image.{over_columns, plain_outputs}
@@ -29,13 +29,13 @@ use Rattle.c2po_nodes.specs.Outputs.{asked_over}
 use Rattle.c2po_cli.specs.Asking.{ask, compile_asked, make, served}
 use Rattle.c2po_cli.specs.Images.{IsFileBy, IsFileUnder, header_of}
 use Rattle.c2po_cli.specs.Run.{IsMade}
-use Rattle.trace_runs.specs.Formulas.{TellsProgram, columns_under}
-use Rattle.trace_runs.specs.Outcome.{StopsBy, due_by, rows_over}
-use Rattle.trace_runs.specs.ProgramBy.{header_in, program_by, program_over}
-use Rattle.trace_runs.specs.Taken.{lines_in, trace_ended, trace_of}
+use Rattle.r2u2_cli.specs.Formulas.{TellsProgram, columns_under}
+use Rattle.r2u2_cli.specs.Outcome.{StopsBy, due_by, rows_over}
+use Rattle.r2u2_cli.specs.ProgramBy.{header_in, program_by, program_over}
+use Rattle.r2u2_cli.specs.Taken.{lines_in, trace_ended, trace_of}
 use Rattle.r2u2_cli.specs.Run.{IsRun}
-use Rattle.trace_runs.proofs.ImageFiles.{program_told}
-use Rattle.trace_runs.proofs.Telling.{over_found}
+use Rattle.r2u2_cli.proofs.ImageFiles.{program_told}
+use Rattle.r2u2_cli.proofs.Telling.{over_found}
 use Rattle.mltl_tools.specs.Sentence.{HasCompiled, HasWatched, TellsFormulas, TellsText, lines_at}
 use Rattle.mltl_tools.proofs.Outputs.{reports_below}
 

@@ -17,7 +17,7 @@ use Rattle.tool_words.specs.C2poWords.{CompileAsked, compile}
 use Rattle.tool_words.specs.C2poWords as compiling
 use Rattle.tool_words.specs.R2u2Words.{RunAsked, run}
 use Rattle.tool_words.specs.R2u2Words as watching
-use Rattle.tool_runs.specs.declared.status.Status.TheVariants.{Done}
+use Rattle.tool_words.specs.declared.status.Status.TheVariants.{Done}
 use Rattle.r2u2_monitor.specs.declared.state.State.{State}
 use Rattle.r2u2_watch.specs.Trace.{Clean}
 use Rattle.c2po_compile.specs.Compiled.{columns_by, outputs_in, signals_in}
@@ -27,9 +27,9 @@ use Rattle.c2po_compile.specs.Simplified.{TellWords}
 use Rattle.c2po_cli.specs.Asking.{ask}
 use Rattle.c2po_cli.specs.Images.{header_of}
 use Rattle.c2po_cli.specs.Run.{IsMade}
-use Rattle.trace_runs.specs.Outcome.{rows_over}
-use Rattle.trace_runs.specs.ProgramBy.{header_in, program_over}
-use Rattle.trace_runs.specs.Taken.{lines_in, trace_of}
+use Rattle.r2u2_cli.specs.Outcome.{rows_over}
+use Rattle.r2u2_cli.specs.ProgramBy.{header_in, program_over}
+use Rattle.r2u2_cli.specs.Taken.{lines_in, trace_of}
 use Rattle.r2u2_cli.specs.Run.{IsRun}
 
 -- the lines of what was read at a place

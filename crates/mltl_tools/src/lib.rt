@@ -7,13 +7,11 @@
 mod laws;
 
 pub use c2po_cli::c2po_main;
-pub use demo_runs::demo_row;
-pub use laws::compiled_and_watched;
-pub use r2u2_monitor::Monitor;
-pub use obs_files::{ProgramFault, image};
-pub use obs_table::instruction_table;
-pub use r2u2_cli::r2u2_main;
 pub use c2po_compile::{CompileFault, HeaderWhy, Refusal, back, back_simple, compile, front};
-pub use tool_runs::{Status, Tool, message_of};
-pub use tool_words::{Words, words_of};
+pub use laws::compiled_and_watched;
+pub use obs_files::{ProgramFault, image};
+pub use obs_show::instruction_table;
+pub use r2u2_cli::{demo_row, r2u2_main};
+pub use r2u2_monitor::Monitor;
 pub use r2u2_watch::{TraceWhy, Watched, watch, watch_timed};
+pub use tool_words::{Status, Tool, Words, message_of, words_of};

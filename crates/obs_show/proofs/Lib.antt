@@ -2,3 +2,4 @@ pub mod NameLaws
 pub mod TextLaws
 pub mod WeightLaws
 pub mod FreeLaws
+pub mod Rows

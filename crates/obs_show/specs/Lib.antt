@@ -6,3 +6,5 @@ pub mod Limits
 pub mod Showing
 pub mod Writing
 pub mod Weighing
+pub mod Table
+pub mod TableText

@@ -9,9 +9,13 @@ mod operation;
 mod references;
 mod showing;
 mod shown;
+mod table;
+mod table_fields;
+mod table_lines;
 mod text;
 mod weights;
 
 pub use fault::ShowFault;
 pub use showing::show;
+pub use table::instruction_table;
 pub use weights::weight;

@@ -3,16 +3,16 @@
 ghost use Rattle.std.specs.Prelude.{◌≡◌, ◌<◌, ◌≤◌, ◌^◌, Some, length, slice_get, take, IfOk, Ok};
 ghost use Rattle.mltl_base.specs.Programs.{expressions, term_at};
 ghost use Rattle.mltl_base.specs.Ranges.{range};
-ghost use Rattle.mltl_ranges.specs.Answers.{Tells};
+ghost use Rattle.mltl_base.specs.Answers.{Tells};
 ghost use Rattle.obs_verify.specs.InstructionRanges.{AreRanges, ReadsBefore, range_over};
 ghost use Rattle.obs_verify.specs.Kinds.{AreKinds};
 ghost use Rattle.obs_verify.specs.WellFormed.{IsAnswer, bz_fault, first_in, has_operands as may_read, is_column_of, is_whole, is_whole_before as whole_before};
 
 use crate::fault::VerifyFault;
 use crate::signals::Kinds;
-use mltl_base::{BzOp, Part, Program};
-use mltl_ranges::{
-    NoRange, Range, constant, difference, negation, product, quotient, remainder, signal, sum,
+use mltl_base::{
+    BzOp, NoRange, Part, Program, Range, constant, difference, negation, product, quotient,
+    remainder, signal, sum,
 };
 use std::alloc::Global;
 

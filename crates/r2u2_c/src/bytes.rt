@@ -9,8 +9,8 @@ use crate::codes::{DONE, NO_MEMORY, REFUSED};
 use crate::exports::refuse;
 use crate::fault::Fault;
 use crate::opening::OpeningFault;
-use r2u2_monitor::{Monitor, monitor_bytes};
 use obs_files::open;
+use r2u2_monitor::{Monitor, monitor_bytes};
 use std::alloc::Global;
 use std::mem::size_of;
 

@@ -7,9 +7,9 @@ ghost use Rattle.r2u2_c.specs.Opening.{Starts, bound_by, of_file, of_header, pro
 
 use mltl_base::limits::MAX_LINE_BYTES;
 use mltl_base::{Name, Program};
-use r2u2_monitor::Monitor;
 use obs_files::{FileFault, ProgramFault, open};
 use obs_verify::Checked;
+use r2u2_monitor::Monitor;
 use std::alloc::{AllocError, AllocFailed, Global};
 use trace_feed::{HeaderFault, bind_to_header};
 

@@ -10,17 +10,17 @@ use Rattle.tool_io.proofs.LogLaws.{WritesFront-misses, Writes-given, Writes-name
 use Rattle.tool_io.proofs.Prompting.{Prompt-from_by, Writes-prompt}
 use Rattle.tool_words.specs.R2u2Words.{Asked, RunAsked, help, run, demo, nothing}
 use Rattle.r2u2_monitor.specs.declared.state.State.{State}
-use Rattle.tool_runs.specs.declared.message.Tool.TheVariants.{R2u2}
-use Rattle.tool_runs.specs.declared.status.Status as status
-use Rattle.tool_runs.specs.Messages.{usage}
-use Rattle.tool_runs.specs.Attaching.{OpensAsTold}
-use Rattle.tool_runs.specs.Telling.{is_used, HelpLog}
-use Rattle.tool_runs.proofs.AttachLaws.{no_reads_none, writes_unread}
-use Rattle.tool_runs.proofs.UseLaws.{writes_unused}
+use Rattle.tool_words.specs.declared.message.Tool.TheVariants.{R2u2}
+use Rattle.tool_words.specs.declared.status.Status as status
+use Rattle.tool_words.specs.Messages.{usage}
+use Rattle.tool_words.specs.Attaching.{OpensAsTold}
+use Rattle.tool_words.specs.Telling.{is_used, HelpLog}
+use Rattle.tool_words.proofs.AttachLaws.{no_reads_none, writes_unread}
+use Rattle.tool_words.proofs.UseLaws.{writes_unused}
 use Rattle.r2u2_cli.specs.Asking.{asked_names}
-use Rattle.demo_runs.specs.Summary.{demo_summary}
+use Rattle.r2u2_cli.specs.Summary.{demo_summary}
 use Rattle.r2u2_cli.specs.Demo.{DemoLog, DemoOutcome, KeepsDemo, SummaryLog}
-use Rattle.trace_runs.specs.Outcome.{due_by}
+use Rattle.r2u2_cli.specs.Outcome.{due_by}
 use Rattle.r2u2_cli.specs.Run.{found_in, FileOutcome, HelpOutcome, NothingOutcome, OutcomeOf, RefusesAfter, TriesSecond, IsPrompt, Ran}
 
 -- help, or a front of it, went out

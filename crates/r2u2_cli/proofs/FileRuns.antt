@@ -15,22 +15,22 @@ use Rattle.tool_words.specs.declared.file_kind.FileKind.{FileKind}
 use Rattle.tool_words.specs.declared.file_kind.FileKind.TheVariants.{Spec, Program}
 use Rattle.tool_words.specs.R2u2Words.{RunAsked, run}
 use Rattle.r2u2_monitor.specs.declared.state.State.{State}
-use Rattle.tool_runs.specs.declared.status.Status as status
-use Rattle.tool_runs.specs.Attaching.{OpensAsTold, ReadsAttached, is_attached}
-use Rattle.tool_runs.specs.Files.{file_limit, file_place}
-use Rattle.tool_runs.specs.Reading.{FileLog}
-use Rattle.tool_runs.proofs.AttachLaws.{ReadsAttached-append, file_attached, file_reads, is_attached-append, missed_none, no_reads_none, or_true, split_at}
-use Rattle.tool_runs.proofs.UseLaws.{reads_unused, unused-append}
-use Rattle.tool_runs.specs.FirstLine.{begins_long}
-use Rattle.tool_runs.specs.Telling.{is_used}
+use Rattle.tool_words.specs.declared.status.Status as status
+use Rattle.tool_words.specs.Attaching.{OpensAsTold, ReadsAttached, is_attached}
+use Rattle.tool_words.specs.Files.{file_limit, file_place}
+use Rattle.tool_words.specs.FileReading.{FileLog}
+use Rattle.tool_words.proofs.AttachLaws.{ReadsAttached-append, file_attached, file_reads, is_attached-append, missed_none, no_reads_none, or_true, split_at}
+use Rattle.tool_words.proofs.UseLaws.{reads_unused, unused-append}
+use Rattle.tool_words.specs.FirstLine.{begins_long}
+use Rattle.tool_words.specs.Telling.{is_used}
 use Rattle.c2po_compile.specs.Refusals.{unless_refused}
-use Rattle.trace_runs.specs.ProgramBy.{file_refusal, unless_long, header_in, program_by, program_over}
-use Rattle.trace_runs.specs.Outcome.{due_by, Silent}
-use Rattle.trace_runs.specs.Taken.{trace_of, trace_ended, lines_in, ReadsFirstLine, BegunFor}
+use Rattle.r2u2_cli.specs.ProgramBy.{file_refusal, unless_long, header_in, program_by, program_over}
+use Rattle.r2u2_cli.specs.Outcome.{due_by, Silent}
+use Rattle.r2u2_cli.specs.Taken.{trace_of, trace_ended, lines_in, ReadsFirstLine, BegunFor}
 use Rattle.r2u2_cli.specs.Run.{file_ended, found_in, IsReadable, FileOutcome, RefusesAfter, Ran}
-use Rattle.trace_runs.specs.Phases.{IsOpened, RanFile, TraceOutcome}
-use Rattle.trace_runs.proofs.Refusing.{Refuses, file_refuses}
-use Rattle.trace_runs.proofs.TraceRuns.{trace_elsewhere}
+use Rattle.r2u2_cli.specs.Phases.{IsOpened, RanFile, TraceOutcome}
+use Rattle.r2u2_cli.proofs.Refusing.{Refuses, file_refuses}
+use Rattle.r2u2_cli.proofs.TraceRuns.{trace_elsewhere}
 
 err_elsewhere : (kind : FileKind) → same_place at.Err (file_place kind) ≡ false
 err_elsewhere Spec = refl

@@ -16,22 +16,22 @@ use Rattle.tool_io.proofs.Prompting.{PromptBy-append, PromptBy-from, Prompt-from
 use Rattle.tool_words.specs.R2u2Words.{Asked, RunAsked, help, run, demo, nothing}
 use Rattle.r2u2_monitor.specs.declared.state.State.{State}
 use Rattle.r2u2_watch.specs.Trace.{Stop, Clean, Bad, Past}
-use Rattle.tool_runs.specs.declared.message.Tool.TheVariants.{R2u2}
-use Rattle.tool_runs.specs.declared.status.Status as status
-use Rattle.tool_runs.specs.Messages.{told_to_user}
-use Rattle.tool_runs.specs.Causes.{NoOtherRose, RunCause}
-use Rattle.tool_runs.specs.Files.{file_limit, file_place}
-use Rattle.tool_runs.specs.Telling.{ToldWhole}
-use Rattle.tool_runs.proofs.AttachLaws.{ReadsAttached-append, opened_still, split_at, writes_unread}
-use Rattle.tool_runs.proofs.CauseLaws.{err_stays, message_rose, rose_at}
-use Rattle.tool_runs.proofs.MessageLaws.{Leaves, message_leaves, unattached}
-use Rattle.tool_runs.proofs.UseLaws.{unused-given}
+use Rattle.tool_words.specs.declared.message.Tool.TheVariants.{R2u2}
+use Rattle.tool_words.specs.declared.status.Status as status
+use Rattle.tool_words.specs.Messages.{told_to_user}
+use Rattle.tool_words.specs.Causes.{NoOtherRose, RunCause}
+use Rattle.tool_words.specs.Files.{file_limit, file_place}
+use Rattle.tool_words.specs.Telling.{ToldWhole}
+use Rattle.tool_words.proofs.AttachLaws.{ReadsAttached-append, opened_still, split_at, writes_unread}
+use Rattle.tool_words.proofs.CauseLaws.{err_stays, message_rose, rose_at}
+use Rattle.tool_words.proofs.MessageLaws.{Leaves, message_leaves, unattached}
+use Rattle.tool_words.proofs.UseLaws.{unused-given}
 use Rattle.r2u2_cli.specs.Demo.{DemoOutcome}
-use Rattle.trace_runs.specs.ProgramBy.{file_refusal, program_over}
-use Rattle.trace_runs.specs.Outcome.{due_by, StopsBy, LinesOutcome}
-use Rattle.trace_runs.specs.Taken.{BegunFor, trace_of, trace_ended, lines_in}
+use Rattle.r2u2_cli.specs.ProgramBy.{file_refusal, program_over}
+use Rattle.r2u2_cli.specs.Outcome.{due_by, StopsBy, LinesOutcome}
+use Rattle.r2u2_cli.specs.Taken.{BegunFor, trace_of, trace_ended, lines_in}
 use Rattle.r2u2_cli.specs.Run.{RefusesAfter, file_of, file_ended, found_in, IsReadable, FileOutcome, HelpOutcome, NothingOutcome, OutcomeOf, TriesSecond, IsPrompt, TellsFormulas, Ran, CompletesBy, IsRun}
-use Rattle.trace_runs.proofs.Telling.{settled_by}
+use Rattle.r2u2_cli.proofs.Telling.{settled_by}
 
 -- rows that end cleanly, and a program, where another end is told, or no program
 not_clean : (stop : Stop) (asked : RunAsked) (found : Result Program status.Status) (ended : Bool) (bytes : List ℕ) → StopsBy stop asked found ended bytes → StopsBy Clean asked found ended bytes → Clean ≡ stop

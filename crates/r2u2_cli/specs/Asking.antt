@@ -4,7 +4,7 @@ use Rattle.std.specs.Prelude.{ℕ, List, [], ◌∷◌}
 use Rattle.tool_io.specs.declared.host.Place.{Place}
 use Rattle.tool_io.specs.declared.host.Place.TheVariants.{Trace}
 use Rattle.tool_words.specs.R2u2Words.{Asked, help, run, demo, nothing}
-use Rattle.tool_runs.specs.Files.{file_place}
+use Rattle.tool_words.specs.Files.{file_place}
 
 -- the places that are to be attached, with their names, in order
 abbrev pub asked_names : Asked → List (Place × List ℕ)

@@ -6,10 +6,10 @@ use Rattle.tool_io.specs.Log.{Event, IsProperFront, Writes, WritesFront}
 use Rattle.r2u2_monitor.specs.declared.state.State.{State}
 use Rattle.r2u2_monitor.specs.Monitoring.{IsDrained, Stands, program_of}
 use Rattle.c2po_compile.specs.Compiled.{image_of_text}
-use Rattle.demo_runs.specs.Summary.{demo_rows, demo_summary}
-use Rattle.demo_runs.specs.Text.{demo_text}
-use Rattle.tool_runs.specs.declared.status.Status as status
-use Rattle.trace_runs.specs.Outcome.{Silent}
+use Rattle.r2u2_cli.specs.Summary.{demo_rows, demo_summary}
+use Rattle.r2u2_cli.specs.Text.{demo_text}
+use Rattle.tool_words.specs.declared.status.Status as status
+use Rattle.r2u2_cli.specs.Outcome.{Silent}
 
 -- the kept monitor is one of the demo's text that has taken the demo's rows, and has told all their reports
 pub record KeepsDemo (seed rows : ℕ) (kept : Option State) : Type 0 where

@@ -1,3 +1,14 @@
 pub mod Asking
 pub mod Demo
 pub mod Run
+pub mod Text
+pub mod DemoRow
+pub mod Tallies
+pub mod Summary
+pub mod Played
+pub mod ProgramBy
+pub mod Outcome
+pub mod Settled
+pub mod Formulas
+pub mod Taken
+pub mod Phases

@@ -9,19 +9,19 @@ use Rattle.tool_io.specs.Cutting.{lines_of}
 use Rattle.tool_words.specs.R2u2Words.{Asked, RunAsked, help, run, demo, nothing}
 use Rattle.r2u2_monitor.specs.declared.state.State.{State}
 use Rattle.r2u2_watch.specs.Trace.{Clean}
-use Rattle.tool_runs.specs.declared.message.Tool.TheVariants.{R2u2}
-use Rattle.tool_runs.specs.declared.status.Status as status
-use Rattle.tool_runs.specs.Messages.{usage, told_to_user}
-use Rattle.tool_runs.specs.Causes.{NoOtherRose}
-use Rattle.tool_runs.specs.Attaching.{OpensAsTold, ReadsAttached}
-use Rattle.tool_runs.specs.Files.{file_limit, file_place}
-use Rattle.tool_runs.specs.Telling.{is_used, ToldWhole, MessageLast}
+use Rattle.tool_words.specs.declared.message.Tool.TheVariants.{R2u2}
+use Rattle.tool_words.specs.declared.status.Status as status
+use Rattle.tool_words.specs.Messages.{usage, told_to_user}
+use Rattle.tool_words.specs.Causes.{NoOtherRose}
+use Rattle.tool_words.specs.Attaching.{OpensAsTold, ReadsAttached}
+use Rattle.tool_words.specs.Files.{file_limit, file_place}
+use Rattle.tool_words.specs.Telling.{is_used, ToldWhole, MessageLast}
 use Rattle.r2u2_cli.specs.Asking.{asked_names}
-use Rattle.trace_runs.specs.ProgramBy.{file_refusal, header_in, program_over}
+use Rattle.r2u2_cli.specs.ProgramBy.{file_refusal, header_in, program_over}
 use Rattle.r2u2_cli.specs.Demo.{DemoOutcome}
-use Rattle.trace_runs.specs.Outcome.{due_by, Silent, StopsBy, LinesOutcome}
-use Rattle.trace_runs.specs.Taken.{trace_of, trace_ended, lines_in, ReadsFirstLine, BegunFor}
-use Rattle.trace_runs.specs.Formulas.{IsSettledBy}
+use Rattle.r2u2_cli.specs.Outcome.{due_by, Silent, StopsBy, LinesOutcome}
+use Rattle.r2u2_cli.specs.Taken.{trace_of, trace_ended, lines_in, ReadsFirstLine, BegunFor}
+use Rattle.r2u2_cli.specs.Formulas.{IsSettledBy}
 
 -- the bytes of the file that were taken
 abbrev pub file_of : RunAsked → List Event → List ℕ

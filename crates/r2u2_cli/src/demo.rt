@@ -2,14 +2,14 @@
 
 ghost use Rattle.std.specs.Prelude.{◌≡◌, None, Some};
 ghost use Rattle.tool_io.specs.Log.{OnLog};
-ghost use Rattle.tool_runs.specs.Causes.{RunCause};
+ghost use Rattle.tool_words.specs.Causes.{RunCause};
 ghost use Rattle.r2u2_cli.specs.Demo.{DemoLog, SummaryLog};
 
-use demo_runs::{Demo, run_demo};
+use crate::{Demo, run_demo};
 use r2u2_monitor::Monitor;
 use std::alloc::Global;
 use tool_io::{Host, Place, Put, put_all};
-use tool_runs::Status;
+use tool_words::Status;
 
 /// Runs the demo over so many rows that are made from the seed, keeps its monitor, and writes its summary on `Out`.
 pub(crate) fn give_demo<H: Host>(

@@ -6,16 +6,15 @@ ghost use Rattle.tool_io.specs.Log.{OnLog};
 ghost use Rattle.tool_io.specs.declared.host.Place.{Place as Where};
 ghost use Rattle.tool_io.specs.declared.host.Place.TheVariants.{Err};
 ghost use Rattle.tool_words.specs.R2u2Words.{IsInBounds, ask, asked_of, help, nothing, run as run_over, run_of};
-ghost use Rattle.tool_runs.specs.Causes.{CauseAt, RunCause};
+ghost use Rattle.tool_words.specs.Causes.{CauseAt, RunCause};
 ghost use Rattle.r2u2_cli.specs.Run.{IsRun, Ran};
 
 use crate::demo::give_demo;
+use crate::run_bytes;
 use r2u2_monitor::Monitor;
 use std::alloc::Global;
 use tool_io::Host;
-use tool_runs::{Status, Tool, give_help, read_file, tell_user};
-use tool_words::{R2u2Ask, Run, Words, r2u2_ask};
-use trace_runs::run_bytes;
+use tool_words::{R2u2Ask, Run, Status, Tool, Words, give_help, r2u2_ask, read_file, tell_user};
 
 /// Reads the file, and runs over the trace.
 fn run_file<H: Host>(

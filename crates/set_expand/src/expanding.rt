@@ -14,9 +14,9 @@ ghost use Rattle.c2po_unfold.specs.Values.{counted_formula};
 ghost use Rattle.mltl_base.specs.Kinds.{ReadsSignals, kinds_of};
 ghost use Rattle.set_expand.specs.Outputs.{HasPlainName, outputs_of};
 
+use c2po_nodes::{Expanded, Plain, PlainOut};
 use c2po_types::TypedSpec;
 use mltl_base::List;
-use c2po_nodes::{Expanded, Plain, PlainOut};
 use std::alloc::{AllocError, Global};
 
 /// Copies of nodes in order.

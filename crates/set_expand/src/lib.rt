@@ -12,5 +12,5 @@
 
 pub mod expanding;
 
-pub use expanding::expand;
 pub use c2po_nodes::{Expanded, Plain, PlainOut};
+pub use expanding::expand;

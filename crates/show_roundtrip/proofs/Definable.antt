@@ -13,7 +13,7 @@ use Rattle.mltl_base.specs.Programs.{Expression, whole, truth, expressions, core
 use Rattle.mltl_base.specs.Ranges.{NoRange}
 use Rattle.c2po_nodes.specs.Faults.{why_none, or_later, term_fault, atom_fault, formula_fault}
 use Rattle.c2po_nodes.specs.Tenses.{has_past, has_future}
-use Rattle.obs_build.proofs.Reading.{range_over}
+use Rattle.c2po_compile.proofs.Reading.{range_over}
 use Rattle.c2po_unfold.specs.Values.{Value, weight}
 use Rattle.c2po_unfold.specs.Faults.{value_fault}
 use Rattle.obs_show.specs.Weight.{formula_weight}

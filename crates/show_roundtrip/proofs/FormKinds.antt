@@ -10,16 +10,16 @@ use Rattle.mltl_base.specs.declared.operators.BetweenOp.{BetweenOp}
 use Rattle.mltl_base.specs.declared.operators.CompareOp.{CompareOp}
 use Rattle.mltl_base.specs.declared.operators.LogicOp.{LogicOp}
 use Rattle.c2po_unfold.specs.Tables.{Table, entry_of, is_named}
-use Rattle.c2po_kinds.specs.declared.kind.Kind.{Kind}
-use Rattle.c2po_kinds.specs.declared.kind.Meaning.{Meaning}
-use Rattle.c2po_kinds.specs.declared.kind.Meaning.TheVariants.{Value}
-use Rattle.c2po_kinds.specs.declared.declarations.Declarations.{Declarations}
-use Rattle.c2po_kinds.specs.declared.fault.TypeFault.TheVariants as fault
-use Rattle.c2po_kinds.specs.Checking.{Checked, ◌>>=◌}
-use Rattle.c2po_kinds.specs.Kinds.{whole, truth, known_value}
-use Rattle.c2po_kinds.specs.Scopes.{outside}
-use Rattle.c2po_kinds.specs.Expressions.{kind_of, two, of_one, of_two, within_bounds}
-use Rattle.c2po_kinds.specs.Items.{new, with_value, formula_kind, contract_kind}
+use Rattle.c2po_types.specs.declared.kind.Kind.{Kind}
+use Rattle.c2po_types.specs.declared.kind.Meaning.{Meaning}
+use Rattle.c2po_types.specs.declared.kind.Meaning.TheVariants.{Value}
+use Rattle.c2po_types.specs.declared.declarations.Declarations.{Declarations}
+use Rattle.c2po_types.specs.declared.fault.TypeFault.TheVariants as fault
+use Rattle.c2po_types.specs.Checking.{Checked, ◌>>=◌}
+use Rattle.c2po_types.specs.Kinds.{whole, truth, known_value}
+use Rattle.c2po_types.specs.Scopes.{outside}
+use Rattle.c2po_types.specs.Expressions.{kind_of, two, of_one, of_two, within_bounds}
+use Rattle.c2po_types.specs.Items.{new, with_value, formula_kind, contract_kind}
 use Rattle.obs_show.specs.Lines.{Reference, always, named, number, Form, minus, arith as computes, compare, negation, logic, between, input, define}
 use Rattle.show_roundtrip.specs.Said.{reference_shape, form_shape}
 use Rattle.show_roundtrip.proofs.Values.{same_bytes}

@@ -11,13 +11,13 @@ use Rattle.mltl_base.specs.declared.signal.Signal.{Signal}
 use Rattle.mltl_base.specs.Ranges.{NoRange}
 use Rattle.c2po_unfold.specs.Tables.{Table, entry_of, is_named}
 use Rattle.c2po_ast.specs.ItemShape.{type_named}
-use Rattle.c2po_kinds.specs.declared.kind.Kind.{Kind}
-use Rattle.c2po_kinds.specs.declared.kind.Meaning.{Meaning}
-use Rattle.c2po_kinds.specs.declared.kind.Meaning.TheVariants.{Value}
-use Rattle.c2po_kinds.specs.declared.declarations.Declarations.{Declarations}
-use Rattle.c2po_kinds.specs.declared.fault.TypeFault.{TypeFault}
-use Rattle.c2po_kinds.specs.Checking.{Checked, ◌>>=◌, in_turn}
-use Rattle.c2po_kinds.specs.Items.{Labels, new, with_signal, with_input, with_value, with_label, define_kind, formula_kind, contract_kind, signal_kind}
+use Rattle.c2po_types.specs.declared.kind.Kind.{Kind}
+use Rattle.c2po_types.specs.declared.kind.Meaning.{Meaning}
+use Rattle.c2po_types.specs.declared.kind.Meaning.TheVariants.{Value}
+use Rattle.c2po_types.specs.declared.declarations.Declarations.{Declarations}
+use Rattle.c2po_types.specs.declared.fault.TypeFault.{TypeFault}
+use Rattle.c2po_types.specs.Checking.{Checked, ◌>>=◌, in_turn}
+use Rattle.c2po_types.specs.Items.{Labels, new, with_signal, with_input, with_value, with_label, define_kind, formula_kind, contract_kind, signal_kind}
 use Rattle.c2po_types.specs.FirstFault.{State, start, when_ranged, one_tense, defined, with_out, item_step, checked, fault_of, first_fault, define_step, input_step, formula_step, contract_step, with_signals, is_mixed}
 use Rattle.c2po_nodes.specs.Faults.{formula_fault, or_later}
 use Rattle.c2po_unfold.specs.Values as values
@@ -87,7 +87,7 @@ define_ok : (n : ℕ) (x : List ℕ) (f : Form) (s t : State) (p : Place) → de
 define_ok n x f s t p e h =
     let e1 = bind_ok (define_kind n x (form_shape n f) s.declared) (λ k. defined n x (with_value x k s.declared) (value_of (form_shape n f) s.values) s) t e in
     let k : Kind = e1.0 in
-    let e2 = bind_ok (Rattle.c2po_kinds.specs.Expressions.kind_of (form_shape n f) (Rattle.c2po_kinds.specs.Scopes.outside s.declared)) (λ j. new n x s.declared.names (Ok j)) k e1.1 in
+    let e2 = bind_ok (Rattle.c2po_types.specs.Expressions.kind_of (form_shape n f) (Rattle.c2po_types.specs.Scopes.outside s.declared)) (λ j. new n x s.declared.names (Ok j)) k e1.1 in
     let free = guard_off (is_named x s.declared.names) _ (Ok e2.0) k e2.2 in
     let v = value_of (form_shape n f) s.values in
     let after : State = record { declared = with_value x k s.declared; labels = s.labels; values = declare x (value v) s.values; total = s.total } in
@@ -151,7 +151,7 @@ with_is n x false d = refl
 pub signal_ok : (n : ℕ) (x : List ℕ) (truth : Bool) (d c : Declarations) → with_input n (x ∷ []) (type_named (kind_name truth)) d ≡ Ok c → (is_named x d.names ≡ false) × (signal_added truth x d ≡ c)
 signal_ok n x truth d c e =
     let e1 = bind_ok (with_signal n truth x d) (λ k. Ok k) c (sym (with_is n x truth d) ∙ e) in
-    let free = guard_off (is_named x d.names) _ (if nat_le MAX_SIGNALS (length d.signals) then Err (Rattle.c2po_kinds.specs.declared.fault.TypeFault.TheVariants.Signals n) else Ok (signal_added truth x d)) e1.0 e1.1 in
+    let free = guard_off (is_named x d.names) _ (if nat_le MAX_SIGNALS (length d.signals) then Err (Rattle.c2po_types.specs.declared.fault.TypeFault.TheVariants.Signals n) else Ok (signal_added truth x d)) e1.0 e1.1 in
     let few = guard_off (nat_le MAX_SIGNALS (length d.signals)) _ (Ok (signal_added truth x d)) e1.0 free.1 in
     (free.0, cc)
 

@@ -13,8 +13,8 @@ use Rattle.c2po_ast.specs.declared.operator.Quantifier.{Quantifier}
 use Rattle.c2po_ast.specs.declared.operator.Quantifier.TheVariants.{Each, Exists, Count}
 use Rattle.c2po_ast.specs.declared.operator.Bracket.{Bracket}
 use Rattle.c2po_ast.specs.declared.operator.Bracket.TheVariants.{Curly, Call}
-use Rattle.c2po_tree.specs.declared.operator.Start.{Start}
-use Rattle.c2po_tree.specs.declared.operator.Start.TheVariants.{Leaf, Before}
+use Rattle.c2po_parse.specs.declared.operator.Start.{Start}
+use Rattle.c2po_parse.specs.declared.operator.Start.TheVariants.{Leaf, Before}
 use Rattle.c2po_lexer.specs.declared.token.Sign.TheVariants as sign
 use Rattle.c2po_lexer.specs.declared.token.Keyword.{Keyword}
 use Rattle.c2po_lexer.specs.declared.token.Keyword.TheVariants as keyword
@@ -24,18 +24,18 @@ use Rattle.c2po_ast.specs.declared.operator.Atom.{Atom}
 use Rattle.c2po_ast.specs.declared.operator.Atom.TheVariants.{Number, Truth, Ref}
 use Rattle.c2po_ast.specs.Shape.{Shape, Shapes, of_list}
 use Rattle.show_roundtrip.specs.Written.{IsNumber, IsToken}
-use Rattle.c2po_tree.specs.Tokens.{left_level, right_level}
+use Rattle.c2po_parse.specs.Tokens.{left_level, right_level}
 use Rattle.c2po_ast.specs.Parts.{joined, prefixed, enclosed, quantified, leaf}
-use Rattle.c2po_tree.specs.Fronts.{infix_level, prefix_level, closing, past, name_at, interval_at, named_or_called, bound_start, word_start, word_quantifier, sign_start, start_in, start_at, ◌>>=◌}
-use Rattle.c2po_tree.specs.Splitting.{tree_of}
+use Rattle.c2po_parse.specs.Fronts.{infix_level, prefix_level, closing, past, name_at, interval_at, named_or_called, bound_start, word_start, word_quantifier, sign_start, start_in, start_at, ◌>>=◌}
+use Rattle.c2po_parse.specs.Splitting.{tree_of}
 use Rattle.c2po_unfold.proofs.ValueWalk.{AllConstantsHave, ConstantsHave}
-use Rattle.c2po_tree.proofs.Words.{words-head, words-tail, words-left, words-right}
+use Rattle.c2po_parse.proofs.Words.{words-head, words-tail, words-left, words-right}
 use Rattle.show_roundtrip.proofs.GoodWords.{GoodWords}
-use Rattle.c2po_tree.proofs.Starts.{IsStart}
+use Rattle.c2po_parse.proofs.Starts.{IsStart}
 use Rattle.std.proofs.lemmas.Option.{some_pair_parts}
-use Rattle.c2po_tree.proofs.Rules as rules
-use Rattle.c2po_tree.proofs.Rules.{Derives, DerivesAll, down, picks, behind, alone, inside, encloses, binds, last, and_more}
-use Rattle.c2po_tree.proofs.Agree.{tree-derives}
+use Rattle.c2po_parse.proofs.Rules as rules
+use Rattle.c2po_parse.proofs.Rules.{Derives, DerivesAll, down, picks, behind, alone, inside, encloses, binds, last, and_more}
+use Rattle.c2po_parse.proofs.Agree.{tree-derives}
 
 -- the numbers of a tree are numbers of the language
 abbrev pub HasNumbers : Shape → Type 0

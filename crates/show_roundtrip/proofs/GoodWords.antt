@@ -2,7 +2,7 @@ use Rattle.std.proofs.Common.{ℕ, ◌≡◌, List, subst}
 use Rattle.c2po_lexer.specs.declared.token.What.{What}
 use Rattle.c2po_lexer.specs.declared.token.What.TheVariants as what
 use Rattle.c2po_lexer.specs.declared.token.Token.{Token}
-use Rattle.c2po_tree.proofs.Words.{AllHave}
+use Rattle.c2po_parse.proofs.Words.{AllHave}
 use Rattle.show_roundtrip.specs.Written.{IsName, IsToken}
 
 -- Token lists whose tokens are tokens of the language.

@@ -15,13 +15,13 @@ use Rattle.mltl_base.specs.Subformulas.{Asked}
 use Rattle.mltl_base.proofs.Graphs.{program_names}
 use Rattle.mltl_simplify.specs.Outputs.{simple_outputs}
 use Rattle.c2po_nodes.specs.Outputs.{asked_over}
-use Rattle.obs_build.specs.Image.{IsImageOf}
+use Rattle.c2po_compile.specs.Images.{IsImageOf}
 use Rattle.c2po_unfold.specs.Tables.{entry_of, is_named}
 use Rattle.c2po_ast.specs.ItemShape as item
 use Rattle.c2po_ast.specs.ItemShape.{BodyShape, ItemShape}
-use Rattle.c2po_kinds.specs.declared.fault.TypeFault.TheVariants as fault
-use Rattle.c2po_kinds.specs.Checking.{Checked, in_turn}
-use Rattle.c2po_kinds.specs.Items.{Labels, with_struct, with_input, define_kind, with_label, formula_kind, contract_kind}
+use Rattle.c2po_types.specs.declared.fault.TypeFault.TheVariants as fault
+use Rattle.c2po_types.specs.Checking.{Checked, in_turn}
+use Rattle.c2po_types.specs.Items.{Labels, with_struct, with_input, define_kind, with_label, formula_kind, contract_kind}
 use Rattle.mltl_base.specs.Ranges.{NoRange}
 use Rattle.c2po_unfold.specs.Environment.{value_of}
 use Rattle.c2po_unfold.specs.Faults.{value_fault}

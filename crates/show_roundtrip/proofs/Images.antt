@@ -13,7 +13,7 @@ use Rattle.mltl_base.specs.Reports.{Output, formula, contract}
 use Rattle.mltl_base.specs.Formula.{Core}
 use Rattle.mltl_base.specs.Subformulas.{Asked, IsTensed, out_by, subformulas}
 use Rattle.c2po_nodes.specs.Outputs.{asked_over}
-use Rattle.obs_build.specs.Image.{IsImageOf, stored_signals}
+use Rattle.c2po_compile.specs.Images.{IsImageOf, stored_signals}
 use Rattle.obs_verify.specs.Layout.{HasLayout}
 use Rattle.obs_verify.specs.WellFormed.{IsWellFormed}
 use Rattle.c2po_lexer.specs.Tokens.{tokens_of}
@@ -39,7 +39,7 @@ use Rattle.show_roundtrip.specs.Written.{IsName, IsToken}
 use Rattle.show_roundtrip.specs.Said.{HasName}
 use Rattle.show_roundtrip.specs.Named.{AreNamed, AreLabelled, HasOwnWords}
 use Rattle.show_roundtrip.proofs.GoodTokens.{tokens_good}
-use Rattle.c2po_tree.proofs.Words.{words-all}
+use Rattle.c2po_parse.proofs.Words.{words-all}
 use Rattle.show_roundtrip.proofs.GoodItems.{AreNames, GoodBody, GoodItems, spec-names}
 use Rattle.show_roundtrip.proofs.Naturals.{outputs_natural}
 use Rattle.show_roundtrip.proofs.Constants.{image_counted, simple_counted}

@@ -8,7 +8,7 @@ use Rattle.c2po_lexer.specs.declared.token.Token.{Token}
 use Rattle.c2po_lexer.specs.declared.token.What.{What}
 use Rattle.c2po_lexer.specs.declared.token.What.TheVariants as what
 use Rattle.c2po_lexer.specs.Tokens.{tokens_of}
-use Rattle.c2po_tree.specs.Tokens.{is_sign}
+use Rattle.c2po_parse.specs.Tokens.{is_sign}
 use Rattle.c2po_parse.specs.declared.section.Section.{Section}
 use Rattle.c2po_parse.specs.Sections.{section_of, braces_after, item_of, chosen, pieces}
 use Rattle.c2po_parse.specs.Specification.{first_or, with_first, piece_trees, spec_of}

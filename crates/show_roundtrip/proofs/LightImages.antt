@@ -22,9 +22,9 @@ use Rattle.mltl_base.proofs.Unfolding.{Deep, Each, fold_all}
 use Rattle.mltl_base.proofs.Members.{each_append}
 use Rattle.mltl_base.proofs.Picking.{cores_of_engine}
 use Rattle.mltl_base.proofs.Graphs.{bz_list_unfolds, cores_listed, program_unfolds}
-use Rattle.obs_build.specs.Image.{IsImageOf, stored_signals}
-use Rattle.obs_build.proofs.Parts.{InTerm, InOperands, AtCore, fold_expressions_all}
-use Rattle.obs_build.proofs.Cores.{each_then}
+use Rattle.c2po_compile.specs.Images.{IsImageOf, stored_signals}
+use Rattle.c2po_compile.proofs.Parts.{InTerm, InOperands, AtCore, fold_expressions_all}
+use Rattle.c2po_compile.proofs.Cores.{each_then}
 use Rattle.obs_show.specs.Weight.{term_weight, atom_weight, formula_weight, output_weight, weight}
 use Rattle.obs_show.specs.Weighing.{expression_weight}
 use Rattle.c2po_types.proofs.OwnNames as own
@@ -36,7 +36,7 @@ use Rattle.c2po_compile.specs.Simplified.{smaller_outputs, simple_image_in}
 use Rattle.c2po_compile.proofs.ImageLaws.{image_of}
 use Rattle.c2po_compile.proofs.TellingLaws.{no_fault, tensed}
 use Rattle.show_roundtrip.proofs.Passing.{IsLight}
-use Rattle.obs_build.proofs.Tenses.{tensed_over}
+use Rattle.c2po_compile.proofs.Tenses.{tensed_over}
 use Rattle.show_roundtrip.proofs.Images.{smaller_tensed}
 
 -- ---- weights

@@ -9,11 +9,11 @@ use Rattle.mltl_base.specs.declared.limits.TheConstants.{MAX_WEIGHT}
 use Rattle.mltl_base.specs.declared.interval.Engine.{Engine}
 use Rattle.mltl_base.specs.declared.signal.Signal.{Signal}
 use Rattle.mltl_base.specs.Ranges.{NoRange}
-use Rattle.c2po_kinds.specs.declared.kind.Kind.{Kind}
-use Rattle.c2po_kinds.specs.declared.declarations.Declarations.{Declarations}
-use Rattle.c2po_kinds.specs.declared.fault.TypeFault.TheVariants as fault
-use Rattle.c2po_kinds.specs.Checking.{Checked, ◌>>=◌, in_turn}
-use Rattle.c2po_kinds.specs.Items.{Labels, nothing, with_value, with_label, formula_kind, contract_kind}
+use Rattle.c2po_types.specs.declared.kind.Kind.{Kind}
+use Rattle.c2po_types.specs.declared.declarations.Declarations.{Declarations}
+use Rattle.c2po_types.specs.declared.fault.TypeFault.TheVariants as fault
+use Rattle.c2po_types.specs.Checking.{Checked, ◌>>=◌, in_turn}
+use Rattle.c2po_types.specs.Items.{Labels, nothing, with_value, with_label, formula_kind, contract_kind}
 use Rattle.c2po_types.specs.FirstFault.{State, when_ranged, one_tense, defined, with_out, one_out, two_out, item_step, checked, fault_of, first_fault, with_signals, is_mixed}
 use Rattle.c2po_nodes.specs.Faults.{formula_fault, or_later}
 use Rattle.c2po_unfold.specs.Values as values

@@ -8,9 +8,9 @@ use Rattle.mltl_base.specs.declared.program.Program.{Program}
 use Rattle.mltl_base.specs.Formula.{plain}
 use Rattle.mltl_base.specs.Programs.{Expression, expressions, formula_at}
 use Rattle.c2po_ast.specs.ItemShape.{type_named}
-use Rattle.c2po_kinds.specs.declared.kind.Kind.{Kind}
-use Rattle.c2po_kinds.specs.declared.declarations.Declarations.{Declarations}
-use Rattle.c2po_kinds.specs.Items.{Labels, with_input, with_value, with_label, define_kind, formula_kind, contract_kind}
+use Rattle.c2po_types.specs.declared.kind.Kind.{Kind}
+use Rattle.c2po_types.specs.declared.declarations.Declarations.{Declarations}
+use Rattle.c2po_types.specs.Items.{Labels, with_input, with_value, with_label, define_kind, formula_kind, contract_kind}
 use Rattle.c2po_types.specs.FirstFault.{is_mixed}
 use Rattle.c2po_nodes.specs.Faults.{formula_fault, or_later}
 use Rattle.c2po_unfold.specs.Values.{Value, weight, formula_of}

@@ -9,7 +9,7 @@ use Rattle.mltl_base.specs.Subformulas.{Asked, IsTensed, HasListsOf, unfolded_ou
 use Rattle.mltl_base.proofs.Returning.{lists_return}
 use Rattle.c2po_nodes.specs.Outputs.{asked_over}
 use Rattle.obs_verify.specs.WellFormed.{IsWellFormed}
-use Rattle.obs_build.specs.Image.{IsImageOf, stored_signals}
+use Rattle.c2po_compile.specs.Images.{IsImageOf, stored_signals}
 use Rattle.c2po_ast.specs.ItemShape.{ItemShape}
 use Rattle.c2po_parse.specs.Specification.{spec_of}
 use Rattle.c2po_types.specs.FirstFault.{first_fault}
@@ -26,7 +26,7 @@ use Rattle.show_roundtrip.specs.Unfolded.{declared_by}
 use Rattle.show_roundtrip.proofs.Items.{lines_tokens, lines_items}
 use Rattle.show_roundtrip.proofs.Signals.{program_declares, stored_again}
 use Rattle.show_roundtrip.proofs.Meaning.{program_asks}
-use Rattle.obs_build.proofs.Tenses.{tensed_over}
+use Rattle.c2po_compile.proofs.Tenses.{tensed_over}
 
 -- the items that the text of a program says are those of its lines
 pub items_said : (program : Program) → HaveWords (lines program) → items_in (text program) ≡ line_items 1 (lines program)

@@ -23,12 +23,12 @@ use Rattle.mltl_base.specs.declared.program.Out as out
 use Rattle.mltl_base.specs.declared.program.Program.{Program}
 use Rattle.mltl_base.specs.declared.program.StoredSignal.{StoredSignal}
 use Rattle.c2po_unfold.specs.Tables.{Table, entry_of, is_named}
-use Rattle.c2po_kinds.specs.declared.kind.Kind.{Kind}
-use Rattle.c2po_kinds.specs.declared.kind.Meaning.{Meaning}
-use Rattle.c2po_kinds.specs.declared.kind.Meaning.TheVariants.{Value}
-use Rattle.c2po_kinds.specs.declared.declarations.Declarations.{Declarations}
-use Rattle.c2po_kinds.specs.Kinds.{whole, truth}
-use Rattle.c2po_kinds.specs.Items.{nothing, signal_kind}
+use Rattle.c2po_types.specs.declared.kind.Kind.{Kind}
+use Rattle.c2po_types.specs.declared.kind.Meaning.{Meaning}
+use Rattle.c2po_types.specs.declared.kind.Meaning.TheVariants.{Value}
+use Rattle.c2po_types.specs.declared.declarations.Declarations.{Declarations}
+use Rattle.c2po_types.specs.Kinds.{whole, truth}
+use Rattle.c2po_types.specs.Items.{nothing, signal_kind}
 use Rattle.obs_verify.specs.Layout.{HasLayout}
 use Rattle.obs_verify.specs.WellFormed.{IsWellFormed, first_in, width_fault, signal_fault, is_new_signal, has_kind, is_whole, is_truth, is_whole_before, has_operands, has_future_operands, has_future_window, has_past_operands, has_past_window}
 use Rattle.obs_verify.proofs.ExpressionLaws.{slice_get-take}

@@ -14,7 +14,7 @@ use Rattle.c2po_lexer.specs.declared.token.Token.{Token}
 use Rattle.c2po_lexer.specs.Tokens.{tokens_of}
 use Rattle.c2po_ast.specs.ItemShape.{ItemShape}
 use Rattle.c2po_parse.specs.Specification.{spec_of}
-use Rattle.c2po_kinds.specs.Items.{nothing}
+use Rattle.c2po_types.specs.Items.{nothing}
 use Rattle.c2po_types.specs.FirstFault.{first_fault}
 use Rattle.c2po_compile.specs.Refusals.{token_refusal, tree_refusal, check_refusal}
 use Rattle.c2po_compile.specs.Front.{tokens_in, items_in, refusal_in, first_refusal}

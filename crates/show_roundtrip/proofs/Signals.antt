@@ -10,7 +10,7 @@ use Rattle.mltl_base.specs.declared.program.Program.{Program}
 use Rattle.mltl_base.specs.declared.program.StoredSignal.{StoredSignal}
 use Rattle.mltl_base.specs.declared.signal.Signal.{Signal}
 use Rattle.c2po_types.specs.Signals.{body_signals, signals_of}
-use Rattle.obs_build.specs.Image.{stored_signals}
+use Rattle.c2po_compile.specs.Images.{stored_signals}
 use Rattle.obs_show.specs.Lines.{Form, Line, input, define, formula, contract}
 use Rattle.obs_show.specs.Naming.{bz_name, ft_name, pt_name}
 use Rattle.obs_show.specs.Text.{signal_line, bz_form, bz_line, ft_form, ft_line, pt_form, pt_line, output_line, lines_by, output_lines, lines}

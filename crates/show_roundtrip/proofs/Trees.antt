@@ -17,23 +17,23 @@ use Rattle.c2po_lexer.specs.declared.token.What.{What}
 use Rattle.c2po_lexer.specs.declared.token.What.TheVariants as what
 use Rattle.c2po_ast.specs.declared.operator.Infix.{Infix}
 use Rattle.c2po_ast.specs.declared.operator.Infix.TheVariants.{Logic, Between, Compare, Arith}
-use Rattle.c2po_tree.specs.declared.operator.Operator.TheVariants.{Binary}
+use Rattle.c2po_parse.specs.declared.operator.Operator.TheVariants.{Binary}
 use Rattle.c2po_ast.specs.declared.operator.Prefix.{Prefix}
 use Rattle.c2po_ast.specs.declared.operator.Prefix.TheVariants.{Not, Minus}
 use Rattle.c2po_ast.specs.declared.operator.Atom.{Atom}
 use Rattle.c2po_ast.specs.declared.operator.Atom.TheVariants.{Number, Truth, Ref}
-use Rattle.c2po_tree.specs.declared.operator.Start.TheVariants.{Leaf, Before}
+use Rattle.c2po_parse.specs.declared.operator.Start.TheVariants.{Leaf, Before}
 use Rattle.c2po_ast.specs.Shape.{Shape}
 use Rattle.c2po_ast.specs.ItemShape as item
 use Rattle.c2po_ast.specs.ItemShape.{BodyShape, ItemShape}
-use Rattle.c2po_tree.specs.Tokens.{is_sign, depth_after, left_level, right_level}
+use Rattle.c2po_parse.specs.Tokens.{is_sign, depth_after, left_level, right_level}
 use Rattle.c2po_ast.specs.Parts.{joined, prefixed, leaf}
-use Rattle.c2po_tree.specs.Fronts.{infix_level, prefix_level, start_at, operator_at, interval_at}
-use Rattle.c2po_tree.specs.Splitting.{tree_of}
-use Rattle.c2po_tree.proofs.Rules.{Derives, down, joins, behind, alone}
-use Rattle.c2po_tree.proofs.Starts.{StartFront, start_at-front}
-use Rattle.c2po_tree.proofs.Operators.{OperatorFront, operator_at-front}
-use Rattle.c2po_tree.proofs.Agree.{derived-tree}
+use Rattle.c2po_parse.specs.Fronts.{infix_level, prefix_level, start_at, operator_at, interval_at}
+use Rattle.c2po_parse.specs.Splitting.{tree_of}
+use Rattle.c2po_parse.proofs.Rules.{Derives, down, joins, behind, alone}
+use Rattle.c2po_parse.proofs.Starts.{StartFront, start_at-front}
+use Rattle.c2po_parse.proofs.Operators.{OperatorFront, operator_at-front}
+use Rattle.c2po_parse.proofs.Agree.{derived-tree}
 use Rattle.c2po_parse.specs.declared.section.Section.{Section}
 use Rattle.c2po_parse.specs.declared.section.Section.TheVariants.{Input, Define, Output}
 use Rattle.c2po_parse.specs.Sections.{section_of, line_or, item_of}

@@ -3,7 +3,7 @@
 ghost use Rattle.std.specs.Prelude.{◌≡◌, ℕ, All, List, None, Ok, map};
 ghost use Rattle.mltl_base.specs.declared.program.Columns.{Columns as Places};
 ghost use Rattle.mltl_base.specs.declared.signal.Signal.{Signal as Declared};
-ghost use Rattle.obs_build.specs.Image.{IsImageOf};
+ghost use Rattle.c2po_compile.specs.Images.{IsImageOf};
 ghost use Rattle.c2po_compile.specs.Front.{first_refusal, items_in};
 ghost use Rattle.c2po_compile.specs.ImageFiles.{image_in, stored_columns};
 ghost use Rattle.mltl_base.specs.declared.program.Program.{Program as Observer};

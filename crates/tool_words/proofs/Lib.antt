@@ -3,3 +3,10 @@ pub mod NumberLaws
 pub mod Examples
 pub mod HelpLaws
 pub mod TextLaws
+pub mod StatusLaws
+pub mod PhaseLaws
+pub mod AttachLaws
+pub mod CauseLaws
+pub mod LineLaws
+pub mod MessageLaws
+pub mod UseLaws

@@ -2,3 +2,12 @@ pub mod Texts
 pub mod Reading
 pub mod R2u2Words
 pub mod C2poWords
+pub mod Codes
+pub mod Statuses
+pub mod Messages
+pub mod Causes
+pub mod Attaching
+pub mod Files
+pub mod FirstLine
+pub mod FileReading
+pub mod Telling

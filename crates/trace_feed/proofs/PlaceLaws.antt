@@ -6,7 +6,7 @@ use Rattle.std.proofs.lemmas.Bool.{cases_Bool, cases_lt, lt-ltb, le-ltb, ltb-tru
 use Rattle.std.proofs.lemmas.List.Sums.{sum_by_push, sum_by-cons}
 use Rattle.std.proofs.lemmas.Slice.Eq.{bytes_eq-Decides}
 use Rattle.std.proofs.Math.Bool.{or-true, or-false}
-use Rattle.name_table.specs.Tables.{Table, entry_of, is_named}
+use Rattle.mltl_base.specs.Tables.{Table, entry_of, is_named}
 use Rattle.trace_feed.specs.Header.{first_place, times}
 use Rattle.trace_feed.specs.Places.{ArePlaces, place_of}
 use Rattle.trace_feed.specs.declared.names.Places.{Places}

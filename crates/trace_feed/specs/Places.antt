@@ -1,7 +1,7 @@
 -- Where names stand among columns, by two tables.
 
 use Rattle.std.specs.Prelude.{ℕ, ◌≡◌, ◌==◌, ◌≤◌, nat_lt, if◌then◌else◌, Option, Some, None, List, length}
-use Rattle.name_table.specs.Tables.{entry_of, is_named}
+use Rattle.mltl_base.specs.Tables.{entry_of, is_named}
 use Rattle.trace_feed.specs.Header.{times, first_place}
 use Rattle.trace_feed.specs.declared.names.Places.{Places}
 

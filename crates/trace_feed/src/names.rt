@@ -9,8 +9,7 @@ ghost use Rattle.trace_feed.specs.Places.{ArePlaces};
 use crate::blanks::trimmed;
 use crate::header_fault::HeaderFault;
 use csv::ByteRecord;
-use mltl_base::Name;
-use name_table::NameTable;
+use mltl_base::{Name, NameTable};
 use std::alloc::{AllocError, Global};
 
 /// Where names stand among the columns of a header.

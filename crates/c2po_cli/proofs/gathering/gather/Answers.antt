@@ -1,8 +1,8 @@
 use Rattle.std.proofs.Common.{Ok, Err, ap, subst, option_map}
 use Rattle.std.proofs.lemmas.Result.{err_from_is_err_and}
 use Rattle.tool_io.proofs.LogLaws.{OnLog-map, OnLog-then}
-use Rattle.tool_runs.specs.Files.{file_place, file_limit}
-use Rattle.tool_runs.specs.Reading.{FileLog}
+use Rattle.tool_words.specs.Files.{file_place, file_limit}
+use Rattle.tool_words.specs.FileReading.{FileLog}
 use Rattle.c2po_cli.specs.Asking.{make_of}
 use Rattle.c2po_cli.specs.Phases.{AfterLog}
 use Rattle.c2po_cli.proofs.GatherRuns.{gather_after, gather_unread}

@@ -1,7 +1,7 @@
 use Rattle.std.proofs.Common.{rules, inl, inr, option_map}
 use Rattle.std.proofs.lemmas.Result.{err_from_is_err_and}
 use Rattle.tool_io.proofs.LogLaws.{OnLog-none, OnLog-map}
-use Rattle.tool_runs.proofs.StatusLaws.{told_fault, told_value}
+use Rattle.tool_words.proofs.StatusLaws.{told_fault, told_value}
 use Rattle.c2po_cli.specs.Made.{compile_status}
 use Rattle.c2po_cli.proofs.HeadLaws.{front_refused}
 use Rattle.c2po_cli.proofs.gathering.of_text.Goals as goal

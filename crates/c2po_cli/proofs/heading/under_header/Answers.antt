@@ -1,6 +1,6 @@
 use Rattle.tool_io.specs.declared.host.Place.TheVariants.{Header}
 use Rattle.tool_io.proofs.LogLaws.{OnLog-map}
-use Rattle.tool_runs.proofs.PhaseLaws.{OnLog-attached}
+use Rattle.tool_words.proofs.PhaseLaws.{OnLog-attached}
 use Rattle.c2po_cli.proofs.HeadLaws.{header_log}
 use Rattle.c2po_cli.proofs.heading.under_header.Goals as goal
 

@@ -3,7 +3,7 @@ use Rattle.std.proofs.lemmas.Result.{err_from_is_err_and}
 use Rattle.std.specs.Option.{option_copied}
 use Rattle.c2po_ast.specs.ItemShape.{spec_shape}
 use Rattle.c2po_types.specs.Signals.{signals_of}
-use Rattle.tool_runs.proofs.StatusLaws.{told_fault, told_value}
+use Rattle.tool_words.proofs.StatusLaws.{told_fault, told_value}
 use Rattle.c2po_cli.specs.Made.{compile_status}
 use Rattle.c2po_cli.proofs.WrittenImages.{image_written}
 use Rattle.c2po_cli.proofs.MakingLaws.{alone_columns, alone_limit, header_refuses, limit_refuses, text_written}

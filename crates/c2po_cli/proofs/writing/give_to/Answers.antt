@@ -1,6 +1,6 @@
 use Rattle.tool_io.specs.declared.host.Place.TheVariants.{Out}
 use Rattle.tool_io.proofs.LogLaws.{OnLog-map}
-use Rattle.tool_runs.proofs.PhaseLaws.{OnLog-attached, OnLog-missed}
+use Rattle.tool_words.proofs.PhaseLaws.{OnLog-attached, OnLog-missed}
 use Rattle.c2po_cli.proofs.MakeRuns.{put_missed, put_named}
 use Rattle.c2po_cli.proofs.writing.give_to.Goals as goal
 

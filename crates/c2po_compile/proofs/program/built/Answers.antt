@@ -6,8 +6,8 @@ use Rattle.c2po_ast.specs.Names.{IsPlainName}
 use Rattle.c2po_nodes.specs.Outputs.{asked}
 use Rattle.mltl_base.specs.Letters.{is_in_word}
 use Rattle.obs_files.specs.Layout.{out_names, signal_name, signal_names}
-use Rattle.obs_build.specs.Image.{stored_signals}
-use Rattle.obs_build.proofs.Tenses.{image_names}
+use Rattle.c2po_compile.specs.Images.{stored_signals}
+use Rattle.c2po_compile.proofs.Tenses.{image_names}
 use Rattle.c2po_compile.specs.Image.{image}
 use Rattle.c2po_compile.proofs.ImageLaws.{image_is}
 use Rattle.c2po_compile.proofs.NameLaws.{output_letters, signal_letters}

@@ -8,7 +8,7 @@ use Rattle.c2po_types.specs.Signals.{signals_of}
 use Rattle.c2po_nodes.specs.Outputs.{asked}
 use Rattle.c2po_types.specs.Outputs.{outputs_of}
 use Rattle.set_expand.proofs.Signalling.{outputs-read}
-use Rattle.obs_build.specs.Limits.{IsReason}
+use Rattle.c2po_compile.specs.BuildLimits.{IsReason}
 use Rattle.obs_files.specs.Names.{NamesFit}
 use Rattle.c2po_compile.specs.Limits.{limit_refusal}
 use Rattle.c2po_compile.specs.Image.{image, over_columns}

@@ -1,7 +1,7 @@
 use Rattle.std.proofs.Common.{◌≡◌, length, map, sym, ◌∙◌, Ok, rules}
 use Rattle.c2po_ast.specs.ItemShape.{item_shape}
 use Rattle.c2po_lexer.specs.Tokens.{HasPlainName}
-use Rattle.c2po_tree.proofs.Words.{words-all}
+use Rattle.c2po_parse.proofs.Words.{words-all}
 use Rattle.c2po_parse.specs.Specification.{spec_of}
 use Rattle.c2po_parse.proofs.Spans.{reads_all, reads_end}
 use Rattle.c2po_parse.proofs.ItemNames.{spec-names}

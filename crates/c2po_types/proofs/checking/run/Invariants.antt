@@ -1,7 +1,7 @@
 use Rattle.std.proofs.Common.{◌≡◌, ◌≤◌, drop, map}
 use Rattle.mltl_base.specs.declared.limits.TheConstants.{MAX_WEIGHT}
 use Rattle.c2po_ast.specs.ItemShape.{item_shape}
-use Rattle.c2po_kinds.specs.Checking.{in_turn}
+use Rattle.c2po_types.specs.Checking.{in_turn}
 use Rattle.c2po_unfold.specs.Environment.{Env}
 use Rattle.c2po_unfold.specs.Holding.{StandsFor}
 use Rattle.c2po_types.specs.FirstFault.{item_step, checked}

@@ -1,6 +1,6 @@
 -- Nothing is unfolded yet.
 use Rattle.std.proofs.Common.{ap, length}
-use Rattle.c2po_kinds.specs.declared.declarations.Declarations.{Declarations}
+use Rattle.c2po_types.specs.declared.declarations.Declarations.{Declarations}
 use Rattle.c2po_types.proofs.Stepping.{nothing-yet}
 use Rattle.c2po_types.proofs.progress.Progress.new.Goals as goal
 

@@ -3,8 +3,8 @@ use Rattle.std.proofs.Common.{◌≡◌, Ok, length, refl, sym, ap, subst, arith
 use Rattle.std.specs.Prelude.{OnOk}
 use Rattle.c2po_ast.specs.Shape.{shape}
 use Rattle.c2po_ast.specs.ItemShape.{define}
-use Rattle.c2po_kinds.specs.declared.declarations.Declarations.{Declarations}
-use Rattle.c2po_kinds.specs.Items.{with_value}
+use Rattle.c2po_types.specs.declared.declarations.Declarations.{Declarations}
+use Rattle.c2po_types.specs.Items.{with_value}
 use Rattle.c2po_nodes.specs.Nodes.{AreSound, Grows}
 use Rattle.c2po_unfold.specs.Environment.{declare, value, value_of}
 use Rattle.c2po_unfold.specs.Holding.{StandsFor, nodes_of}

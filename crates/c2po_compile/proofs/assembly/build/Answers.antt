@@ -1,0 +1,38 @@
+-- The program is the image, and so it is well-formed.
+use Rattle.std.proofs.Common.{◌∙◌, ap₂, refl}
+use Rattle.std.proofs.lemmas.Result.{err_from_is_err_and}
+use Rattle.mltl_base.specs.declared.program.Program.{Program}
+use Rattle.c2po_nodes.specs.Outputs.{asked_in}
+use Rattle.c2po_compile.specs.Images.{stored_signals}
+use Rattle.c2po_compile.proofs.Building.{IsDraft, IsBuilt, sizable, built, reason}
+use Rattle.c2po_compile.proofs.assembly.build.Goals as goal
+
+pub sizes_of-requires : goal.sizes_of-requires
+sizes_of-requires c = sizable c.args.spec.now c.args.signals.now c.args.columns.now c.in_ok-graph.graph c.requires c.in_ok-graph.ensures.graph c.in_ok-graph.ensures.few
+
+pub returns-in_err-sizes-clause-refused : goal.returns-in_err-sizes-clause-refused
+returns-in_err-sizes-clause-refused c =
+    let e = err_from_is_err_and c.from_residual-in_err-sizes.result c.from_residual-in_err-sizes.ensures.1 in
+    rw (e.1, e.2) (reason (asked_in c.args.columns.now.of_signal c.args.spec.now) c.in_ok-graph.graph c.in_err-sizes.field-0.0 c.in_ok-graph.ensures.graph c.in_ok-graph.ensures.few c.in_err-sizes.ensures.refused)
+
+pub verified-requires : goal.verified-requires
+verified-requires c =
+    let program : Program = record {
+      version = 2;
+      width = c.args.columns.now.width;
+      bz = c.in_ok-graph.graph.bz;
+      ft = c.in_ok-graph.graph.ft;
+      pt = c.in_ok-graph.graph.pt;
+      outs = c.in_ok-graph.graph.outs;
+      sizes = c.in_ok-sizes.sizes;
+      signals = c.in_ok-stored.stored;
+    } in
+    let draft : IsDraft c.args.spec.now c.args.signals.now c.args.columns.now program = record {
+      version = refl;
+      width = refl;
+      lists = record { bz = c.in_ok-graph.ensures.graph.bz; ft = c.in_ok-graph.ensures.graph.ft; pt = c.in_ok-graph.ensures.graph.pt; reports = c.in_ok-graph.ensures.graph.reports };
+      kept = c.in_ok-stored.ensures ∙ ap₂ stored_signals c.as_slice.ensures c.as_slice-2.ensures;
+    } in
+    let all : IsBuilt c.args.spec.now c.args.signals.now c.args.columns.now program =
+    built c.args.spec.now c.args.signals.now c.args.columns.now program c.requires draft c.in_ok-graph.ensures.few c.in_ok-sizes.ensures.sizes.ft c.in_ok-sizes.ensures.sizes.pt c.in_ok-sizes.ensures.in_time c.in_ok-sizes.ensures.fits in
+    record { layout = all.layout; well_formed = all.well_formed }

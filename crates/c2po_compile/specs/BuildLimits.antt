@@ -1,0 +1,47 @@
+-- The limits that a specification keeps, and the first one that it exceeds.
+
+use Rattle.std.specs.Prelude.{ℕ, ◌<◌, ◌≤◌, List, All, Any, ⊤}
+use Rattle.mltl_base.specs.declared.limits.TheConstants.{MAX_DELAY, MAX_SLOTS}
+use Rattle.mltl_base.specs.declared.program.Graph.{Graph}
+use Rattle.mltl_base.specs.Queues.{worst_delays, slot_count}
+use Rattle.mltl_base.specs.Subformulas.{Asked, ft_list, pt_list, out_list}
+use Rattle.core_graph.specs.Limits.{AreFew, AreMany}
+use Rattle.c2po_compile.specs.declared.build_fault.BuildFault.{BuildFault}
+use Rattle.c2po_compile.specs.declared.build_fault.BuildFault.TheVariants.{TooManyNodes, TooLate, TooManySlots, Memory}
+
+-- the worst-case delays of the future-time instructions of outputs
+abbrev pub delays_of : List Asked → List ℕ
+delays_of outs = worst_delays (ft_list outs)
+
+-- all slots and boxes that outputs need
+abbrev pub slots_of : List Asked → ℕ
+slots_of outs = slot_count (ft_list outs) (pt_list outs) (out_list outs)
+
+-- no instruction is later than the limit
+abbrev pub AreInTime : List Asked → Type 0
+AreInTime outs = All (λ rows. rows ≤ MAX_DELAY) (delays_of outs)
+
+-- an instruction is later than the limit
+abbrev pub IsLate : List Asked → Type 0
+IsLate outs = Any (λ rows. MAX_DELAY < rows) (delays_of outs)
+
+-- all limits are kept
+pub record IsWithinLimits (outs : List Asked) : Type 0 where
+  pub few : AreFew outs
+  pub in_time : AreInTime outs
+  pub fits : slots_of outs ≤ MAX_SLOTS
+
+-- the limit that a refusal names is exceeded, and those before it are kept: nodes, then delays, then slots
+abbrev pub IsReason : List Asked → BuildFault → Type 0
+IsReason outs TooManyNodes = AreMany outs
+IsReason outs TooLate = AreFew outs × IsLate outs
+IsReason outs TooManySlots = AreFew outs × AreInTime outs × (MAX_SLOTS < slots_of outs)
+IsReason outs Memory = ⊤
+
+-- why a graph has no sizes: an instruction is later than the limit, or none is and the slots exceed theirs
+abbrev pub IsSizeReason : Graph → BuildFault → Type 0
+IsSizeReason graph TooManyNodes = ⊥
+IsSizeReason graph TooLate = Any (λ rows. MAX_DELAY < rows) (worst_delays graph.ft)
+IsSizeReason graph TooManySlots =
+    All (λ rows. rows ≤ MAX_DELAY) (worst_delays graph.ft) × (MAX_SLOTS < slot_count graph.ft graph.pt graph.outs)
+IsSizeReason graph Memory = ⊤

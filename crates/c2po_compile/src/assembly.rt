@@ -1,0 +1,108 @@
+//! The back of the compiler: graph, sizes, stored signals, and the verifier.
+
+ghost use Rattle.std.specs.Prelude.{◌≡◌, ◌≤◌, All, IfErr, IfOk, OnOk, length};
+ghost use Rattle.mltl_base.specs.Queues.{slot_count, worst_delays};
+ghost use Rattle.mltl_base.specs.Subformulas.{IsGraphOf, IsTensed};
+ghost use Rattle.c2po_nodes.specs.Nodes.{AreSound, trees};
+ghost use Rattle.c2po_nodes.specs.Outputs.{NamesFormulas, asked, asked_in};
+ghost use Rattle.core_graph.specs.Limits.{AreFew};
+ghost use Rattle.delay_sizes.specs.Sizing.{AreSizesOf, IsSizable};
+ghost use Rattle.obs_verify.specs.Layout.{HasLayout};
+ghost use Rattle.obs_verify.specs.WellFormed.{IsWellFormed};
+ghost use Rattle.c2po_compile.specs.Conditions.{IsBuildable};
+ghost use Rattle.c2po_compile.specs.Images.{IsImageOf};
+ghost use Rattle.c2po_compile.specs.BuildLimits.{IsReason, IsSizeReason, IsWithinLimits};
+
+use crate::build_fault::BuildFault;
+use crate::stored::store_signals;
+use c2po_nodes::Expanded;
+use core_graph::{GraphFault, to_core};
+use delay_sizes::{DelayFault, SizeFault, delays, queue_sizes};
+use mltl_base::limits::{MAX_DELAY, MAX_SLOTS};
+use mltl_base::{Columns, Graph, List, Program, Signal, Sizes};
+use obs_verify::{Checked, VerifyFault, verify};
+use std::alloc::Global;
+
+/// The checked program of a specification that is unfolded, over the columns of its signals.
+///
+/// It is the image of the specification where that keeps the limits of instructions, delays and slots. Else the fault
+/// names the first of these limits that it exceeds. The verifier finds no fault in an image.
+pub fn build(
+    alloc: Global,
+    spec: &Expanded,
+    signals: &List<Signal>,
+    columns: &Columns,
+) -> Result<Checked, BuildFault>
+    requires { IsBuildable spec.now signals.now columns.now }
+    ensures image { IfOk result
+        (λ checked. IsImageOf signals.now columns.now (asked spec.now) checked) }
+    ensures within { OnOk result (IsWithinLimits (asked_in columns.now.of_signal spec.now)) }
+    ensures refused { IfErr result (IsReason (asked_in columns.now.of_signal spec.now)) }
+{
+    let graph = graph_of(alloc, spec, columns)?;
+    let sizes = sizes_of(alloc, &graph)?;
+    let stored = store_signals(alloc, signals.as_slice(), columns.of_signal.as_slice())?;
+    let Graph { bz, ft, pt, outs } = graph;
+    let program = Program {
+        version: 2,
+        width: columns.width,
+        bz,
+        ft,
+        pt,
+        outs,
+        sizes,
+        signals: stored,
+    };
+    verified(alloc, program)
+}
+
+/// The graph, or that it has too many instructions.
+fn graph_of(alloc: Global, spec: &Expanded, columns: &Columns) -> Result<Graph, BuildFault>
+    requires nodes { AreSound (length columns.now.of_signal) spec.now.nodes }
+    requires outs { All (NamesFormulas (trees spec.now.nodes)) spec.now.outs }
+    requires tensed { All IsTensed (asked spec.now) }
+    ensures graph { IfOk result
+        (λ graph. IsGraphOf (asked_in columns.now.of_signal spec.now) graph) }
+    ensures few { OnOk result (AreFew (asked_in columns.now.of_signal spec.now)) }
+    ensures refused { IfErr result (IsReason (asked_in columns.now.of_signal spec.now)) }
+{
+    match to_core(alloc, spec, columns) {
+        Ok(graph) => Ok(graph),
+        Err(GraphFault::TooManyNodes) => Err(BuildFault::TooManyNodes),
+        Err(GraphFault::Memory) => Err(BuildFault::Memory),
+    }
+}
+
+/// The sizes of a graph, or that it is too late or needs too many slots.
+fn sizes_of(alloc: Global, graph: &Graph) -> Result<Sizes, BuildFault>
+    requires { IsSizable graph.now }
+    ensures sizes { IfOk result (AreSizesOf graph.now) }
+    ensures in_time { OnOk result (All (λ rows. rows ≤ MAX_DELAY) (worst_delays graph.now.ft)) }
+    ensures fits { OnOk result (slot_count graph.now.ft graph.now.pt graph.now.outs ≤ MAX_SLOTS) }
+    ensures refused { IfErr result (IsSizeReason graph.now) }
+{
+    let delays = match delays(alloc, &graph.ft) {
+        Ok(delays) => delays,
+        Err(DelayFault::TooLate(_)) => return Err(BuildFault::TooLate),
+        Err(DelayFault::Memory) => return Err(BuildFault::Memory),
+    };
+    match queue_sizes(alloc, graph, &delays) {
+        Ok(sizes) => Ok(sizes),
+        Err(SizeFault::TooManySlots) => Err(BuildFault::TooManySlots),
+        Err(SizeFault::Memory) => Err(BuildFault::Memory),
+    }
+}
+
+/// A well-formed program as a checked one: the verifier finds no fault in it.
+fn verified(alloc: Global, program: Program) -> Result<Checked, BuildFault>
+    requires layout { HasLayout program }
+    requires well_formed { IsWellFormed program }
+    ensures kept { IfOk result (λ checked. checked ≡ program) }
+    ensures refused { IfErr result (λ fault. fault ≡ BuildFault.Memory) }
+{
+    match verify(alloc, program) {
+        Ok(checked) => Ok(checked),
+        Err(VerifyFault::Memory) => Err(BuildFault::Memory),
+        Err(_fault) => unreachable!(),
+    }
+}

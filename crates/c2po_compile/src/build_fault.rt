@@ -1,0 +1,42 @@
+//! Why a specification has no program.
+
+ghost use Rattle.std.specs.Prelude.{◌≡◌};
+
+use std::alloc::{AllocError, AllocFailed};
+use thiserror::Error;
+
+/// The first limit that a specification exceeds: instructions, then delays, then slots.
+#[derive(Clone, Copy, PartialEq, Eq, Debug, Error)]
+pub enum BuildFault {
+    /// A part would have more instructions than the limit.
+    #[error("too many nodes")]
+    TooManyNodes,
+    /// A future-time instruction would have a worst-case delay above the limit.
+    #[error("delay too large")]
+    TooLate,
+    /// The queues and boxes would have more slots together than the limit.
+    #[error("too many slots")]
+    TooManySlots,
+    #[error("out of memory")]
+    Memory,
+}
+
+impl From<AllocError> for BuildFault {
+    ghost use Rattle.c2po_compile.specs.declared.build_fault.BuildFault.TheVariants.{Memory};
+
+    ghost from_gives = { λ _ fault. fault ≡ Memory };
+
+    fn from(_refused: AllocError) -> BuildFault {
+        BuildFault::Memory
+    }
+}
+
+impl<T: Drop> From<AllocFailed<T>> for BuildFault {
+    ghost use Rattle.c2po_compile.specs.declared.build_fault.BuildFault.TheVariants.{Memory};
+
+    ghost from_gives = { λ _ fault. fault ≡ Memory };
+
+    fn from(_refused: AllocFailed<T>) -> BuildFault {
+        BuildFault::Memory
+    }
+}

@@ -1,7 +1,0 @@
-use Rattle.std.proofs.Common.{◌≡◌, drop}
-use Rattle.c2po_kinds.specs.Kinds.{fit}
-use Rattle.c2po_kinds.proofs.operand.fits.Given as goal
-
--- those before fit
-abbrev pub invariant-loop-i : goal.invariant-loop-i
-invariant-loop-i l = fit (drop l.i l.fields) (drop l.i l.operands) ≡ fit l.fields l.operands

@@ -1,7 +1,0 @@
-use Rattle.std.proofs.Common.{◌≡◌}
-use Rattle.c2po_kinds.specs.Scopes.{visible}
-use Rattle.c2po_kinds.proofs.scope.Scope.declared.Given as goal
-
--- what is left of the scope has the same declarations
-abbrev pub invariant-loop-rest : goal.invariant-loop-rest
-invariant-loop-rest l = (visible l.rest).declared ≡ (visible l.self).declared

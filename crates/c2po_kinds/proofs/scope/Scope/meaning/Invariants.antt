@@ -1,7 +1,0 @@
-use Rattle.std.proofs.Common.{◌≡◌}
-use Rattle.c2po_kinds.specs.Scopes.{visible, meaning_of}
-use Rattle.c2po_kinds.proofs.scope.Scope.meaning.Given as goal
-
--- what is left of the scope gives the name the same meaning
-abbrev pub invariant-loop-rest : goal.invariant-loop-rest
-invariant-loop-rest l = meaning_of l.name (visible l.rest) ≡ meaning_of l.name (visible l.self)

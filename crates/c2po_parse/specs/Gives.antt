@@ -1,0 +1,9 @@
+use Rattle.std.specs.Prelude.{◌≡◌, Option, Some, None, Result, Ok, Err, ⊤}
+use Rattle.c2po_parse.specs.declared.tree_fault.TreeFault.{TreeFault}
+use Rattle.c2po_parse.specs.declared.tree_fault.TreeFault.TheVariants.{NoTree, Memory}
+
+-- What was read, as view sees it, is what there is to be read. Where there is something, it can only be out of memory.
+abbrev pub Gives : {X Y : Type 0} → (X → Y) → Result X TreeFault → Option Y → Type 0
+Gives view (Ok x) o = o ≡ Some (view x)
+Gives view (Err NoTree) o = o ≡ None
+Gives view (Err Memory) o = ⊤

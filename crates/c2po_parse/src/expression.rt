@@ -1,0 +1,216 @@
+//! The reading of an expression from the left, by climbing the levels of its operators.
+
+ghost use Rattle.std.specs.Prelude.{◌≡◌, ◌+◌, ◌<◌, ◌≤◌, length, suc, map, MatchResult};
+ghost use Rattle.c2po_parse.specs.declared.tree_fault.TreeFault.TheVariants.{NoTree};
+ghost use Rattle.c2po_ast.specs.Shape.{shape};
+ghost use Rattle.c2po_parse.specs.Gives.{Gives};
+ghost use Rattle.c2po_parse.specs.Tokens.{right_level};
+ghost use Rattle.c2po_parse.specs.Splitting.{tree_of};
+ghost use Rattle.c2po_parse.specs.Climbing.{climb, climb_all, closed, bound, before, Whole, Operand, Rest, Elements};
+
+use crate::front::{take_middle, take_operator, take_sign, take_start};
+use crate::node::{
+    add_member, apply_prefix, closing_of, join, operator_level, pick_of, prefix_level_of,
+};
+use crate::operator::{Bracket, Operator, Prefix, Quantifier, Start};
+use crate::{Expr, TreeFault};
+use c2po_ast::node::{enclose, leaf_of, quantify};
+use c2po_lexer::{Sign, Token};
+use mltl_base::Name;
+use mltl_base::limits::MAX_ITEM_TOKENS;
+use std::alloc::Global;
+
+/// What is left of the room for nested steps after one step.
+fn deeper(room: u32) -> Result<u32, TreeFault>
+    ensures { MatchResult result (λ left. room ≡ suc left) (λ e. (room ≡ 0) × (e ≡ NoTree)) }
+{
+    room.checked_sub(1).ok_or(TreeFault::NoTree)
+}
+
+/// The level at which the right operand of an operator is read.
+fn right_level_of(level: u8) -> u8
+    requires { level + 1 < 256 }
+    ensures { result ≡ right_level level }
+{
+    match level {
+        2 | 6 | 10 => level,
+        _ => level + 1,
+    }
+}
+
+/// An expression with operators of this level and above, and what follows it.
+#[cycle(climbing)]
+#[tactic(auto, unfolding(crate::specs::Climbing::climb))]
+fn whole(
+    alloc: Global,
+    room: u32,
+    level: u8,
+    tokens: &[Token],
+) -> Result<(Expr, &[Token]), TreeFault>
+    ensures { Gives (λ x. (shape x.0, x.1.now)) result (climb room (Whole level) tokens.now) }
+{
+    let room = deeper(room)?;
+    let (left, rest) = operand(alloc, room, level, tokens)?;
+    follow(alloc, room, level, left, rest)
+}
+
+/// The first operand of an expression, and what follows it.
+#[cycle(climbing)]
+#[tactic(auto, unfolding(crate::specs::Climbing::climb))]
+fn operand(
+    alloc: Global,
+    room: u32,
+    level: u8,
+    tokens: &[Token],
+) -> Result<(Expr, &[Token]), TreeFault>
+    ensures { Gives (λ x. (shape x.0, x.1.now)) result (climb room (Operand level) tokens.now) }
+{
+    let room = deeper(room)?;
+    let (start, rest) = take_start(tokens).ok_or(TreeFault::NoTree)?;
+    match start {
+        Start::Leaf(line, atom) => Ok((leaf_of(line, atom), rest)),
+        Start::Before(prefix) => prefixed_operand(alloc, room, level, prefix, rest),
+        Start::Round => in_brackets(alloc, room, rest),
+        Start::Open(bracket) => elements(alloc, room, bracket, Vec::new(alloc), rest),
+        Start::Bind(line, quantifier, variable) => quantified_operand(
+            alloc, room, line, quantifier, variable, rest,
+        ),
+    }
+}
+
+/// The operand after a prefix, which no operator of a tighter level takes.
+#[cycle(climbing)]
+fn prefixed_operand(
+    alloc: Global,
+    room: u32,
+    level: u8,
+    prefix: Prefix,
+    tokens: &[Token],
+) -> Result<(Expr, &[Token]), TreeFault>
+    ensures { Gives (λ x. (shape x.0, x.1.now)) result
+        (before (climb room) level prefix tokens.now) }
+{
+    let own = prefix_level_of(prefix);
+    if own < level {
+        return Err(TreeFault::NoTree);
+    }
+    let (inner, rest) = whole(alloc, room, own, tokens)?;
+    let expr = apply_prefix(alloc, prefix, inner)?;
+    Ok((expr, rest))
+}
+
+/// An expression up to its `)`.
+#[cycle(climbing)]
+fn in_brackets(alloc: Global, room: u32, tokens: &[Token]) -> Result<(Expr, &[Token]), TreeFault>
+    ensures { Gives (λ x. (shape x.0, x.1.now)) result (closed (climb room) tokens.now) }
+{
+    let (expr, rest) = whole(alloc, room, 1, tokens)?;
+    let rest = take_sign(Sign::RightRound, rest).ok_or(TreeFault::NoTree)?;
+    Ok((expr, rest))
+}
+
+/// The set, the number where there is one, and the body of a quantifier.
+#[cycle(climbing)]
+fn quantified_operand(
+    alloc: Global,
+    room: u32,
+    line: u32,
+    quantifier: Quantifier,
+    variable: Name,
+    tokens: &[Token],
+) -> Result<(Expr, &[Token]), TreeFault>
+    ensures { Gives (λ x. (shape x.0, x.1.now)) result
+        (bound (climb room) line quantifier variable tokens.now) }
+{
+    let (set, rest) = whole(alloc, room, 1, tokens)?;
+    let (number, rest) = take_middle(quantifier, rest).ok_or(TreeFault::NoTree)?;
+    let (body, rest) = in_brackets(alloc, room, rest)?;
+    let set = Box::new(alloc, set)?;
+    let body = Box::new(alloc, body)?;
+    Ok((
+        quantify(line, quantifier, variable, set, number, body),
+        rest,
+    ))
+}
+
+/// What goes on after an operand, and what follows the whole.
+#[cycle(climbing)]
+#[tactic(auto, unfolding(crate::specs::Climbing::climb))]
+fn follow(
+    alloc: Global,
+    room: u32,
+    level: u8,
+    left: Expr,
+    tokens: &[Token],
+) -> Result<(Expr, &[Token]), TreeFault>
+    ensures { Gives (λ x. (shape x.0, x.1.now)) result
+        (climb room (Rest level (shape left)) tokens.now) }
+{
+    let room = deeper(room)?;
+    let Some((operator, rest)) = take_operator(tokens) else {
+        return Ok((left, tokens));
+    };
+    let own = operator_level(&operator);
+    if own < level {
+        return Ok((left, tokens));
+    }
+    match operator {
+        Operator::Binary(line, infix) => {
+            let (right, rest) = whole(alloc, room, right_level_of(own), rest)?;
+            let joined = join(alloc, line, infix, left, right)?;
+            follow(alloc, room, level, joined, rest)
+        }
+        Operator::Field(line, name) => {
+            let picked = pick_of(alloc, line, left, name)?;
+            follow(alloc, room, level, picked, rest)
+        }
+    }
+}
+
+/// Elements with commas between them, after those that were read, up to the sign that closes them.
+#[cycle(climbing)]
+#[tactic(auto, unfolding(crate::specs::Climbing::climb))]
+fn elements(
+    alloc: Global,
+    room: u32,
+    bracket: Bracket,
+    mut members: Vec<Expr>,
+    tokens: &[Token],
+) -> Result<(Expr, &[Token]), TreeFault>
+    ensures { Gives (λ x. (shape x.0, x.1.now)) result
+        (climb room (Elements bracket (map shape members.items)) tokens.now) }
+{
+    let room = deeper(room)?;
+    let (element, rest) = whole(alloc, room, 1, tokens)?;
+    add_member(&mut members, element)?;
+    if let Some(more) = take_sign(Sign::Comma, rest) {
+        return elements(alloc, room, bracket, members, more);
+    }
+    let rest = take_sign(closing_of(&bracket), rest).ok_or(TreeFault::NoTree)?;
+    Ok((enclose(bracket, members), rest))
+}
+
+/// How deep the reading of an item's tokens may go: 4 steps for each of at most 1,024 tokens, and one for the end.
+const ROOM: u32 = 4_097;
+
+/// An expression of all tokens, read by climbing.
+fn climbed(alloc: Global, tokens: &[Token]) -> Result<Expr, TreeFault>
+    ensures { Gives shape result (climb_all ROOM tokens.now) }
+{
+    let (expr, rest) = whole(alloc, ROOM, 1, tokens)?;
+    match rest {
+        [] => Ok(expr),
+        _ => Err(TreeFault::NoTree),
+    }
+}
+
+/// The tree of an expression: the one that splitting the tokens at the loosest operator finds, level by level.
+///
+/// The tokens are gone through once, from the left. At most 1,024 tokens are taken, so that the nesting is bounded.
+/// `NoTree` is answered exactly where the grammar has no tree for the tokens.
+pub fn read_expression(alloc: Global, tokens: &[Token]) -> Result<Expr, TreeFault>
+    requires { length tokens.now ≤ MAX_ITEM_TOKENS }
+    ensures tree { Gives shape result (tree_of tokens.now) }
+{
+    climbed(alloc, tokens)
+}

@@ -1,8 +1,0 @@
-use Rattle.std.proofs.Common.{subst, arith}
-use Rattle.c2po_ast.specs.Shape.{shape}
-use Rattle.c2po_tree.specs.Gives.{Gives}
-use Rattle.c2po_tree.proofs.Agree.{agree}
-use Rattle.c2po_tree.proofs.expression.read_expression.Goals as goal
-
-pub returns : goal.returns
-returns c = record { tree = subst (Gives shape c.climbed.result) (agree 4097 c.args.tokens.now (omega arith)) c.climbed.ensures }

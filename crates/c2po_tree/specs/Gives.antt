@@ -1,9 +1,0 @@
-use Rattle.std.specs.Prelude.{◌≡◌, Option, Some, None, Result, Ok, Err, ⊤}
-use Rattle.c2po_tree.specs.declared.fault.TreeFault.{TreeFault}
-use Rattle.c2po_tree.specs.declared.fault.TreeFault.TheVariants.{NoTree, Memory}
-
--- What was read, as view sees it, is what there is to be read. Where there is something, it can only be out of memory.
-abbrev pub Gives : {X Y : Type 0} → (X → Y) → Result X TreeFault → Option Y → Type 0
-Gives view (Ok x) o = o ≡ Some (view x)
-Gives view (Err NoTree) o = o ≡ None
-Gives view (Err Memory) o = ⊤

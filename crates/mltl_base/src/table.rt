@@ -1,0 +1,89 @@
+//! Tables of names: a name is found without a search through the others.
+
+ghost use Rattle.std.specs.Prelude.{◌≡◌, ◌<◌, ◌++◌, ◌∷◌, [], None, Some, length, option_map, slice_get, OnOk};
+ghost use Rattle.mltl_base.specs.Tables.{entry_of, is_named};
+
+use crate::Name;
+use std::alloc::{AllocError, Global};
+use std::collections::BTreeMap;
+use std::marker::Model;
+
+/// Names with what they stand for, in the order in which they were added.
+#[derive(Drop)]
+pub struct NameTable<V> {
+    /// What the names stand for.
+    values: Vec<V>,
+    /// Of each name the number of its value.
+    numbers: BTreeMap<Vec<u8>, usize>,
+}
+
+impl<V> Model for NameTable<V> {
+    ghost use Rattle.std.specs.Prelude.{List, ℕ};
+    ghost use Rattle.mltl_base.specs.Entries.{AreNumbered, entries_from};
+
+    ghost Value = { List (List ℕ × V) };
+
+    ghost view = { λ table. entries_from 0 table.numbers.entries table.values.items };
+
+    ghost invariant = { λ table. AreNumbered table.numbers.entries table.values.items };
+}
+
+impl<V> NameTable<V> {
+    /// The table without names. It takes no memory.
+    pub fn new(alloc: Global) -> Self
+        ensures { result ≡ [] }
+    {
+        NameTable {
+            values: Vec::new(alloc),
+            numbers: BTreeMap::new(alloc),
+        }
+    }
+
+    /// The number of names.
+    pub fn len(&self) -> usize
+        ensures { result ≡ length self.now }
+    {
+        self.values.len()
+    }
+
+    /// Whether a name is there.
+    pub fn contains(&self, name: &Name) -> bool
+        ensures { result ≡ is_named name.now self.now }
+    {
+        self.numbers.contains_key(name.bytes())
+    }
+}
+
+impl<V: Copy> NameTable<V> {
+    /// What a name stands for.
+    pub fn find(&self, name: &Name) -> Option<V>
+        ensures { result ≡ entry_of name.now self.now }
+    {
+        match self.numbers.get(name.bytes()) {
+            Some(number) => Some(self.values[*number]),
+            None => None,
+        }
+    }
+
+    /// What the name stands for that was added with this number, counted from 0.
+    pub fn value_at(&self, number: usize) -> V
+        requires { number < length self.now }
+        ensures { option_map (λ e. e.1) (slice_get self.now number) ≡ Some result }
+    {
+        self.values[number]
+    }
+}
+
+impl<V: Drop> NameTable<V> {
+    /// Puts a name after the others, where it isn't among them.
+    pub fn add(&mut self, alloc: Global, name: &Name, value: V) -> Result<(), AllocError>
+        requires { entry_of name.now self.old ≡ None }
+        ensures added { OnOk result (self.new ≡ self.old ++ (name.now, value) ∷ []) }
+    {
+        let key = Vec::from_slice(alloc, name.bytes())?;
+        self.values.reserve(1)?;
+        self.numbers.insert(key, self.values.len())?;
+        self.values.push(value)?;
+        Ok(())
+    }
+}

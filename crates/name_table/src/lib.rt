@@ -1,6 +1,0 @@
-//! Tables from names to what they stand for.
-#![tactic(auto)]
-
-mod table;
-
-pub use table::NameTable;

@@ -1,9 +1,0 @@
-pub mod Parts
-pub mod Cores
-pub mod Reading
-pub mod Windows
-pub mod Outputs
-pub mod Columns
-pub mod Rules
-pub mod Building
-pub mod Tenses

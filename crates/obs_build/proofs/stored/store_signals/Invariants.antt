@@ -1,6 +1,0 @@
-use Rattle.std.proofs.Common.{◌≡◌, take}
-use Rattle.obs_build.specs.Image.{stored_signals}
-use Rattle.obs_build.proofs.stored.store_signals.Given as goal
-
-abbrev pub invariant-loop-k : goal.invariant-loop-k
-invariant-loop-k l = l.list ≡ stored_signals (take l.k l.signals) (take l.k l.columns)

@@ -1,3 +1,0 @@
-pub mod Conditions
-pub mod Image
-pub mod Limits

@@ -1,0 +1,172 @@
+-- What each phase of a run tells.
+
+use Rattle.std.specs.Prelude.{◌≡◌, ℕ, ◌<◌, ◌≤◌, ◌⊎◌, Bool, true, false, if◌then◌else◌, Option, Some, None, Result, Ok}
+use Rattle.std.specs.Prelude.{Err, List, [], ◌∷◌, ◌++◌, length}
+use Rattle.std.specs.List.{concat}
+use Rattle.mltl_base.specs.declared.limits.TheConstants.{MAX_LINE_BYTES}
+use Rattle.mltl_base.specs.declared.program.Program.{Program}
+use Rattle.tool_io.specs.declared.host.Place as place
+use Rattle.tool_io.specs.Log.{Event, taken, given, ended_from, names_of, IsFront, Reads, meets_end, Prompt}
+use Rattle.tool_io.specs.Cutting.{Cutting, HasNoNewline, IsRow, OnlyWhereNeeded, line_text, next_number}
+use Rattle.c2po_ast.specs.ItemShape.{spec_shape}
+use Rattle.obs_files.specs.Faults.{opened}
+use Rattle.c2po_compile.specs.Front.{items_in, first_refusal}
+use Rattle.tool_words.specs.declared.file_kind.FileKind.{FileKind}
+use Rattle.tool_words.specs.declared.file_kind.FileKind.TheVariants as kinds
+use Rattle.tool_words.specs.R2u2Words.{RunAsked}
+use Rattle.trace_feed.specs.Header.{begins_header}
+use Rattle.r2u2_monitor.specs.declared.state.State.{State}
+use Rattle.trace_feed.specs.declared.trace_why.TraceWhy.TheVariants.{LongLine}
+use Rattle.r2u2_watch.specs.declared.status.Watched as watched
+use Rattle.r2u2_watch.specs.Watch.{OnlyRun, IsWatch, first_of}
+use Rattle.r2u2_cli.specs.declared.opening.Opened.{Opened}
+use Rattle.r2u2_cli.specs.declared.opening.Opened.TheVariants as file
+use Rattle.tool_words.specs.declared.status.Status as status
+use Rattle.tool_words.specs.Attaching.{OpensAsTold, ReadsAttached}
+use Rattle.tool_words.specs.Files.{file_place}
+use Rattle.tool_words.specs.Telling.{is_used}
+use Rattle.r2u2_cli.specs.ProgramBy.{file_refusal, program_by, program_over}
+use Rattle.r2u2_cli.specs.Outcome.{due_by, rows_by, Silent, LinesOutcome}
+use Rattle.r2u2_cli.specs.Taken.{BegunFor, trace_of, trace_ended, lines_in, ReadsFirstLine}
+
+-- what was made of a file: a specification that says its items, or the program that its bytes spell
+abbrev pub Opens : Opened → FileKind → List ℕ → Type 0
+Opens (file.Spec spec) kind bytes =
+    (kind ≡ kinds.Spec) × (first_refusal bytes ≡ None) × (spec_shape spec ≡ items_in bytes)
+Opens (file.Program checked) kind bytes = (kind ≡ kinds.Program) × (opened bytes ≡ Ok checked)
+
+-- the first line of the trace was read, and nothing was cut
+pub record FirstRead (cut : Cutting) (events : List Event) : Type 0 where
+  pub pieces : List (List ℕ)
+  pub reads : Reads place.TheVariants.Trace pieces events
+  pub needed : OnlyWhereNeeded [] pieces
+  pub pending : cut.pending ≡ concat pieces
+  pub ended : cut.ended ≡ meets_end false pieces
+
+-- the first line stands in front of what a cut gives next; or the trace has none
+abbrev pub StandsFirst : Option (List ℕ) → List ℕ → Bool → Type 0
+StandsFirst None pending ended = (pending ≡ []) × (ended ≡ true)
+StandsFirst (Some raw) pending ended =
+    (rest : List ℕ) × (pending ≡ raw ++ rest) × (length raw ≤ MAX_LINE_BYTES) × IsRow raw rest ended
+
+-- the cut gives the first line of the trace next
+pub record IsFirst (cut : Cutting) : Type 0 where
+  pub numbered : next_number cut ≡ 1
+  pub low : cut.number ≤ 1
+  pub stands : StandsFirst cut.row cut.pending cut.ended
+
+-- the header, where the first line is one
+abbrev pub header_of_row : Option (List ℕ) → Option (List ℕ)
+header_of_row None = None
+header_of_row (Some raw) = if begins_header (line_text raw) then Some (line_text raw) else None
+
+-- the same of the row that a cut has
+abbrev pub header_at : Cutting → Option (List ℕ)
+header_at cut = header_of_row cut.row
+
+-- the log of reading the first line, or why it gives none
+abbrev pub FirstLog : Result Bool status.Status → Cutting → List Event → Type 0
+FirstLog (Ok any) cut events = FirstRead cut events × IsFirst cut
+FirstLog (Err (status.TheVariants.BadTrace number LongLine)) cut events =
+    FirstRead cut events × (number ≡ 1) × HasNoNewline cut.pending × (length cut.pending ≡ MAX_LINE_BYTES)
+FirstLog (Err (status.TheVariants.ReadFault place.TheVariants.Trace)) cut events =
+    FirstRead cut events × HasNoNewline cut.pending × (length cut.pending < MAX_LINE_BYTES) × (cut.ended ≡ false)
+FirstLog (Err answer) cut events = ⊥
+
+-- the status of a run whose loop ended so
+abbrev pub status_of : watched.Watched → status.Status
+status_of watched.TheVariants.Done = status.TheVariants.Done
+status_of (watched.TheVariants.BadTrace number why) = status.TheVariants.BadTrace number why
+status_of watched.TheVariants.TooLong = status.TheVariants.TooLong
+status_of watched.TheVariants.ReadFault = status.TheVariants.ReadFault place.TheVariants.Trace
+status_of watched.TheVariants.WriteFault = status.TheVariants.WriteFault place.TheVariants.Out
+
+-- the loop ran over what the cut had and what was read, with a monitor that is kept; or it was out of memory before
+pub record RanLoop (program : Program) (asked : RunAsked) (start : Cutting) (answer : status.Status)
+    (kept : Option State) (events : List Event) : Type 0 where
+  pub cut : Cutting
+  pub monitor : State
+  pub ended_so : watched.Watched
+  pub is : answer ≡ status_of ended_so
+  pub watch : IsWatch program asked.style (rows_by asked program (first_of start)) start cut monitor ended_so events
+  pub kept_is : kept ≡ Some monitor
+
+-- out of memory, and nothing was done
+pub record NoMemory (answer : status.Status) (kept : Option State) (events : List Event) : Type 0 where
+  pub is : answer ≡ status.TheVariants.Memory
+  pub no_monitor : kept ≡ None
+  pub no_events : events ≡ []
+
+-- the log of a loop over a trace, where memory came for its monitor
+abbrev pub LoopLog : Program → RunAsked → Cutting → status.Status → Option State → List Event → Type 0
+LoopLog program asked start answer kept events =
+    NoMemory answer kept events ⊎ RanLoop program asked start answer kept events
+
+-- the header or a limit refused the program, or it was out of memory
+pub record NoProgram (asked : RunAsked) (bytes : List ℕ) (start : Cutting) (answer : status.Status)
+    (kept : Option State) (events : List Event) : Type 0 where
+  pub why : (answer ≡ status.TheVariants.Memory) ⊎ (program_by asked.kind bytes (header_at start) ≡ Err answer)
+  pub no_monitor : kept ≡ None
+  pub no_events : events ≡ []
+
+-- there is a program, which ran
+pub record HasProgram (asked : RunAsked) (bytes : List ℕ) (start : Cutting) (answer : status.Status)
+    (kept : Option State) (events : List Event) : Type 0 where
+  pub program : Program
+  pub is : program_by asked.kind bytes (header_at start) ≡ Ok program
+  pub loop : LoopLog program asked start answer kept events
+
+-- the log of a run whose first line was read
+abbrev pub RanRows : RunAsked → List ℕ → Cutting → status.Status → Option State → List Event → Type 0
+RanRows asked bytes start answer kept events =
+    NoProgram asked bytes start answer kept events ⊎ HasProgram asked bytes start answer kept events
+
+-- the log of a run over the lines of an attached trace
+pub record RanLines (asked : RunAsked) (bytes : List ℕ) (answer : status.Status) (kept : Option State)
+    (events : List Event) : Type 0 where
+  pub only : OnlyRun events
+  pub prompt : Prompt (due_by asked (program_over asked.kind bytes (lines_in events)) false) [] events
+  pub outcome : LinesOutcome answer asked (program_over asked.kind bytes (lines_in events)) (trace_ended events)
+      (trace_of events) (given place.TheVariants.Out events) kept
+  pub begun : BegunFor answer (trace_ended events) (lines_in events)
+  pub early : answer ≡ status.TheVariants.Memory → ReadsFirstLine events
+
+-- how a run over a trace that is to be attached ends
+abbrev pub TraceOutcome : status.Status → RunAsked → List ℕ → List Event → Option State → Type 0
+TraceOutcome (status.TheVariants.OpenFault place.TheVariants.Trace) asked bytes events kept =
+    Silent (given place.TheVariants.Out events) kept
+TraceOutcome answer asked bytes events kept =
+    LinesOutcome answer asked (program_over asked.kind bytes (lines_in events)) (trace_ended events) (trace_of events)
+    (given place.TheVariants.Out events) kept
+
+-- the log of a run over a trace that is to be attached; nothing is read of the file
+pub record RanTrace (asked : RunAsked) (bytes : List ℕ) (answer : status.Status) (kept : Option State)
+    (events : List Event) : Type 0 where
+  pub names : IsFront (names_of events) ((place.TheVariants.Trace, asked.trace) ∷ [])
+  pub attached : ReadsAttached [] events
+  pub no_file : taken (file_place asked.kind) events ≡ []
+  pub no_file_end : (ended : Bool) → ended_from ended (file_place asked.kind) events ≡ ended
+  pub prompt : Prompt (due_by asked (program_over asked.kind bytes (lines_in events)) false) [] events
+  pub outcome : TraceOutcome answer asked bytes events kept
+  pub opened : OpensAsTold answer events
+  pub begun : BegunFor answer (trace_ended events) (lines_in events)
+  pub early : answer ≡ status.TheVariants.Memory → ReadsFirstLine events
+  pub quiet : is_used place.TheVariants.Err events ≡ false
+
+-- the file is refused by itself, or it was out of memory
+pub record NotOpened (asked : RunAsked) (bytes : List ℕ) (answer : status.Status) (kept : Option State)
+    (events : List Event) : Type 0 where
+  pub why : (answer ≡ status.TheVariants.Memory) ⊎ (file_refusal asked.kind bytes ≡ Some answer)
+  pub no_monitor : kept ≡ None
+  pub no_events : events ≡ []
+
+-- it isn't, and the trace was run over
+pub record IsOpened (asked : RunAsked) (bytes : List ℕ) (answer : status.Status) (kept : Option State)
+    (events : List Event) : Type 0 where
+  pub unrefused : file_refusal asked.kind bytes ≡ None
+  pub ran : RanTrace asked bytes answer kept events
+
+-- the log of a run after the reading of its file
+abbrev pub RanFile : RunAsked → List ℕ → status.Status → Option State → List Event → Type 0
+RanFile asked bytes answer kept events =
+    NotOpened asked bytes answer kept events ⊎ IsOpened asked bytes answer kept events
