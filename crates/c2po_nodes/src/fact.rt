@@ -6,7 +6,8 @@ ghost use Rattle.c2po_nodes.specs.Faults.{or_later, why_none};
 ghost use Rattle.c2po_nodes.specs.Facts.{any_fault, between_fact, fact_view, fault_in, future_in, joined_fact, node_fact, past_in, range_by, range_in, told, told_fault, truth, windowed_fact};
 
 use crate::Plain;
-use mltl_base::{ArithOp, BetweenOp, NoRange, Range, WindowOp};
+use mltl_base::range::{self, NoRange, Range};
+use mltl_base::{ArithOp, BetweenOp, WindowOp};
 
 /// Whether operators of the past, and of the future, are in a formula.
 #[derive(Clone, Copy)]
@@ -69,7 +70,7 @@ fn range_at(facts: &[Fact], n: u32) -> Result<Range, NoRange>
 {
     match facts.get(n as usize) {
         Some(Fact::Number(range)) => *range,
-        _ => Ok(mltl_base::constant(0)),
+        _ => Ok(range::constant(0)),
     }
 }
 
@@ -98,7 +99,7 @@ pub(crate) fn tenses_at(facts: &[Fact], n: u32) -> Tenses
 fn negated_range(a: Result<Range, NoRange>) -> Result<Range, NoRange>
     ensures { told result ≡ over negated (told a) }
 {
-    mltl_base::negation(a?)
+    range::negation(a?)
 }
 
 /// The range of two whole numbers under an operator, where they have one: the left one first.
@@ -112,11 +113,11 @@ fn computed_range(
     let a = a?;
     let b = b?;
     match op {
-        ArithOp::Add => mltl_base::sum(a, b),
-        ArithOp::Sub => mltl_base::difference(a, b),
-        ArithOp::Mul => mltl_base::product(a, b),
-        ArithOp::Div => mltl_base::quotient(a, b),
-        ArithOp::Rem => mltl_base::remainder(a, b),
+        ArithOp::Add => range::sum(a, b),
+        ArithOp::Sub => range::difference(a, b),
+        ArithOp::Mul => range::product(a, b),
+        ArithOp::Div => range::quotient(a, b),
+        ArithOp::Rem => range::remainder(a, b),
     }
 }
 
@@ -183,8 +184,8 @@ pub(crate) fn fact_of(facts: &[Fact], node: &Plain) -> Fact
 {
     match *node {
         Plain::Truth(_) | Plain::Flag(_) => plain_formula(None),
-        Plain::Number(n) => Fact::Number(Ok(mltl_base::constant(n))),
-        Plain::Signal(_) => Fact::Number(Ok(mltl_base::signal())),
+        Plain::Number(n) => Fact::Number(Ok(range::constant(n))),
+        Plain::Signal(_) => Fact::Number(Ok(range::signal())),
         Plain::Minus(a) => Fact::Number(negated_range(range_at(facts, a))),
         Plain::Arith(op, a, b) => Fact::Number(computed_range(
             op,

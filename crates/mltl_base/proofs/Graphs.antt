@@ -1,6 +1,6 @@
 -- The graph of a specification unfolds to its outputs over their core forms, which say the same.
 
-use Rattle.std.proofs.Common.{◌≡◌, ℕ, suc, Bool, true, false, if◌then◌else◌, Some, List, [], ◌∷◌, ◌++◌, map, All, length, drop, slice_get, refl, ap, ap₂, ◌∙◌, arith}
+use Rattle.std.proofs.Common.{◌≡◌, ℕ, suc, Bool, if◌then◌else◌, Some, List, [], ◌∷◌, ◌++◌, map, All, length, drop, slice_get, refl, ap, ap₂, ◌∙◌, arith}
 use Rattle.std.proofs.lemmas.Option.{get_or_from_slice_get}
 use Rattle.mltl_base.specs.declared.interval.Engine.{Engine}
 use Rattle.mltl_base.specs.declared.interval.Engine.TheVariants.{Ft, Pt}

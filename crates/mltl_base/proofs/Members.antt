@@ -1,6 +1,6 @@
 -- What each member of a list has, and where members stand.
 
-use Rattle.std.proofs.Common.{◌≡◌, ℕ, zero, suc, Some, List, [], ◌∷◌, ◌++◌, All, length, slice_get, refl, arith}
+use Rattle.std.proofs.Common.{◌≡◌, zero, suc, Some, List, [], ◌∷◌, ◌++◌, All, length, slice_get, refl, arith}
 use Rattle.mltl_base.proofs.Unfolding.{Each}
 
 pub all_from_each : {X : Type 0} (P : X → Type 0) (xs : List X) → Each P xs → All P xs

@@ -12,7 +12,7 @@ pub mod list;
 pub mod name;
 pub mod operators;
 pub mod program;
-mod range;
+pub mod range;
 pub mod report;
 pub mod signal;
 mod table;
@@ -23,9 +23,7 @@ pub use list::List;
 pub use name::Name;
 pub use operators::{ArithOp, BetweenOp, BzOp, CompareOp, CountOp, FtOp, LogicOp, PtOp, WindowOp};
 pub use program::{Columns, Graph, Out, Program, Sizes, StoredSignal};
-pub use range::{
-    NoRange, Range, constant, difference, negation, product, quotient, remainder, signal, sum,
-};
+pub use range::{NoRange, Range};
 pub use report::{Report, Style, Word};
 pub use signal::Signal;
 pub use table::NameTable;

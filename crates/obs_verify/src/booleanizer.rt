@@ -10,10 +10,8 @@ ghost use Rattle.obs_verify.specs.WellFormed.{IsAnswer, bz_fault, first_in, has_
 
 use crate::fault::VerifyFault;
 use crate::signals::Kinds;
-use mltl_base::{
-    BzOp, NoRange, Part, Program, Range, constant, difference, negation, product, quotient,
-    remainder, signal, sum,
-};
+use mltl_base::range::{constant, difference, negation, product, quotient, remainder, signal, sum};
+use mltl_base::{BzOp, NoRange, Part, Program, Range};
 use std::alloc::Global;
 
 /// Whether the instructions of the Booleanizer read what they may read, divide by numbers, and stay within 64 bits.
