@@ -1,7 +1,9 @@
 //! The parser of the compiler: from the tokens of a specification to the trees of its items.
 //!
-//! The grammar stands in this crate's `specs/` and, for expressions, in those of `c2po_parse`. A tree comes exactly where
-//! the grammar gives one to each item; else the first faulty item is answered with its line.
+//! The grammar is in this crate's `specs/`. A tree comes exactly where the grammar gives one to each item; otherwise the
+//! first faulty item is returned with its line. The tree of an expression is defined by splitting its tokens at the
+//! loosest operator outside brackets, level by level: at the last one, or at the first for `->`. The code reads the
+//! tokens once, from the left, and climbs the levels.
 //!
 //! ```text
 //! let tokens = lex(alloc, b"INPUT p, q: bool; FTSPEC f: p -> F[0,3] q;")?;
@@ -20,8 +22,8 @@ pub mod section;
 pub mod tree_fault;
 
 pub use c2po_ast::{
-    Body, Body, Expr, Expr, FieldDecl, FieldDecl, Item, Item, Node, Node, SpecTree, SpecTree,
-    TypeTree, TypeTree, copy_tree, copy_type, field_names, item, tree,
+    Body, Expr, FieldDecl, Item, Node, SpecTree, TypeTree, copy_tree, copy_type, field_names, item,
+    tree,
 };
 pub use expression::read_expression;
 pub use fault::ParseFault;

@@ -1,5 +1,9 @@
 //! The checker of the compiler: names, kinds, weights, ranges and tenses of a specification.
 //!
+//! A value is an integer, a truth, a struct or a set. The definitions in this crate's `specs/` give each expression its
+//! kind, or its first fault of names and kinds, and they say what items declare. A name is visible from the item after
+//! its declaration on.
+//!
 //! The first fault of a specification is defined in this crate's `specs/`: items in the order of the text, within an
 //! item names and kinds first, operands before operators and from left to right; then the weight of what it unfolds to,
 //! divisors and ranges, and tenses. `check` answers it, or the tree as it stands where there is none.
@@ -24,7 +28,6 @@ pub mod scope;
 pub mod steps;
 pub mod typed;
 
-pub use crate::{Signal, TypeFault};
 pub use checking::check;
 pub use declarations::Declarations;
 pub use expression::kind_of;

@@ -1,4 +1,4 @@
-//! An observer program as the text of a specification.
+//! An observer program for people: as the text of a specification, and as a table of its instructions.
 #![tactic(auto)]
 
 mod fault;

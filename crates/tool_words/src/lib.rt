@@ -1,4 +1,5 @@
-//! The words of the two programs' command lines, and what they ask for.
+//! The words of the two programs' command lines and what they ask for; how their runs end, with their messages; and
+//! reading a file whole.
 //!
 //! Help is asked for by the one word `--help`, or the one word `-h`. All other words are read by `clap`, as one command
 //! with options, flags and positionals; how numbers are spelled and which words stand together is checked after that.
