@@ -6,28 +6,17 @@
 //! no stored output.
 #![tactic(auto)]
 
-mod files;
-mod operands;
-mod outcome;
-mod piece;
-mod plain;
-mod print;
 mod run;
-mod scene;
-mod script;
-mod setting;
-mod step;
-mod tally;
-mod told;
 
 use anyhow::Result;
+use case_script::{Tally, play};
+use run::Programs;
 use std::io;
 use std::process::ExitCode;
-use tally::Tally;
 
 fn play_input(rt: &(impl Print + Eprint + Input + AllocGlobal)) -> Result<Tally> {
     let script = io::read_to_string(rt.alloc(), rt.reader())?;
-    let tally = script::play(rt, rt.alloc(), script.as_str())?;
+    let tally = play(rt, &Programs, rt.alloc(), script.as_str())?;
     eprintln!(rt; "{tally}")?;
     if tally.is_whole() {
         println!(rt; "all cases agree")?;

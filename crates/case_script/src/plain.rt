@@ -6,6 +6,7 @@
 ghost use Rattle.std.specs.Prelude.{◌^◌, ◌≤◌, length};
 
 use crate::operands::Operands;
+use crate::outcome::Outcome;
 use anyhow::{Context, Error, Result, anyhow, bail};
 use mltl_base::{List, Style};
 use mltl_oracle::{Fault, Output, meaning, reports, verdicts, words};
@@ -108,4 +109,18 @@ pub fn shown(alloc: Global, text: &str) -> Result<String> {
         "meaning" => decided(alloc, outs.as_slice(), rows.as_slice()),
         _ => bail!("no such answer: {kind}"),
     }
+}
+
+/// Runs the plain program: its result is the output; without one the reason is the error output.
+pub fn plain_outcome(alloc: Global, text: &str) -> Result<Outcome> {
+    let mut outcome = Outcome::new(alloc);
+    match shown(alloc, text) {
+        Ok(answer) => outcome.output.extend_from_slice(answer.as_bytes())?,
+        Err(error) => {
+            outcome.status = 1;
+            let reason = format!(in alloc; "{error}\n")?;
+            outcome.errors.extend_from_slice(reason.as_bytes())?;
+        }
+    }
+    Ok(outcome)
 }

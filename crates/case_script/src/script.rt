@@ -1,9 +1,9 @@
 //! A script, line by line.
 
+use crate::asked::Asked;
 use crate::outcome::{Outcome, Parts};
 use crate::piece::Piece;
 use crate::print::{print_difference, print_untimely};
-use crate::run::{Asked, outcome_of};
 use crate::scene::{Room, Scenes};
 use crate::setting::Setting;
 use crate::step::{Step, step_of};
@@ -12,6 +12,18 @@ use crate::told::{Told, front_len, line_count, out_after};
 use anyhow::{Context, Result, bail};
 use std::alloc::Global;
 use tool_io::Place;
+
+/// What a script's runs are made by.
+pub trait Run {
+    /// Runs the words of a script under a setting, over the files of its scenes.
+    fn outcome(
+        &self,
+        alloc: Global,
+        scenes: &Scenes,
+        text: &str,
+        setting: Setting,
+    ) -> Result<Outcome>;
+}
 
 /// What is known after some lines of a script.
 #[derive(Drop)]
@@ -132,25 +144,25 @@ impl Stage {
     }
 
     /// Makes the run that was asked for, if there is one, for each length of its file.
-    fn settle(&mut self, rt: &impl Print) -> Result<()> {
+    fn settle(&mut self, rt: &impl Print, runner: &impl Run) -> Result<()> {
         let Some(asked) = self.asked.take() else {
             return Ok(());
         };
         let Some((from, to)) = asked.lengths else {
-            return self.run(rt, &asked, None);
+            return self.run(rt, runner, &asked, None);
         };
         if to < from {
             bail!("no length from {from} to {to}");
         }
         for length in (from..=to).rev() {
             self.scenes.own.files.cut(length)?;
-            self.run(rt, &asked, Some(length))?;
+            self.run(rt, runner, &asked, Some(length))?;
         }
         Ok(())
     }
 
     /// Makes a run with each limit of its reads, and those that show when its lines are out.
-    fn run(&mut self, rt: &impl Print, asked: &Asked, length: Option<usize>) -> Result<()> {
+    fn run(&mut self, rt: &impl Print, runner: &impl Run, asked: &Asked, length: Option<usize>) -> Result<()> {
         let blocks = self.scenes.blocks()?;
         for block in &blocks {
             let setting = Setting {
@@ -158,17 +170,17 @@ impl Stage {
                 length,
                 failing: asked.failing,
             };
-            self.run_under(rt, asked, setting)?;
+            self.run_under(rt, runner, asked, setting)?;
         }
         if asked.told.is_empty() {
             return Ok(());
         }
-        self.run_by_lines(rt, asked, length)
+        self.run_by_lines(rt, runner, asked, length)
     }
 
     /// Makes a run under a setting.
-    fn run_under(&mut self, rt: &impl Print, asked: &Asked, setting: Setting) -> Result<()> {
-        let found = outcome_of(self.alloc, &self.scenes, asked.words.as_str(), setting)?;
+    fn run_under(&mut self, rt: &impl Print, runner: &impl Run, asked: &Asked, setting: Setting) -> Result<()> {
+        let found = runner.outcome(self.alloc, &self.scenes, asked.words.as_str(), setting)?;
         let parts = Parts::of(&found, &asked.wanted);
         self.tally.count_run(parts == asked.meant);
         if parts != asked.meant {
@@ -183,6 +195,7 @@ impl Stage {
     fn run_by_lines(
         &mut self,
         rt: &impl Print,
+        runner: &impl Run,
         asked: &Asked,
         length: Option<usize>,
     ) -> Result<()> {
@@ -195,7 +208,7 @@ impl Stage {
                 length,
                 failing: Some((Place::Trace, call)),
             };
-            self.run_to_line(rt, asked, setting, lines)?;
+            self.run_to_line(rt, runner, asked, setting, lines)?;
         }
         Ok(())
     }
@@ -204,11 +217,12 @@ impl Stage {
     fn run_to_line(
         &mut self,
         rt: &impl Print,
+        runner: &impl Run,
         asked: &Asked,
         setting: Setting,
         lines: usize,
     ) -> Result<()> {
-        let found = outcome_of(self.alloc, &self.scenes, asked.words.as_str(), setting)?;
+        let found = runner.outcome(self.alloc, &self.scenes, asked.words.as_str(), setting)?;
         let wanted = out_after(&asked.told, lines, &asked.wanted.output);
         let agrees = found.output.as_slice() == wanted;
         self.tally.count_run(agrees);
@@ -255,27 +269,27 @@ impl Stage {
         }
     }
 
-    fn play(&mut self, rt: &impl Print, line: usize, text: &str) -> Result<()> {
+    fn play(&mut self, rt: &impl Print, runner: &impl Run, line: usize, text: &str) -> Result<()> {
         let step = step_of(text)?;
         if step.is_wanted() {
             return self.want(step);
         }
-        self.settle(rt)?;
+        self.settle(rt, runner)?;
         self.take(line, step)
     }
 }
 
 /// Plays a script, prints where a run differs from what it says, and counts those that agree.
-pub fn play(rt: &impl Print, alloc: Global, script: &str) -> Result<Tally> {
+pub fn play(rt: &impl Print, runner: &impl Run, alloc: Global, script: &str) -> Result<Tally> {
     let mut stage = Stage::new(alloc);
     stage.scenes.common.set_blocks("65536")?;
     for (place, text) in script.lines().enumerate() {
         let line = place.saturating_add(1);
         stage
-            .play(rt, line, text)
+            .play(rt, runner, line, text)
             .context(format_args!("line {line}"))?;
     }
-    stage.settle(rt)?;
+    stage.settle(rt, runner)?;
     stage.end()?;
     let (cases, least) = (stage.tally.cases, stage.least);
     if cases < least {

@@ -1,7 +1,7 @@
 //! The lines that tell a reader where a run differs.
 
+use crate::asked::Asked;
 use crate::outcome::{Outcome, Parts, parting};
-use crate::run::Asked;
 use crate::setting::Setting;
 use anyhow::Result;
 use std::alloc::{AllocError, Global};
