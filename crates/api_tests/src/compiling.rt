@@ -1,4 +1,4 @@
-//! The compilation of a text under a header line, as a call of its own.
+//! Compiles a text under a header line by one call.
 
 use c2po_compile::{CompileFault, HeaderWhy, compile};
 use mltl_base::BzOp;

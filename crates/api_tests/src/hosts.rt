@@ -15,7 +15,7 @@ enum Step {
     Write(&'static [u8], Put),
 }
 
-/// The step's answer is the one that is wanted.
+/// The step returns what the case expects.
 fn answers<H: Host>(host: &mut H, step: Step, into: &mut [u8]) -> bool {
     match step {
         Step::Attach(place, name, wanted) => host.attach(place, name) == wanted,
@@ -24,7 +24,7 @@ fn answers<H: Host>(host: &mut H, step: Step, into: &mut [u8]) -> bool {
     }
 }
 
-/// A host with room for so many events and bytes, and the file `rows` with four bytes.
+/// Makes a host with room for `events` events and `bytes` bytes, and with a file `rows` of four bytes.
 fn with_rows(alloc: Global, events: usize, bytes: usize) -> Result<MemHost, AllocError> {
     let mut host = MemHost::make(alloc, events, bytes)?;
     host.put_file("rows", b"none")?;
@@ -41,7 +41,7 @@ struct Case {
     steps: [Step; 4],
 }
 
-/// All steps of the case answer as they should.
+/// All steps of the case return what it expects.
 fn all_answer(alloc: Global, case: Case) -> Result<bool, AllocError> {
     let mut host = with_rows(alloc, case.events, case.bytes)?;
     if let Some((place, call)) = case.listed {

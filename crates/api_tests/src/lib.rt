@@ -1,7 +1,7 @@
-//! Tests of calls that no program makes: on hosts, of a cut into lines after a fault, on a queue, of a compilation,
-//! of a core graph at its limit, and of what the words of a command line ask for.
+//! Tests of calls that no program makes: on hosts, on a cut into lines after a fault, on a queue, on a compilation,
+//! on a core graph at its limit, and on what command-line arguments ask a program to do.
 //!
-//! They stand apart from the crates that they test, since a crate with tests is proved twice.
+//! They are apart from the crates that they test, since a crate with tests is proved twice.
 #![tactic(auto)]
 
 #[cfg(test)]

@@ -6,7 +6,7 @@ use std::alloc::{AllocError, Global};
 use std::test::Fail;
 use tool_io::{Host, Line, LineCut, MemHost, Place};
 
-/// A host that has the bytes as its trace, with reads of at most so many bytes.
+/// Makes a host whose trace is the bytes, and whose reads return at most `most` bytes.
 fn trace_of(alloc: Global, bytes: &[u8], block: usize) -> Result<MemHost, AllocError>
     requires { 1 ≤ block }
 {
@@ -29,8 +29,8 @@ fn push_row(text: &mut Vec<u8>, cut: &LineCut) -> Result<(), AllocError>
     Ok(())
 }
 
-/// Puts the answer of the next call after the text: a row, the end as `.`, a long line as `!` and a fault as `?`.
-/// Where `keeps` says so, the row is kept.
+/// Appends the result of the next call to the text: a row, the end as `.`, a long line as `!` and a fault as `?`.
+/// Where `keeps` is true, the row is kept.
 fn push_answer<H: Host>(
     text: &mut Vec<u8>,
     cut: &mut LineCut,
@@ -51,7 +51,7 @@ fn push_answer<H: Host>(
     Ok(())
 }
 
-/// What so many calls answer. Where `keeps` says so, the row of each second call is kept.
+/// Returns the results of `calls` calls as a text. Where `keeps` is true, every second row is kept.
 fn shown<H: Host>(
     alloc: Global,
     host: &mut H,

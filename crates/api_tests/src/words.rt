@@ -5,7 +5,7 @@ use std::env::{Env, FillError};
 use std::test::Fail;
 use tool_words::{Words, c2po_ask, r2u2_ask};
 
-/// The words, which one blank parts; `~` stands for a word without letters.
+/// The arguments, separated by one blank; `~` is an empty argument.
 fn parted(alloc: Global, text: &str) -> Result<Words, AllocError> {
     let mut words = Words::new(alloc);
     for word in text.split(' ') {
@@ -14,7 +14,7 @@ fn parted(alloc: Global, text: &str) -> Result<Words, AllocError> {
     Ok(words)
 }
 
-/// What both programs make of the words.
+/// Returns what both programs make of the arguments.
 fn shown(alloc: Global, text: &str) -> Result<String, Fail> {
     let words = parted(alloc, text)?;
     let r2u2 = r2u2_ask(alloc, &words)?;

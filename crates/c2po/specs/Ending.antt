@@ -10,7 +10,8 @@ use Rattle.mltl_tools.specs.Codes.{code_of}
 use Rattle.mltl_tools.specs.C2poAsking.{ask}
 use Rattle.mltl_tools.specs.C2poRun.{IsMade}
 
--- It ends with the code of the status of a run over these words, which the log tells, where the host has one.
+-- The program ends with the code of the status of a run with these arguments, which the log shows, where the host has
+-- one.
 pub record EndsByRun (words : List (List ℕ)) (code : ℕ) (faults now : Place → ℕ) (before after : Option (List Event))
     : Type 0 where
   pub status : Status

@@ -8,7 +8,7 @@ use std::alloc::Global;
 use std::process::ExitCode;
 use tool_io::{Host, RealHost};
 
-/// Does what the words ask for. Answers the code that the program ends with.
+/// Runs the command line. Returns the exit code of the program.
 fn run<H: Host>(alloc: Global, words: &Words, host: &mut H) -> u8
     ensures { EndsByRun words.now result (H.faults host.old) (H.faults host.new)
         (H.log host.old) (H.log host.new) }

@@ -11,7 +11,7 @@ pub struct NamedBytes {
     pub bytes: Vec<u8>,
 }
 
-/// Files by name. The one that was begun last is the one that a script goes on with.
+/// Files by name. A script appends to the one that was begun last.
 #[derive(Drop)]
 pub struct Files {
     alloc: Global,
@@ -60,7 +60,7 @@ impl Files {
         Ok(())
     }
 
-    /// Ends the file after so many bytes.
+    /// Cuts the file to `length` bytes.
     pub fn cut(&mut self, length: usize) -> Result<()> {
         let bytes = self.last()?;
         if bytes.len() < length {

@@ -9,7 +9,7 @@ use crate::setting::Setting;
 use std::alloc::{AllocError, Global};
 use tool_io::{Host, MemHost};
 
-/// Lets a host of which no place is attached have these files.
+/// Puts the files into a host of which no place is attached.
 fn put_files(host: &mut MemHost, files: &[NamedBytes]) -> Result<(), AllocError>
     requires unread { host.old.store.readings ≡ no_files.readings }
     ensures still { OnOk result (host.new.store.readings ≡ no_files.readings) }

@@ -27,7 +27,7 @@ impl Operands {
         self.outs
     }
 
-    /// Takes a signal, a whole number or an operator.
+    /// Reads a signal, an integer or an operator.
     pub fn take(&mut self, word: &str) -> Result<()> {
         match word {
             "a" => self.put(Formula::Atom(Atom::IsTrue(0))),
@@ -118,7 +118,7 @@ impl Operands {
     }
 }
 
-/// The operator over one formula that a word begins with, and what stands after its letter.
+/// Returns the operator over one formula with which a word begins, and what follows its letter.
 fn window_op(word: &str) -> Option<(WindowOp, &str)> {
     if let Some(rest) = word.strip_prefix('F') {
         return Some((WindowOp::F, rest));
@@ -132,7 +132,7 @@ fn window_op(word: &str) -> Option<(WindowOp, &str)> {
     Some((WindowOp::H, word.strip_prefix('H')?))
 }
 
-/// The operator between two formulas that a word begins with, and what stands after its letter.
+/// Returns the operator between two formulas with which a word begins, and what follows its letter.
 fn between_op(word: &str) -> Option<(BetweenOp, &str)> {
     if let Some(rest) = word.strip_prefix('U') {
         return Some((BetweenOp::U, rest));

@@ -52,7 +52,7 @@ impl Parts {
         }
     }
 
-    /// The parts in which an outcome differs from the one that was wanted.
+    /// The parts in which an outcome differs from the expected one.
     pub fn of(found: &Outcome, wanted: &Outcome) -> Parts
         ensures status { IsTrue result.status ↔ (found.now.status ≢ wanted.now.status) }
         ensures output { IsTrue result.output ↔ (found.now.output.items ≢ wanted.now.output.items) }

@@ -37,7 +37,7 @@ impl<'a> Piece<'a> {
         }
     }
 
-    /// Whether the number of a repetition stands in the text.
+    /// Whether the text contains the number of its repetition.
     pub fn has_numbers(&self) -> bool {
         match self {
             Piece::Line(text) | Piece::Text(text) => text.contains('$'),
@@ -56,7 +56,7 @@ pub fn hex_bytes(alloc: Global, digits: &str) -> Result<Vec<u8>> {
     Ok(bytes)
 }
 
-/// A text in which `$n` stands for a number and `$m` for the next one.
+/// Returns a text with `$n` replaced by a number and `$m` by the next one.
 pub fn numbered(alloc: Global, text: &[u8], number: u32) -> Result<Vec<u8>, AllocError> {
     let next = number.saturating_add(1);
     let this = format!(in alloc; "{number}")?;

@@ -1,7 +1,7 @@
 //! The definitions of meaning, computed by the plain program over a formula and rows that a run gives.
 //!
-//! A formula's operators stand after their operands, as in `a b U0,3`: the first two columns are `a` and `b` as truths,
-//! `x` is the first as a whole number.
+//! Operators follow their operands, as in `a b U0,3`: `a` and `b` are the first two columns as Booleans, `x` is the
+//! first one as an integer.
 
 ghost use Rattle.std.specs.Prelude.{◌^◌, ◌≤◌, length};
 
@@ -35,7 +35,7 @@ fn rows_of(alloc: Global, text: &str) -> Result<List<List<i64>>> {
     Ok(rows)
 }
 
-/// All that is told after each row: its number, and the output, the time and the word of each report.
+/// Everything that is printed after each row: its number, and the output, the time and the word of each report.
 fn told(alloc: Global, style: Style, outs: &[Output], rows: &[List<i64>]) -> Result<String>
     requires few { length outs.now ≤ 2 ^ 32 }
 {

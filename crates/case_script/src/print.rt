@@ -1,4 +1,4 @@
-//! The lines that tell a reader where a run differs.
+//! Prints where a run differs from what its script expects.
 
 use crate::asked::Asked;
 use crate::outcome::{Outcome, Parts, parting};
@@ -41,7 +41,7 @@ fn print_head(rt: &impl Print, case: &str, asked: &Asked, setting: Setting) -> R
     Ok(())
 }
 
-/// Prints that what was out after so many lines of the trace is not what was wanted then.
+/// Prints that the output after `lines` lines of the trace differs from what the script expects by then.
 pub fn print_untimely(
     rt: &impl Print,
     alloc: Global,

@@ -136,7 +136,7 @@ impl Scenes {
         self.current().files.add(&bytes)
     }
 
-    /// Goes on with a piece so many times, each time with the next number.
+    /// Appends a piece `times` times, each time with the next number.
     pub fn repeat(&mut self, times: u32, piece: Piece<'_>) -> Result<()> {
         if piece.has_numbers() {
             return self.repeat_numbered(times, piece);

@@ -15,7 +15,7 @@ use tool_io::Place;
 
 /// What a script's runs are made by.
 pub trait Run {
-    /// Runs the words of a script under a setting, over the files of its scenes.
+    /// Runs a command of a script under a setting, over the files of its scenes.
     fn outcome(
         &self,
         alloc: Global,
@@ -38,7 +38,7 @@ struct Stage {
     asked: Option<Asked>,
     written: Vec<u8>,
     tally: Tally,
-    /// The script has at least so many cases.
+    /// The fewest cases that the script may have.
     least: u32,
 }
 
@@ -101,7 +101,7 @@ impl Stage {
         }
     }
 
-    /// Takes the words of a run; what it is to give follows.
+    /// Takes the command of a run; what it should print follows.
     fn ask(&mut self, line: usize, words: &str) -> Result<()> {
         if !self.scenes.in_case {
             bail!("a run outside a case");
@@ -191,7 +191,7 @@ impl Stage {
         Ok(())
     }
 
-    /// Lets the read after each line of the trace fail, and compares what is out then.
+    /// Makes the read after each line of the trace fail, and compares the output at that point.
     fn run_by_lines(
         &mut self,
         rt: &impl Print,
@@ -213,7 +213,7 @@ impl Stage {
         Ok(())
     }
 
-    /// Makes a run whose trace fails after so many lines.
+    /// Makes a run whose trace fails after `lines` lines.
     fn run_to_line(
         &mut self,
         rt: &impl Print,
@@ -233,7 +233,7 @@ impl Stage {
         Ok(())
     }
 
-    /// Lets what the last run wrote be a file.
+    /// Keeps what the last run wrote as a file.
     fn keep(&mut self, name: &str) -> Result<()> {
         let files = &mut self.scenes.current().files;
         files.begin(name)?;

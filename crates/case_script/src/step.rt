@@ -17,11 +17,11 @@ pub enum Step<'a> {
     File(&'a str, Option<Piece<'a>>),
     /// The file goes on with these bytes.
     Add(Piece<'a>),
-    /// The file goes on with these bytes so many times.
+    /// Appends these bytes to the file, this many times.
     Repeat(u32, Piece<'a>),
     /// The byte at this place of the file has another value.
     Set(usize, u8),
-    /// The file ends after so many bytes.
+    /// Cuts the file to this many bytes.
     Cut(usize),
     /// The next run is made for each length of the file from the second down to the first.
     Each(usize, usize),
@@ -35,7 +35,7 @@ pub enum Step<'a> {
     Status(u8),
     /// The run before was to write these bytes to its output.
     Output(Piece<'a>),
-    /// The run before was to write this line to its output, before more of its trace is read than so many lines.
+    /// The run before must write this line to its output before it reads more of its trace than this many lines.
     OutputAfter(usize, &'a str),
     /// The run before was to write these bytes to its error output.
     Errors(Piece<'a>),
@@ -43,7 +43,7 @@ pub enum Step<'a> {
     Differs(&'a str),
     /// What the run before wrote is the file of this name.
     Keep(&'a str),
-    /// The script has at least so many cases.
+    /// The script has at least this many cases.
     Least(u32),
 }
 

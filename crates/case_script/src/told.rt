@@ -7,7 +7,7 @@ pub struct Told {
     pub end: usize,
 }
 
-/// What is out of an output once so many lines of the trace are read.
+/// Returns what an output holds after `lines` lines of the trace are read.
 pub fn out_after<'a>(told: &[Told], lines: usize, output: &'a [u8]) -> &'a [u8] {
     let mut end = 0usize;
     for line in told {

@@ -4,8 +4,8 @@ use Rattle.std.specs.Prelude.{List, ◌++◌, length, take, drop}
 use Rattle.std.specs.Borrow.{Lends, Fml, RattleType, MutBor, Array}
 use Rattle.fixed_list.specs.contracts.fixed.Fixed.{the_row}
 
--- The list with these members in place of its own. It keeps its length: further ones are cut off, and where there are
--- too few its own last ones stay.
+-- the list with these members in place of its own: its length stays, so further members are cut off, and where there
+-- are too few its own last members stay
 abbrev pub with_members : {X : Type 0} → List X → List X → List X
 with_members list members = take (length list) (members ++ drop (length members) list)
 

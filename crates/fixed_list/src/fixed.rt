@@ -8,8 +8,8 @@ ghost use Rattle.fixed_list.specs.Lending.{lends_all};
 use std::alloc::{AllocError, Global};
 use std::marker::Model;
 
-/// A list whose length never changes, in a block of just its members' size. It gives out neither its allocator nor a
-/// clone, so no call on it can take memory. Contracts see it as that list.
+/// A list whose length never changes, in a block of exactly its members' size. It exposes neither its allocator nor a
+/// clone, so no call on it can allocate. Contracts see it as that list.
 #[derive(Drop)]
 pub struct Fixed<T> {
     items: Vec<T>,
@@ -54,7 +54,7 @@ impl<T> Fixed<T> {
 }
 
 impl<T: Copy> Fixed<T> {
-    /// So many copies of a value. All memory is taken here.
+    /// Makes `count` copies of a value; the only allocation.
     pub fn filled(alloc: Global, value: T, count: usize) -> Result<Fixed<T>, AllocError>
         ensures { IfOk result (λ fixed. fixed ≡ replicate count value) }
     {

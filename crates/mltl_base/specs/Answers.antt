@@ -1,17 +1,16 @@
--- The answer of a range, or why there is none.
--- A reader of the contracts needs this file.
+-- The result of a range, or why there is none. Contracts use this file.
 
 use Rattle.std.specs.Prelude.{◌≡◌, Result, Ok, Err}
 use Rattle.mltl_base.specs.Ranges.{Range, Ranged, divisor, wide, NoRange}
 use Rattle.mltl_base.specs.declared.range.NoRange as answer
 use Rattle.mltl_base.specs.declared.range.NoRange.TheVariants.{Divisor, Wide}
 
--- the reason that an answer names
+-- the reason of an error
 abbrev pub reason : answer.NoRange → NoRange
 reason Divisor = divisor
 reason Wide = wide
 
--- an answer tells the range that is defined, or why it has none
+-- a result is the range that is defined, or the reason why there is none
 abbrev pub Tells : Result Range answer.NoRange → Ranged → Type 0
 Tells (Ok range) defined = defined ≡ Ok range
 Tells (Err why) defined = defined ≡ Err (reason why)

@@ -5,7 +5,7 @@ use Rattle.std.specs.Prelude.{ℕ, ℤ, pos, neg_ℤ, ◌+ℤ◌, ◌-ℤ◌, �
 use Rattle.std.specs.Prelude.{slice_index_or, slice_index}
 use Rattle.std.specs.Ordering.{int_eq}
 
--- a row: one whole number for each column
+-- a row: one integer for each column
 abbrev pub Row : Type 0
 Row = List ℤ
 
@@ -20,7 +20,7 @@ pub data Term : Type 0 where
   quotient : Term → Term → Term
   remainder : Term → Term → Term
 
--- an atom: the truth in a column, or a comparison of two expressions
+-- an atom: the Boolean in a column, or a comparison of two expressions
 pub data Atom : Type 0 where
   is_true : ℕ → Atom
   equal : Term → Term → Atom
@@ -30,7 +30,7 @@ pub data Atom : Type 0 where
   greater : Term → Term → Atom
   at_least : Term → Term → Atom
 
--- the whole number in a column of a row; 0 where the row has no such column
+-- the integer in a column of a row; 0 where the row has no such column
 abbrev pub in_column : Row → ℕ → ℤ
 in_column row c = slice_index_or row c (pos 0)
 
@@ -45,7 +45,7 @@ value (times a b) row = value a row *ℤ value b row
 value (quotient a b) row = int_div (value a row) (value b row)
 value (remainder a b) row = int_rem (value a row) (value b row)
 
--- the truth of an atom on a row
+-- whether an atom holds on a row
 unfoldable pub holds : Atom → Row → Bool
 holds (is_true c) row = int_eq (in_column row c) (pos 1)
 holds (equal a b) row = int_eq (value a row) (value b row)

@@ -84,7 +84,7 @@ unfoldable pub neg : Core → Core
 neg (cnot p) = p
 neg p = cnot p
 
--- a comparison as one that instructions have
+-- a comparison by the operators of instructions
 abbrev pub core_atom : Atom → Core
 core_atom (different a b) = cnot (catom (equal a b))
 core_atom (greater a b) = catom (less b a)
@@ -119,7 +119,7 @@ IsCoreAtom (greater a b) = ⊥
 IsCoreAtom (at_least a b) = ⊥
 IsCoreAtom _ = ⊤
 
--- a core formula that is no negation
+-- a core formula that isn't a negation
 abbrev pub IsNoNegation : Core → Type 0
 IsNoNegation (cnot p) = ⊥
 IsNoNegation _ = ⊤

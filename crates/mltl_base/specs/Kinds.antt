@@ -1,5 +1,4 @@
--- Which formulas read each signal by its kind, and which signals are told apart by their names.
--- A reader of the contracts needs this file.
+-- Which formulas read each signal by its kind, and which signals have distinct names. Contracts use this file.
 
 use Rattle.std.specs.Prelude.{◌≡◌, ◌≢◌, ◌<◌, ℕ, Bool, true, false, Some, List, map, slice_get, All, ⊤}
 use Rattle.mltl_base.specs.Atoms.{Term, column, constant, negative, plus, minus, times, quotient, remainder, Atom}
@@ -8,11 +7,11 @@ use Rattle.mltl_base.specs.Formula.{Formula, EachAtom}
 use Rattle.mltl_base.specs.Subformulas.{Asked, formulas_of}
 use Rattle.mltl_base.specs.declared.signal.Signal.{Signal}
 
--- for each signal by its number, whether it is a truth
+-- for each signal by its number, whether it is Boolean
 abbrev pub kinds_of : List Signal → List Bool
 kinds_of signals = map (λ signal. signal.truth) signals
 
--- each signal that the expression reads is a whole number
+-- each signal that the expression reads is an integer
 abbrev pub ReadsWholes : List Bool → Term → Type 0
 ReadsWholes kinds (column s) = slice_get kinds s ≡ Some false
 ReadsWholes kinds (constant n) = ⊤
@@ -23,7 +22,7 @@ ReadsWholes kinds (times a b) = ReadsWholes kinds a × ReadsWholes kinds b
 ReadsWholes kinds (quotient a b) = ReadsWholes kinds a × ReadsWholes kinds b
 ReadsWholes kinds (remainder a b) = ReadsWholes kinds a × ReadsWholes kinds b
 
--- the atom asks for the truth of a signal that is one, or compares expressions over whole numbers
+-- the atom reads a Boolean signal, or compares expressions over integers
 abbrev pub AtomReadsKinds : List Bool → Atom → Type 0
 AtomReadsKinds kinds (is_true s) = slice_get kinds s ≡ Some true
 AtomReadsKinds kinds (equal a b) = ReadsWholes kinds a × ReadsWholes kinds b

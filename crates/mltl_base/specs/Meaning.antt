@@ -23,7 +23,7 @@ until_at i p q t = some_in i.lo (suc i.hi) (λ k. q (t + k) && every_in i.lo k (
 abbrev pub since_at : Interval → (ℕ → Bool) → (ℕ → Bool) → ℕ → Bool
 since_at i p q t = some_below (suc t) (λ m. within i (t - m) && (q m && every_in (suc m) (suc t) p))
 
--- the formula holds on the rows at time t; past the rows an empty row stands
+-- the formula holds on the rows at time t; every row after the last one is empty
 unfoldable pub sat : List Row → Formula → ℕ → Bool
 sat rows truth t = true
 sat rows falsity t = false

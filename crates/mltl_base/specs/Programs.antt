@@ -1,7 +1,7 @@
--- What the instructions of an observer program unfold to, and the rows that fit it. Every list of instructions unfolds
--- to something: an operand that names nothing stands for 0, for the truth of column 0, or for true. A well-formed
--- program has no such operand, which `well_formed_programs_are_sound` and `well_formed_programs_run` of `obs_verify`
--- say. A reader of the contracts needs this file.
+-- What the instructions of an observer program unfold to, and the rows that fit it. Every list of instructions
+-- unfolds to something: an operand without an instruction represents 0, the Boolean of column 0, or true. A
+-- well-formed program has no such operand, by `well_formed_programs_are_sound` and `well_formed_programs_run` of
+-- `obs_verify`. Contracts use this file.
 
 use Rattle.std.specs.Prelude.{ℕ, ◌≡◌, ◌⊎◌, pos, Option, Some, None, List, [], ◌∷◌, ◌++◌, length, map, slice_get}
 use Rattle.std.specs.Prelude.{slice_index_or, All, FitsSigned, ⊤}
@@ -18,24 +18,24 @@ use Rattle.mltl_base.specs.Atoms.{is_true, equal, less, at_most, in_column}
 use Rattle.mltl_base.specs.Formula.{Core, ctrue, catom, cnot, cand, cuntil, csince, plain}
 use Rattle.mltl_base.specs.Reports.{Output, formula, contract}
 
--- what an instruction of the Booleanizer stands for: a whole number or a truth
+-- what an instruction of the Booleanizer represents: an integer or a Boolean
 pub data Expression : Type 0 where
   whole : Term → Expression
   truth : Atom → Expression
 
--- the whole number that stands at a place, else 0
+-- the integer at an index, else 0
 abbrev pub term_of : Option Expression → Term
 term_of (Some (whole e)) = e
 term_of (Some (truth a)) = constant (pos 0)
 term_of None = constant (pos 0)
 
--- the truth that stands at a place, else that of column 0
+-- the Boolean at an index, else that of column 0
 abbrev pub atom_of : Option Expression → Atom
 atom_of (Some (truth a)) = a
 atom_of (Some (whole e)) = is_true 0
 atom_of None = is_true 0
 
--- the whole number of instruction n, over those before
+-- the integer of instruction n, over those before
 abbrev pub term_at : List Expression → ℕ → Term
 term_at before n = term_of (slice_get before n)
 
@@ -134,7 +134,7 @@ outputs program = map (output_of program) program.outs
 abbrev pub output_names : Program → List (List ℕ)
 output_names program = map name_of program.outs
 
--- what an instruction asks of a row: a truth is 0 or 1, a whole number has 32 bits with its sign
+-- what an instruction requires of a row: a Boolean is 0 or 1, an integer has 32 bits with a sign
 abbrev pub FitsRow : Row → bz.BzOp → Type 0
 FitsRow row (bz.TheVariants.Column c) = FitsSigned w32 (in_column row c)
 FitsRow row (bz.TheVariants.IsTrue c) = (in_column row c ≡ pos 0) ⊎ (in_column row c ≡ pos 1)

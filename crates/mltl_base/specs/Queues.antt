@@ -118,7 +118,7 @@ unfoldable pub AreApart : ℕ → ℕ → ℕ → List ℕ → Type 0
 AreApart gap low top [] = ⊤
 AreApart gap low top (t ∷ ts) = (low ≤ t) × (t ≤ top) × AreApart gap (t + gap) top ts
 
--- the operands of instruction i stand before it
+-- the operands of instruction i come before it
 abbrev pub IsAfterOperands : ℕ → FtOp → Type 0
 IsAfterOperands i True = ⊤
 IsAfterOperands i (Load a) = ⊤
@@ -126,7 +126,7 @@ IsAfterOperands i (Not g) = g < i
 IsAfterOperands i (And l r) = (l < i) × (r < i)
 IsAfterOperands i (Until l r window) = (l < i) × (r < i)
 
--- the operands of each instruction stand before it
+-- the operands of each instruction come before it
 abbrev pub AreInOrder : List FtOp → Type 0
 AreInOrder ops = (i : ℕ) (op : FtOp) → i < length ops → IsAfterOperands i (slice_index_or ops i op)
 
@@ -146,14 +146,14 @@ HasPastBounds limit (pt.TheVariants.Not g) = ⊤
 HasPastBounds limit (pt.TheVariants.And l r) = ⊤
 HasPastBounds limit (pt.TheVariants.Since l r i) = (i.lo ≤ i.hi) × (i.hi ≤ limit)
 
--- an output names instructions that exist, of so many ft and pt instructions
+-- an output reads existing instructions, out of this many ft and pt instructions
 abbrev pub NamesInstructions : ℕ → ℕ → Out → Type 0
 NamesInstructions fts pts (Formula Ft g name) = g < fts
 NamesInstructions fts pts (Contract Ft l r name) = (l < fts) × (r < fts)
 NamesInstructions fts pts (Formula Pt g name) = g < pts
 NamesInstructions fts pts (Contract Pt l r name) = (l < pts) × (r < pts)
 
--- the ft instructions that an output reports exist, of so many
+-- the ft instructions that an output reports exist, out of this many
 abbrev pub ReportsInstructions : ℕ → Out → Type 0
 ReportsInstructions fts (Formula Ft g name) = g < fts
 ReportsInstructions fts (Contract Ft l r name) = (l < fts) × (r < fts)

@@ -9,7 +9,7 @@ use Rattle.std.specs.Int.{int_min, int_max, w32}
 use Rattle.mltl_base.specs.Atoms.{Row, Term, column, constant, negative, plus, minus, times, quotient, remainder}
 use Rattle.mltl_base.specs.Atoms.{in_column}
 
--- the whole numbers from the least to the greatest
+-- the integers from the least to the greatest
 pub record Range : Type 0 where
   pub least : ℤ
   pub greatest : ℤ
@@ -31,11 +31,11 @@ range_from l g = record { least = l; greatest = g }
 abbrev pub IsIn : Range → ℤ → Type 0
 IsIn r z = (r.least ≤ℤ z) × (z ≤ℤ r.greatest)
 
--- the least whole number of 64 bits with a sign
+-- the least integer of 64 bits with a sign
 abbrev pub least_word : ℤ
 least_word = negsuc 9223372036854775807
 
--- the greatest whole number of 64 bits with a sign
+-- the greatest integer of 64 bits with a sign
 abbrev pub greatest_word : ℤ
 greatest_word = pos 9223372036854775807
 
@@ -89,7 +89,7 @@ abbrev pub over : (Range → Range) → Ranged → Ranged
 over f (Ok r) = in_word (f r)
 over f (Err why) = Err why
 
--- the range by those of both operands, where they have them; of two faults the left operand's is told
+-- the range by those of both operands, where they have them; of two faults the left operand's comes first
 abbrev pub over_both : (Range → Range → Range) → Ranged → Ranged → Ranged
 over_both f (Ok r) (Ok s) = in_word (f r s)
 over_both f (Ok r) (Err why) = Err why

@@ -49,7 +49,7 @@ same_word Invalid Invalid = true
 same_word Verified Verified = true
 same_word _ _ = false
 
--- the status of a contract, from the truths of its two formulas
+-- the status of a contract, from the values of its two formulas
 abbrev pub status_of : Bool → Bool → Word
 status_of false v = Inactive
 status_of true false = Invalid
@@ -99,12 +99,12 @@ reports_after style outs rows (r ∷ more) = of_row style 0 outs rows r ++ repor
 abbrev pub reports : Style → List Output → List Row → List Report
 reports style outs rows = reports_after style outs [] rows
 
--- what a report tells where the times below t are told: its word, once for each time from t up to its own
+-- what a report covers where the times below t are covered: its word, once for each time from t up to its own
 abbrev pub told_by : ℕ → Report → List Word
 told_by t r = replicate (suc r.time - t) r.word
 
--- the words that the reports of output k tell, one for each time from t on: each report tells its word for the times
--- that none before it has told, up to its own
+-- the words that the reports of output k cover, one for each time from t on: each report covers the times up to its
+-- own that no report before it covers
 unfoldable pub told : ℕ → ℕ → List Report → List Word
 told k t [] = []
 told k t (r ∷ rs) = if r.out == k then told_by t r ++ told k (suc r.time) rs else told k t rs

@@ -3,7 +3,7 @@
 
 use Rattle.std.specs.Prelude.{ℕ, zero, suc, ◌+◌, ◌*◌, ◌/◌, nat_lt, if◌then◌else◌}
 
--- n itself below 16; from there on twice the room for half as many, rounded up, by so many halvings at most
+-- n itself below 16; from there on twice the room for half as many, rounded up, with at most this many halvings
 unfoldable pub room_by : ℕ → ℕ → ℕ
 room_by zero n = n
 room_by (suc halvings) n = if nat_lt n 16 then n else 2 * room_by halvings ((n + 1) / 2)

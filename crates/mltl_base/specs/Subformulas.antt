@@ -1,6 +1,5 @@
 -- The distinct subformulas and expressions of the outputs of a specification, in order of first completion, and the
--- instructions that stand for them.
--- A reader of the contracts needs this file.
+-- instructions that represent them. Contracts use this file.
 
 use Rattle.std.specs.Prelude.{◌≡◌, ℕ, suc, ◌==◌, Bool, true, false, ◌&&◌, ◌||◌, if◌then◌else◌, List, [], ◌∷◌, ◌++◌, map}
 use Rattle.std.specs.Prelude.{flat_map, fold, All}
@@ -87,7 +86,7 @@ add_subformulas (cand p q) ps = add_new same (cand p q) (add_subformulas q (add_
 add_subformulas (cuntil i p q) ps = add_new same (cuntil i p q) (add_subformulas q (add_subformulas p ps))
 add_subformulas (csince i p q) ps = add_new same (csince i p q) (add_subformulas q (add_subformulas p ps))
 
--- the list with the whole numbers of an expression that are not listed: operands first, from left to right
+-- the list with the integer subexpressions of an expression that are not listed: operands first, from left to right
 unfoldable pub add_terms : Term → List Expression → List Expression
 add_terms (column c) es = add_new same_expression (whole (column c)) es
 add_terms (constant n) es = add_new same_expression (whole (constant n)) es
@@ -98,7 +97,7 @@ add_terms (times a b) es = add_new same_expression (whole (times a b)) (add_term
 add_terms (quotient a b) es = add_new same_expression (whole (quotient a b)) (add_terms b (add_terms a es))
 add_terms (remainder a b) es = add_new same_expression (whole (remainder a b)) (add_terms b (add_terms a es))
 
--- the list with the whole numbers that an atom compares
+-- the list with the integer expressions that an atom compares
 abbrev pub add_operands : Atom → List Expression → List Expression
 add_operands (is_true c) es = es
 add_operands (equal a b) es = add_terms b (add_terms a es)
@@ -108,7 +107,7 @@ add_operands (different a b) es = add_terms b (add_terms a es)
 add_operands (greater a b) es = add_terms b (add_terms a es)
 add_operands (at_least a b) es = add_terms b (add_terms a es)
 
--- the list with the whole numbers of an atom, and then its truth
+-- the list with the integer expressions of an atom, and then the atom
 abbrev pub add_atom : Atom → List Expression → List Expression
 add_atom a es = add_new same_expression (truth a) (add_operands a es)
 
@@ -161,7 +160,7 @@ subformulas engine outs = fold (λ ps p. add_subformulas p ps) [] (cores_for eng
 abbrev pub bz_expressions : List Asked → List Expression
 bz_expressions outs = fold (λ es p. add_expressions p es) [] (all_cores outs)
 
--- the number of the instruction that computes a whole number: its place among the expressions
+-- the number of the instruction that computes an integer expression: its index among the expressions
 abbrev pub instruction_of : List Expression → Term → ℕ
 instruction_of es a = place_of same_expression (whole a) es
 

@@ -76,8 +76,8 @@ unfoldable pub known_front : {X : Type 0} → (ℕ → Option X) → ℕ → Lis
 known_front k zero = []
 known_front k (suc n) = followed (k 0) (known_front (λ t. k (suc t)) n)
 
--- the strong Kleene value of a formula at each time: that of its operator over what `seen` lets through of the values
--- of its operands; a truth or an atom is known at the times of the rows
+-- the strong Kleene value of a formula at each time: that of its operator over what `seen` shows of the values of its
+-- operands; true, false and atoms are known at the times of the rows
 unfoldable pub kleene_over : (Known → Known) → List Row → Formula → Known
 kleene_over seen rows truth = slice_get (map (λ r. true) rows)
 kleene_over seen rows falsity = slice_get (map (λ r. false) rows)

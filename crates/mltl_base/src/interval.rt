@@ -14,7 +14,7 @@ pub enum Engine {
     Pt,
 }
 
-/// The part of a program in which an instruction stands: the Booleanizer, future time or past time.
+/// The part of a program to which an instruction belongs: the Booleanizer, future time or past time.
 #[derive(Clone, Copy)]
 pub enum Part {
     Bz,

@@ -80,7 +80,7 @@ fn make_room<T>(items: &mut Vec<T>) -> Result<(), AllocError>
 }
 
 impl<T> List<T> {
-    /// The empty list. It takes no memory.
+    /// Makes the empty list. It does not allocate.
     #[tactic(auto, using(crate::proofs::Rooms::none))]
     pub fn new(alloc: Global) -> Self
         ensures { result ≡ [] }

@@ -58,7 +58,7 @@ impl Name {
     }
 }
 
-/// Whether a byte may stand in a name or a word of the language: a letter of ASCII, a digit or `_`.
+/// Whether a byte may occur in a name or a word of the language: a letter of ASCII, a digit or `_`.
 pub fn is_in_word(byte: u8) -> bool
     ensures { result ≡ is_in_word byte }
 {

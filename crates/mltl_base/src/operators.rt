@@ -2,7 +2,7 @@
 
 use crate::Interval;
 
-/// An operator between whole numbers.
+/// An operator between integers.
 #[derive(Clone, Copy, PartialEq, Eq, Hash)]
 pub enum ArithOp {
     Add,
@@ -12,7 +12,7 @@ pub enum ArithOp {
     Rem,
 }
 
-/// A comparison of whole numbers.
+/// A comparison of integers.
 #[derive(Clone, Copy, PartialEq, Eq)]
 pub enum CompareOp {
     Eq,
@@ -60,7 +60,7 @@ pub enum CountOp {
 /// An instruction of the Booleanizer. Operands are numbers of earlier instructions, columns count from 0.
 #[derive(Clone, Copy)]
 pub enum BzOp {
-    /// The whole number in a column.
+    /// The integer in a column.
     Column(u32),
     /// The truth in a column, which is 0 or 1.
     IsTrue(u32),
@@ -78,7 +78,7 @@ pub enum BzOp {
     Le(u32, u32),
 }
 
-/// An instruction of the future-time engine. `Load` names a truth of the Booleanizer, other operands are numbers of
+/// An instruction of the future-time engine. `Load` reads a Boolean of the Booleanizer, other operands are numbers of
 /// earlier instructions of the engine.
 #[derive(Clone, Copy)]
 pub enum FtOp {
@@ -89,7 +89,7 @@ pub enum FtOp {
     Until(u32, u32, Interval),
 }
 
-/// An instruction of the past-time engine. `Load` names a truth of the Booleanizer, other operands are numbers of
+/// An instruction of the past-time engine. `Load` reads a Boolean of the Booleanizer, other operands are numbers of
 /// earlier instructions of the engine.
 #[derive(Clone, Copy)]
 pub enum PtOp {

@@ -11,7 +11,7 @@ const LEAST: i128 = -9_223_372_036_854_775_808;
 
 const GREATEST: i128 = 9_223_372_036_854_775_807;
 
-/// The whole numbers from a least to a greatest, which contracts see as the range of the definitions.
+/// The integers from a least to a greatest, which contracts see as the range of the definitions.
 #[derive(Clone, Copy)]
 pub struct Range {
     least: i64,

@@ -1,4 +1,4 @@
-//! What a monitor tells of an output.
+//! What a monitor reports of an output.
 
 ghost use Rattle.std.specs.Prelude.{◌≡◌, ◌≤◌, length};
 ghost use Rattle.mltl_base.specs.Lines.{word_text};
@@ -32,7 +32,7 @@ impl Word {
     }
 }
 
-/// How times are told: one report for each time, or one for each longest stretch of newly known times with one word.
+/// How times are reported: one report for each time, or one for each longest run of newly known times with one word.
 #[derive(Clone, Copy, PartialEq, Eq, Debug)]
 pub enum Style {
     Each,

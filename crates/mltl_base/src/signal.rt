@@ -2,7 +2,7 @@
 
 use crate::Name;
 
-/// A signal: a truth or a whole number.
+/// A signal: a Boolean or an integer.
 #[derive(Drop)]
 pub struct Signal {
     pub name: Name,

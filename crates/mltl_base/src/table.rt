@@ -8,10 +8,10 @@ use std::alloc::{AllocError, Global};
 use std::collections::BTreeMap;
 use std::marker::Model;
 
-/// Names with what they stand for, in the order in which they were added.
+/// Names with their values, in the order in which they were added.
 #[derive(Drop)]
 pub struct NameTable<V> {
-    /// What the names stand for.
+    /// The values of the names.
     values: Vec<V>,
     /// Of each name the number of its value.
     numbers: BTreeMap<Vec<u8>, usize>,
@@ -29,7 +29,7 @@ impl<V> Model for NameTable<V> {
 }
 
 impl<V> NameTable<V> {
-    /// The table without names. It takes no memory.
+    /// Makes the table without names. It does not allocate.
     pub fn new(alloc: Global) -> Self
         ensures { result ≡ [] }
     {
@@ -55,7 +55,7 @@ impl<V> NameTable<V> {
 }
 
 impl<V: Copy> NameTable<V> {
-    /// What a name stands for.
+    /// Returns the value of a name.
     pub fn find(&self, name: &Name) -> Option<V>
         ensures { result ≡ entry_of name.now self.now }
     {
@@ -65,7 +65,7 @@ impl<V: Copy> NameTable<V> {
         }
     }
 
-    /// What the name stands for that was added with this number, counted from 0.
+    /// Returns the value of the name that was added with this number, counted from 0.
     pub fn value_at(&self, number: usize) -> V
         requires { number < length self.now }
         ensures { option_map (λ e. e.1) (slice_get self.now number) ≡ Some result }

@@ -24,7 +24,7 @@ arithmetic arith_op.TheVariants.Mul a b = base.times a b
 arithmetic arith_op.TheVariants.Div a b = base.quotient a b
 arithmetic arith_op.TheVariants.Rem a b = base.remainder a b
 
--- the expression that a tree stands for
+-- the expression that a tree represents
 abbrev pub term_of : tree.Term → base.Term
 term_of (tree.TheVariants.Column c) = base.column c
 term_of (tree.TheVariants.Constant n) = base.constant n
@@ -40,12 +40,12 @@ comparison compare_op.TheVariants.Le a b = base.at_most a b
 comparison compare_op.TheVariants.Gt a b = base.greater a b
 comparison compare_op.TheVariants.Ge a b = base.at_least a b
 
--- the atom that a tree stands for
+-- the atom that a tree represents
 abbrev pub atom_of : leaf.Atom → base.Atom
 atom_of (leaf.TheVariants.IsTrue c) = base.is_true c
 atom_of (leaf.TheVariants.Compare op a b) = comparison op (term_of a) (term_of b)
 
--- a truth as a formula
+-- a Boolean as a formula
 abbrev pub of_truth : Bool → plain.Formula
 of_truth true = plain.truth
 of_truth false = plain.falsity
@@ -70,7 +70,7 @@ between between_op.TheVariants.U i p q = plain.until i p q
 between between_op.TheVariants.R i p q = plain.release i p q
 between between_op.TheVariants.S i p q = plain.since i p q
 
--- the formula that a tree stands for
+-- the formula that a tree represents
 abbrev pub formula_of : node.Formula → plain.Formula
 formula_of (node.TheVariants.Truth b) = of_truth b
 formula_of (node.TheVariants.Atom a) = plain.atom (atom_of a)
@@ -79,7 +79,7 @@ formula_of (node.TheVariants.Logic' op p a q b) = logic op (formula_of a) (formu
 formula_of (node.TheVariants.Window' op i p a) = window op i (formula_of a)
 formula_of (node.TheVariants.Between' op i p a q b) = between op i (formula_of a) (formula_of b)
 
--- the output that a tree or two stand for
+-- the output that one tree or two represent
 abbrev pub output_of : out.Output → told.Output
 output_of (out.TheVariants.Formula p) = told.formula (formula_of p)
 output_of (out.TheVariants.Contract p q) = told.contract (formula_of p) (formula_of q)

@@ -9,7 +9,7 @@ use Rattle.mltl_base.specs.declared.report.Report.{Report}
 use Rattle.mltl_base.specs.Atoms.{Row}
 use Rattle.mltl_base.specs.Reports.{Output, words, goes_on, of_words}
 
--- a word is told by a report of its own: each is, or the last of a stretch
+-- a word has a separate report: each one, or the last of a run
 abbrev pub is_told : Style → Word → List Word → Bool
 is_told Each w ws = true
 is_told Runs w ws = not (goes_on w ws)

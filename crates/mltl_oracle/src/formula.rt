@@ -11,7 +11,7 @@ pub enum Term {
     Arith(ArithOp, Box<Term>, Box<Term>),
 }
 
-/// An atom: the truth in a column, or a comparison.
+/// An atom: the Boolean in a column, or a comparison.
 #[derive(Drop)]
 pub enum Atom {
     IsTrue(u32),

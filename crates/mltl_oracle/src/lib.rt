@@ -1,6 +1,6 @@
 //! A plain and slow program that computes what the definitions of meaning say: known verdicts, words and reports.
 //!
-//! It keeps all rows and makes every list anew, so it serves as the yardstick of the engines, and of nothing else.
+//! It keeps all rows and makes every list from scratch, so it serves to check the engines and for nothing else.
 #![tactic(auto)]
 
 pub mod formula;

@@ -53,7 +53,7 @@ pub fn reports(
     Ok(told)
 }
 
-/// Puts the reports of the words that are known now and weren't before after those told.
+/// Appends the reports of the words that are known now and weren't before.
 fn report_row(
     alloc: Global,
     style: Style,
@@ -78,7 +78,7 @@ fn report_row(
     Ok(())
 }
 
-/// Puts the reports of the words from a time on after those told.
+/// Appends the reports of the words from a time on.
 fn tell(
     style: Style,
     out: u32,
@@ -118,7 +118,7 @@ fn tell_slice(
     Ok(())
 }
 
-/// Puts a report that is due after those told.
+/// Appends a report that is due.
 fn put_if(due: bool, report: Report, told: &mut List<Report>) -> Result<(), Fault>
     ensures told { OnOk result (told.new ≡ (if due then told.old ++ report ∷ [] else told.old)) }
     ensures cause { IfErr result (λ why. why ≡ NoMemory) }
@@ -130,7 +130,7 @@ fn put_if(due: bool, report: Report, told: &mut List<Report>) -> Result<(), Faul
     Ok(())
 }
 
-/// Whether the word at a time is told: with `Runs` only the last of a stretch of one word is.
+/// Whether the word at a time is reported: with `Runs` only the last one of a run of one word is.
 fn ends(style: Style, ws: &[Word], t: usize) -> bool
     requires place { t < length ws.now }
     ensures { (w : Said) →
@@ -142,7 +142,7 @@ fn ends(style: Style, ws: &[Word], t: usize) -> bool
     }
 }
 
-/// Whether the word at a time stands at the next time too.
+/// Whether the word at a time is also the word at the next time.
 fn continues(ws: &[Word], t: usize) -> bool
     requires place { t < length ws.now }
     ensures { (w : Said) → result ≡ goes_on (slice_index_or ws.now t w) (drop (suc t) ws.now) }

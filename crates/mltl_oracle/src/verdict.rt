@@ -16,12 +16,12 @@ use crate::{Atom, Formula};
 use mltl_base::{BetweenOp, Interval, List, LogicOp, WindowOp};
 use std::alloc::{AllocFailed, Global};
 
-/// Why there is no answer.
+/// Why there is no result.
 #[derive(Clone, Copy)]
 pub enum Fault {
     /// Out of memory.
     Memory,
-    /// A whole number leaves 64 bits, or a divisor is 0.
+    /// An integer leaves 64 bits, or a divisor is 0.
     Number,
 }
 

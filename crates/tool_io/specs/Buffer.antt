@@ -1,4 +1,4 @@
--- How the fields of a LineCut stand for a cut, and what its steps do to it.
+-- How the fields of a LineCut represent a cut, and what its steps do to it.
 use Rattle.std.specs.Prelude.{◌≡◌, ℕ, ◌+◌, ◌<◌, ◌≤◌, true, false, if◌then◌else◌, Option, Some, None, List, [], ◌∷◌}
 use Rattle.std.specs.Prelude.{◌++◌, length, take, drop}
 use Rattle.std.specs.List.{slice_range}
@@ -17,7 +17,7 @@ row_bytes cut = slice_range cut.buffer cut.start cut.next
 abbrev pub rest_bytes : Inside → List ℕ
 rest_bytes cut = slice_range cut.buffer cut.next cut.end
 
--- the cut that the fields stand for
+-- the cut that the fields represent
 abbrev pub cut_of : Inside → Cutting
 cut_of cut = record {
   pending = (if cut.kept then row_bytes cut else []) ++ rest_bytes cut;

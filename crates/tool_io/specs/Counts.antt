@@ -4,7 +4,7 @@ use Rattle.tool_io.specs.declared.counts.Counts.{Counts}
 use Rattle.tool_io.specs.declared.host.Place.{Place}
 use Rattle.tool_io.specs.declared.host.Place.TheVariants.{Spec, Header, Program, Trace, Out, Err}
 
--- counters that stand at 0
+-- counters at 0
 abbrev pub no_counts : Counts
 no_counts = record { spec = 0; header = 0; program = 0; trace = 0; out = 0; err = 0 }
 

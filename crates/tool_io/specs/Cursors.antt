@@ -1,4 +1,4 @@
--- Where each place that is read stands in files.
+-- The position of each place that is read, in files.
 use Rattle.std.specs.Prelude.{Option, Some, None}
 use Rattle.tool_io.specs.declared.host.Place.{Place}
 use Rattle.tool_io.specs.declared.host.Place.TheVariants.{Spec, Header, Program, Trace, Out, Err}
@@ -9,7 +9,7 @@ use Rattle.tool_io.specs.declared.mem_files.Cursors.{Cursors}
 abbrev pub no_cursors : Cursors
 no_cursors = record { spec = None; header = None; program = None; trace = None }
 
--- where a place stands
+-- the position of a place
 abbrev pub cursor_at : Cursors → Place → Option Cursor
 cursor_at cursors Spec = cursors.spec
 cursor_at cursors Header = cursors.header

@@ -1,4 +1,4 @@
--- How a stream of bytes is cut into lines, and what a LineCut stands for.
+-- How a stream of bytes is cut into lines, and what a LineCut represents.
 use Rattle.std.specs.Prelude.{◌≡◌, ℕ, ◌+◌, ◌-◌, ◌^◌, ◌<◌, ◌≤◌, ◌⊎◌, ◌==◌, ◌&&◌, ◌||◌, not, nat_lt, nat_le, min, Bool}
 use Rattle.std.specs.Prelude.{true, false, if◌then◌else◌, Option, Some, None, IsSome, unwrap_or, List, [], ◌∷◌, ◌++◌}
 use Rattle.std.specs.Prelude.{length, take, slice_index, ⊤}
@@ -9,8 +9,9 @@ use Rattle.tool_io.specs.declared.line_cut.Line as line
 use Rattle.tool_io.specs.Log.{Event, Reads, meets_end}
 use Rattle.tool_io.specs.Host.{NoFault, RoseAt}
 
--- Bytes that were taken and not yet cut, a kept line among them; the line with its newline that the last answer gave,
--- if that was a Row; whether that line comes once more; whether the end was met; the number of the last line.
+-- Bytes that were read and not yet cut, a kept line among them; the line with its newline that the last call
+-- returned, if that was a Row; whether that line is returned once more; whether the end was reached; the number of
+-- the last line.
 pub record Cutting : Type 0 where
   pub pending : List ℕ
   pub row : Option (List ℕ)
@@ -87,7 +88,7 @@ row_of cut = unwrap_or cut.row []
 abbrev pub keeps : Cutting → Cutting
 keeps cut = if cut.kept then cut else record cut { pending = row_of cut ++ cut.pending; kept = true }
 
--- the number of the next line, which stands still at its type's end
+-- the number of the next line, which stays at the last value of its type
 abbrev pub next_number : Cutting → ℕ
 next_number cut = if cut.kept then cut.number else min (cut.number + 1) (2 ^ 64 - 1)
 
@@ -126,7 +127,7 @@ pub record GivesNone (all : List ℕ) (old new : Cutting) : Type 0 where
   pub kept : new.kept ≡ false
   pub no_newline : HasNoNewline all
 
--- what each answer tells of the cut: a row, the end, a line that is too long, or a read that failed
+-- what each result says of the cut: a row, the end, a line that is too long, or a read that failed
 abbrev pub Answer : line.Line → List ℕ → Cutting → Cutting → Type 0
 Answer line.TheVariants.Row all old new = (raw : List ℕ) × GivesRow all old new raw
 Answer line.TheVariants.End all old new = GivesNone all old new × (all ≡ []) × (new.ended ≡ true)
@@ -134,7 +135,7 @@ Answer line.TheVariants.LongLine all old new = GivesNone all old new × (length 
 Answer line.TheVariants.ReadFault all old new =
     GivesNone all old new × (length all < MAX_LINE_BYTES) × (new.ended ≡ false)
 
--- a line stands ready after a Row, and after no other answer
+-- a line is ready after a Row, and after no other result
 abbrev pub IsReady : line.Line → Cutting → Type 0
 IsReady line.TheVariants.Row cut = IsSome cut.row
 IsReady line.TheVariants.End cut = cut.row ≡ None
@@ -147,7 +148,7 @@ pub record GivesAgain (outcome : line.Line) (old new : Cutting) (pieces : List (
   pub row : new.row ≡ old.row
   pub reads : pieces ≡ []
 
--- what a call for the next line tells, and how it leaves the cut
+-- what a call for the next line returns, and how it leaves the cut
 pub record CutsLine (place : Place) (old new : Cutting) (outcome : line.Line) (events : List Event) : Type 0 where
   pub pieces : List (List ℕ)
   pub reads : Reads place pieces events

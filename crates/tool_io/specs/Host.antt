@@ -21,7 +21,7 @@ IsSource Out = ⊥
 IsSource Err = ⊥
 IsSource p = ⊤
 
--- the count rose, or stands at a counter's last value
+-- the count rose, or is at a counter's last value
 abbrev pub Rose : ℕ → ℕ → Type 0
 Rose before now = min (before + 1) (2 ^ 64 - 1) ≤ now
 
@@ -54,13 +54,13 @@ abbrev pub WriteCause : put.Put → (Place → ℕ) → (Place → ℕ) → Plac
 WriteCause put.TheVariants.Failed before now place = RoseAt before now place
 WriteCause (put.TheVariants.Wrote n) before now place = NoFault before now
 
--- an attach tells its place and name, and a failed one need not
+-- an attach logs its place and name, and a failed one need not
 abbrev pub AttachLog : attached.Attached → Option (List Event) → Option (List Event) → Place → List ℕ → Type 0
 AttachLog attached.TheVariants.Ready before now place name = Appends before now (Attached place name ∷ [])
 AttachLog attached.TheVariants.Failed before now place name =
     Appends before now (Missed place name ∷ []) ⊎ Appends before now []
 
--- a read gives bytes at the front of the slice and tells them, or tells that it met the end
+-- a read puts bytes at the start of the slice and logs them, or logs that it reached the end
 abbrev pub ReadLog : got.Got → Option (List Event) → Option (List Event) → Place → List ℕ → Type 0
 ReadLog (got.TheVariants.Bytes n) before now place into = Appends before now (Took place (take n into) ∷ [])
 ReadLog got.TheVariants.End before now place into = Appends before now (Took place [] ∷ [])
@@ -72,7 +72,7 @@ ReadRange (got.TheVariants.Bytes n) into = (0 < n) × (n ≤ length into)
 ReadRange got.TheVariants.End into = ⊤
 ReadRange got.TheVariants.Failed into = ⊤
 
--- where what is left is told, a read gives its front, and meets the end exactly where nothing is left
+-- where the rest is known, a read returns a prefix of it, and reaches the end exactly where nothing is left
 abbrev pub ReadLeft : got.Got → Option (List ℕ) → Option (List ℕ) → List ℕ → Type 0
 ReadLeft (got.TheVariants.Bytes n) (Some left) now into =
     (left ≡ take n into ++ drop n left) × (now ≡ Some (drop n left))
@@ -88,7 +88,7 @@ LeftElsewhere before now place = (other : Place) → other ≢ place → now oth
 abbrev pub LeftAlone : (Place → Option (List ℕ)) → (Place → Option (List ℕ)) → Type 0
 LeftAlone before now = (place : Place) → now place ≡ before place
 
--- a write tells the front that went out
+-- a write logs the prefix that went out
 abbrev pub WriteLog : put.Put → Option (List Event) → Option (List Event) → Place → List ℕ → Type 0
 WriteLog (put.TheVariants.Wrote n) before now place piece = Appends before now (Gave place (take n piece) ∷ [])
 WriteLog put.TheVariants.Failed before now place piece = Appends before now []

@@ -1,4 +1,4 @@
--- What a host tells of its calls: a list of events, the oldest first, and what follows from it.
+-- The log of a host's calls: a list of events, the oldest first, and what follows from it.
 use Rattle.std.specs.Prelude.{◌≡◌, ◌≢◌, ℕ, Bool, true, false, if◌then◌else◌, Option, Some, None, List, [], ◌∷◌, ◌++◌}
 use Rattle.std.specs.Prelude.{map, ⊤}
 use Rattle.std.specs.List.{concat}
@@ -61,23 +61,23 @@ names_of (Missed p name ∷ events) = (p, name) ∷ names_of events
 names_of (Took p bytes ∷ events) = names_of events
 names_of (Gave p bytes ∷ events) = names_of events
 
--- the first list is a front of the second
+-- the first list is a prefix of the second
 pub record IsFront {X : Type 0} (front whole : List X) : Type 0 where
   pub rest : List X
   pub split : whole ≡ front ++ rest
 
--- the first list is a front of the second, and isn't all of it
+-- the first list is a proper prefix of the second
 pub record IsProperFront {X : Type 0} (front whole : List X) : Type 0 where
   pub rest : List X
   pub split : whole ≡ front ++ rest
   pub misses : rest ≢ []
 
--- where the host tells its log, the log has grown by these events
+-- where the host has a log, the log has grown by these events
 abbrev pub Appends : Option (List Event) → Option (List Event) → List Event → Type 0
 Appends None now events = ⊤
 Appends (Some before) now events = now ≡ Some (before ++ events)
 
--- what was appended since has P, where the host tells its log
+-- what was appended since has P, where the host has a log
 pub record OnLog (before now : Option (List Event)) (P : List Event → Type 0) : Type 0 where
   pub events : List Event
   pub appended : Appends before now events
@@ -98,7 +98,7 @@ pub record Writes (place : Place) (bytes : List ℕ) (events : List Event) : Typ
   pub are : events ≡ map (Gave place) pieces
   pub joined : bytes ≡ concat pieces
 
--- the events are writes of a front of these bytes, and not of all of them
+-- the events are writes of a proper prefix of these bytes
 pub record WritesFront (place : Place) (bytes : List ℕ) (events : List Event) : Type 0 where
   pub sent : List ℕ
   pub unsent : List ℕ

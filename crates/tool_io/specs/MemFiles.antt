@@ -74,7 +74,7 @@ abbrev pub opened : Stored → Place → List ℕ → Stored
 opened stored place name =
     option_map_or (λ bytes. with_place stored place (record { name = name; left = bytes })) (file_of stored name) stored
 
--- the files after a place passed over so many bytes
+-- the files after a place passed over this many bytes
 abbrev pub skipped : Stored → Place → ℕ → Stored
 skipped stored place count =
     option_map_or (λ reading. with_place stored place (record reading { left = drop count reading.left }))

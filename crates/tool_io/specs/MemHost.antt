@@ -37,24 +37,24 @@ new_host events bytes =
       block = None;
     }
 
--- the count of a place's faults, as the host tells it
+-- the count of a place's faults, as the host shows it
 abbrev pub faults_of : Held → Place → ℕ
 faults_of host place = count_at host.faults place
 
--- the log, as the host tells it
+-- the log, as the host shows it
 abbrev pub log_of : Held → Option (List Event)
 log_of host = Some host.tape.events
 
--- what a place has still to read, as the host tells it, where the place is attached
+-- what a place has still to read, as the host shows it, where the place is attached
 abbrev pub left_in : Held → Place → Option (List ℕ)
 left_in host place = left_of host.store place
 
--- whether the next call of a place is one that is to fail
+-- whether the next call of a place is listed to fail
 abbrev pub is_listed : Held → Place → Bool
 is_listed host place =
     list_any (λ entry. same_place entry.place place && (entry.call == count_at host.calls place)) host.listed
 
--- whether a place can't stand at a name: one that is read needs a file there
+-- whether a place can't be attached to a name: a place that is read needs a file there
 abbrev pub is_missing : Held → Place → List ℕ → Bool
 is_missing host Out name = false
 is_missing host Err name = false
@@ -76,7 +76,7 @@ told host event = record host { tape = with_event host.tape event }
 abbrev pub told_in_room : Held → Event → ℕ → Held
 told_in_room host event count = if has_room host.tape count then told host event else host
 
--- the host after a place was let stand at a name
+-- the host after a place was attached to a name
 abbrev pub stands : Held → Place → List ℕ → Held
 stands host Out name = host
 stands host Err name = host
@@ -89,12 +89,12 @@ abbrev pub attach_fails : Held → Place → List ℕ → Bool
 attach_fails host place name =
     is_listed host place || not (has_room host.tape (length name)) || is_missing host place name
 
--- what an attach answers: it failed, or the place stands ready
+-- what an attach returns: it failed, or the place is ready
 abbrev pub attach_answer : Held → Place → List ℕ → attached.Attached
 attach_answer host place name =
     if attach_fails host place name then attached.TheVariants.Failed else attached.TheVariants.Ready
 
--- a failed attach tells Missed where there is room
+-- a failed attach logs Missed where there is room
 abbrev pub after_attach : Held → Place → List ℕ → Held
 after_attach host place name =
     if attach_fails host place name then told_in_room (failed host place) (Missed place name) (length name)
@@ -102,11 +102,11 @@ after_attach host place name =
 
 -- ---- read
 
--- how many bytes a read into so many gives at most
+-- the most bytes that a read into a slice of this length returns
 abbrev pub at_most : Option ℕ → ℕ → ℕ
 at_most block room = option_map_or (λ n. min room n) block room
 
--- the bytes that a read into so many gives
+-- the bytes that a read into a slice of this length returns
 abbrev pub read_bytes : Held → Place → ℕ → List ℕ
 read_bytes host place room = take (at_most host.block room) (unwrap_or (left_of host.store place) [])
 
@@ -116,16 +116,16 @@ read_fails host place room =
     is_listed host place || is_none (left_of host.store place)
     || not (has_room host.tape (length (read_bytes host place room)))
 
--- the answer of a read that gives so many bytes
+-- the result of a read that returns this many bytes
 abbrev pub gives : ℕ → got.Got
 gives count = if count == 0 then got.TheVariants.End else got.TheVariants.Bytes count
 
--- what a read answers: it failed, or the end is met, or so many bytes are given
+-- what a read returns: it failed, or reached the end, or read this many bytes
 abbrev pub read_answer : Held → Place → ℕ → got.Got
 read_answer host place room =
     if read_fails host place room then got.TheVariants.Failed else gives (length (read_bytes host place room))
 
--- a failed read tells nothing
+-- a failed read logs nothing
 abbrev pub after_read : Held → Place → ℕ → Held
 after_read host place room =
     if read_fails host place room then failed host place
@@ -155,7 +155,7 @@ abbrev pub write_answer : Held → Place → List ℕ → put.Put
 write_answer host place piece =
     if write_fails host place piece then put.TheVariants.Failed else put.TheVariants.Wrote (length piece)
 
--- a failed write tells nothing, another takes the whole piece
+-- a failed write logs nothing, another one takes the whole piece
 abbrev pub after_write : Held → Place → List ℕ → Held
 after_write host place piece =
     if write_fails host place piece then failed host place else told (counted host place) (Gave place piece)

@@ -21,7 +21,7 @@ pub record Edge : Type 0 where
 abbrev pub new_edge : Edge
 new_edge = record { faults = no_counts; spec = false; header = false; program = false; trace = false }
 
--- whether a place is attached; Out and Err always stand at something
+-- whether a place is attached; Out and Err always are
 abbrev pub is_open : Edge → Place → Bool
 is_open edge Spec = edge.spec
 is_open edge Header = edge.header
@@ -47,11 +47,11 @@ faulted edge place = record edge { faults = raised edge.faults place }
 abbrev pub faults_of : Edge → Place → ℕ
 faults_of edge place = count_at edge.faults place
 
--- it tells no log
+-- it shows no log
 abbrev pub no_log : Edge → Option (List Event)
 no_log edge = None
 
--- it tells nothing of what is left
+-- it doesn't show what is left
 abbrev pub none_left : Edge → Place → Option (List ℕ)
 none_left edge place = None
 

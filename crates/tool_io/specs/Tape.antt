@@ -19,12 +19,12 @@ event_bytes (Missed place name) = name
 event_bytes (Took place bytes) = bytes
 event_bytes (Gave place bytes) = bytes
 
--- how many bytes stand in events
+-- the number of bytes in events
 abbrev pub bytes_in : List Event → ℕ
 bytes_in [] = 0
 bytes_in (event ∷ events) = length (event_bytes event) + bytes_in events
 
--- whether one more event with so many bytes finds room
+-- whether one more event with this many bytes fits
 abbrev pub has_room : Taped → ℕ → Bool
 has_room tape count =
     nat_lt (length tape.events) tape.most_events && nat_le (bytes_in tape.events + count) tape.most_bytes

@@ -16,7 +16,7 @@ event_of Miss place bytes = Missed place bytes
 event_of Take place bytes = Took place bytes
 event_of Give place bytes = Gave place bytes
 
--- the events of marks, the bytes of which stand one after another
+-- the events of marks, whose bytes follow one another
 abbrev pub events_of : List Mark → List ℕ → List Event
 events_of [] bytes = []
 events_of (mark ∷ marks) bytes =
@@ -36,7 +36,7 @@ view_of tape =
       most_bytes = tape.most_bytes;
     }
 
--- the marks cover the buffer, what Out and Err were given stands beside it, and none outgrows its room
+-- the marks cover the buffer, what Out and Err were given is next to it, and none outgrows its room
 pub record IsTape (tape : Inside) : Type 0 where
   pub covered : bytes_of tape.marks.items ≡ length tape.bytes.items
   pub out : tape.out.items ≡ given Out (events_of tape.marks.items tape.bytes.items)

@@ -1,4 +1,4 @@
--- What writing all of a piece tells, and what reading a place to its end tells.
+-- What writing all of a piece logs, and what reading a place to its end logs.
 use Rattle.std.specs.Prelude.{◌≡◌, ℕ, ◌<◌, ◌≤◌, Bool, true, false, Result, Ok, Err, List, length, Vec, ⊤}
 use Rattle.std.specs.List.{concat}
 use Rattle.std.specs.declared.alloc.Global.{Global}
@@ -14,7 +14,7 @@ abbrev pub PutAllRange : put.Put → List ℕ → Type 0
 PutAllRange (put.TheVariants.Wrote n) piece = n ≡ length piece
 PutAllRange put.TheVariants.Failed piece = ⊤
 
--- all of the piece went out, or a front of it
+-- all of the piece went out, or a prefix of it
 abbrev pub PutAllLog : put.Put → Place → List ℕ → List Event → Type 0
 PutAllLog (put.TheVariants.Wrote n) place piece events = Writes place piece events
 PutAllLog put.TheVariants.Failed place piece events = WritesFront place piece events

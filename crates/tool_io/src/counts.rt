@@ -17,7 +17,7 @@ pub struct Counts {
 }
 
 impl Counts {
-    /// Counters that stand at 0.
+    /// Makes counters at 0.
     pub fn new() -> Counts
         ensures { result ≡ no_counts }
     {

@@ -1,4 +1,4 @@
-//! The places of a program, the answers of their calls, and what a host of them promises.
+//! The places of a program, the results of their calls, and what a host of them promises.
 
 ghost use Rattle.std.specs.Prelude.{ℕ, Option, List, ◌<◌, length};
 ghost use Rattle.tool_io.specs.declared.host.Place.{Place};
@@ -25,7 +25,7 @@ pub enum Place {
 /// How an attach ended.
 #[derive(Clone, Copy, PartialEq, Eq, Debug)]
 pub enum Attached {
-    /// The place stands at the name.
+    /// The place is attached to the name.
     Ready,
     /// It doesn't; the place's count of faults rose by one.
     Failed,
@@ -34,7 +34,7 @@ pub enum Attached {
 /// How a read ended.
 #[derive(Clone, Copy, PartialEq, Eq)]
 pub enum Got {
-    /// So many bytes stand at the front of the slice, at least one.
+    /// This many bytes were read to the start of the slice, at least one.
     Bytes(usize),
     /// Nothing is left.
     End,
@@ -45,7 +45,7 @@ pub enum Got {
 /// How a write ended.
 #[derive(Clone, Copy, PartialEq, Eq)]
 pub enum Put {
-    /// So many bytes from the front of the piece went out.
+    /// This many bytes from the start of the piece went out.
     Wrote(usize),
     /// The write failed; the place's count of faults rose by one.
     Failed,
@@ -54,11 +54,10 @@ pub enum Put {
 /// What a program reads from and writes to.
 ///
 /// `faults` counts the failed calls of each place; a count never falls, and stays at 2^64 - 1 once it is there.
-/// `log`, where the host tells it, is the list of its events. `left`, where it is told, is what a place has still to
-/// be read. A call that fails raises the count of its place by one, and only a failed attach may tell an event, `Missed`;
-/// every other call leaves all counts, and tells one event. So the calls of a place are its faults and its events other
-/// than `Missed` together.
-/// `Out` and `Err` stand at the standard streams until they are attached elsewhere.
+/// `log`, where the host shows it, is the list of its events. `left`, where it is shown, is what a place has still to
+/// read. A call that fails raises the count of its place by one, and only a failed attach may log an event, `Missed`;
+/// every other call leaves all counts, and logs one event. So the calls of a place are its faults and its events
+/// other than `Missed` together. `Out` and `Err` are the standard streams until they are attached elsewhere.
 pub trait Host {
     ghost faults: { Self → Place → ℕ };
 
@@ -66,13 +65,13 @@ pub trait Host {
 
     ghost left: { Self → Place → Option (List ℕ) };
 
-    /// Lets the place stand at the file of this name, or at what else the name means to the host.
+    /// Attaches the place to the file of this name, or to what else the name means to the host.
     fn attach(&mut self, place: Place, name: &str) -> Attached
         ensures cause { AttachCause result (faults self.old) (faults self.new) place }
         ensures log { AttachLog result (log self.old) (log self.new) place name.now }
         ensures left { LeftElsewhere (left self.old) (left self.new) place };
 
-    /// Takes bytes of the place into the front of the slice.
+    /// Reads bytes of the place to the start of the slice.
     fn read(&mut self, place: Place, into: &mut [u8]) -> Got
         requires source { IsSource place }
         requires room { 0 < length into.old }
@@ -82,7 +81,7 @@ pub trait Host {
         ensures left { ReadLeft result (left self.old place) (left self.new place) into.new }
         ensures elsewhere { LeftElsewhere (left self.old) (left self.new) place };
 
-    /// Sends a front of the piece to the place.
+    /// Writes a prefix of the piece to the place.
     fn write(&mut self, place: Place, piece: &[u8]) -> Put
         requires sink { IsSink place }
         requires room { 0 < length piece.now }

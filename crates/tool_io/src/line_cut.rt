@@ -16,7 +16,7 @@ use std::marker::Model;
 /// What the next line of a place is.
 #[derive(Clone, Copy)]
 pub enum Line {
-    /// One more line stands ready.
+    /// One more line is ready.
     Row,
     /// No byte is left.
     End,
@@ -28,7 +28,7 @@ pub enum Line {
 
 /// A stream of bytes that is cut at its newlines, by one buffer of 65,536 bytes.
 ///
-/// It takes memory where it is made and never again. It reads only where no whole line stands in the buffer.
+/// It allocates where it is made and never again. It reads only where the buffer holds no whole line.
 #[derive(Drop)]
 pub struct LineCut {
     buffer: Fixed<u8>,
@@ -38,7 +38,7 @@ pub struct LineCut {
     next: usize,
     /// Where they end.
     end: usize,
-    /// Whether the last answer was a Row.
+    /// Whether the last result was a Row.
     row: bool,
     /// Whether its line comes once more.
     kept: bool,
@@ -113,8 +113,8 @@ impl LineCut {
 
     /// Cuts the next line off the bytes of the place, which it reads only where the buffer holds no whole line.
     ///
-    /// A last line without a newline is a Row once the end was met. After `End` and `LongLine` every later call
-    /// answers the same; after `ReadFault` a later call tries again.
+    /// A last line without a newline is a Row once the end was reached. After `End` and `LongLine` every later call
+    /// returns the same; after `ReadFault` a later call tries again.
     pub fn next_line<H: Host>(&mut self, host: &mut H, place: Place) -> Line
         requires { IsSource place }
         ensures cause { LineCause result (H.faults host.old) (H.faults host.new) place }
@@ -150,7 +150,7 @@ impl LineCut {
         self.number
     }
 
-    /// Lets the next call give the line of the last Row once more.
+    /// Makes the next call return the line of the last Row once more.
     pub fn keep(&mut self)
         requires { IsSome self.old.row }
         ensures { self.new ≡ keeps self.old }

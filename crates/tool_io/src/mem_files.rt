@@ -51,7 +51,7 @@ impl MemFile {
         self.bytes.len()
     }
 
-    /// Its last bytes, so many.
+    /// The last bytes, this many.
     pub fn last(&self, count: usize) -> &[u8]
         requires { count ≤ length self.now.bytes }
         ensures { result.now ≡ drop (length self.now.bytes - count) self.now.bytes }
@@ -68,7 +68,7 @@ pub struct Cursor {
     pub left: usize,
 }
 
-/// Where each place that is read stands, if it is attached.
+/// The position of each place that is read, if it is attached.
 #[derive(Clone, Copy)]
 pub struct Cursors {
     pub spec: Option<Cursor>,
@@ -90,7 +90,7 @@ impl Cursors {
         }
     }
 
-    /// Where a place stands; `Out` and `Err` stand nowhere.
+    /// Returns the position of a place; `Out` and `Err` have none.
     pub fn at(&self, place: Place) -> Option<Cursor>
         ensures { result ≡ cursor_at self.now place }
     {
@@ -147,7 +147,7 @@ impl MemFiles {
         }
     }
 
-    /// Lets the file of this name hold these bytes, in place of an older one.
+    /// Stores these bytes as the file of this name, in place of an older one.
     pub fn put(&mut self, name: &str, bytes: &[u8]) -> Result<(), AllocError>
         requires { IsUnread self.old name.now }
         ensures holds { OnOk result (file_of self.new name.now ≡ Some bytes.now) }
@@ -164,7 +164,7 @@ impl MemFiles {
         Ok(())
     }
 
-    /// Lets a place read the file of this name from its begin, if there is one.
+    /// Attaches a place to the start of the file of this name, if there is one.
     pub fn open(&mut self, place: Place, name: &str) -> bool
         requires { IsSource place }
         ensures found { result ≡ is_some (file_of self.old name.now) }
@@ -186,7 +186,7 @@ impl MemFiles {
         Some(self.files[cursor.file].last(cursor.left))
     }
 
-    /// Passes over so many of the bytes that a place has still to read.
+    /// Passes over `count` of the bytes that a place has still to read.
     pub fn skip(&mut self, place: Place, count: usize)
         requires { ForSome (left_of self.old place) (λ left. count ≤ length left) }
         ensures { self.new ≡ skipped self.old place count }

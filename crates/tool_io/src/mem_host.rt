@@ -1,4 +1,4 @@
-//! A host in memory, for tests: it tells its log and what is left, and fails where it is told to.
+//! A host in memory, for tests: it shows its log and what is left, and fails where it is asked to.
 
 ghost use Rattle.std.specs.Prelude.{◌≡◌, ◌≢◌, ◌≤◌, ◌<◌, ◌+◌, ℕ, List, [], ◌∷◌, ◌++◌, IfOk, OnOk, OnErr, Some, length, drop, not};
 ghost use Rattle.tool_io.specs.Host.{IsSource, IsSink, AttachCause, AttachLog, ReadRange, ReadCause, ReadLog, ReadLeft, WriteRange, WriteCause, WriteLog, LeftElsewhere, LeftAlone};
@@ -25,7 +25,7 @@ pub struct Listed {
 ///
 /// A call fails exactly where it is listed, attaches a place that is read to a name without a file, reads a place
 /// that isn't attached, or needs more events or bytes than the room that is left. Each such call is counted at its
-/// place. A failed attach tells `Missed` where the room holds it. No call of the trait takes memory.
+/// place. A failed attach logs `Missed` where it fits. No call of the trait allocates.
 #[derive(Drop)]
 pub struct MemHost {
     store: MemFiles,
@@ -56,8 +56,8 @@ impl Model for MemHost {
 }
 
 impl MemHost {
-    /// A host without files, with room for so many events in its log, for so many bytes in them, names among them,
-    /// and for as many bytes on `Out` and on `Err`. No call is listed and no read is limited.
+    /// Makes a host without files, with room for `events` events in its log, for `bytes` bytes in them, names among
+    /// them, and for as many bytes on `Out` and on `Err`. No call is listed and no read is limited.
     pub fn make(alloc: Global, events: usize, bytes: usize) -> Result<MemHost, AllocError>
         ensures { IfOk result (λ host. host ≡ new_host events bytes) }
     {
@@ -72,7 +72,7 @@ impl MemHost {
         })
     }
 
-    /// Lets the file of this name hold these bytes, in place of an older one, which no place may be reading.
+    /// Stores these bytes as the file of this name, in place of an older one, which no place may be reading.
     pub fn put_file(&mut self, name: &str, bytes: &[u8]) -> Result<(), AllocError>
         requires { IsUnread self.old.store name.now }
         ensures holds { OnOk result (file_of self.new.store name.now ≡ Some bytes.now) }
@@ -85,7 +85,7 @@ impl MemHost {
         self.store.put(name, bytes)
     }
 
-    /// Lets the call with this number at this place, counted from 0, fail.
+    /// Makes the call with this number at this place, counted from 0, fail.
     pub fn fail(&mut self, place: Place, call: u64) -> Result<(), AllocError>
         ensures ok { OnOk result (self.new ≡ record self.old {
           listed = self.old.listed ++ record { place = place; call = call } ∷ [];
@@ -96,7 +96,7 @@ impl MemHost {
         Ok(())
     }
 
-    /// Lets no read give more than so many bytes.
+    /// Limits every read to this many bytes.
     pub fn set_block(&mut self, n: usize)
         requires { 1 ≤ n }
         ensures { self.new ≡ record self.old { block = Some n } }
@@ -130,7 +130,7 @@ impl MemHost {
             .any(|entry| entry.place == place && entry.call == call)
     }
 
-    /// Lets a place stand at a name, if there is what it needs.
+    /// Attaches a place to a name, if there is what it needs.
     fn stand(&mut self, place: Place, name: &str) -> bool
         ensures found { result ≡ not (is_missing self.old place name.now) }
         ensures after { self.new ≡ stands self.old place name.now }
@@ -143,7 +143,7 @@ impl MemHost {
         }
     }
 
-    /// How many bytes a read into so many gives at most.
+    /// Returns the most bytes that a read into a slice of this length returns.
     fn limit(&self, room: usize) -> usize
         requires { 0 < room }
         ensures value { result ≡ at_most self.now.block room }
@@ -216,7 +216,7 @@ impl MemHost {
     }
 }
 
-/// Puts a piece at the front of a slice.
+/// Copies a piece to the start of a slice.
 fn fill_front(into: &mut [u8], piece: &[u8])
     requires { length piece.now ≤ length into.old }
     ensures { into.new ≡ piece.now ++ drop (length piece.now) into.old }

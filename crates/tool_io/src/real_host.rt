@@ -12,7 +12,7 @@ use std::io::{Read, Write};
 use std::marker::Model;
 use std::{fs, io};
 
-/// What a place stands at.
+/// What a place is attached to.
 #[derive(Drop)]
 enum Stream {
     /// The place's standard stream.
@@ -24,7 +24,7 @@ enum Stream {
 /// A host over the system's files and standard streams. The name `-` is the place's standard stream.
 ///
 /// It counts a fault at each error of the system, at a write that takes nothing, and at a read of a place that isn't
-/// attached. It tells neither a log nor what is left.
+/// attached. It shows neither a log nor what is left.
 #[derive(Drop)]
 pub struct RealHost {
     rt: HostRuntime,
@@ -53,7 +53,7 @@ impl Model for RealHost {
 }
 
 impl RealHost {
-    /// A host without attached places: `Out` and `Err` stand at the standard output and error.
+    /// Makes a host without attached places: `Out` and `Err` are the standard output and error.
     pub fn new(rt: HostRuntime) -> RealHost
         ensures { result ≡ new_edge }
     {

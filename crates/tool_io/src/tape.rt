@@ -22,7 +22,7 @@ pub enum Deed {
     Give,
 }
 
-/// One event but for its bytes, which stand in the tape's buffer after those of the events before.
+/// One event without its bytes, which follow those of the events before in the tape's buffer.
 #[derive(Clone, Copy)]
 pub struct Mark {
     pub deed: Deed,
@@ -30,7 +30,7 @@ pub struct Mark {
     pub len: usize,
 }
 
-/// A log with room for so many events and so many bytes in them, all of it reserved when it is made.
+/// A log with room for a number of events and of bytes in them, all of it reserved when it is made.
 #[derive(Drop)]
 pub struct Tape {
     marks: Vec<Mark>,
@@ -54,7 +54,7 @@ impl Model for Tape {
 }
 
 impl Tape {
-    /// An empty log with room for so many events, and for so many bytes in them, on `Out` and on `Err`.
+    /// Makes an empty log with room for `events` events, and for `bytes` bytes in them, on `Out` and on `Err`.
     pub fn make(alloc: Global, events: usize, bytes: usize) -> Result<Tape, AllocError>
         ensures { IfOk result (λ tape. tape ≡ new_tape events bytes) }
     {
@@ -72,7 +72,7 @@ impl Tape {
         })
     }
 
-    /// Whether one more event with so many bytes finds room.
+    /// Whether one more event with `count` bytes fits.
     pub fn has_room(&self, count: usize) -> bool
         ensures { result ≡ has_room self.now count }
     {
@@ -93,7 +93,7 @@ impl Tape {
         self.err.as_slice()
     }
 
-    /// Tells one more event. It takes no memory.
+    /// Logs one more event. It does not allocate.
     pub fn tell(&mut self, deed: Deed, place: Place, piece: &[u8])
         requires { IsTrue (has_room self.old (length piece.now)) }
         ensures { self.new ≡ with_event self.old (event_of deed place piece.now) }

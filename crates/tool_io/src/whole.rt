@@ -35,8 +35,8 @@ const BLOCK: usize = 4096;
 
 /// Writes all of the piece to the place, in as many writes as the host needs.
 ///
-/// Answers `Wrote` with the length of the piece, or `Failed` at the first write that fails; then a front of the piece
-/// is out, and the rest, which holds a byte at least, isn't. An empty piece makes no call.
+/// Returns `Wrote` with the length of the piece, or `Failed` at the first write that fails; then a prefix of the
+/// piece is out, and the rest, which holds at least one byte, isn't. An empty piece makes no call.
 pub fn put_all<H: Host>(host: &mut H, place: Place, piece: &[u8]) -> Put
     requires { IsSink place }
     ensures range { PutAllRange result piece.now }

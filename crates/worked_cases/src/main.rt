@@ -1,9 +1,9 @@
 //! Worked cases of both programs, and of the plain program that computes the definitions: a script on the standard input
 //! says what runs over files in memory are to give.
 //!
-//! The script explains its form at its head. Each difference is printed with the name and the line of its case, and at
-//! the end whether all cases agree; how many cases and runs did stands on the error output, so that a new case changes
-//! no stored output.
+//! The script explains its form at its head. Each difference is printed with the name and the line of its case, and
+//! at the end whether all cases agree; the numbers of cases and runs go to the error output, so that a new case
+//! changes no stored output.
 #![tactic(auto)]
 
 mod run;

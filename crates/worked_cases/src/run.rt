@@ -9,7 +9,7 @@ use tool_io::{Host, MemHost};
 /// The programs `r2u2`, `c2po` and `plain`, which computes the definitions.
 pub struct Programs;
 
-/// The words after the program's name; `""` stands for a word without letters.
+/// Returns the arguments after the program's name; `""` is an empty argument.
 fn words_of(alloc: Global, text: &str) -> Result<Words, AllocError> {
     let mut words = Words::new(alloc);
     for word in text.split_whitespace() {

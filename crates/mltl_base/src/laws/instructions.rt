@@ -11,7 +11,7 @@ ghost use Rattle.mltl_base.specs.declared.program.Program.{Program as Observer};
 ghost use Rattle.mltl_base.specs.declared.report.Style.{Style as Form};
 ghost use Rattle.std.specs.Prelude.{◌≡◌, List, Decides, All, map};
 
-/// The tests by which subformulas and expressions are shared tell exactly whether two are one.
+/// The tests by which subformulas and expressions are shared decide exactly whether two are equal.
 #[tactic(auto, using(crate::proofs::Sameness::same_decides, crate::proofs::Sameness::same_expression_decides))]
 pub fn sharing_tests_decide()
     ensures formulas { (p q : Core) → Decides (same p q) (p ≡ q) }
@@ -41,7 +41,7 @@ pub fn program_means_its_specification()
         reports style (outputs program) rows ≡ reports style (map (λ asked. asked.output) outs) rows }
 {}
 
-/// A program with the lists of a specification is the program of its own outputs: the distinct expressions and
+/// A program with the lists of a specification is the program of its outputs: the distinct expressions and
 /// subformulas of the formulas that its outputs unfold to are what its instructions unfold to, in their order.
 #[tactic(auto, using(crate::proofs::Returning::lists_return, crate::proofs::Returning::subformulas_return, crate::proofs::Returning::expressions_return, crate::proofs::Returning::tensed_return))]
 pub fn program_is_that_of_its_outputs()

@@ -26,7 +26,8 @@ pub fn verdicts_are_settled()
         slice_get (verdicts rows p) t ≡ Some v → t < length rows }
 {}
 
-/// What is settled is so among each class of further rows that a test tells, and among the rows that fit a program.
+/// What is settled is settled among each class of further rows that a test selects, and among the rows that fit a
+/// program.
 #[tactic(auto, using(crate::proofs::Settling::settled_among))]
 pub fn settled_among_each_class()
     ensures tested { (test : List Row → Bool) (rows : List Row) (p : Formula) (t : ℕ) (v : Bool) →

@@ -1,4 +1,4 @@
-//! Reports: words of outputs are settled, and the reports of both styles tell the known words.
+//! Reports: words of outputs are settled, and the reports of both styles cover the known words.
 
 ghost use Rattle.mltl_base.specs.Atoms.{Row};
 ghost use Rattle.mltl_base.specs.Reports.{AreDistinctBeside, IsRising, IsSettled, Output, delay, meaning, of_row, reports, reports_after, reports_of, told, words};
@@ -24,7 +24,7 @@ pub fn words_are_settled()
         t + delay o < length rows → slice_get (words rows o) t ≡ Some (meaning rows o t) }
 {}
 
-/// The reports of output k tell its known words, each time once and in order.
+/// The reports of output k cover its known words, each time once and in order.
 #[tactic(auto, using(crate::proofs::Telling::told_words, crate::proofs::Telling::reports_rise))]
 pub fn reports_tell_known_words()
     ensures told { (style : Form) (k : ℕ) (outs : List Output) (rows : List Row) (o : Output) →
@@ -54,7 +54,7 @@ pub fn runs_are_longest()
         slice_get outs k ≡ Some o → AreDistinctBeside (reports_of k (of_row OneARun 0 outs rows r)) }
 {}
 
-/// The reports that a row brings tell the words that are newly known with it, each time once and in order.
+/// The reports after a row cover the words that it makes known, each time once and in order.
 #[tactic(auto, using(crate::proofs::Telling::told_new_words, crate::proofs::Telling::row_rises))]
 pub fn row_tells_new_words()
     ensures told { (style : Form) (k : ℕ) (outs : List Output) (rows : List Row) (r : Row)
