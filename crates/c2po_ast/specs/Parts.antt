@@ -14,7 +14,7 @@ use Rattle.c2po_ast.specs.Shape.{window, between, each, exists, count, of_list}
 
 -- The shapes of trees that are made of parts: an operator, a prefix, brackets or a quantifier with operands.
 
--- a number, a truth or a name with its line
+-- a number, a Boolean or a name with its line
 abbrev pub leaf : ℕ → Atom → Shape
 leaf line (Number n) = number line n
 leaf line (Truth b) = truth line b

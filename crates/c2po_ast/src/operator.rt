@@ -11,7 +11,7 @@ pub enum Infix {
     Arith(ArithOp),
 }
 
-/// What stands before an operand, with its line, and its interval where it has one.
+/// A prefix of an operand, with its line, and its interval where it has one.
 #[derive(Clone, Copy)]
 pub enum Prefix {
     Not(u32),

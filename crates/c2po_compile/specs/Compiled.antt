@@ -1,4 +1,4 @@
--- The program that a text and a header line stand for, or why there is none.
+-- The program of a text and a header line, or why there is none.
 
 use Rattle.std.specs.Prelude.{◌≡◌, ℕ, List, map, length, Option, Some, None, Result, Ok, Err}
 use Rattle.mltl_base.specs.declared.program.Columns.{Columns}

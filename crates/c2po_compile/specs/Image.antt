@@ -12,7 +12,7 @@ use Rattle.mltl_base.specs.declared.signal.Signal.{Signal}
 use Rattle.obs_verify.specs.Bound.{AreDifferent}
 use Rattle.c2po_compile.specs.Images.{stored_signals}
 
--- columns for so many signals: one for each, below the width and no two the same, in rows that aren't too wide
+-- columns for this many signals: one for each, below the width and no two the same, in rows that aren't too wide
 pub record AreColumnsFor (signals : ℕ) (columns : Columns) : Type 0 where
   pub one_each : length columns.of_signal ≡ signals
   pub below : All (λ column. column < columns.width) columns.of_signal

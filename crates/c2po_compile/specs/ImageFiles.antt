@@ -36,7 +36,7 @@ pub record CanMove (text : List ℕ) (old new : Columns) : Type 0 where
   pub well_formed : IsWellFormed (image_in text old)
   pub one_each : length new.of_signal ≡ length (signals_in text)
 
--- a file has the bytes of a program that stands for a text without a fault, over columns of its signals
+-- a file has the bytes of a program of a text without a fault, over columns of its signals
 pub record IsFileOf (text : List ℕ) (columns : Columns) (program : Program) (file : List ℕ) : Type 0 where
   pub faultless : first_refusal text ≡ None
   pub serve : AreColumnsFor (length (signals_in text)) columns

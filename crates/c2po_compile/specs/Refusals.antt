@@ -1,4 +1,4 @@
--- Refusals of a specification, and the answers that tell them.
+-- Refusals of a specification, and the results that report them.
 
 use Rattle.std.specs.Prelude.{◌≡◌, Option, None, Some, Result, Err, ⊤}
 use Rattle.c2po_lexer.specs.declared.fault.LexFault.{LexFault}
@@ -47,7 +47,7 @@ check_refusal (checked.Range line) = Refused line Range
 check_refusal (checked.Tense line) = Refused line Tense
 check_refusal checked.Memory = Memory
 
--- for each limit; line 0 stands for the whole specification
+-- for each limit; line 0 is the whole specification
 abbrev pub build_refusal : BuildFault → CompileFault
 build_refusal built.TooManyNodes = Refused 0 TooManyNodes
 build_refusal built.TooLate = Refused 0 TooLate
@@ -66,7 +66,7 @@ abbrev pub unless_refused : {T F : Type 0} → Option F → Result T F → Resul
 unless_refused None found = found
 unless_refused (Some refusal) found = Err refusal
 
--- an answer tells the first refusal that there is; none speaks of a header, and memory may be wanting at any time
+-- a result is the first refusal that there is; none concerns a header, and memory may be lacking at any time
 abbrev pub IsFirstRefusal : Option CompileFault → CompileFault → Type 0
 IsFirstRefusal first (Refused line why) = first ≡ Some (Refused line why)
 IsFirstRefusal first (BadHeader why) = ⊥

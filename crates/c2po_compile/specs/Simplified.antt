@@ -75,8 +75,8 @@ pub record CanMoveSimple (text : List ℕ) (old new : Columns) : Type 0 where
 abbrev pub IsSimpleImageFile : List ℕ → Columns → List ℕ → Type 0
 IsSimpleImageFile text columns file = IsFileOf text columns (simple_image_in text columns) file
 
--- what reports tell of output k, for an output: later and later times, each with a word that is settled for it whatever
--- rows follow, and none later than its worst-case delay
+-- what the reports of output k say of an output: later and later times, each with a word that is settled for it
+-- whatever rows follow, and none later than its worst-case delay
 pub record TellWords (told_so : List Report) (k : ℕ) (o : Output) (rows : List Row) : Type 0 where
   pub in_order : IsRising k 0 told_so
   pub settled : (t : ℕ) (w : Word) → slice_get (told k 0 told_so) t ≡ Some w → IsSettled rows o t w

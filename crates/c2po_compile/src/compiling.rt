@@ -20,8 +20,8 @@ use obs_verify::Checked;
 use std::alloc::Global;
 use trace_feed::{header, in_order};
 
-/// The program that the text of a specification says, over the columns that a header line names: a text of at most
-/// 1,048,576 bytes, a line of at most 65,535. Without a header line each signal stands in the column of its number.
+/// Compiles the text of a specification over the columns of a header line: a text of at most 1,048,576 bytes, a line
+/// of at most 65,535. Without a header line each signal has the column of its number.
 ///
 /// Errors, the first of these: `Refused` with the first fault of the text; `BadHeader` where the line doesn't name each
 /// signal once; `Refused` with line 0 where a limit is exceeded. `Memory` when out of memory.
@@ -43,8 +43,8 @@ pub fn compile(
     back(alloc, &spec, &columns)
 }
 
-/// The columns of a specification's signals: those that a header line of at most 65,535 bytes names; without one each
-/// signal stands in the column of its number.
+/// Returns the columns of a specification's signals: those of a header line of at most 65,535 bytes; without one each
+/// signal has the column of its number.
 ///
 /// Errors: `BadHeader` where the line doesn't name each signal once; `Memory` when out of memory.
 pub fn columns_of(

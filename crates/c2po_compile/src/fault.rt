@@ -45,7 +45,7 @@ pub enum Refusal {
     Wide,
     /// A divisor that isn't one number other than 0.
     Divisor,
-    /// A whole number that may leave 64 bits.
+    /// An integer that may leave 64 bits.
     Range,
     /// Future and past operators in one formula.
     Tense,
@@ -114,7 +114,7 @@ impl HeaderWhy {
 /// Why a specification isn't compiled.
 #[derive(Drop)]
 pub enum CompileFault {
-    /// The specification has a fault, or is past a limit. Lines count from 1; line 0 stands for the whole specification.
+    /// The specification has a fault, or is past a limit. Lines count from 1; line 0 is the whole specification.
     Refused(u32, Refusal),
     /// The header line doesn't name the signals.
     BadHeader(HeaderWhy),

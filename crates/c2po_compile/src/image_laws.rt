@@ -33,8 +33,8 @@ pub fn images_are_well_formed()
         → IsImageOf signals columns outs p → IsImageOf signals columns outs q → p ≡ q }
 {}
 
-/// An image has the outputs of its specification over columns, in their core forms and with the same names, and tells
-/// the same of all rows.
+/// An image has the outputs of its specification over columns, in their core forms and with the same names, and the
+/// same reports of all rows.
 #[tactic(auto, using(crate::proofs::Tenses::image_unfolds, crate::proofs::Tenses::image_names, crate::proofs::Tenses::image_tells))]
 pub fn images_tell_their_outputs()
     ensures outputs { (signals : Members Input) (columns : Places) (outs : Members Asked)

@@ -1,4 +1,4 @@
-//! What compiled programs tell: the law is the contract of a function with an empty body.
+//! What compiled programs report: the law is the contract of a function with an empty body.
 
 ghost use Rattle.std.specs.Prelude.{◌≡◌, ◌≤◌, ◌↔◌, ℕ, List as Seq, Err, Ok, Option as Maybe, Some, map, slice_get};
 ghost use Rattle.mltl_base.specs.Atoms.{Row};
@@ -15,8 +15,8 @@ ghost use Rattle.c2po_compile.specs.declared.fault.CompileFault.{CompileFault as
 
 /// The program of a text and a header line is the image of the text over columns that its signals have there.
 ///
-/// It tells what the plain outputs of the text tell over those columns: the same reports of all rows in either style,
-/// with the same worst-case delays, under the same names.
+/// It reports what the plain outputs of the text report over those columns: the same reports of all rows in either
+/// style, with the same worst-case delays, under the same names.
 pub fn programs_tell_their_texts()
     ensures image { (text : Seq ℕ) (header : Maybe (Seq ℕ)) (program : Observer) →
         image_of_text text header ≡ Ok program → IsImageUnder text header program }
@@ -35,8 +35,8 @@ pub fn programs_tell_their_texts()
         output_names program ≡ map (λ asked. asked.name) (outputs_in text) }
 {}
 
-/// An image whose signals are moved to other columns tells what the plain outputs of its text tell over those columns,
-/// under the same names.
+/// An image whose signals are moved to other columns reports what the plain outputs of its text report over those
+/// columns, under the same names.
 pub fn moved_images_tell_their_texts()
     ensures reports { (style : Style) (text : Seq ℕ) (old new : Places) (rows : Seq Row) →
         CanMove text old new →
@@ -56,8 +56,8 @@ pub fn simple_programs_need_no_more()
         (simple_image_of_text text header ≡ Err fault) ↔ (image_of_text text header ≡ Err fault) }
 {}
 
-/// A program in simplified form tells of each output what is settled for the plain output of its text, no later than that
-/// output's worst-case delay. So does its image whose signals are moved to other columns.
+/// A program in simplified form reports of each output what is settled for the plain output of its text, no later
+/// than that output's worst-case delay. So does its image whose signals are moved to other columns.
 pub fn simple_programs_tell_plain_outputs()
     ensures told { (style : Style) (text : Seq ℕ) (header : Maybe (Seq ℕ)) (columns : Places)
         (program : Observer) (rows : Seq Row) (k : ℕ) (o : Told) →

@@ -40,7 +40,7 @@ pub fn back(alloc: Global, spec: &TypedSpec, columns: &Columns) -> Result<Checke
     Ok(checked)
 }
 
-/// The image of outputs over the signals of a specification. Memory is wanting at 2^32 bytes of names, too.
+/// Makes the image of outputs over the signals of a specification. It is out of memory at 2^32 bytes of names, too.
 pub(crate) fn built(
     alloc: Global,
     expanded: &Expanded,

@@ -56,7 +56,7 @@ pub record Piece : Type 0 where
   pub start : ℕ
   pub bytes : List ℕ
 
--- the piece at the front of the rest of a text, of which the first `start` bytes are gone
+-- the piece with which the rest of a text begins, where the first `start` bytes are gone
 abbrev pub piece_at : ℕ → List ℕ → Piece
 piece_at start rest =
     record { front = front_of rest; start = start; bytes = take (size_of (front_of rest)) rest }

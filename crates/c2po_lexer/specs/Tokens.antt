@@ -107,7 +107,7 @@ IsWrittenAs (what.Reserved k) bytes = keyword_text k ≡ bytes
 IsWrittenAs (what.Number value) bytes = value ≡ pos (digits_value 10 bytes)
 IsWrittenAs (what.Sign s) bytes = sign_text s ≡ bytes
 
--- tokens stand in order between two places of a text, and each has a byte or more
+-- tokens are in order between two positions of a text, and each has a byte or more
 abbrev pub AreInOrder : (from to : ℕ) → List Token → Type 0
 AreInOrder from to [] = from ≤ to
 AreInOrder from to (t ∷ ts) = (from ≤ t.start) × (t.start < t.end) × AreInOrder t.end to ts

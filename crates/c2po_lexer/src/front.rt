@@ -35,7 +35,7 @@ fn begins_word(byte: u8) -> bool
     byte.is_ascii_alphabetic() || byte == b'_'
 }
 
-/// How many bytes stand before the next newline.
+/// How many bytes there are before the next newline.
 fn line_size(text: &[u8]) -> usize
     ensures longest { result ≡ prefix_len is_in_line text.now }
     ensures inside { result ≤ length text.now }
@@ -43,7 +43,7 @@ fn line_size(text: &[u8]) -> usize
     text.iter().take_while(|byte| **byte != b'\n').count()
 }
 
-/// How many bytes at the front can stand in a word.
+/// How many bytes at the start can belong to a word.
 fn word_size(text: &[u8]) -> usize
     ensures longest { result ≡ prefix_len is_in_word text.now }
     ensures inside { result ≤ length text.now }
@@ -51,7 +51,7 @@ fn word_size(text: &[u8]) -> usize
     text.iter().take_while(|byte| is_in_word(**byte)).count()
 }
 
-/// How many digits stand at the front.
+/// How many digits there are at the start.
 fn digits_size(text: &[u8]) -> usize
     ensures longest { result ≡ prefix_len is_ascii_digit text.now }
     ensures inside { result ≤ length text.now }

@@ -78,7 +78,7 @@ struct Position {
     start: usize,
 }
 
-/// The token at a position, if a token stands there, and the position after it.
+/// Returns the token at a position, if there is one, and the position after it.
 fn piece(text: &[u8], at: Position) -> Result<(Option<Token>, Position), LexFault>
     requires limit { length text.now ≤ MAX_SPEC_BYTES }
     requires inside { at.start < length text.now }
@@ -118,9 +118,9 @@ fn add(tokens: &mut Tokens, token: Option<Token>) -> Result<(), LexFault>
 
 /// The tokens of a text of at most 1,048,576 bytes, or its first fault.
 ///
-/// A word begins with a letter of ASCII or `_` and goes on with letters, digits and `_`; a number is made of decimal
-/// digits. At each place the longest match counts. Spaces, tabs, carriage returns, newlines and comments, which run from
-/// `--` to the end of their line and may hold any bytes, stand between tokens.
+/// A word begins with a letter of ASCII or `_` and continues with letters, digits and `_`; a number is made of
+/// decimal digits. At each position the longest match counts. Spaces, tabs, carriage returns, newlines and comments,
+/// which run from `--` to the end of their line and may hold any bytes, separate tokens.
 ///
 /// Errors: `Letter` at a byte outside a comment that begins no token, `LongWord` at a word of more than 64 bytes,
 /// `Number` at a number above 9,223,372,036,854,775,807, `Memory` when out of memory.

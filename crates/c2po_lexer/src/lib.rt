@@ -1,7 +1,7 @@
 //! Cuts the text of a specification into tokens.
 //!
-//! [`lex`] gives the words, numbers and signs of a text in order, each with its line and its span, or the first fault of
-//! the text. Contracts see the tokens as a list; `tokens_of` in `specs/Tokens.antt` says which one it is.
+//! [`lex`] returns the words, numbers and signs of a text in order, each with its line and its span, or the first
+//! fault of the text. Contracts see the tokens as a list; `tokens_of` in `specs/Tokens.antt` defines which one it is.
 //!
 //! ```
 //! let tokens = lex(alloc, b"FTSPEC grant: request -> F[0,3] granted;")?;

@@ -205,7 +205,7 @@ impl Keyword {
 }
 
 impl Sign {
-    /// Signs of more bytes stand first.
+    /// Longer signs come first.
     const ALL: [Sign; 28] = [
         Sign::Iff,
         Sign::Implies,

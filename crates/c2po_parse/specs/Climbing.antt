@@ -54,7 +54,7 @@ before read level p ts =
     if nat_le level (prefix_level p) then (read (Whole (prefix_level p)) ts >>= λ x. Some (prefixed p x.0, x.1))
     else None
 
--- an operand, told how it begins and what follows that
+-- an operand, given how it begins and what follows that
 abbrev pub operand : Climbs → ℕ → Start × List Token → Option (Shape × List Token)
 operand read level (Leaf line a, rest) = Some (leaf line a, rest)
 operand read level (Before p, rest) = before read level p rest
@@ -88,7 +88,7 @@ climb_step read (Elements b es) ts = do
   x ← read (Whole 1) ts
   elements_of read b (es ++ x.0 ∷ []) x.1 (past sign.Comma x.1)
 
--- the reading with so many nested steps at most
+-- the reading with at most this many nested steps
 unfoldable pub climb : ℕ → Climbs
 climb zero goal ts = None
 climb (suc n) goal ts = climb_step (climb n) goal ts

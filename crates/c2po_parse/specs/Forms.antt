@@ -32,12 +32,12 @@ type_in read (what.Reserved keyword.Set) ts = do
   Some (set_of k.0, vs)
 type_in read _ ts = None
 
--- the type at the front, told how a type inside it is read
+-- the type at the start, given how a type inside it is read
 abbrev pub type_step : TypeReads → TypeReads
 type_step read [] = None
 type_step read (t ∷ ts) = type_in read t.what ts
 
--- the type at the front, with so many sets in one another at most
+-- the type at the start, with at most this many nested sets
 unfoldable pub type_within : ℕ → TypeReads
 type_within zero ts = None
 type_within (suc n) ts = type_step (type_within n) ts
@@ -55,7 +55,7 @@ abbrev pub names_or : NamesRead → List ℕ → List Token → Option (List Tok
 names_or read x ts None = Some (x ∷ [], ts)
 names_or read x ts (Some rest) = read rest >>= λ xs. Some (x ∷ xs.0, xs.1)
 
--- the names at the front, where they are so many at most, and what follows them
+-- the names at the start, at most this many, and what follows them
 unfoldable pub names_within : ℕ → NamesRead
 names_within zero ts = None
 names_within (suc n) ts = name_at ts >>= λ x. names_or (names_within n) x.0 x.1 (past sign.Comma x.1)
@@ -90,7 +90,7 @@ abbrev pub fields_or : FieldsRead → List FieldShape → List Token → Option 
 fields_or read fs ts (Some rest) = Some (fs, rest)
 fields_or read fs ts None = read ts >>= λ gs. Some (fs ++ gs.0, gs.1)
 
--- the fields at the front, in so many lists at most, their `}`, and what follows it
+-- the fields at the start, in at most this many lists, their `}`, and what follows it
 unfoldable pub fields_within : ℕ → FieldsRead
 fields_within zero ts = None
 fields_within (suc n) ts = do
@@ -141,7 +141,7 @@ label_at ts = labelled ts (name_at ts >>= λ x. past sign.Colon x.1 >>= λ us. S
 abbrev pub is_promise : ℕ → What → Bool
 is_promise depth w = nat_eq depth 0 && is_sign sign.Promises w
 
--- the place of the first `=>` outside brackets, counted from a place on, with so many brackets open before it
+-- the index of the first `=>` outside brackets, counted from an index on, with this many brackets open before it
 unfoldable pub promise_at : ℕ → ℕ → List Token → Option ℕ
 promise_at place depth [] = None
 promise_at place depth (t ∷ ts) = if is_promise depth t.what then Some place
@@ -152,7 +152,7 @@ abbrev pub contract_of : Engine → Option (List ℕ) → List Token → List To
 contract_of engine label left right = if is_some (promise_at 0 0 right) then None
     else (tree_of left >>= λ e. tree_of right >>= λ f. Some (contract engine label e f))
 
--- a formula, or a contract where the only `=>` outside brackets stands
+-- a formula, or a contract where there is one `=>` outside brackets
 abbrev pub output_at : Engine → Option (List ℕ) → List Token → Option ℕ → Option BodyShape
 output_at engine label ts None = tree_of ts >>= λ e. Some (formula engine label e)
 output_at engine label ts (Some n) = contract_of engine label (take n ts) (drop (n + 1) ts)

@@ -133,13 +133,13 @@ abbrev pub field_of : List Token → Option (Operator × List Token)
 field_of [] = None
 field_of (t ∷ ts) = word_in t.what ts >>= λ x. Some (Field t.line x.0, x.1)
 
--- the operator that a sign begins, told what follows the sign
+-- the operator that a sign begins, given what follows the sign
 abbrev pub sign_operator : ℕ → Sign → List Token → Option (Operator × List Token)
 sign_operator line sign.Dot ts = field_of ts
 sign_operator line s ts = sign_infix s >>= λ op. Some (Binary line op, ts)
 
--- The operator that a token begins, told what follows the token: `U`, `R` and `S` take an interval with them, `.` takes
--- the name of a field, whose line counts.
+-- the operator that a token begins, given what follows the token: `U`, `R` and `S` take an interval with them, `.`
+-- takes the name of a field, whose line counts
 abbrev pub operator_in : ℕ → What → List Token → Option (Operator × List Token)
 operator_in line (what.Sign s) ts = sign_operator line s ts
 operator_in line (what.Reserved k) ts = do
@@ -188,7 +188,7 @@ abbrev pub named_or_called : ℕ → List ℕ → List Token → Option (List To
 named_or_called line x ts None = (Leaf line (Ref x), ts)
 named_or_called line x ts (Some us) = (Open (Call line x), us)
 
--- a quantifier and its variable, told what follows the quantifier's word
+-- a quantifier and its variable, given what follows the quantifier's word
 abbrev pub bound_start : ℕ → Quantifier → List Token → Option (Start × List Token)
 bound_start line q ts = do
   us ← past sign.LeftRound ts
@@ -196,21 +196,21 @@ bound_start line q ts = do
   vs ← past sign.Colon x.1
   Some (Bind line q x.0, vs)
 
--- a temporal prefix and its interval, told what follows the prefix's word
+-- a temporal prefix and its interval, given what follows the prefix's word
 abbrev pub window_start : ℕ → Keyword → List Token → Option (Start × List Token)
 window_start line k ts = do
   op ← word_window k
   i ← interval_at ts
   Some (Before (Window line op i.0 i.1), i.2)
 
--- the start of an operand that a word makes, told what follows the word
+-- the start of an operand that a word makes, given what follows the word
 abbrev pub word_start : ℕ → Keyword → List Token → Option Quantifier → Option (Start × List Token)
 word_start line keyword.True ts q = Some (Leaf line (Truth true), ts)
 word_start line keyword.False ts q = Some (Leaf line (Truth false), ts)
 word_start line k ts (Some q) = bound_start line q ts
 word_start line k ts None = window_start line k ts
 
--- the start of an operand that a sign makes, told what follows the sign
+-- the start of an operand that a sign makes, given what follows the sign
 abbrev pub sign_start : ℕ → Sign → List Token → Option (Start × List Token)
 sign_start line sign.Bang ts = Some (Before (Not line), ts)
 sign_start line sign.Minus ts = Some (Before (Minus line), ts)
@@ -218,7 +218,7 @@ sign_start line sign.LeftRound ts = Some (Round, ts)
 sign_start line sign.LeftCurly ts = Some (Open (Curly line), ts)
 sign_start line _ ts = None
 
--- the start of an operand that a token makes, told what follows the token
+-- the start of an operand that a token makes, given what follows the token
 abbrev pub start_in : ℕ → What → List Token → Option (Start × List Token)
 start_in line (what.Number n) ts = Some (Leaf line (Number n), ts)
 start_in line (what.Word x) ts = Some (named_or_called line x ts (past sign.LeftRound ts))
@@ -236,7 +236,7 @@ number_at Each ts = Some (0, ts)
 number_at Exists ts = Some (0, ts)
 number_at (Count op) ts = past sign.Comma ts >>= λ us. natural_at us
 
--- what stands between a quantifier's set and its body: the number where it counts, `)` and `(`
+-- the tokens between a quantifier's set and its body: the number where it counts, `)` and `(`
 unfoldable pub middle_at : Quantifier → List Token → Option (ℕ × List Token)
 middle_at q ts = do
   n ← number_at q ts

@@ -10,8 +10,8 @@ use Rattle.c2po_parse.specs.Tokens.{is_sign}
 use Rattle.c2po_parse.specs.declared.section.Section.{Section}
 use Rattle.c2po_parse.specs.declared.section.Section.TheVariants.{Struct, Input, Define, Output}
 
--- The items of a token list: section words cut it wherever they stand, and within a section `;` outside braces ends an
--- item.
+-- The items of a token list: section words cut it wherever they occur, and within a section `;` outside braces ends
+-- an item.
 
 -- the section that a word begins
 abbrev pub section_of : What → Option Section
@@ -28,7 +28,7 @@ braces_after (what.Sign sign.LeftCurly) d = suc d
 braces_after (what.Sign sign.RightCurly) d = pred d
 braces_after _ d = d
 
--- A piece between the ends: the section that it stands in, if any, its line, its tokens, and whether a `;` ends it.
+-- A piece between the ends: its section, if any, its line, its tokens, and whether a `;` ends it.
 pub record Piece : Type 0 where
   pub section : Option Section
   pub line : ℕ
@@ -78,7 +78,7 @@ abbrev pub counted : Option ℕ → (ℕ → ℕ) → ℕ
 counted None len = 0
 counted (Some depth) len = len depth + 1
 
--- how many tokens stand before the end of a piece
+-- how many tokens there are before the end of a piece
 unfoldable pub piece_len : Option Section → ℕ → List Token → ℕ
 piece_len section depth [] = 0
 piece_len section depth (t ∷ ts) = counted (depth_within section depth t.what) (λ next. piece_len section next ts)

@@ -26,7 +26,7 @@ abbrev pub with_front : Token → Option Cut → Option Cut
 with_front t None = None
 with_front t (Some c) = Some (t ∷ c.0, c.1)
 
--- what is looked for at a token outside brackets, told whether the token before ends an operand
+-- what is looked for at a token outside brackets, given whether the token before ends an operand
 abbrev pub Test : Type 0
 Test = Bool → Token → Bool
 
@@ -108,7 +108,7 @@ block read ts = do
   e ← read 1 c.0
   at_end e rest
 
--- what stands at the tightest level, level 12
+-- the forms of the tightest level, level 12
 abbrev pub primary : Reads → ReadsAll → Start × List Token → Option Shape
 primary read read_all (Leaf line a, rest) = at_end (leaf line a) rest
 primary read read_all (Before p, rest) = None
@@ -140,7 +140,7 @@ elements_step read read_all s ts = do
   e ← read 1 c.0
   more_or_end read_all s e c.1 (past sign.Comma c.1)
 
--- with so many steps at most
+-- with at most this many steps
 unfoldable mutual
   pub tree_within : ℕ → Reads
   tree_within zero level ts = None

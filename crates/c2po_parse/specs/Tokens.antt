@@ -78,7 +78,7 @@ token_level (what.Sign s) = sign_level s
 token_level (what.Reserved k) = word_level k
 token_level _ = 0
 
--- whether an operand can end with the token: a name, a number, a truth, `)` or `}`
+-- whether an operand can end with the token: a name, a number, `true`, `false`, `)` or `}`
 abbrev pub ends_operand : What → Bool
 ends_operand (what.Word x) = true
 ends_operand (what.Number n) = true
@@ -88,8 +88,8 @@ ends_operand (what.Sign sign.RightRound) = true
 ends_operand (what.Sign sign.RightCurly) = true
 ends_operand _ = false
 
--- The level of a token as an operator, told whether the token before it ends an operand: a `-` stands between
--- operands only after such a token.
+-- the level of a token as an operator, given whether the token before it ends an operand: only after such a token is
+-- `-` an operator between operands
 abbrev pub level_after : Bool → What → ℕ
 level_after true w = token_level w
 level_after false w = if is_sign sign.Minus w then 0 else token_level w

@@ -204,7 +204,8 @@ fn climbed(alloc: Global, tokens: &[Token]) -> Result<Expr, TreeFault>
     }
 }
 
-/// The tree of an expression: the one that splitting the tokens at the loosest operator finds, level by level.
+/// Returns the tree of an expression, which is defined by splitting the tokens at the loosest operator, level by
+/// level.
 ///
 /// The tokens are gone through once, from the left. At most 1,024 tokens are taken, so that the nesting is bounded.
 /// `NoTree` is answered exactly where the grammar has no tree for the tokens.

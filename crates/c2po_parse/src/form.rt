@@ -23,14 +23,14 @@ fn deeper(room: usize) -> Result<usize, TreeFault>
     room.checked_sub(1).ok_or(TreeFault::NoTree)
 }
 
-/// The name of the type of truths.
+/// The name of the Boolean type.
 fn bool_name() -> Name
     ensures { result ≡ codes "bool" }
 {
     Name::of(b"bool").unwrap()
 }
 
-/// The name of the type of whole numbers.
+/// The name of the integer type.
 fn int_name() -> Name
     ensures { result ≡ codes "int" }
 {

@@ -1,4 +1,4 @@
-//! What stands at the front of a token list.
+//! What a token list begins with.
 
 ghost use Rattle.std.specs.Prelude.{◌≡◌, ◌<◌, length, option_map, IfSome};
 ghost use Rattle.c2po_parse.specs.Fronts.{past, name_at, natural_at, interval_at, sign_infix, word_between, word_window, word_quantifier, field_of, operator_at, bound_start, window_start, start_at, number_at, middle_at, named_or_called, word_start, sign_start};
@@ -306,7 +306,7 @@ fn take_number(quantifier: Quantifier, tokens: &[Token]) -> Option<(u64, &[Token
     }
 }
 
-/// What stands between a quantifier's set and its body: the number where it counts, `)` and `(`.
+/// Reads the tokens between a quantifier's set and its body: the number where it counts, `)` and `(`.
 #[tactic(auto, unfolding(crate::specs::Fronts::middle_at))]
 pub(crate) fn take_middle(quantifier: Quantifier, tokens: &[Token]) -> Option<(u64, &[Token])>
     ensures { option_map (λ x. (x.0, x.1.now)) result ≡ middle_at quantifier tokens.now }

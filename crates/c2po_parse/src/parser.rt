@@ -16,7 +16,7 @@ use mltl_base::List;
 use mltl_base::limits::MAX_ITEM_TOKENS;
 use std::alloc::Global;
 
-/// An item on a line from its tokens and what stands after them.
+/// Makes an item on a line from its tokens, and returns what follows them.
 fn item_on(
     alloc: Global,
     line: u32,
@@ -41,7 +41,7 @@ fn item_on(
     }
 }
 
-/// Whether the first of these tokens ends an item, where it ends a piece; and what stands after it.
+/// Whether the first of these tokens ends an item, where it ends a piece; and what follows it.
 fn after_end(tokens: &[Token]) -> (bool, &[Token])
     ensures ended { result.0 ≡ ended_of tokens.now }
     ensures tail { result.1.now ≡ tail_of tokens.now }
@@ -52,7 +52,7 @@ fn after_end(tokens: &[Token]) -> (bool, &[Token])
     }
 }
 
-/// The item at the front, whose first token begins no section, and what stands after its `;`.
+/// Reads the item at the start, whose first token begins no section, and returns what follows its `;`.
 fn item_at(
     alloc: Global,
     section: Option<Section>,
@@ -101,9 +101,9 @@ fn read_front<'a>(
 
 /// The trees of the items of a specification, or the fault of its first faulty item.
 ///
-/// The words `STRUCT`, `INPUT`, `DEFINE`, `FTSPEC` and `PTSPEC` begin sections wherever they stand; within a section an
-/// item ends at each `;` outside braces. The tree of an expression is found by splitting its tokens at the loosest
-/// operator outside brackets, level by level; the tokens are gone through once, from the left.
+/// The words `STRUCT`, `INPUT`, `DEFINE`, `FTSPEC` and `PTSPEC` begin sections wherever they occur; within a section
+/// an item ends at each `;` outside braces. The tree of an expression is defined by splitting its tokens at the
+/// loosest operator outside brackets, level by level; the tokens are read once, from the left.
 ///
 /// Errors: `TooManyTokens` at an item of more than 1,024 tokens, else `Grammar` at an item that has no tree, each with
 /// the line of the item's first token, or of its `;` where it has no token; `Memory` when out of memory.
@@ -113,7 +113,7 @@ pub fn parse(alloc: Global, tokens: &Tokens) -> Result<SpecTree, ParseFault>
     ensures first_fault { IfErr result (λ fault. fault ≢ ParseFault.Memory
         → spec_of tokens.now ≡ Err fault) }
 
-    // Names stand in the tokens: where those are made of letters, digits and `_`, these are.
+    // The names of the tree are in the tokens: where those are made of letters, digits and `_`, these are.
     ensures names { All (λ token. HasPlainName token.what) tokens.now
         → IfOk result (λ tree. ArePlainItems (spec_shape tree)) }
 {

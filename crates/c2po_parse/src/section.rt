@@ -58,7 +58,7 @@ fn next_depth(section: Option<Section>, depth: usize, what: &What) -> Option<usi
     Some(braces_after(what, depth))
 }
 
-/// How many tokens stand before the end of the piece at the front.
+/// How many tokens there are before the end of the piece at the start.
 #[tactic(auto, unfolding(crate::specs::Sections::piece_len))]
 pub fn piece_end(section: Option<Section>, tokens: &[Token]) -> usize
     ensures before { result ≡ piece_len section 0 tokens.now }

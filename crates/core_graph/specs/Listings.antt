@@ -69,7 +69,7 @@ listed_trees vertices part ids outs = filter (is_in part) (completed (trees_of v
 abbrev pub asked_from : List ℕ → List Plain → List PlainOut → List Asked
 asked_from columns nodes outs = map (asked_over columns) (map (asked_by (plain.trees nodes)) outs)
 
--- no number stands twice
+-- no number occurs twice
 pub record AreOnce (ids : List ℕ) : Type 0 where
   pub once : (i j n : ℕ) → slice_get ids i ≡ Some n → slice_get ids j ≡ Some n → i ≡ j
 

@@ -1,4 +1,4 @@
--- Which nodes the outputs reach, and the list in which the others stand for true.
+-- Which nodes the outputs reach, and the list in which the others are true.
 
 use Rattle.std.specs.Prelude.{◌≡◌, ◌⊎◌, ℕ, Bool, true, false, if◌then◌else◌, Some, List, [], ◌∷◌, length, slice_get}
 use Rattle.std.specs.Prelude.{slice_index_or, All}
@@ -36,7 +36,7 @@ IsOperand n Zero = ⊥
 IsOperand n (One a) = n ≡ a
 IsOperand n (Two a b) = (n ≡ a) ⊎ (n ≡ b)
 
--- the operands of each node stand before it
+-- the operands of each node come before it
 pub record AreOver (nodes : List Plain) : Type 0 where
   pub before : (i : ℕ) (node : Plain) → slice_get nodes i ≡ Some node → AreBelow i (node_operands node)
 

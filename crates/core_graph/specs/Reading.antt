@@ -1,4 +1,4 @@
--- What the vertices that were made of plain nodes stand for.
+-- What the vertices that were made of plain nodes represent.
 
 use Rattle.std.specs.Prelude.{◌≡◌, ℕ, Some, List, length, slice_get}
 use Rattle.mltl_base.specs.Atoms.{term_over}
@@ -9,12 +9,12 @@ use Rattle.core_graph.specs.declared.vertex.Vertex.{Vertex}
 use Rattle.core_graph.specs.Vertices.{Has, IsForest}
 use Rattle.core_graph.specs.Images.{of_term, of_core}
 
--- vertex n is the whole number of a plain node, or the core form of its formula, over columns
+-- vertex n is the integer expression of a plain node, or the core form of its formula, over columns
 abbrev pub Represents : List ℕ → List Vertex → ℕ → plain.Tree → Type 0
 Represents columns vertices n (plain.number a) = Has vertices n (of_term (term_over columns a))
 Represents columns vertices n (plain.formula p) = Has vertices n (of_core (core (formula_over columns p)))
 
--- there is a vertex for each node, which stands for what the node unfolds to
+-- there is a vertex for each node, which represents what the node unfolds to
 pub record AreRead (columns : List ℕ) (vertices : List Vertex) (nodes : List Plain) (ids : List ℕ) : Type 0 where
   pub forest : IsForest vertices
   pub count : length ids ≡ length nodes

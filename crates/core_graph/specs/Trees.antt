@@ -5,7 +5,7 @@ use Rattle.std.specs.Ordering.{int_eq}
 use Rattle.mltl_base.specs.declared.interval.Interval.{Interval}
 use Rattle.mltl_base.specs.Subformulas.{same_interval, add_new}
 
--- an operator or a constant without a number of its own
+-- an operator or a constant without a number
 pub data Sign : Type 0 where
   negative_sign : Sign
   plus_sign : Sign
@@ -24,7 +24,7 @@ pub data Sign : Type 0 where
   not_sign : Sign
   and_sign : Sign
 
--- what stands at a node of a tree
+-- the label of a node of a tree
 pub data Label : Type 0 where
   sign : Sign → Label
   in_column : ℕ → Label
@@ -100,7 +100,7 @@ is_core_label (until_in i) = true
 is_core_label (since_in i) = true
 is_core_label _ = false
 
--- what stands at the root of a tree
+-- the label of the root of a tree
 abbrev pub root : Tree → Label
 root (leaf l) = l
 root (one l t) = l

@@ -38,7 +38,7 @@ arith_sign arith.TheVariants.Mul = times_sign
 arith_sign arith.TheVariants.Div = quotient_sign
 arith_sign arith.TheVariants.Rem = remainder_sign
 
--- what stands at the node of a vertex
+-- the label of the node of a vertex
 abbrev pub label_of : Vertex → Label
 label_of (Column c) = in_column c
 label_of (Const n) = number n
@@ -82,13 +82,13 @@ pub record Has (vertices : List Vertex) (n : ℕ) (tree : Tree) : Type 0 where
   pub within : n < length vertices
   pub is : tree_at (trees vertices) n ≡ tree
 
--- the operands stand before place n
+-- the operands come before index n
 abbrev pub AreBelow : ℕ → Operands → Type 0
 AreBelow n Zero = ⊤
 AreBelow n (One a) = a < n
 AreBelow n (Two a b) = (a < n) × (b < n)
 
--- operands stand before the vertices that use them, and no vertex stands twice
+-- operands come before the vertices that use them, and no vertex occurs twice
 pub record IsForest (vertices : List Vertex) : Type 0 where
   pub over : (i : ℕ) (vertex : Vertex) → slice_get vertices i ≡ Some vertex → AreBelow i (operands_of vertex)
   pub once : (i j : ℕ) (vertex : Vertex) → slice_get vertices i ≡ Some vertex → slice_get vertices j ≡ Some vertex

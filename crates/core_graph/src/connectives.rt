@@ -120,7 +120,7 @@ impl Forest {
         self.share(Vertex::Since(i, a, b))
     }
 
-    /// A comparison of whole numbers, by those that instructions have.
+    /// Makes a comparison of integers from the operators of instructions.
     pub fn comparison(&mut self, op: CompareOp, a: usize, b: usize) -> Result<usize, AllocError>
         requires forest { IsForest self.old }
         requires left { a < length self.old }

@@ -82,7 +82,7 @@ fn graph_of(
     graph_in(alloc, &forest, outs, &ids)
 }
 
-/// The core graph of outputs whose nodes stand in a forest, with the vertex of each node.
+/// Makes the core graph of outputs whose nodes are in a forest, given the vertex of each node.
 fn graph_in(
     alloc: Global,
     forest: &Forest,

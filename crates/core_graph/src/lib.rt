@@ -1,8 +1,8 @@
 //! Core graphs: the instructions of a specification that is unfolded, each distinct subformula once.
 //!
 //! Formulas are rewritten to true, atoms, not, and, until and since by the equations of `core` in `mltl_base`. All
-//! expressions and core formulas stand once in one list, the forest, in which vertices share their operands. The lists of
-//! instructions are walks over it, in order of first completion.
+//! expressions and core formulas are in one list, the forest, each once, in which vertices share their operands. The
+//! lists of instructions are walks over it, in order of first completion.
 #![tactic(auto)]
 
 mod connectives;

@@ -5,7 +5,7 @@ ghost use Rattle.core_graph.specs.Vertices.{is_formula, operands_of};
 
 use mltl_base::{ArithOp, Interval};
 
-/// A whole number, an atom or a core formula. Its operands are the numbers of earlier vertices.
+/// An integer, an atom or a core formula. Its operands are the numbers of earlier vertices.
 #[derive(Clone, Copy, PartialEq, Eq, Hash)]
 pub enum Vertex {
     Column(u32),

@@ -15,7 +15,7 @@ pub record AreDelaysOf (ft : List FtOp) (delays : Delays) : Type 0 where
   pub worst : delays.worst ≡ worst_delays ft
   pub in_time : All (λ rows. rows ≤ MAX_DELAY) delays.worst
 
--- the graph is fit to be sized: operands stand before their instructions, intervals are within the limit, outputs name
+-- the graph can be sized: operands come before their instructions, intervals are within the limit, outputs read
 -- instructions of the graph, and their numbers have 32 bits
 pub record IsSizable (graph : Graph) : Type 0 where
   pub few_ft : length graph.ft < 2 ^ 32

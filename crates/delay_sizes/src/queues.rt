@@ -104,7 +104,7 @@ fn widths_of(
     Ok(widths)
 }
 
-/// Raises the width of each instruction to the delays of those that a reader reads beside it.
+/// Raises the width of each instruction to the delays of the other operands of its readers.
 fn widen_by_readers(widths: &mut [u32], worst: &[u32], ft: &List<FtOp>, outs: &List<Out>)
     requires in_order { AreInOrder ft.now }
     requires each { length worst.now ≡ length ft.now }

@@ -1,5 +1,4 @@
--- What stands in a formula.
--- A reader of the contracts needs this file.
+-- What occurs in a formula. Contracts use this file.
 
 use Rattle.std.specs.Prelude.{ℕ, ◌≡◌, ◌⊎◌}
 use Rattle.mltl_base.specs.declared.interval.Interval.{Interval}
@@ -21,7 +20,7 @@ signal s = atom (is_true s)
 abbrev pub AreBounded : Formula → Type 0
 AreBounded p = EachInterval IsBounded p
 
--- the atom stands in the formula
+-- the atom occurs in the formula
 abbrev pub HasAtom : Formula → Atom → Type 0
 HasAtom truth b = ⊥
 HasAtom falsity b = ⊥

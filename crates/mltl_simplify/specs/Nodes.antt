@@ -1,5 +1,5 @@
--- Nodes that stand for the simplified formulas of other nodes.
--- It is the proof's own: `simplify` promises the simplified outputs, and only inner functions speak of nodes.
+-- Nodes that represent the simplified formulas of other nodes. Only inner functions use this file: `simplify`
+-- promises the simplified outputs.
 
 use Rattle.std.specs.Prelude.{◌≡◌, ◌<◌, ℕ, ℤ, Bool, true, false, not, Option, Some, None, List, length, slice_get, ⊤}
 use Rattle.mltl_base.specs.declared.interval.Interval.{Interval}
@@ -39,19 +39,19 @@ simple_between between.TheVariants.U i p q = unless_truth (as_truth q) (until i 
 simple_between between.TheVariants.R i p q = unless_truth (as_truth q) (release i p q)
 simple_between between.TheVariants.S i p q = unless_false (as_truth q) (since i p q)
 
--- the operator leaves the truth as it is
+-- the operator leaves the Boolean as it is
 abbrev pub keeps_truth : window.WindowOp → Bool → Bool
 keeps_truth window.TheVariants.F v = true
 keeps_truth window.TheVariants.G v = true
 keeps_truth window.TheVariants.O v = not v
 keeps_truth window.TheVariants.H v = v
 
--- there is no truth that it leaves as it is
+-- there is no Boolean that it leaves as it is
 abbrev pub KeepsNone : window.WindowOp → Option Bool → Type 0
 KeepsNone op None = ⊤
 KeepsNone op (Some v) = keeps_truth op v ≡ false
 
--- the operator is the truth on its right
+-- the operator is the Boolean on its right
 abbrev pub gives_truth : between.BetweenOp → Bool → Bool
 gives_truth between.TheVariants.U v = true
 gives_truth between.TheVariants.R v = true
@@ -79,19 +79,19 @@ pub record IsSimplified (nodes : List Plain) (n : ℕ) (p : plain.Formula) : Typ
   pub has : Has nodes n (formula the)
   pub simple : formula_fault p ≡ None → the ≡ simp p
 
--- node n stands for a whole number, which stays, or for a formula, which is simplified
+-- node n represents an integer, which stays, or a formula, which is simplified
 abbrev pub IsPlaced : List Plain → ℕ → Tree → Type 0
 IsPlaced nodes n (number a) = Has nodes n (number a)
 IsPlaced nodes n (formula p) = IsSimplified nodes n p
 
--- further nodes, of which node n stands for a tree of some other nodes: the older ones stay, and where those nodes are
--- sound all are as sound as the older ones
+-- further nodes, of which node n represents a tree of some other nodes: the older ones stay, and where those nodes
+-- are sound all are as sound as the older ones
 pub record Places (nodes old new : List Plain) (n : ℕ) (tree : Tree) : Type 0 where
   pub placed : IsPlaced new n tree
   pub grows : Grows old new
   pub sound : (signals : ℕ) → AreSound signals nodes → AreSound signals old → AreSound signals new
 
--- the number is that of the whole number, if it is one and has no fault
+-- the number is that of the integer, if it is one and has no fault
 abbrev pub IsNumbered : Option ℤ → Tree → Type 0
 IsNumbered known (number a) = term_fault a ≡ None → known ≡ number_of a
 IsNumbered known (formula p) = ⊤
@@ -101,7 +101,7 @@ pub record AreNumbered (nodes : List Plain) (proxies : List Proxy) : Type 0 wher
   pub known : (n : ℕ) (proxy : Proxy) (tree : Tree) → slice_get proxies n ≡ Some proxy → Has nodes n tree
       → IsNumbered proxy.number tree
 
--- there is a proxy for each of so many first nodes, which stands for what the node unfolds to
+-- each of this many first nodes has a proxy, which represents what the node unfolds to
 pub record AreSimplified (nodes : List Plain) (count : ℕ) (simple : List Plain) (proxies : List Proxy) : Type 0 where
   pub each : length proxies ≡ count
   pub placed : (n : ℕ) (proxy : Proxy) (tree : Tree) → slice_get proxies n ≡ Some proxy → Has nodes n tree
@@ -119,7 +119,7 @@ abbrev pub place_in : Option Proxy → ℕ
 place_in (Some proxy) = proxy.place
 place_in None = 0
 
--- the place that stands for node n
+-- the index that represents node n
 abbrev pub place_at : List Proxy → ℕ → ℕ
 place_at proxies n = place_in (slice_get proxies n)
 
@@ -127,12 +127,12 @@ place_at proxies n = place_in (slice_get proxies n)
 abbrev pub number_at : List Proxy → ℕ → Option ℤ
 number_at proxies n = number_in (slice_get proxies n)
 
--- an output over the places that stand for its nodes
+-- an output over the indices that represent its nodes
 abbrev pub out_over : List Proxy → PlainOut → PlainOut
 out_over proxies (Formula engine n name) = Formula engine (place_at proxies n) name
 out_over proxies (Contract engine n m name) = Contract engine (place_at proxies n) (place_at proxies m) name
 
--- the output names nodes among so many
+-- the output reads nodes among this many
 abbrev pub NamesNodes : ℕ → PlainOut → Type 0
 NamesNodes count (Formula engine n name) = n < count
 NamesNodes count (Contract engine n m name) = (n < count) × (m < count)

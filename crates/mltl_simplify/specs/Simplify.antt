@@ -9,18 +9,18 @@ use Rattle.mltl_base.specs.Atoms.{is_true, equal, less, at_most, different, grea
 use Rattle.mltl_base.specs.Formula.{Formula, truth, falsity, atom, negation, conjunction, disjunction, implication}
 use Rattle.mltl_base.specs.Formula.{equivalence, finally, globally, until, release, once, historically, since}
 
--- a truth as a formula
+-- a Boolean as a formula
 abbrev pub of_truth : Bool → Formula
 of_truth true = truth
 of_truth false = falsity
 
--- the truth that a formula is, if it is one
+-- the Boolean that a formula is, if it is one
 unfoldable pub as_truth : Formula → Option Bool
 as_truth truth = Some true
 as_truth falsity = Some false
 as_truth _ = None
 
--- a signal stands in the expression
+-- a signal occurs in the expression
 unfoldable pub reads_signal : Term → Bool
 reads_signal (column s) = true
 reads_signal (constant n) = false
@@ -31,7 +31,7 @@ reads_signal (times a b) = reads_signal a || reads_signal b
 reads_signal (quotient a b) = reads_signal a || reads_signal b
 reads_signal (remainder a b) = reads_signal a || reads_signal b
 
--- a signal stands in the atom
+-- a signal occurs in the atom
 unfoldable pub has_signal : Atom → Bool
 has_signal (is_true s) = true
 has_signal (equal a b) = reads_signal a || reads_signal b
@@ -41,18 +41,18 @@ has_signal (different a b) = reads_signal a || reads_signal b
 has_signal (greater a b) = reads_signal a || reads_signal b
 has_signal (at_least a b) = reads_signal a || reads_signal b
 
--- a comparison without signals is the truth that it has on every row
+-- a comparison without signals is the Boolean that it has on every row
 abbrev pub simple_atom : Atom → Formula
 simple_atom a = if has_signal a then atom a else of_truth (holds a [])
 
--- not x: z where x is not z, the other truth where x is a truth
+-- not x: z where x is not z, the other Boolean where x is true or false
 unfoldable pub simple_not : Formula → Formula
 simple_not truth = falsity
 simple_not falsity = truth
 simple_not (negation z) = z
 simple_not x = negation x
 
--- x and y, by the truths that they are: false where one is false, the other where one is true
+-- x and y, where they are true or false: false where one is false, the other where one is true
 abbrev pub both : Option Bool → Option Bool → Formula → Formula → Formula
 both (Some false) w x y = falsity
 both (Some true) w x y = y
@@ -64,7 +64,7 @@ both None None x y = conjunction x y
 abbrev pub simple_and : Formula → Formula → Formula
 simple_and x y = both (as_truth x) (as_truth y) x y
 
--- x or y, by the truths that they are: true where one is true, the other where one is false
+-- x or y, where they are true or false: true where one is true, the other where one is false
 abbrev pub either : Option Bool → Option Bool → Formula → Formula → Formula
 either (Some true) w x y = truth
 either (Some false) w x y = y
@@ -76,7 +76,7 @@ either None None x y = disjunction x y
 abbrev pub simple_or : Formula → Formula → Formula
 simple_or x y = either (as_truth x) (as_truth y) x y
 
--- x implies y, by the truths that they are: true where x is false or y is true, y where x is true, not x where y is
+-- x implies y, where they are true or false: true where x is false or y is true, y where x is true, not x where y is
 -- false
 abbrev pub implies : Option Bool → Option Bool → Formula → Formula → Formula
 implies (Some false) w x y = truth
@@ -89,7 +89,7 @@ implies None None x y = implication x y
 abbrev pub simple_implies : Formula → Formula → Formula
 simple_implies x y = implies (as_truth x) (as_truth y) x y
 
--- x equals y, by the truths that they are: the other where one is true, not the other where one is false
+-- x equals y, where they are true or false: the other where one is true, not the other where one is false
 abbrev pub equals : Option Bool → Option Bool → Formula → Formula → Formula
 equals (Some true) w x y = y
 equals (Some false) w x y = simple_not y
@@ -109,14 +109,14 @@ joined i j = record { lo = i.lo + j.lo; hi = i.hi + j.hi }
 abbrev pub if_joined : Interval → Interval → Formula → Formula → Formula
 if_joined i j one two = if nat_le (i.hi + j.hi) MAX_BOUND then one else two
 
--- finally of a truth is that truth; two of them in a row are one
+-- finally of true or false is that Boolean; two of them in a row are merged
 unfoldable pub simple_finally : Interval → Formula → Formula
 simple_finally i truth = truth
 simple_finally i falsity = falsity
 simple_finally i (finally j z) = if_joined i j (finally (joined i j) z) (finally i (finally j z))
 simple_finally i x = finally i x
 
--- globally of a truth is that truth; two of them in a row are one
+-- globally of true or false is that Boolean; two of them in a row are merged
 unfoldable pub simple_globally : Interval → Formula → Formula
 simple_globally i truth = truth
 simple_globally i falsity = falsity
@@ -136,7 +136,7 @@ simple_historically i (historically j z) =
     if_joined i j (historically (joined i j) z) (historically i (historically j z))
 simple_historically i x = historically i x
 
--- until and release with a truth on the right are that truth
+-- until and release with true or false on the right are that Boolean
 abbrev pub unless_truth : Option Bool → Formula → Formula
 unless_truth (Some v) whole = of_truth v
 unless_truth None whole = whole

@@ -25,8 +25,8 @@ pub fn simplified_formulas_mean_the_same()
         IsOrdered p → Settled rows (simp p) t v → Settled rows p t v }
 {}
 
-/// The same holds among each class of further rows that a test tells, and among the rows that fit a program: what is
-/// settled there for a simplified formula is settled there for its formula.
+/// The same holds among each class of further rows that a test selects, and among the rows that fit a program: what
+/// is settled there for a simplified formula is settled there for its formula.
 pub fn simplified_formulas_settle_among_each_class()
     ensures tested { (test : List Row → Bool) (rows : List Row) (p : Formula) (t : ℕ) (v : Bool) →
         IsOrdered p → SettledAmong (λ more. test more ≡ true) rows (simp p) t v →

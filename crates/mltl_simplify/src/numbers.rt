@@ -1,4 +1,4 @@
-//! The numbers that whole numbers without signals are: what operators make of them.
+//! The values of integer expressions without signals, and what operators make of them.
 
 ghost use Rattle.std.specs.Prelude.{◌≡◌, ◌≢◌, pos, int_rem, Some};
 ghost use Rattle.mltl_simplify.specs.Numbers.{CanCompute, IsComputed, IsNegated, compared as compared_as, compares, computed as meant};

@@ -9,8 +9,8 @@ use crate::rules::{between, connective, negation, window};
 use c2po_nodes::{NodeList, Plain};
 use std::alloc::{AllocError, Global};
 
-/// What a node became: the place of the node that stands for it, and its number, where it is a whole number without
-/// signals.
+/// What a node became: the index of the node that represents it, and its value, where it is an integer expression
+/// without signals.
 #[derive(Clone, Copy)]
 pub struct Proxy {
     pub place: u32,
@@ -25,7 +25,7 @@ fn number_at(proxies: &[Proxy], n: u32) -> Option<i64>
     proxies[n as usize].number
 }
 
-/// The place of the node that stands for an operand.
+/// Returns the index of the node that represents an operand.
 pub fn place_at(proxies: &[Proxy], n: u32) -> u32
     requires { n < length proxies.now }
     ensures { result ≡ stands_at proxies.now n }
@@ -49,7 +49,7 @@ fn number_of(proxies: &[Proxy], nodes: &[Plain], i: usize) -> Option<i64>
     }
 }
 
-/// The place of the node that stands for node `i`, given the proxies of the nodes before it.
+/// Makes the node that represents node `i`, given the proxies of the nodes before it, and returns its index.
 fn place_of(
     simple: &mut NodeList,
     proxies: &[Proxy],

@@ -121,8 +121,8 @@ pub fn connective(nodes: &mut NodeList, op: LogicOp, a: u32, b: u32) -> Result<u
     }
 }
 
-/// Whether the temporal operator of one formula leaves a truth as it is: once of true isn't true at the first times, nor
-/// is historically of false false there.
+/// Whether the temporal operator of one formula leaves `true` or `false` as it is: once of true isn't true at the
+/// first times, nor is historically of false false there.
 fn keeps(op: WindowOp, value: bool) -> bool
     ensures { result ≡ keeps_truth op value }
 {
@@ -188,7 +188,7 @@ pub fn window(nodes: &mut NodeList, op: WindowOp, i: Interval, a: u32) -> Result
     }
 }
 
-/// Whether the temporal operator is a truth that stands on its right: since true isn't true at the first times.
+/// Whether the temporal operator equals `true` or `false` on its right: since true isn't true at the first times.
 fn gives(op: BetweenOp, value: bool) -> bool
     ensures { result ≡ gives_truth op value }
 {

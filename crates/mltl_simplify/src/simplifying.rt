@@ -16,7 +16,7 @@ use c2po_nodes::{Expanded, NodeList, PlainOut};
 use mltl_base::List;
 use std::alloc::{AllocError, Global};
 
-/// An output over the places of the nodes that stand for its nodes.
+/// An output over the indices of the nodes that represent its nodes.
 fn out_of(proxies: &[Proxy], out: &PlainOut) -> PlainOut
     requires { NamesNodes (length proxies.now) out.now }
     ensures { result ≡ out_over proxies.now out.now }
@@ -34,7 +34,7 @@ fn out_of(proxies: &[Proxy], out: &PlainOut) -> PlainOut
     }
 }
 
-/// All outputs over the places of the nodes that stand for their nodes.
+/// All outputs over the indices of the nodes that represent their nodes.
 fn outs_of(
     alloc: Global,
     proxies: &[Proxy],

@@ -28,7 +28,7 @@ reference_token always = what.Reserved keyword.True
 reference_token (named x) = what.Word x
 reference_token (number n) = what.Number n
 
--- the sign of an operator between whole numbers
+-- the sign of an operator between integers
 abbrev pub arith_sign : arith_op.ArithOp → Sign
 arith_sign arith_op.TheVariants.Add = sign.Plus
 arith_sign arith_op.TheVariants.Sub = sign.Minus
@@ -96,7 +96,7 @@ abbrev pub label_marks : Option (List ℕ) → List Mark
 label_marks None = []
 label_marks (Some x) = token (what.Word x) ∷ token (what.Sign sign.Colon) ∷ space ∷ []
 
--- what stands between the section's word and the `;`
+-- the text between the section's word and the `;`
 abbrev pub body_marks : Line → List Mark
 body_marks (input x truth) =
     token (what.Word x) ∷ token (what.Sign sign.Colon) ∷ space ∷ token (what.Reserved (kind_word truth)) ∷ []

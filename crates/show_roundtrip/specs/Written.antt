@@ -86,7 +86,7 @@ abbrev pub Ends : What → List ℕ → Type 0
 Ends w [] = ⊥
 Ends w (b ∷ bytes) = token_ends w b ≡ true
 
--- each token is one that a text can have, and ends before what follows it
+-- each token can occur in a text, and ends before what follows it
 unfoldable pub AreReadable : List Mark → Type 0
 AreReadable [] = ⊤
 AreReadable (token w ∷ marks) = IsToken w × Ends w (written marks) × AreReadable marks

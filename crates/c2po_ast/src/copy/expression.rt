@@ -1,4 +1,4 @@
-//! Copies of expressions. A level of nesting takes little of the stack, since each form has a function of its own.
+//! Copies of expressions. A level of nesting takes little of the stack, since each form has a separate function.
 
 ghost use Rattle.std.specs.Prelude.{◌≡◌, map, IfOk};
 ghost use Rattle.c2po_ast.specs.Parts.{enclosed, joined, prefixed, quantified};
