@@ -1,4 +1,4 @@
--- What the words of c2po ask for, of what it does.
+-- What the arguments of c2po request, by what it does.
 
 use Rattle.std.specs.Prelude.{ℕ, Option, Some, None, option_map, List, [], ◌∷◌, ◌++◌}
 use Rattle.tool_io.specs.declared.host.Place.{Place}
@@ -26,7 +26,7 @@ pub data Ask : Type 0 where
   make : MakeAsked → Ask
   nothing : Ask
 
--- the image of a specification, or its table, as it stands or in simplified form
+-- the image of a specification, or its table, plain or in simplified form
 abbrev pub compile_asked : CompileAsked → MakeAsked
 compile_asked asked = record {
   product = Compiled (record { table = asked.table; simplify = asked.simplify });
@@ -51,7 +51,7 @@ served (words.upgrade out program) = make (upgrade_asked out program)
 served (words.show out program) = make (show_asked out program)
 served words.nothing = nothing
 
--- what the words ask for
+-- what the arguments request
 unfoldable pub ask : List (List ℕ) → Ask
 ask list = served (words.ask list)
 

@@ -10,7 +10,7 @@ use Rattle.c2po_cli.specs.declared.make.Product.{Product}
 use Rattle.c2po_cli.specs.declared.make.Product.TheVariants.{Compiled, Upgrade, Show}
 use Rattle.c2po_cli.specs.Made.{first_line}
 
--- a file has the bytes of the image of a text, as it stands or in simplified form
+-- a file has the bytes of the image of a text, plain or in simplified form
 abbrev pub IsFileBy : Bool → List ℕ → Columns → List ℕ → Type 0
 IsFileBy false text columns file = IsImageFile text columns file
 IsFileBy true text columns file = IsSimpleImageFile text columns file

@@ -51,7 +51,7 @@ abbrev pub compiled_bytes : Bool → Result Program CompileFault → Result (Lis
 compiled_bytes tabled (Ok program) = Ok (written_as tabled program)
 compiled_bytes tabled (Err fault) = Err (compile_status fault)
 
--- the image over columns, as it stands or in simplified form
+-- the image over columns, plain or in simplified form
 abbrev pub image_by : Bool → Columns → List Signal → List Asked → Program
 image_by false columns signals outs = image columns signals outs
 image_by true columns signals outs = simple_image columns signals outs

@@ -1,4 +1,4 @@
--- What each phase of a run tells.
+-- What each phase of a run logs.
 
 use Rattle.std.specs.Prelude.{◌≡◌, ℕ, ◌⊎◌, Bool, true, false, Option, Some, None, is_some, Result, Ok, Err, IfOk, List}
 use Rattle.std.specs.Prelude.{[], ◌∷◌, Vec, ⊤}
@@ -36,7 +36,8 @@ abbrev pub RefusesAlone : status.Status → Type 0
 RefusesAlone (status.TheVariants.BadHeader why) = ⊥
 RefusesAlone answer = Refuses answer
 
--- reads of an attached header file gave its first line, or met its end before one, or there is no end of that line
+-- reads of an attached header file returned its first line, or reached its end before one, or there is no end of that
+-- line
 pub record ReadsLine (form : Form) (text : List ℕ) (found : Result (List ℕ) status.Status)
     (log : List Event) : Type 0 where
   pub bytes : List ℕ
@@ -104,7 +105,7 @@ FileMadeLog (Compiled form) result header file events = TextLog result form head
 FileMadeLog Upgrade result header file events = MadeLog result (opened_as bytes_of (opened file)) events
 FileMadeLog Show result header file events = MadeLog result (opened_as text_within (opened file)) events
 
--- after the bytes of the file that the words ask for
+-- after the bytes of the file that the arguments name
 abbrev pub AfterLog : Result (Vec ℕ Global) status.Status → MakeAsked → List ℕ → List Event → Type 0
 AfterLog result asked file events = FileMadeLog asked.product result asked.header file events
 
@@ -138,7 +139,7 @@ abbrev pub GatherLog : Result (Vec ℕ Global) status.Status → MakeAsked → L
 GatherLog (Ok bytes) asked events = Gathered asked bytes.items events
 GatherLog (Err answer) asked events = NotGathered asked answer events
 
--- the bytes went out, or a front of them
+-- the bytes went out, or a prefix of them
 abbrev pub GivenLog : status.Status → List ℕ → List Event → Type 0
 GivenLog status.TheVariants.Done bytes events = Writes place.TheVariants.Out bytes events
 GivenLog (status.TheVariants.WriteFault place.TheVariants.Out) bytes events =

@@ -1,4 +1,4 @@
--- What a whole run of c2po tells: from its words to its message.
+-- What a whole run of c2po logs: from its arguments to its message.
 
 use Rattle.std.specs.Prelude.{◌≡◌, ℕ, ◌<◌, ◌≤◌, ◌⊎◌, Bool, true, false, None, is_some, Result, Ok, Err, IfOk, List, []}
 use Rattle.std.specs.Prelude.{◌∷◌, ◌++◌, length, ⊤}
@@ -75,7 +75,7 @@ pub record Makes (asked : MakeAsked) (run : Seen) (found : Result (List ℕ) sta
   pub is : made asked run.file run.header ≡ found
   pub image : IfOk found (GivesImage asked.product asked.header run.file run.header)
 
--- an answer of a run that has tried Out: all was written, or its open or a write failed
+-- a result of a run that has tried Out: all was written, or its open or a write failed
 abbrev pub IsOfOut : status.Status → Type 0
 IsOfOut status.TheVariants.Done = ⊤
 IsOfOut (status.TheVariants.OpenFault place.TheVariants.Out) = ⊤
@@ -93,7 +93,7 @@ pub record IsWritten (asked : MakeAsked) (run : Seen) : Type 0 where
   pub bytes : Makes asked run (Ok run.out)
   pub attached : run.attached ≡ is_some asked.out
 
--- a front of the bytes that misses some is out; Out was attached exactly where a file is named
+-- a proper prefix of the bytes is out; Out was attached exactly where a file is named
 pub record IsPartlyWritten (asked : MakeAsked) (run : Seen) : Type 0 where
   pub whole : List ℕ
   pub bytes : Makes asked run (Ok whole)
@@ -129,7 +129,7 @@ pub record IsHeaded (run : Seen) : Type 0 where
   pub tried : is_tried place.TheVariants.Header run.names ≡ true
   pub begun : HasBegun run.header_ended run.header
 
--- how each answer follows from what was read and what is out
+-- how each result follows from what was read and what is out
 abbrev pub MakeOutcome : status.Status → MakeAsked → Seen → Type 0
 MakeOutcome status.TheVariants.Done asked run = IsWritten asked run
 MakeOutcome (status.TheVariants.WriteFault place.TheVariants.Out) asked run = IsPartlyWritten asked run
@@ -153,26 +153,26 @@ MakeOutcome (status.TheVariants.BadHeader why) asked run =
 MakeOutcome status.TheVariants.Memory asked run = (run.out ≡ []) × (is_tried place.TheVariants.Out run.names ≡ false)
 MakeOutcome answer asked run = ⊥
 
--- the usage line is out whole, or a front of it that misses some
+-- the usage line is out whole, or a proper prefix of it
 abbrev pub HelpOutcome : status.Status → List ℕ → Type 0
 HelpOutcome status.TheVariants.Helped out = out ≡ usage C2po
 HelpOutcome (status.TheVariants.WriteFault place.TheVariants.Out) out = IsProperFront out (usage C2po)
 HelpOutcome status.TheVariants.Memory out = out ≡ []
 HelpOutcome answer out = ⊥
 
--- words that ask for nothing
+-- invalid arguments
 abbrev pub NothingOutcome : status.Status → List ℕ → Type 0
 NothingOutcome status.TheVariants.Usage out = out ≡ []
 NothingOutcome status.TheVariants.Memory out = out ≡ []
 NothingOutcome answer out = ⊥
 
--- how each answer follows from the words and from the log
+-- how each result follows from the arguments and from the log
 abbrev pub OutcomeOf : status.Status → Ask → List Event → Type 0
 OutcomeOf answer help events = HelpOutcome answer (given place.TheVariants.Out events)
 OutcomeOf answer (make asked) events = MakeOutcome answer asked (seen asked events)
 OutcomeOf answer nothing events = NothingOutcome answer (given place.TheVariants.Out events)
 
--- what is written of a specification without `--table` is its image, in simplified form where the words ask for that
+-- what is written of a specification without `--table` is its image, in simplified form where the arguments say so
 abbrev pub CompilesImage : Ask → status.Status → List Event → Type 0
 CompilesImage (make asked) answer events =
     answer ≡ status.TheVariants.Done
@@ -185,7 +185,7 @@ abbrev pub TriesOf : Ask → status.Status → List Event → Type 0
 TriesOf (make asked) answer events = TriesInTurn asked answer (seen asked events)
 TriesOf other answer events = ⊤
 
--- whether the words name a file that is written
+-- whether the arguments name a file that is written
 abbrev pub names_out : Ask → Bool
 names_out (make asked) = is_some asked.out
 names_out other = false
@@ -217,8 +217,8 @@ CompletesBy (make asked) answer events =
 CompletesBy help answer events = (answer ≡ status.TheVariants.Helped) ⊎ (answer ≡ status.TheVariants.Memory)
 CompletesBy nothing answer events = ⊤
 
--- The log of a whole run: the message is out, or a front of it, and the run completes where no call failed but those at
--- Err.
+-- The log of a whole run: the message is out, or a prefix of it, and the run completes where no call failed but those
+-- at Err.
 pub record IsMade (asked : Ask) (answer : status.Status) (before now : place.Place → ℕ)
     (events : List Event) : Type 0 where
   pub names : IsFront (names_of events) (asked_names asked)

@@ -25,8 +25,8 @@ pub record Returns (program : Program) (file written : List ℕ) : Type 0 where
   pub faultless : first_refusal written ≡ None
   pub image : spelling (image_in written (stored_columns program)) ≡ file
 
--- What is written of a file is the text of its program in version 2. Where the file is the image of a specification, as
--- it stands or in simplified form, the image returns.
+-- What is written of a file is the text of its program in version 2. Where the file is the image of a specification,
+-- plain or in simplified form, the text compiles to the image again.
 pub record IsShown (file written : List ℕ) : Type 0 where
   pub program : Program
   pub opens : opened file ≡ Ok program

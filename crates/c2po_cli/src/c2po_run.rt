@@ -46,7 +46,7 @@ fn run_asked<H: Host>(alloc: Global, asked: C2poAsk<'_>, host: &mut H) -> Status
     }
 }
 
-/// Does what the words ask for.
+/// Does what the arguments request.
 fn run<H: Host>(alloc: Global, words: &Words, host: &mut H) -> Status
     ensures usage { result ≢ Status.Memory → (result ≡ Status.Usage) ↔ (ask words.now ≡ nothing) }
     ensures helped { result ≡ Status.Helped → ask words.now ≡ help }
@@ -59,12 +59,12 @@ fn run<H: Host>(alloc: Global, words: &Words, host: &mut H) -> Status
     }
 }
 
-/// The top call of c2po: does what the words ask for, and tells the user on `Err` what went wrong.
+/// Runs c2po: does what the arguments request, and prints on `Err` what went wrong.
 ///
-/// It writes the image of a specification or its instruction table, maybe in simplified form; a program in version 2, or
-/// its text; or it gives help. The output is attached, and written, only once the bytes stand whole; so an older file
-/// stays as it was where something is refused. The text of an image is a specification without a fault, whose image over
-/// the stored columns is the file.
+/// It writes the image of a specification or its instruction table, possibly in simplified form; a program in version
+/// 2, or its text; or it prints help. The output is attached, and written, only once all bytes are there; so an older
+/// file is left unchanged where something is refused. The text of an image is a specification without a fault, whose
+/// image over the stored columns is the file.
 pub fn c2po_main<H: Host>(alloc: Global, words: &Words, host: &mut H) -> Status
     ensures usage { result ≢ Status.Memory → (result ≡ Status.Usage) ↔ (ask words.now ≡ nothing) }
     ensures helped { result ≡ Status.Helped → ask words.now ≡ help }

@@ -1,4 +1,4 @@
-//! What the words ask to be made.
+//! What the arguments request to be made.
 
 ghost use Rattle.std.specs.Prelude.{◌≡◌, None, option_map};
 ghost use Rattle.tool_words.specs.C2poWords.{compile_of};
@@ -6,7 +6,7 @@ ghost use Rattle.c2po_cli.specs.Asking.{compile_asked, file_kind as kind_of, mak
 
 use tool_words::{Compile, FileKind};
 
-/// What is written of a specification: its image or its instruction table, as it stands or in simplified form.
+/// What is written of a specification: its image or its instruction table, plain or in simplified form.
 #[derive(Clone, Copy)]
 pub(crate) struct Form {
     pub(crate) table: bool,

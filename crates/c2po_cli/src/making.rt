@@ -64,7 +64,8 @@ fn program_of(
     }
 }
 
-/// What is written of a specification whose signals stand in the columns of a header line, or in the order of declaration.
+/// Makes what is written of a specification whose signals are in the columns of a header line, or in order of
+/// declaration.
 pub(crate) fn compiled_bytes(
     alloc: Global,
     spec: &TypedSpec,

@@ -20,7 +20,7 @@ fn main(rt: HostRuntime) -> Result<()> {
     watch(&rt, &mut Monitor::load(rt.alloc(), checked)?)
 }
 
-/// Lets the monitor take the rows, and prints what each of them decides.
+/// Feeds the rows to the monitor, and prints what each of them decides.
 fn watch(rt: &impl Print, monitor: &mut Monitor) -> Result<()> {
     for row in &ROWS {
         monitor.take(row)?;
@@ -29,7 +29,7 @@ fn watch(rt: &impl Print, monitor: &mut Monitor) -> Result<()> {
     Ok(())
 }
 
-/// Prints the line of each verdict that the rows so far decide and that isn't told yet.
+/// Prints the line of each verdict that the rows so far decide and that isn't printed yet.
 fn tell(rt: &impl Print, monitor: &mut Monitor) -> Result<()> {
     while let Some(report) = monitor.next_report() {
         print!(rt; "{}", str::from_utf8(&monitor.line_of(&report))?)?;

@@ -1,4 +1,5 @@
--- One sentence through both programs: what was compiled from a text, and then watched, tells the text's own formulas.
+-- One sentence through both programs: what was compiled from a text, and then watched, reports the text's own
+-- formulas.
 
 use Rattle.std.specs.Prelude.{◌≡◌, ℕ, ◌<◌, true, false, Option, Some, Ok, List, ◌∷◌, ◌++◌, All, length, map, slice_get}
 use Rattle.std.specs.Option.{option_or}
@@ -36,8 +37,9 @@ use Rattle.r2u2_cli.specs.Run.{IsRun}
 abbrev pub lines_at : Place → List Event → List (List ℕ)
 lines_at p events = lines_of (ended_from false p events) (taken p events)
 
--- The log of a run of c2po that ended with success: its words asked for the program of a specification, and not for its
--- table. It read this text, wrote these bytes, and this is the first line of the header file, where the words name one.
+-- The log of a run of c2po that ended with success: its arguments requested the program of a specification, and not
+-- its table. It read this text, wrote these bytes, and this is the first line of the header file, where the arguments
+-- name one.
 pub record HasCompiled (words : List (List ℕ)) (text : List ℕ) (header : Option (List ℕ)) (bytes : List ℕ)
     (events : List Event) : Type 0 where
   pub asked : CompileAsked
@@ -50,8 +52,8 @@ pub record HasCompiled (words : List (List ℕ)) (text : List ℕ) (header : Opt
   pub under : header_of asked.header (lines_at at.Header events) ≡ header
   pub wrote : given at.Out events ≡ bytes
 
--- The log of a run of r2u2 that ended with success: its words asked for this run over a program file and a trace, and
--- the file had these bytes.
+-- The log of a run of r2u2 that ended with success: its arguments requested this run over a program file and a trace,
+-- and the file had these bytes.
 pub record HasWatched (words : List (List ℕ)) (asked : RunAsked) (bytes : List ℕ) (events : List Event) : Type 0 where
   pub kept : Option State
   pub before : Place → ℕ
@@ -61,10 +63,10 @@ pub record HasWatched (words : List (List ℕ)) (asked : RunAsked) (bytes : List
   pub ran : IsRun (watching.ask words) Done kept before now events
   pub read : taken at.Program events ≡ bytes
 
--- What is out tells the formulas of a text over columns of its signals, after these rows. It is the lines of reports,
--- under the names of the text's outputs and of no others. Of each output they tell each time once and in order, with a
--- word that is the meaning of its time whatever rows follow; and no time comes later than the output's worst-case
--- delay.
+-- What is out reports the formulas of a text over columns of its signals, after these rows. It is the lines of
+-- reports, under the names of the text's outputs and of no others. Of each output they report each time once and in
+-- order, with a word that is the meaning of its time whatever rows follow; and no time comes later than the output's
+-- worst-case delay.
 pub record TellsFormulas (text : List ℕ) (columns : Columns) (rows : List Row) (out : List ℕ) : Type 0 where
   pub told_so : List Report
   pub lines_are : out ≡ lines_of_reports (map (λ o. o.name) (outputs_in text)) told_so
@@ -72,9 +74,9 @@ pub record TellsFormulas (text : List ℕ) (columns : Columns) (rows : List Row)
   pub words : (k : ℕ) (o : Output) → slice_get (plain_outputs columns (outputs_in text)) k ≡ Some o
       → TellWords told_so k o rows
 
--- A run over a program file tells a text: its rows are clean, its lines tell the text's formulas over all rows, and
--- before each read of the trace they told them over the rows of what was read. The signals stand in the columns that
--- the trace's header names; without one in those of the compilation: of its header, or of the order of declaration.
+-- A run over a program file reports a text: its rows are clean, its lines report the text's formulas over all rows,
+-- and before each read of the trace they reported them over the rows of what was read. The signals are in the columns
+-- of the trace's header; without one in those of the compilation: of its header, or of the order of declaration.
 pub record TellsText (text : List ℕ) (header : Option (List ℕ)) (asked : RunAsked) (bytes : List ℕ)
     (events : List Event) : Type 0 where
   pub program : Program

@@ -83,7 +83,7 @@ pt_entry (pt.Not a, size) = entry 0x22 0 (a ∷ 0 ∷ 0 ∷ 0 ∷ size ∷ [])
 pt_entry (pt.And a b, size) = entry 0x23 0 (a ∷ b ∷ 0 ∷ 0 ∷ size ∷ [])
 pt_entry (pt.Since a b i, size) = entry 0x24 0 (a ∷ b ∷ i.lo ∷ i.hi ∷ size ∷ [])
 
--- the byte that stands for an engine
+-- the byte of an engine
 abbrev pub engine_code : Engine → ℕ
 engine_code Ft = 0
 engine_code Pt = 1
@@ -107,7 +107,7 @@ signal_entry s = u32_bytes s.column ++ ((if s.truth then 1 else 0) ∷ s.name_le
 abbrev pub header_len : ℕ → ℕ
 header_len version = if version == 2 then 40 else 32
 
--- in version 2 the numbers of signals and of their name bytes stand after the header of version 1
+-- in version 2 the numbers of signals and of their name bytes follow the header of version 1
 abbrev pub signal_counts : Header → List ℕ
 signal_counts h = if h.version == 2 then flat_map u32_bytes (h.signals ∷ h.signal_bytes ∷ []) else []
 

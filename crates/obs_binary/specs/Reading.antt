@@ -84,7 +84,7 @@ unfoldable pub entry_at : {X : Type 0} → ℕ → (X → List ℕ) → (List �
     → Result (X × List ℕ) ReadFault
 entry_at len spelled content size bytes = as_spelled len spelled (size - length bytes) bytes (content (take len bytes))
 
--- so many entries, one after the other
+-- this many entries, one after the other
 unfoldable pub each_at : {X : Type 0} → (List ℕ → Result (X × List ℕ) ReadFault) → ℕ → List ℕ
     → Result (List X × List ℕ) ReadFault
 each_at read zero bytes = Ok ([], bytes)
@@ -171,7 +171,7 @@ signal_content bytes =
 
 -- ---- names
 
--- a name of `len` bytes stands in front: 1 to 64 letters, digits or `_`, none of them past the end
+-- a name of `len` bytes comes first: 1 to 64 letters, digits or `_`, none of them past the end
 abbrev pub is_name_in_front : ℕ → List ℕ → Bool
 is_name_in_front len bytes = is_in_range 1 64 len && nat_le len (length bytes) && list_all is_in_word (take len bytes)
 
@@ -223,7 +223,7 @@ header_fields version bytes = record {
 abbrev pub said_len : Header → ℕ
 said_len h = header_len h.version + body_len h
 
--- the header of a file, whose length is the one that it says, or the first fault
+-- the header of a file that has the length in its header, or the first fault
 unfoldable pub header_at : List ℕ → Result Header ReadFault
 header_at bytes =
     let version = short_at bytes 4 in
@@ -238,7 +238,7 @@ header_at bytes =
     else if nat_lt (said_len header) (length bytes) then Err Trailing
     else Ok header
 
--- what stands after the header of a file of `size` bytes
+-- what follows the header of a file of `size` bytes
 unfoldable pub body_at : Header → ℕ → List ℕ → Result Program ReadFault
 body_at header size bytes = do
   bz ← each_at (entry_at 24 bz_entry bz_content size) header.bz bytes

@@ -16,7 +16,7 @@ pub enum ReadFault {
     Version,
     /// The byte at this offset must be 0 and isn't, or names no engine or no kind.
     Reserved(u64),
-    /// The byte at this offset is no opcode of its part.
+    /// The byte at this offset isn't an opcode of its part.
     Opcode(u64),
     /// The bytes are more than the header says.
     Trailing,

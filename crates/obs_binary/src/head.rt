@@ -1,4 +1,4 @@
-//! Outputs and signals as they stand in their entries: without their names, which follow all entries.
+//! Outputs and signals as their entries have them: without their names, which follow all entries.
 
 ghost use Rattle.std.specs.Prelude.{◌≡◌, ◌==◌, if◌then◌else◌};
 ghost use Rattle.obs_binary.specs.Layout.{out_entry, signal_entry};

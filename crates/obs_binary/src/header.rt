@@ -67,7 +67,7 @@ impl Header {
         }
     }
 
-    /// The header at the front of the bytes of a file, or the first fault in it or in the length of the file.
+    /// Returns the header at the start of the bytes of a file, or the first fault in it or in the length of the file.
     #[tactic(auto, unfolding(crate::specs::Reading::header_at))]
     pub(crate) fn read(bytes: &[u8]) -> Result<Header, ReadFault>
         ensures read { Gives (λ header. header) result (header_at bytes.now) }

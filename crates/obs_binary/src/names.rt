@@ -1,4 +1,4 @@
-//! The names of outputs and signals, which stand after all entries.
+//! The names of outputs and signals, which follow all entries.
 
 ghost use Rattle.std.specs.Prelude.{◌≡◌, ◌<◌, ◌^◌, ℕ, List as Items, length, MatchOption, false, true, take, drop};
 ghost use Rattle.std.specs.List.{list_all};
@@ -11,7 +11,7 @@ use mltl_base::name::is_in_word;
 use mltl_base::{List, Name};
 use std::alloc::Global;
 
-/// What stands in an entry, without its name.
+/// The fields of an entry, without its name.
 pub(crate) trait Head: Sized {
     /// The same with its name.
     type Whole: Drop;
@@ -44,7 +44,8 @@ fn all_letters(bytes: &[u8]) -> bool
     bytes.iter().all(|byte| is_in_word(*byte))
 }
 
-/// The name of `len` bytes at the front, and the bytes after it; `None` where no name of that length stands there.
+/// Returns the name of `len` bytes at the start, and the bytes after it; `None` where there is no name of that
+/// length.
 fn name_in_front(len: usize, bytes: &[u8]) -> Option<(Name, &[u8])>
     ensures { MatchOption result (is_name_in_front len bytes.now ≡ false)
         (λ found. (is_name_in_front len bytes.now ≡ true)

@@ -132,7 +132,7 @@ fn joined_signal_names(alloc: Global, signals: &[StoredSignal]) -> Result<Vec<u8
     Ok(names)
 }
 
-/// The header of a program whose names have so many bytes.
+/// Writes the header of a program whose names have `name_bytes` bytes.
 fn header_for(program: &Program, name_bytes: u32, signal_bytes: u32) -> Header
     requires layout { IsWritable program.now }
     requires names { name_bytes ≡ length (out_names program.now) }

@@ -23,7 +23,7 @@ pub data Form : Type 0 where
   logic : LogicOp → Reference → Reference → Form
   between : BetweenOp → Interval → Reference → Reference → Form
 
--- a line: a signal, which is a truth or not; a defined name; an output of an engine with its label, if it has one
+-- a line: a signal, Boolean or not; a defined name; an output of an engine with its label, if it has one
 pub data Line : Type 0 where
   input : List ℕ → Bool → Line
   define : List ℕ → Form → Line

@@ -12,7 +12,7 @@ use Rattle.mltl_base.specs.declared.program.Program.{Program}
 use Rattle.mltl_base.specs.declared.program.StoredSignal.{StoredSignal}
 use Rattle.obs_show.specs.Lines.{Reference, always, named, number}
 
--- an operation, which gets a defined name: it reads no column and is no constant
+-- an operation, which gets a defined name: it is neither the read of a column nor a constant
 abbrev pub is_operation : bz.BzOp → Bool
 is_operation (bz.TheVariants.Column c) = false
 is_operation (bz.TheVariants.IsTrue c) = false
@@ -77,7 +77,7 @@ abbrev pub pt_name : Program → ℕ → List ℕ
 pt_name program i =
     defined_name program (bz_operations program.bz + ft_operations program.ft + pt_operations (take i program.pt))
 
--- the name of the signal that stands in a column
+-- the name of the signal in a column
 abbrev pub name_in : List StoredSignal → ℕ → List ℕ
 name_in [] c = []
 name_in (signal ∷ signals) c = if signal.column == c then signal.name else name_in signals c

@@ -16,11 +16,11 @@ use Rattle.obs_show.specs.Text.{form_text, line_text}
 abbrev pub HasNumbers : ℕ → (ℕ → ℕ) → List ℕ → Type 0
 HasNumbers long number counts = (length counts ≡ long) × ((i : ℕ) → i < long → slice_index counts i ≡ number i)
 
--- for each instruction how many operations stand before it, counted from a number on
+-- for each instruction how many operations come before it, counted from a number on
 abbrev pub AreBefore : {X : Type 0} → (X → Bool) → ℕ → List X → List ℕ → Type 0
 AreBefore test from ops counts = HasNumbers (length ops) (λ i. from + count_by test (take i ops)) counts
 
--- how many operations of a program stand before instruction i of a part
+-- how many operations of a program come before instruction i of a part
 abbrev pub place_of : Program → Part → ℕ → ℕ
 place_of program Bz i = bz_operations (take i program.bz)
 place_of program Ft i = bz_operations program.bz + ft_operations (take i program.ft)

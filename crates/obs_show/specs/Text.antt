@@ -116,7 +116,7 @@ reference_text always = codes "true"
 reference_text (named name) = name
 reference_text (number n) = signed_decimal n
 
--- how an operator between whole numbers is written
+-- how an operator between integers is written
 abbrev pub arith_text : arith_op.ArithOp → List ℕ
 arith_text arith_op.TheVariants.Add = codes "+"
 arith_text arith_op.TheVariants.Sub = codes "-"

@@ -21,7 +21,7 @@ capped n = min n (MAX_WEIGHT + 1)
 abbrev pub operator_weight : ℕ → ℕ → ℕ
 operator_weight left right = capped (1 + left + right)
 
--- the leaves and operators of what an instruction of the Booleanizer stands for
+-- the leaves and operators of what an instruction of the Booleanizer represents
 abbrev pub expression_weight : Expression → ℕ
 expression_weight (whole e) = term_weight e
 expression_weight (truth a) = atom_weight a
@@ -49,7 +49,8 @@ bz_weight before (bz.TheVariants.Eq a b) = operator_weight (slice_index before a
 bz_weight before (bz.TheVariants.Lt a b) = operator_weight (slice_index before a) (slice_index before b)
 bz_weight before (bz.TheVariants.Le a b) = operator_weight (slice_index before a) (slice_index before b)
 
--- the weight of a future-time instruction, from those of the truths that it may load and of the instructions before it
+-- the weight of a future-time instruction, from those of the Booleans that it may load and of the instructions before
+-- it
 abbrev pub ft_weight : List ℕ → List ℕ → ft.FtOp → ℕ
 ft_weight loaded before ft.TheVariants.True = 1
 ft_weight loaded before (ft.TheVariants.Load a) = slice_index loaded a

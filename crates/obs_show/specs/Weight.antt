@@ -1,5 +1,5 @@
--- How much an observer program weighs: the leaves and operators of its outputs as trees, in which a shared instruction
--- counts anew for each reader.
+-- How much an observer program weighs: the leaves and operators of its outputs as trees, in which a shared
+-- instruction counts once for each reader.
 
 use Rattle.std.specs.Prelude.{ℕ, ◌+◌}
 use Rattle.std.specs.List.{sum_by}

@@ -39,7 +39,7 @@ impl Shown for StoredSignal {
     }
 }
 
-/// Adds what stands before the form of operation `k`.
+/// Adds the text before the form of operation `k`.
 fn begin_define(text: &mut Vec<u8>, naming: &Naming, k: usize) -> Result<(), AllocError>
     ensures { OnOk result (text.new.items ≡ text.old.items
         ++ (codes "DEFINE " ++ numbered_name (slice_index naming.now.numbers.items k)

@@ -38,7 +38,7 @@ fn signal_names(alloc: Global, signals: &[StoredSignal]) -> Result<BTreeSet<Vec<
     Ok(names)
 }
 
-/// The numbers n for which dn isn't the name of a signal, so far that so many names are found as are needed.
+/// Returns the numbers n for which dn isn't the name of a signal, as many as are needed.
 pub(crate) fn free_numbers(
     alloc: Global,
     signals: &[StoredSignal],

@@ -10,20 +10,20 @@ use crate::operation::Instruction;
 use mltl_base::{Program, StoredSignal};
 use std::alloc::{AllocError, Global};
 
-/// The defined names of a program, and where its signals stand.
+/// The defined names of a program, and the columns of its signals.
 #[derive(Drop)]
 pub(crate) struct Naming {
     /// The numbers of the defined names, in the order of the operations that have them.
     pub(crate) numbers: Vec<usize>,
-    /// For each instruction of a part, how many operations of the program stand before it.
+    /// For each instruction of a part, how many operations of the program come before it.
     pub(crate) bz: Vec<usize>,
     pub(crate) ft: Vec<usize>,
     pub(crate) pt: Vec<usize>,
-    /// For each column the number of the signal there, if one stands there.
+    /// For each column the number of the signal there, if there is one.
     pub(crate) signals: Vec<Option<u32>>,
 }
 
-/// For each instruction, how many operations of the program stand before it. The number of all so far is kept.
+/// For each instruction, how many operations of the program come before it. The number of all so far is kept.
 fn operations_before<T: Instruction>(
     alloc: Global,
     next: &mut usize,
@@ -43,7 +43,7 @@ fn operations_before<T: Instruction>(
     Ok(counts)
 }
 
-/// For each column the number of the first signal there, if one stands there.
+/// For each column the number of the first signal there, if there is one.
 fn signals_by_column(
     alloc: Global,
     signals: &[StoredSignal],

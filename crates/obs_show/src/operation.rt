@@ -1,4 +1,4 @@
-//! Instructions that are operations, each of which is shown as a line of its own.
+//! Instructions that are operations, each of which is shown as a separate line.
 
 ghost use Rattle.std.specs.Prelude.{◌≡◌, Bool};
 ghost use Rattle.obs_show.specs.Naming.{is_future_operation, is_operation, is_past_operation};

@@ -8,7 +8,7 @@ use crate::naming::Naming;
 use mltl_base::Program;
 use std::alloc::AllocError;
 
-/// A member of a program that has a line, or none where it is no operation.
+/// A member of a program that has a line, or none where it isn't an operation.
 pub(crate) trait Shown {
     ghost members: { Observer → List Self };
 

@@ -1,7 +1,7 @@
 //! The weight of a program, in one pass over its instructions.
 //!
-//! An instruction weighs one more than its operands together, so a weight can double from each instruction to the next.
-//! Weights above the limit are told as one past it, and never wrap.
+//! An instruction weighs one more than its operands together, so a weight can double from each instruction to the
+//! next. Weights above the limit are returned as one past it, and never wrap.
 
 ghost use Rattle.std.specs.Prelude.{◌≡◌, ◌<◌, ◌+◌, IfOk, length, ℕ};
 ghost use Rattle.mltl_base.specs.declared.interval.Engine.TheVariants.{Ft, Pt};
@@ -16,11 +16,11 @@ use mltl_base::{BzOp, Engine, FtOp, Out, PtOp};
 use obs_verify::Checked;
 use std::alloc::{AllocError, Global};
 
-/// One past the limit, which stands for every weight above the limit.
+/// One past the limit, which represents every weight above the limit.
 const ABOVE: u32 = MAX_WEIGHT + 1;
 
-/// The weight of a program: the leaves and operators of its outputs as trees, all together. Where that is above the
-/// limit of 65,536 it is told as 65,537.
+/// Returns the weight of a program: the leaves and operators of its outputs as trees, all together. Above the limit
+/// of 65,536 it is 65,537.
 pub fn weight(alloc: Global, checked: &Checked) -> Result<u32, AllocError>
     ensures { IfOk result (λ found. found ≡ capped (weight_of checked.now)) }
 {
@@ -74,7 +74,7 @@ fn bz_weight(op: &BzOp, before: &[u32]) -> u32
     }
 }
 
-/// The weights of the future-time instructions, from those of the truths that they load.
+/// Returns the weights of the future-time instructions, from those of the Booleans that they load.
 fn ft_weights(alloc: Global, checked: &Checked, loaded: &[u32]) -> Result<Vec<u32>, AllocError>
     requires { loaded.now ≡ expression_weights checked.now }
     ensures { IfOk result (λ weights. weights.items ≡ formula_weights checked.now Ft) }

@@ -1,11 +1,11 @@
--- A program whose stored signals stand in other columns.
+-- A program whose stored signals are moved to other columns.
 
 use Rattle.std.specs.Prelude.{ℕ, ◌≢◌, ◌==◌, ◌<◌, if◌then◌else◌, List, [], ◌∷◌, map, length, slice_index}
 use Rattle.mltl_base.specs.declared.operators.BzOp as bz
 use Rattle.mltl_base.specs.declared.program.Program.{Program}
 use Rattle.mltl_base.specs.declared.program.StoredSignal.{StoredSignal}
 
--- the column that the signal in a column gets; the column itself where no signal stands there
+-- the new column of the signal in a column; the column itself where there is no signal
 unfoldable pub moved : List StoredSignal → List ℕ → ℕ → ℕ
 moved [] columns c = c
 moved (signal ∷ signals) [] c = c

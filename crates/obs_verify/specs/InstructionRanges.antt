@@ -10,7 +10,7 @@ use Rattle.mltl_base.specs.Ranges.{over_both, over_divisor, range, range_from, s
 abbrev pub range_at : List Range → ℕ → Ranged
 range_at before a = Ok (slice_index_or before a (range_from (pos 0) (pos 0)))
 
--- a truth goes by 0
+-- the range of a Boolean instruction is that of 0
 abbrev pub range_over : List Range → bz.BzOp → Ranged
 range_over before (bz.TheVariants.Column c) = Ok signal_range
 range_over before (bz.TheVariants.IsTrue c) = Ok (range_from (pos 0) (pos 0))
@@ -29,7 +29,7 @@ range_over before (bz.TheVariants.Le a b) = Ok (range_from (pos 0) (pos 0))
 pub record AreRanges (bz : List bz.BzOp) (ranges : List Range) : Type 0 where
   pub each : (k : ℕ) → k < length ranges → range (term_at (expressions bz) k) ≡ range_at ranges k
 
--- the whole numbers that an instruction reads stand before number n
+-- the integers that an instruction reads come before number n
 abbrev pub ReadsBefore : ℕ → bz.BzOp → Type 0
 ReadsBefore n (bz.TheVariants.Column c) = ⊤
 ReadsBefore n (bz.TheVariants.IsTrue c) = ⊤

@@ -8,7 +8,7 @@ use Rattle.obs_verify.specs.Layout.{HasLayout}
 use Rattle.obs_verify.specs.Readers.{signals_read}
 use Rattle.obs_verify.specs.WellFormed.{IsWellFormed}
 
--- a well-formed program beside its delays and the signals that its instructions read
+-- a well-formed program with its delays and the signals that its instructions read
 pub record IsKept (program : Program) (bests worsts : List ℕ) (readers : List (Option ℕ)) : Type 0 where
   pub layout : HasLayout program
   pub well_formed : IsWellFormed program

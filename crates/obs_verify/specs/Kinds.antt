@@ -10,7 +10,7 @@ use Rattle.mltl_base.specs.declared.program.StoredSignal.{StoredSignal}
 use Rattle.obs_verify.specs.declared.signals.Kinds.{Kinds as ColumnKinds}
 use Rattle.obs_verify.specs.WellFormed.{has_kind}
 
--- each column has the kinds of the signals that stand there
+-- each column has the kinds of the signals there
 abbrev pub AreKinds : List StoredSignal → List ColumnKinds → Type 0
 AreKinds signals kinds =
     (c : ℕ) (d : ColumnKinds) → c < length kinds

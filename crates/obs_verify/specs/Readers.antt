@@ -6,7 +6,7 @@ use Rattle.mltl_base.specs.declared.operators.BzOp as bz
 use Rattle.mltl_base.specs.declared.program.Program.{Program}
 use Rattle.mltl_base.specs.declared.program.StoredSignal.{StoredSignal}
 
--- the number of the first signal in a column, if one stands there
+-- the number of the first signal in a column, if there is one
 unfoldable pub number_in : List StoredSignal → ℕ → Option ℕ
 number_in [] c = None
 number_in (signal ∷ signals) c = if signal.column == c then Some 0 else option_map suc (number_in signals c)

@@ -9,7 +9,7 @@ use Rattle.mltl_base.specs.declared.program.Program.{Program}
 use Rattle.mltl_base.specs.Programs.{Expression, whole, truth, expressions}
 use Rattle.mltl_base.specs.Queues.{AreInOrder, HasBounds, HasPastBounds, box_counts, queue_lengths}
 
--- an instruction of the Booleanizer that gives a truth
+-- an instruction of the Booleanizer that is Boolean
 abbrev pub IsTruthExpression : Option Expression → Type 0
 IsTruthExpression (Some (truth a)) = ⊤
 IsTruthExpression (Some (whole e)) = ⊥
@@ -24,7 +24,7 @@ pub record RunsFuture (program : Program) : Type 0 where
   pub loads : (i k : ℕ) → i < length program.ft → slice_index_or program.ft i ft.True ≡ ft.Load k
       → IsTruthExpression (slice_get (expressions program.bz) k)
 
--- the operands of pt instruction i stand before it
+-- the operands of pt instruction i come before it
 abbrev pub IsAfterPastOperands : ℕ → pt.PtOp → Type 0
 IsAfterPastOperands i pt.TheVariants.True = ⊤
 IsAfterPastOperands i (pt.TheVariants.Load k) = ⊤
@@ -32,7 +32,7 @@ IsAfterPastOperands i (pt.TheVariants.Not g) = g < i
 IsAfterPastOperands i (pt.TheVariants.And l r) = (l < i) × (r < i)
 IsAfterPastOperands i (pt.TheVariants.Since l r window) = (l < i) × (r < i)
 
--- the operands of each pt instruction stand before it
+-- the operands of each pt instruction come before it
 abbrev pub ArePastInOrder : List pt.PtOp → Type 0
 ArePastInOrder ops = (i : ℕ) → i < length ops → IsAfterPastOperands i (slice_index_or ops i pt.TheVariants.True)
 

@@ -8,22 +8,22 @@ use Rattle.mltl_base.specs.Atoms.{negative, plus, minus, times, quotient, remain
 use Rattle.mltl_base.specs.Programs.{Expression, whole, truth, expression_of, term_at}
 use Rattle.mltl_base.specs.Ranges.{range}
 
--- there is an expression, and it gives a whole number
+-- there is an expression, and it is an integer
 abbrev pub IsWholeExpression : Option Expression → Type 0
 IsWholeExpression (Some (whole e)) = ⊤
 IsWholeExpression (Some (truth a)) = ⊥
 IsWholeExpression None = ⊥
 
--- an earlier instruction that gives a whole number
+-- an earlier integer instruction
 abbrev pub IsWhole : List Expression → ℕ → Type 0
 IsWhole before a = IsWholeExpression (slice_get before a)
 
--- two earlier instructions that give whole numbers
+-- two earlier integer instructions
 abbrev pub AreWhole : List Expression → ℕ → ℕ → Type 0
 AreWhole before a b = IsWhole before a × IsWhole before b
 
--- An instruction whose column is below the width, whose operands are earlier whole numbers, and whose whole number has
--- a range: so its divisor is one number other than 0, and its value has 64 bits.
+-- an instruction whose column is below the width, whose operands are earlier integers, and whose integer has a range:
+-- so its divisor is one number other than 0, and its value has 64 bits
 abbrev pub IsSound : ℕ → List Expression → BzOp → Type 0
 IsSound width before (Column c) = c < width
 IsSound width before (IsTrue c) = c < width

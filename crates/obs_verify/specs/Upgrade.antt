@@ -14,7 +14,7 @@ use Rattle.obs_verify.specs.WellFormed.{has_kind}
 abbrev pub column_name : ℕ → List ℕ
 column_name c = codes "c" ++ decimal c
 
--- the signal that stands for a column
+-- the signal of a column
 abbrev pub signal_in : ℕ → Bool → StoredSignal
 signal_in c truth = record { name = column_name c; truth = truth; column = c }
 
@@ -59,8 +59,8 @@ first_clash earlier [] = None
 first_clash earlier (op ∷ ops) =
     if clashes earlier op then Some (length earlier) else first_clash (earlier ++ op ∷ []) ops
 
--- where one column of a program of version 1 is read in both ways, there is no program of version 2: the instruction
--- that shows it
+-- where a program of version 1 reads one column in both ways, there is no program of version 2: the instruction that
+-- shows it
 abbrev pub clash_of : Program → Option ℕ
 clash_of program = if program.version == 2 then None else first_clash [] program.bz
 

@@ -54,10 +54,10 @@ is_new_signal width earlier signal =
 abbrev pub signal_fault : Program → ℕ → StoredSignal → Option VerifyFault
 signal_fault program k signal = unless (is_new_signal program.width (take k program.signals) signal) (Signal k)
 
--- 3. Instructions of the Booleanizer read columns of their kind and whole numbers of earlier instructions, divide by
+-- 3. Instructions of the Booleanizer read columns of their kind and integers of earlier instructions, divide by
 -- numbers other than 0, and have values of 64 bits.
 
--- what stands at a place gives a whole number
+-- the instruction at an index is an integer
 abbrev pub is_whole : Option bz.BzOp → Bool
 is_whole None = false
 is_whole (Some (bz.TheVariants.IsTrue c)) = false
@@ -66,7 +66,7 @@ is_whole (Some (bz.TheVariants.Lt a b)) = false
 is_whole (Some (bz.TheVariants.Le a b)) = false
 is_whole (Some op) = true
 
--- what stands at a place gives a truth
+-- the instruction at an index is Boolean
 abbrev pub is_truth : Option bz.BzOp → Bool
 is_truth None = false
 is_truth (Some (bz.TheVariants.IsTrue c)) = true
@@ -75,11 +75,11 @@ is_truth (Some (bz.TheVariants.Lt a b)) = true
 is_truth (Some (bz.TheVariants.Le a b)) = true
 is_truth (Some op) = false
 
--- an instruction before number i gives a whole number
+-- an instruction before number i is an integer
 abbrev pub is_whole_before : Program → ℕ → ℕ → Bool
 is_whole_before program i a = is_whole (slice_get (take i program.bz) a)
 
--- a signal of this kind stands in the column
+-- the column has a signal of this kind
 abbrev pub has_kind : List StoredSignal → ℕ → Bool → Bool
 has_kind signals c truth =
     list_any (λ signal. (signal.column == c) && (if truth then signal.truth else not signal.truth)) signals
@@ -90,7 +90,7 @@ is_column_of program c truth =
     nat_lt c program.width
     && ((program.version == 1) || has_kind program.signals c truth)
 
--- what instruction i reads, if anything, is a column of its kind or whole numbers of earlier instructions
+-- what instruction i reads, if anything, is a column of its kind or integers of earlier instructions
 abbrev pub has_operands : Program → ℕ → bz.BzOp → Bool
 has_operands program i (bz.TheVariants.Column c) = is_column_of program c false
 has_operands program i (bz.TheVariants.IsTrue c) = is_column_of program c true
@@ -105,7 +105,7 @@ has_operands program i (bz.TheVariants.Eq a b) = is_whole_before program i a && 
 has_operands program i (bz.TheVariants.Lt a b) = is_whole_before program i a && is_whole_before program i b
 has_operands program i (bz.TheVariants.Le a b) = is_whole_before program i a && is_whole_before program i b
 
--- the fault of an instruction whose whole number has no range
+-- the fault of an instruction whose integer has no range
 abbrev pub range_fault : ℕ → Ranged → Option VerifyFault
 range_fault i (Ok range) = None
 range_fault i (Err divisor) = Some (Divisor i)
@@ -124,7 +124,7 @@ bz_fault program i op =
 abbrev pub is_window : Interval → Bool
 is_window i = nat_le i.lo i.hi && nat_le i.hi MAX_BOUND
 
--- what instruction i of the future-time engine reads, if anything, is a truth or earlier instructions
+-- what instruction i of the future-time engine reads, if anything, is a Boolean or earlier instructions
 abbrev pub has_future_operands : Program → ℕ → ft.FtOp → Bool
 has_future_operands program i ft.TheVariants.True = true
 has_future_operands program i (ft.TheVariants.Load a) = is_truth (slice_get program.bz a)
@@ -152,7 +152,7 @@ late_fault i delay = unless (nat_le delay MAX_DELAY) (TooLate i)
 
 -- 5. So do instructions of the past-time engine.
 
--- what instruction i of the past-time engine reads, if anything, is a truth or earlier instructions
+-- what instruction i of the past-time engine reads, if anything, is a Boolean or earlier instructions
 abbrev pub has_past_operands : Program → ℕ → pt.PtOp → Bool
 has_past_operands program i pt.TheVariants.True = true
 has_past_operands program i (pt.TheVariants.Load a) = is_truth (slice_get program.bz a)
@@ -212,6 +212,6 @@ first_fault program =
 abbrev pub IsWellFormed : Program → Type 0
 IsWellFormed program = first_fault program ≡ None
 
--- an answer tells whether a fault was found: which one, unless out of memory
+-- a result says whether a fault was found: which one, unless out of memory
 abbrev pub IsAnswer : {T : Type 0} → Result T VerifyFault → Option VerifyFault → Type 0
 IsAnswer result found = MatchResult result (λ _. found ≡ None) (λ fault. fault ≢ Memory → found ≡ Some fault)

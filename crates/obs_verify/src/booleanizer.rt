@@ -78,7 +78,7 @@ fn range_of(before: &[Range], op: &BzOp) -> Result<Range, NoRange>
     }
 }
 
-/// Whether an instruction reads columns of its kind and whole numbers of instructions before it.
+/// Whether an instruction reads columns of its kind and integers of instructions before it.
 fn has_operands(program: &Program, kinds: &[Kinds], i: usize, op: &BzOp) -> bool
     requires long { length kinds.now ≡ program.now.width }
     requires kinds { AreKinds program.now.signals kinds.now }

@@ -75,8 +75,8 @@ pub fn verify(alloc: Global, program: Program) -> Result<Checked, VerifyFault>
     })
 }
 
-/// The program over other rows: signal k moves to column k of the list, in its entry and in the instructions that read
-/// it, in one pass over both. It takes no memory.
+/// Moves signal k to column k of the list, in its entry and in the instructions that read it, in one pass over both.
+/// It does not allocate.
 pub fn rebind(checked: Checked, columns: &Columns) -> Checked
     requires version { checked.version ≡ 2 }
     requires one_each { length columns.now.of_signal ≡ length checked.signals }

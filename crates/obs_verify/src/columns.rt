@@ -22,7 +22,7 @@ pub fn move_reads(program: &mut Program, readers: &[Option<u32>], columns: &[u32
     }
 }
 
-/// An instruction that reads this column in the place of its own.
+/// An instruction that reads this column in place of its column.
 fn moved_to(op: BzOp, column: u32) -> BzOp
     ensures whole { (c : ℕ) → op ≡ bz.Column c → result ≡ bz.Column column }
     ensures truth { (c : ℕ) → op ≡ bz.IsTrue c → result ≡ bz.IsTrue column }

@@ -27,7 +27,7 @@ pub enum VerifyFault {
     TooLate(u32),
     /// An output reports an instruction that isn't there.
     Output(u32),
-    /// A stored size isn't the one that the instruction needs.
+    /// A stored size isn't the size that the instruction needs.
     Size(Part, u32),
     /// The instructions need too many slots and boxes.
     TooManySlots,
@@ -74,7 +74,7 @@ impl fmt::Debug for VerifyFault {
 
 impl Error for VerifyFault {}
 
-/// The name of a part of a program, as faults tell it.
+/// The name of a part of a program, as faults print it.
 pub fn name_of_part(part: Part) -> &'static str
     ensures text { result.now ≡ part_name part }
     ensures short { length result.now ≡ 2 }

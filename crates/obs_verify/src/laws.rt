@@ -27,7 +27,7 @@ pub fn well_formed_programs_are_sound()
     ensures { (program : Observer) → IsWellFormed program → AreSound program.width [] program.bz }
 {}
 
-/// A program tells the same in version 2.
+/// A program has the same reports in version 2.
 #[tactic(auto, using(crate::proofs::WellRaised::outputs_raised, crate::proofs::WellRaised::names_raised))]
 pub fn upgraded_programs_tell_the_same()
     ensures outputs { (program : Observer) → outputs (up program) ≡ outputs program }

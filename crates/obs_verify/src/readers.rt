@@ -23,7 +23,7 @@ pub fn readers_of(alloc: Global, program: &Program) -> Result<List<Option<u32>>,
     Ok(readers)
 }
 
-/// For each column of a row the number of the first signal there, if one stands there.
+/// For each column of a row the number of the first signal there, if there is one.
 fn numbers_by_column(
     alloc: Global,
     signals: &[StoredSignal],

@@ -98,7 +98,7 @@ fn signals_of(alloc: Global, kinds: &[Kinds]) -> Result<List<StoredSignal>, Allo
     Ok(signals)
 }
 
-/// The signal that stands for a column.
+/// The signal of a column.
 fn signal_in(alloc: Global, column: u32, truth: bool) -> Result<StoredSignal, AllocError>
     ensures { IfOk result (λ signal. signal ≡ signal_there column truth) }
 {

@@ -1,4 +1,4 @@
-//! Stored signals: each has a column of a row, and no column and no name stands twice.
+//! Stored signals: each has a column of a row, and no two have one column or one name.
 
 ghost use Rattle.std.specs.Prelude.{◌≡◌, ◌==◌, ◌≤◌, ◌<◌, nat_lt, ◌&&◌, vec_len, ◌^◌, ◌++◌, ◌∷◌, [], ◌||◌, ℕ, List, length, not, true, IfOk, OnOk};
 ghost use Rattle.std.specs.Bool.{OnTrue};
@@ -14,7 +14,7 @@ use mltl_base::{Name, Program, StoredSignal};
 use std::alloc::{AllocError, Global};
 use std::collections::BTreeSet;
 
-/// Which kinds of stored signals stand in a column.
+/// The kinds of the stored signals in a column.
 #[derive(Clone, Copy)]
 pub struct Kinds {
     pub whole: bool,
@@ -68,7 +68,7 @@ fn note_signals(alloc: Global, program: &Program, kinds: &mut [Kinds]) -> Result
     Ok(())
 }
 
-/// Whether a signal is new beside those before; its name is then put to theirs.
+/// Whether a signal is new among those before; its name is then added to theirs.
 fn check_signal(
     alloc: Global,
     kinds: &[Kinds],
@@ -93,7 +93,7 @@ fn check_signal(
     Ok(())
 }
 
-/// Whether the column of a signal is one of a row, and no signal before stands there.
+/// Whether the column of a signal is in a row, and no signal before has it.
 fn is_free(kinds: &[Kinds], signal: &StoredSignal) -> bool
     ensures free { (earlier : List Stored) → AreKinds earlier kinds.now
         → result ≡ (nat_lt signal.now.column (length kinds.now)
@@ -106,7 +106,7 @@ fn is_free(kinds: &[Kinds], signal: &StoredSignal) -> bool
     is_empty(kinds[signal.column as usize])
 }
 
-/// Whether no signal stands in a column.
+/// Whether a column has no signal.
 pub fn is_empty(kinds: Kinds) -> bool
     ensures { result ≡ (not kinds.whole && not kinds.truth) }
 {

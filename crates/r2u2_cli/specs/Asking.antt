@@ -1,4 +1,4 @@
--- What the words of r2u2 ask to be attached.
+-- What the arguments of r2u2 request to be attached.
 
 use Rattle.std.specs.Prelude.{ℕ, List, [], ◌∷◌}
 use Rattle.tool_io.specs.declared.host.Place.{Place}

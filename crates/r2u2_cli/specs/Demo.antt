@@ -1,4 +1,4 @@
--- What a demo tells.
+-- What a demo writes.
 
 use Rattle.std.specs.Prelude.{◌≡◌, ℕ, Option, Some, None, Ok, List, []}
 use Rattle.tool_io.specs.declared.host.Place as place
@@ -11,7 +11,7 @@ use Rattle.r2u2_cli.specs.Text.{demo_text}
 use Rattle.tool_words.specs.declared.status.Status as status
 use Rattle.r2u2_cli.specs.Outcome.{Silent}
 
--- the kept monitor is one of the demo's text that has taken the demo's rows, and has told all their reports
+-- the kept monitor runs the demo's text, has taken the demo's rows, and has reported all of them
 pub record KeepsDemo (seed rows : ℕ) (kept : Option State) : Type 0 where
   pub monitor : State
   pub is : kept ≡ Some monitor
@@ -19,7 +19,7 @@ pub record KeepsDemo (seed rows : ℕ) (kept : Option State) : Type 0 where
   pub stands : Stands monitor (demo_rows seed rows)
   pub drained : IsDrained monitor
 
--- the summary is out whole, or a front of it that misses some; when out of memory nothing is
+-- the summary is out whole, or a proper prefix of it; when out of memory nothing is
 abbrev pub DemoOutcome : status.Status → ℕ → ℕ → List ℕ → Option State → Type 0
 DemoOutcome status.TheVariants.Done seed rows out kept = (out ≡ demo_summary seed rows) × KeepsDemo seed rows kept
 DemoOutcome (status.TheVariants.WriteFault place.TheVariants.Out) seed rows out kept =

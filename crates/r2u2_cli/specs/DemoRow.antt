@@ -6,11 +6,11 @@ use Rattle.std.specs.Prelude.{ℕ, ◌+◌, ◌*◌, ◌%◌, ◌^◌, ◌==◌,
 abbrev pub demo_value : ℕ → ℕ → ℕ
 demo_value seed k = ((k % 65536) ^ 2 * 7 + (k % 999) * 13 + seed * 31) % 1000
 
--- a truth as the number of its column
+-- a Boolean as the number in its column
 abbrev pub bit : Bool → ℤ
 bit b = if b then pos 1 else pos 0
 
--- the row that is made of a number: two truths and a whole number
+-- the row that is made of a number: two Booleans and an integer
 abbrev pub row_of : ℕ → List ℤ
 row_of v = bit (v % 3 == 0) ∷ bit (nat_lt (v % 5) 2) ∷ (pos v -ℤ pos 500) ∷ []
 

@@ -1,4 +1,4 @@
--- What the lines of a run tell of the formulas of its file: a specification, or a program.
+-- What the lines of a run report of the formulas of its file: a specification, or a program.
 
 use Rattle.std.specs.Prelude.{◌≡◌, ℕ, Bool, Option, Some, None, Result, Ok, List, ◌++◌, map, slice_get}
 use Rattle.mltl_base.specs.declared.program.Columns.{Columns}
@@ -20,7 +20,7 @@ use Rattle.tool_words.specs.declared.status.Status.{Status}
 use Rattle.r2u2_cli.specs.Outcome.{rows_over}
 use Rattle.r2u2_cli.specs.Settled.{TellsOf, TellsText}
 
--- with a specification its own outputs are told, over the columns that its signals have under the header
+-- with a specification its own outputs are reported, over the columns that its signals have under the header
 abbrev pub TellsSource : Style → List ℕ → Option (List ℕ) → Program → List Row → Type 0
 TellsSource style file header program rows =
     (columns : Columns) × (columns_by (signals_in file) header ≡ Ok columns) × TellsText style file columns program rows
@@ -30,15 +30,16 @@ abbrev pub columns_under : Columns → List Signal → Option (List ℕ) → Res
 columns_under own signals None = Ok own
 columns_under own signals (Some line) = columns_by signals (Some line)
 
--- The program of a file that is the image of a text over its own columns stores the columns that its signals have under
--- the header, and the lines tell the text's outputs over these.
+-- The program of a file that is the image of a text over its own columns stores the columns that its signals have
+-- under the header, and the lines report the text's outputs over these.
 pub record TellsImage (style : Style) (text : List ℕ) (own : Columns) (header : Option (List ℕ)) (program : Program)
     (rows : List Row) : Type 0 where
   pub placed : columns_under own (signals_in text) header ≡ Ok (stored_columns program)
   pub told : TellsText style text (stored_columns program) program rows
 
--- So does the program of a file that is the image in simplified form: under the names of the text's outputs it tells of
--- each later and later times, with words that are settled for the text's own formula, and none later than its delay.
+-- So does the program of a file that is the image in simplified form: under the names of the text's outputs it
+-- reports of each later and later times, with words that are settled for the text's own formula, and none later than
+-- its delay.
 pub record TellsSimple (style : Style) (text : List ℕ) (own : Columns) (header : Option (List ℕ)) (program : Program)
     (rows : List Row) : Type 0 where
   pub placed : columns_under own (signals_in text) header ≡ Ok (stored_columns program)
@@ -46,8 +47,8 @@ pub record TellsSimple (style : Style) (text : List ℕ) (own : Columns) (header
   pub told : (k : ℕ) (o : Output) → slice_get (plain_outputs (stored_columns program) (outputs_in text)) k ≡ Some o
       → TellsSettled style program k o rows
 
--- With a program file the outputs are told that its instructions unfold to. Where the file is the image of a text, in
--- version 2 as it stands or in simplified form, or in version 1, they are those of the text.
+-- With a program file the outputs are reported that its instructions unfold to. Where the file is the image of a
+-- text, in version 2 plain or in simplified form, or in version 1, they are those of the text.
 pub record TellsProgram (style : Style) (file : List ℕ) (header : Option (List ℕ)) (program : Program)
     (rows : List Row) : Type 0 where
   pub unfolded : TellsOf style program (output_names program) (outputs program) rows

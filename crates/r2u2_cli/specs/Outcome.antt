@@ -1,4 +1,4 @@
--- How the answer of a run follows from the lines of its trace, with what is out and the monitor that is kept.
+-- How the result of a run follows from the lines of its trace, with what is out and the monitor that is kept.
 
 use Rattle.std.specs.Prelude.{◌≡◌, ℕ, ◌⊎◌, Bool, true, false, if◌then◌else◌, Option, Some, None}
 use Rattle.std.specs.Prelude.{Result, Ok, Err, List, []}
@@ -14,8 +14,8 @@ use Rattle.tool_words.specs.declared.status.Status.{Status}
 use Rattle.tool_words.specs.declared.status.Status.TheVariants.{Done, Refused, BadProgram, BadTrace, TooLong, ReadFault}
 use Rattle.tool_words.specs.declared.status.Status.TheVariants.{WriteFault, Memory}
 
--- what the lines of a trace say to the program that runs over them, within the mission time of the words: stamped rows
--- where the words ask for them; the first line has the number `first`
+-- what the lines of a trace say to the program that runs over them, within the mission time of the arguments: stamped
+-- rows where the arguments say so; the first line has the number `first`
 abbrev pub rows_by : RunAsked → Program → ℕ → List (List ℕ) → TraceRows
 rows_by asked program first raws =
     if asked.timed then stamped_rows program asked.mission first raws else trace_rows program asked.mission first raws
@@ -24,7 +24,7 @@ rows_by asked program first raws =
 abbrev pub rows_over : RunAsked → Program → Bool → List ℕ → TraceRows
 rows_over asked program ended bytes = rows_by asked program 1 (lines_of ended bytes)
 
--- the lines that are due for the bytes of a trace, in the style of the words; none without a program
+-- the lines that are due for the bytes of a trace, in the style of the arguments; none without a program
 abbrev pub due_by : RunAsked → Result Program Status → Bool → List ℕ → List ℕ
 due_by asked (Ok program) ended bytes = due program asked.style (rows_by asked program 1) ended bytes
 due_by asked (Err status) ended bytes = []
@@ -34,7 +34,7 @@ pub record Silent (out : List ℕ) (kept : Option State) : Type 0 where
   pub no_lines : out ≡ []
   pub no_monitor : kept ≡ None
 
--- a monitor is kept, which is one of the program, has the rows and has told them
+-- a monitor is kept, which runs the program, has the rows and has reported them
 abbrev pub KeepsTold : Option State → RunAsked → Result Program Status → Bool → List ℕ → Type 0
 KeepsTold (Some monitor) asked (Ok program) ended bytes =
     HasTold program monitor (rows_over asked program ended bytes).rows
@@ -68,7 +68,7 @@ pub record NeverRan (status : Status) (found : Result Program Status) (out : Lis
   pub refused : found ≡ Err status
   pub silent : Silent out kept
 
--- how an answer follows from the bytes of the trace and what is out, by the program that ran over its lines
+-- how a result follows from the bytes of the trace and what is out, by the program that ran over its lines
 abbrev pub LinesOutcome : Status → RunAsked → Result Program Status → Bool → List ℕ → List ℕ → Option State → Type 0
 LinesOutcome Done asked found ended bytes out kept =
     (ended ≡ true) × StopsBy Clean asked found ended bytes × AllTold asked found ended bytes out kept

@@ -1,4 +1,4 @@
--- What each phase of a run tells.
+-- What each phase of a run logs.
 
 use Rattle.std.specs.Prelude.{◌≡◌, ℕ, ◌<◌, ◌≤◌, ◌⊎◌, Bool, true, false, if◌then◌else◌, Option, Some, None, Result, Ok}
 use Rattle.std.specs.Prelude.{Err, List, [], ◌∷◌, ◌++◌, length}
@@ -43,7 +43,7 @@ pub record FirstRead (cut : Cutting) (events : List Event) : Type 0 where
   pub pending : cut.pending ≡ concat pieces
   pub ended : cut.ended ≡ meets_end false pieces
 
--- the first line stands in front of what a cut gives next; or the trace has none
+-- the first line comes before what a cut returns next; or the trace has none
 abbrev pub StandsFirst : Option (List ℕ) → List ℕ → Bool → Type 0
 StandsFirst None pending ended = (pending ≡ []) × (ended ≡ true)
 StandsFirst (Some raw) pending ended =

@@ -1,5 +1,5 @@
--- The program that runs over the lines of a trace, or what refuses it: a specification compiled over the header of the
--- trace, or a program file whose stored signals stand in the columns of that header.
+-- The program that runs over the lines of a trace, or what refuses it: a specification compiled over the header of
+-- the trace, or a program file whose stored signals are in the columns of that header.
 
 use Rattle.std.specs.Prelude.{ℕ, ◌==◌, Bool, true, false, if◌then◌else◌, Option, Some, None, option_map, Result, Ok}
 use Rattle.std.specs.Prelude.{Err, List, [], ◌∷◌}

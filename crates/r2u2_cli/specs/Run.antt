@@ -1,4 +1,4 @@
--- What a whole run of r2u2 tells: from its words to its message.
+-- What a whole run of r2u2 logs: from its arguments to its message.
 
 use Rattle.std.specs.Prelude.{◌≡◌, ℕ, ◌<◌, ◌≤◌, ◌⊎◌, Bool, true, false, Option, None, Result}
 use Rattle.std.specs.Prelude.{List, [], length, ⊤}
@@ -52,21 +52,21 @@ abbrev pub IsPrompt : Asked → List Event → Type 0
 IsPrompt (run asked) events = Prompt (due_by asked (found_in asked events) false) [] events
 IsPrompt other events = Prompt (λ bytes. []) [] events
 
--- the lines tell the formulas of the file
+-- the lines report the formulas of the file
 abbrev pub TellsFormulas : Asked → List Event → Type 0
 TellsFormulas (run asked) events =
     IsSettledBy asked (file_of asked events) (header_in (lines_in events)) (found_in asked events) (trace_ended events)
     (trace_of events)
 TellsFormulas other events = ⊤
 
--- the file was read to its end, and the answer follows from the lines of the trace
+-- the file was read to its end, and the result follows from the lines of the trace
 pub record ByLines (answer : status.Status) (asked : RunAsked) (file : List ℕ) (file_end : Bool) (bytes : List ℕ)
     (ended : Bool) (out : List ℕ) (kept : Option State) : Type 0 where
   pub whole : file_end ≡ true
   pub within : length file ≤ file_limit asked.kind
   pub lines : LinesOutcome answer asked (program_over asked.kind file (lines_of ended bytes)) ended bytes out kept
 
--- how each answer of a run over a trace follows from the bytes that were taken and given
+-- how each result of a run over a trace follows from the bytes that were read and written
 abbrev pub FileOutcome : status.Status → RunAsked → List ℕ → Bool → List ℕ → Bool → List ℕ → Option State → Type 0
 FileOutcome (status.TheVariants.OpenFault place.TheVariants.Trace) asked file file_end bytes ended out kept =
     IsReadable asked file file_end × Silent out kept
@@ -83,7 +83,7 @@ FileOutcome status.TheVariants.Memory asked file file_end bytes ended out kept =
     (length file ≤ file_limit asked.kind) × Silent out kept
 FileOutcome answer asked file file_end bytes ended out kept = ByLines answer asked file file_end bytes ended out kept
 
--- the usage line is out whole, or a front of it that misses some
+-- the usage line is out whole, or a proper prefix of it
 abbrev pub HelpOutcome : status.Status → List ℕ → Option State → Type 0
 HelpOutcome status.TheVariants.Helped out kept = (out ≡ usage R2u2) × (kept ≡ None)
 HelpOutcome (status.TheVariants.WriteFault place.TheVariants.Out) out kept =
@@ -91,13 +91,13 @@ HelpOutcome (status.TheVariants.WriteFault place.TheVariants.Out) out kept =
 HelpOutcome status.TheVariants.Memory out kept = Silent out kept
 HelpOutcome answer out kept = ⊥
 
--- words that ask for nothing
+-- invalid arguments
 abbrev pub NothingOutcome : status.Status → List ℕ → Option State → Type 0
 NothingOutcome status.TheVariants.Usage out kept = Silent out kept
 NothingOutcome status.TheVariants.Memory out kept = Silent out kept
 NothingOutcome answer out kept = ⊥
 
--- how each answer follows from the words and from the log
+-- how each result follows from the arguments and from the log
 abbrev pub OutcomeOf : status.Status → Asked → List Event → Option State → Type 0
 OutcomeOf answer help events kept = HelpOutcome answer (given place.TheVariants.Out events) kept
 OutcomeOf answer nothing events kept = NothingOutcome answer (given place.TheVariants.Out events) kept
@@ -135,8 +135,8 @@ CompletesBy help answer events = (answer ≡ status.TheVariants.Helped) ⊎ (ans
 CompletesBy (demo seed rows) answer events = (answer ≡ status.TheVariants.Done) ⊎ (answer ≡ status.TheVariants.Memory)
 CompletesBy nothing answer events = ⊤
 
--- The log of a whole run: the message is out, or a front of it, and the run completes where no call failed but those at
--- Err.
+-- The log of a whole run: the message is out, or a prefix of it, and the run completes where no call failed but those
+-- at Err.
 pub record IsRun (asked : Asked) (answer : status.Status) (kept : Option State) (before now : place.Place → ℕ)
     (events : List Event) : Type 0 where
   pub names : IsFront (names_of events) (asked_names asked)

@@ -20,20 +20,20 @@ use Rattle.r2u2_cli.specs.DemoRow.{demo_row}
 use Rattle.r2u2_cli.specs.Tallies.{count_of}
 use Rattle.r2u2_cli.specs.Text.{demo_text}
 
--- An output as the summary lists it: its name, and the words that its reports may have.
+-- An output as the summary lists it: its name, and the verdicts that its reports may have.
 pub record Listed : Type 0 where
   pub name : List ℕ
   pub words : List Word
 
--- the words that a formula's reports may have
+-- the verdicts that a formula's reports may have
 abbrev pub formula_words : List Word
 formula_words = T ∷ F ∷ []
 
--- the words that a contract's reports may have
+-- the verdicts that a contract's reports may have
 abbrev pub contract_words : List Word
 contract_words = Inactive ∷ Invalid ∷ Verified ∷ []
 
--- the words that the reports of a specification's output may have
+-- the verdicts that the reports of a specification's output may have
 abbrev pub words_of : Output → List Word
 words_of (formula p) = formula_words
 words_of (contract p q) = contract_words
@@ -42,7 +42,7 @@ words_of (contract p q) = contract_words
 abbrev pub listed : Asked → Listed
 listed asked = record { name = asked.name; words = words_of asked.output }
 
--- the words that the reports of a program's output may have
+-- the verdicts that the reports of a program's output may have
 abbrev pub out_words : Out → List Word
 out_words (out.Formula engine i name) = formula_words
 out_words (out.Contract engine i j name) = contract_words
@@ -51,11 +51,11 @@ out_words (out.Contract engine i j name) = contract_words
 abbrev pub listed_out : Out → Listed
 listed_out o = record { name = name_of o; words = out_words o }
 
--- how often a word was told
+-- how often a verdict was reported
 abbrev pub count_text : Word → ℕ → List ℕ
 count_text w n = codes " " ++ word_text w ++ codes "=" ++ decimal n
 
--- the line of an output: its name, and how often each of its words was told
+-- the line of an output: its name, and how often each of its verdicts was reported
 abbrev pub line_text : Listed → (Word → ℕ) → List ℕ
 line_text o count = o.name ++ codes ":" ++ concat (map (λ w. count_text w (count w)) o.words) ++ codes "\n"
 
@@ -72,10 +72,10 @@ summary_of rows outs told = codes "rows=" ++ decimal rows ++ codes "\n" ++ lines
 abbrev pub demo_rows : ℕ → ℕ → List Row
 demo_rows seed rows = map (demo_row seed) (range_with_len 0 rows)
 
--- the reports of the text's formulas over these rows, whose signals stand in the order of declaration
+-- the reports of the text's formulas over these rows, whose signals are in the order of declaration
 abbrev pub demo_reports : ℕ → ℕ → List Report
 demo_reports seed rows = reports Each (plain_outputs (columns_in_order 3) (outputs_in demo_text)) (demo_rows seed rows)
 
--- the summary of so many rows that are made from a seed
+-- the summary of this many rows that are made from a seed
 unfoldable pub demo_summary : ℕ → ℕ → List ℕ
 demo_summary seed rows = summary_of rows (map listed (outputs_in demo_text)) (demo_reports seed rows)

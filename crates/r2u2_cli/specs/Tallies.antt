@@ -1,4 +1,4 @@
--- How often each word was told.
+-- How often each verdict was reported.
 
 use Rattle.std.specs.Prelude.{◌≡◌, ℕ, ◌<◌, ◌==◌, ◌&&◌, ◌++◌, List, length, count_by, slice_index_or}
 use Rattle.mltl_base.specs.declared.report.Report.{Report}
@@ -24,7 +24,7 @@ count_in tally Inactive = tally.inactive
 count_in tally Invalid = tally.invalid
 count_in tally Verified = tally.verified
 
--- no word was told
+-- no verdict was reported
 abbrev pub none : Tally
 none = record { holds = 0; fails = 0; inactive = 0; invalid = 0; verified = 0 }
 

@@ -7,7 +7,7 @@ use Rattle.mltl_base.specs.Formula.{Formula, atom, implication, finally, globall
 use Rattle.mltl_base.specs.Reports.{formula, contract}
 use Rattle.mltl_base.specs.Subformulas.{Asked}
 
--- its signals; a future formula, one over whole numbers and a contract; and a past formula
+-- its signals; a future formula, a formula over integers and a contract; and a past formula
 abbrev pub demo_text : List ℕ
 demo_text =
     codes "INPUT a, b: bool; x: int;\n"

@@ -11,7 +11,7 @@ use std::alloc::Global;
 use tool_io::{Host, Place, Put, put_all};
 use tool_words::Status;
 
-/// Runs the demo over so many rows that are made from the seed, keeps its monitor, and writes its summary on `Out`.
+/// Runs the demo over `rows` rows that are made from the seed, keeps its monitor, and writes its summary on `Out`.
 pub(crate) fn give_demo<H: Host>(
     alloc: Global,
     seed: u32,

@@ -27,7 +27,7 @@ pub(crate) enum Opened {
     Program(Checked),
 }
 
-/// What the bytes of a specification, or of a program file, stand for.
+/// What the bytes of a specification, or of a program file, represent.
 pub(crate) fn open_file(alloc: Global, kind: FileKind, bytes: &[u8]) -> Result<Opened, Status>
     requires { length bytes.now ≤ file_limit kind }
     ensures opens { IfOk result (λ opened. Opens opened kind bytes.now) }
@@ -86,7 +86,7 @@ pub(crate) fn program_for(
     }
 }
 
-/// The program of a specification, whose signals stand in the columns of a header.
+/// Makes the program of a specification, whose signals are in the columns of a header.
 fn compiled(alloc: Global, spec: &TypedSpec, header: Option<&[u8]>) -> Result<Checked, Status>
     requires line { ForSome header (λ line. length line.now < MAX_LINE_BYTES) }
     ensures program { IfOk result (λ checked.
@@ -101,7 +101,7 @@ fn compiled(alloc: Global, spec: &TypedSpec, header: Option<&[u8]>) -> Result<Ch
     back(alloc, spec, &columns).map_err(status_of_compile)
 }
 
-/// A program whose stored signals stand in the columns of a header. One of version 1 stores none.
+/// Moves the stored signals of a program to the columns of a header. A program of version 1 stores none.
 fn bound_under_header(
     alloc: Global,
     checked: Checked,

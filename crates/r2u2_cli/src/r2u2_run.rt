@@ -56,7 +56,7 @@ fn run_asked<H: Host>(
     }
 }
 
-/// Does what the words ask for.
+/// Does what the arguments request.
 fn run<H: Host>(alloc: Global, words: &Words, host: &mut H, kept: &mut Option<Monitor>) -> Status
     requires none_kept { kept.old ≡ None }
     ensures usage { result ≢ Status.Memory → (result ≡ Status.Usage) ↔ (ask words.now ≡ nothing) }
@@ -70,7 +70,7 @@ fn run<H: Host>(alloc: Global, words: &Words, host: &mut H, kept: &mut Option<Mo
     }
 }
 
-/// The top call of r2u2: does what the words ask for, and tells the user on `Err` what went wrong.
+/// Runs r2u2: does what the arguments request, and prints on `Err` what went wrong.
 ///
 /// It runs over a trace, with a specification or with a program file, runs the demo, or gives help. Before it reads on in
 /// the trace, the verdict lines of all whole lines that it has taken are out. The monitor that ran is left in `kept`.

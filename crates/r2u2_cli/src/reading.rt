@@ -14,7 +14,7 @@ use r2u2_watch::TraceWhy;
 use tool_io::{Host, Line, LineCut, Place};
 use tool_words::Status;
 
-/// Reads the first line of the trace, and lets the cut give it once more. Answers whether there is one.
+/// Reads the first line of the trace, and makes the cut return it once more. Returns whether there is one.
 pub(crate) fn read_first_line<H: Host>(cut: &mut LineCut, host: &mut H) -> Result<bool, Status>
     requires { cut.old ≡ fresh }
     ensures cause { PhaseCause result (H.faults host.old) (H.faults host.new) }

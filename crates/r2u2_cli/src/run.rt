@@ -23,8 +23,8 @@ pub struct Demo {
     pub summary: Vec<u8>,
 }
 
-/// Runs a monitor of the demo's text over so many rows that are made from a seed, and sums its reports up. It fails
-/// only for want of memory: the text is never refused.
+/// Runs a monitor of the demo's text over `rows` rows that are made from a seed, and sums its reports up. It fails
+/// only when out of memory: the text is never refused.
 pub fn run_demo(alloc: Global, seed: u32, rows: u32) -> Result<Demo, AllocError>
     ensures summary { IfOk result (λ demo. demo.summary.items ≡ demo_summary seed rows) }
     ensures program { IfOk result (λ demo.
@@ -37,7 +37,7 @@ pub fn run_demo(alloc: Global, seed: u32, rows: u32) -> Result<Demo, AllocError>
     Ok(Demo { monitor, summary })
 }
 
-/// Lets a fresh monitor of the demo's text take all rows, and sums its reports up.
+/// Feeds all rows to a fresh monitor of the demo's text, and sums its reports up.
 fn played(alloc: Global, monitor: &mut Monitor, seed: u32, rows: u32) -> Result<Vec<u8>, AllocError>
     requires program { image_of_text DEMO_TEXT.now None ≡ Ok (program_of monitor.old) }
     requires taken { taken_by monitor.old ≡ 0 }
@@ -77,7 +77,7 @@ fn want_of_memory(fault: CompileFault) -> AllocError
     }
 }
 
-/// Lets a monitor of the demo's text take all rows, and counts its reports of each.
+/// Feeds all rows to a monitor of the demo's text, and counts its reports of each.
 fn play(monitor: &mut Monitor, tallies: &mut [Tally], seed: u32, rows: u32)
     requires before { Played tallies.old monitor.old seed 0 }
     ensures after { Played tallies.new monitor.new seed rows }
@@ -87,7 +87,7 @@ fn play(monitor: &mut Monitor, tallies: &mut [Tally], seed: u32, rows: u32)
     }
 }
 
-/// Lets it take row k, and counts its reports.
+/// Feeds row k to it, and counts its reports.
 fn play_row(monitor: &mut Monitor, tallies: &mut [Tally], seed: u32, k: u32)
     requires few { k < 2 ^ 32 }
     requires before { Played tallies.old monitor.old seed k }

@@ -157,7 +157,7 @@ fn watch_loaded<H: Host>(
     status_after(watched)
 }
 
-/// Watches the trace, over stamped rows where the words ask for them.
+/// Watches the trace, over stamped rows where the arguments say so.
 fn watch_asked<H: Host>(
     monitor: &mut Monitor,
     cut: &mut LineCut,

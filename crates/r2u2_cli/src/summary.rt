@@ -11,7 +11,7 @@ use itoa::Buffer;
 use mltl_base::{Out, Word};
 use std::alloc::{AllocError, Global};
 
-/// The summary of so many rows: a line for each output, with how often each of its words was told.
+/// Writes the summary of `rows` rows: a line for each output, with how often each of its verdicts was reported.
 pub(crate) fn summary_of(
     alloc: Global,
     rows: u32,
@@ -52,7 +52,7 @@ fn add_line(text: &mut Vec<u8>, out: &Out, tally: &Tally) -> Result<(), AllocErr
     text.extend_from_slice(b"\n")
 }
 
-/// Adds how often a word was told.
+/// Adds how often a verdict was reported.
 fn add_count(text: &mut Vec<u8>, word: Word, tally: &Tally) -> Result<(), AllocError>
     ensures { OnOk result (text.new.items
         ≡ text.old.items ++ count_text word (count_in tally.now word)) }

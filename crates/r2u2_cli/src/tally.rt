@@ -1,4 +1,4 @@
-//! How often each word was told of an output.
+//! How often each verdict of an output was reported.
 
 ghost use Rattle.std.specs.Prelude.{◌≡◌, ◌+◌, ◌<◌, ◌^◌, if◌then◌else◌};
 ghost use Rattle.mltl_base.specs.Reports.{same_word};
@@ -7,7 +7,7 @@ ghost use Rattle.r2u2_cli.specs.Tallies.{count_in, none as no_words};
 
 use mltl_base::Word;
 
-/// How often each word was told of an output.
+/// How often each verdict of an output was reported.
 #[derive(Clone, Copy)]
 pub(crate) struct Tally {
     holds: u64,
@@ -18,7 +18,7 @@ pub(crate) struct Tally {
 }
 
 impl Tally {
-    /// No word was told.
+    /// No verdict was reported.
     pub(crate) fn new() -> Tally
         ensures { result ≡ no_words }
     {
@@ -46,7 +46,7 @@ impl Tally {
         }
     }
 
-    /// How often a word was told.
+    /// Returns how often a verdict was reported.
     pub(crate) fn count(&self, word: Word) -> u64
         ensures { result ≡ count_in self.now word }
     {

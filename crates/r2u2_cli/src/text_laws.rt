@@ -1,4 +1,5 @@
-//! What program files tell that are images of specifications: the law is the contract of a function with an empty body.
+//! What program files report that are images of specifications: the law is the contract of a function with an empty
+//! body.
 
 ghost use Rattle.std.specs.Prelude.{◌≡◌, List as Seq, Ok, Option as Maybe, ℕ};
 ghost use Rattle.mltl_base.specs.Atoms.{Row};
@@ -12,7 +13,7 @@ ghost use Rattle.r2u2_cli.specs.ProgramBy.{program_by};
 ghost use Rattle.r2u2_cli.specs.Formulas.{TellsImage, TellsSimple};
 ghost use Rattle.r2u2_cli.specs.Settled.{TellsText};
 
-/// A program file that is the image of a specification tells the specification's plain formulas, under its names.
+/// A program file that is the image of a specification reports the specification's plain formulas, under its names.
 ///
 /// In version 2 these are over the columns that the header of the trace names, or without one over those of the image. So
 /// they are in simplified form, where each word is settled for the plain formula and comes within its delay. In version

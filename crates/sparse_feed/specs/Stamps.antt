@@ -9,11 +9,11 @@ use Rattle.mltl_base.specs.Blanks.{is_blank_line}
 use Rattle.sparse_feed.specs.declared.stamp.Stamp.{Stamp}
 use Rattle.sparse_feed.specs.declared.stamp.Stamp.TheVariants.{At, Blank, Bad, Order, Late}
 
--- the digits at the front of a text, as many as can be
+-- the digits with which a text begins, as many as can be
 abbrev pub digits_at_front : List ℕ → List ℕ
 digits_at_front text = take (prefix_len is_ascii_digit text) text
 
--- what is after the digits at the front of a text
+-- what follows the digits with which a text begins
 abbrev pub after_digits : List ℕ → List ℕ
 after_digits text = drop (prefix_len is_ascii_digit text) text
 

@@ -30,7 +30,7 @@ fn is_blank_line(line: &[u8]) -> bool
     line.iter().all(|byte| *byte == b' ' || *byte == b'\t')
 }
 
-/// How many digits stand at the front.
+/// How many digits there are at the start.
 fn digits_size(text: &[u8]) -> usize
     ensures longest { result ≡ prefix_len is_ascii_digit text.now }
     ensures inside { result ≤ length text.now }
@@ -97,8 +97,9 @@ fn timed(last: Option<u64>, mission: u64, place: usize, time: Option<u64>) -> St
     }
 }
 
-/// The time of a line, by the time of the line before it and by the mission time, or its first fault. A stamp may have
-/// leading zeros and any number of digits. The row begins at the place that is answered with the time. It takes no memory.
+/// Returns the time of a line, by the time of the line before it and by the mission time, or its first fault. A stamp
+/// may have leading zeros and any number of digits. The row begins at the index that is returned with the time. It
+/// does not allocate.
 pub fn stamp_of(line: &[u8], last: Option<u64>, mission: u64) -> Stamp
     ensures told { result ≡ stamp_meaning line.now last mission }
     ensures within { IfAt result (λ time place. place ≤ length line.now) }

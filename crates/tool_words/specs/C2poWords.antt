@@ -1,4 +1,4 @@
--- What the words of `c2po` ask for.
+-- What the arguments of `c2po` request.
 
 use Rattle.std.specs.Prelude.{Bool, true, false, ◌||◌, if◌then◌else◌, Option, Some, is_some, unwrap_or, option_map}
 use Rattle.std.specs.Prelude.{List, [], ◌∷◌, codes}
@@ -29,7 +29,7 @@ pub record CompileAsked : Type 0 where
   pub simplify : Bool
   pub spec : Text
 
--- what the words may ask for; an upgrade and a text have the file that is written, and the program
+-- what the arguments may request; an upgrade and a text have the file that is written, and the program
 pub data Asked : Type 0 where
   help : Asked
   compile : CompileAsked → Asked
@@ -73,16 +73,16 @@ asked_in found =
     option_map_or (asked_by (is_set (codes "upgrade") found) (is_set (codes "show") found) found)
     (first_of (codes "file") found) nothing
 
--- Help where the words are `--help` or `-h` alone. Else what the command finds in them; nothing where it doesn't take
--- them.
+-- Help where the only argument is `--help` or `-h`. Otherwise what the command finds in the arguments; nothing where
+-- they are invalid.
 abbrev pub ask_of_texts : List Text → Asked
 ask_of_texts words = if is_help words then help else option_map_or asked_in (found_in command words) nothing
 
--- words ask for nothing where one of them isn't UTF-8
+-- arguments are invalid where one of them isn't UTF-8
 abbrev pub ask : List Text → Asked
 ask words = if are_texts words then ask_of_texts words else nothing
 
--- the compilation that an answer tells
+-- the compilation of a result
 abbrev pub compile_of : told.Compile → CompileAsked
 compile_of c =
     record {
@@ -93,7 +93,7 @@ compile_of c =
       spec = c.spec.now;
     }
 
--- what an answer tells
+-- what a result requests
 abbrev pub asked_of : c2po_ask.C2poAsk → Asked
 asked_of c2po_ask.TheVariants.Help = help
 asked_of (c2po_ask.TheVariants.Compile c) = compile (compile_of c)

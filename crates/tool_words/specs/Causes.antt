@@ -16,7 +16,7 @@ RunCause (status.TheVariants.ReadFault p) before now = RoseAt before now p
 RunCause (status.TheVariants.WriteFault p) before now = RoseAt before now p
 RunCause answer before now = NoFault before now
 
--- the same of the answer of a phase
+-- the same of the result of a phase
 abbrev pub PhaseCause : {T : Type 0} → Result T status.Status → (place.Place → ℕ) → (place.Place → ℕ) → Type 0
 PhaseCause (Ok value) before now = NoFault before now
 PhaseCause (Err answer) before now = RunCause answer before now
@@ -33,7 +33,7 @@ CauseAt answer q before now = now ≡ before
 abbrev pub NoOtherRose : (place.Place → ℕ) → (place.Place → ℕ) → Type 0
 NoOtherRose before now = (p : place.Place) → p ≢ place.TheVariants.Err → ¬ Rose (before p) (now p)
 
--- a status that tells of no call of a host
+-- a status that concerns no call of a host
 abbrev pub TellsNoCall : status.Status → Type 0
 TellsNoCall (status.TheVariants.OpenFault p) = ⊥
 TellsNoCall (status.TheVariants.ReadFault p) = ⊥

@@ -1,4 +1,4 @@
--- What reading a file whole tells.
+-- What reading a whole file logs.
 
 use Rattle.std.specs.Prelude.{◌≡◌, ℕ, ◌<◌, ◌≤◌, ◌⊎◌, true, false, Result, Ok, Err, List, [], ◌∷◌, length, Vec}
 use Rattle.std.specs.declared.alloc.Global.{Global}

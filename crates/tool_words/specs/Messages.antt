@@ -16,7 +16,7 @@ abbrev pub tool_name : tool.Tool → List ℕ
 tool_name tool.TheVariants.C2po = codes "c2po"
 tool_name tool.TheVariants.R2u2 = codes "r2u2"
 
--- what a program's words may be
+-- the arguments that a program takes
 abbrev pub usage : tool.Tool → List ℕ
 usage tool.TheVariants.C2po =
     codes "usage: c2po [--header FILE] [-o FILE] [--table] [--simplify] SPEC"
@@ -64,7 +64,7 @@ status_text status.TheVariants.Memory = compile_fault_text compile.TheVariants.M
 abbrev pub told_by : tool.Tool → status.Status → List ℕ
 told_by t s = tool_name t ++ codes ": " ++ status_text s ++ codes "\n"
 
--- the message of a status: nothing for success, the usage line for help and for words that ask for nothing
+-- the message of a status: nothing for success, the usage line for help and for invalid arguments
 abbrev pub message : tool.Tool → status.Status → List ℕ
 message t status.TheVariants.Done = []
 message t status.TheVariants.Helped = usage t

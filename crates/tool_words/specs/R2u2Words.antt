@@ -1,4 +1,4 @@
--- What the words of `r2u2` ask for.
+-- What the arguments of `r2u2` request.
 
 use Rattle.std.specs.Prelude.{ℕ, ◌≤◌, Bool, ◌&&◌, ◌==◌, not, if◌then◌else◌, Option, Some, is_some, unwrap_or}
 use Rattle.std.specs.Prelude.{option_map, option_and_then, List, [], ◌∷◌, codes, ⊤}
@@ -31,7 +31,7 @@ pub record RunAsked : Type 0 where
   pub file : Text
   pub trace : Text
 
--- what the words may ask for; a demo has its seed and its number of rows
+-- what the arguments may request; a demo has its seed and its number of rows
 pub data Asked : Type 0 where
   help : Asked
   run : RunAsked → Asked
@@ -67,7 +67,7 @@ abbrev pub run_in : List Row → Option RunAsked
 run_in found =
     option_and_then (λ file. option_map (run_with found file) (mission_in found)) (first_of (codes "file") found)
 
--- no file is given, so no trace either, and no option beside `--demo`
+-- no file is named, so no trace either, and no option but `--demo`
 abbrev pub is_demo_alone : List Row → Bool
 is_demo_alone found =
     not (is_set (codes "source") found) && (not (is_set (codes "runs") found) && (not (is_set (codes "timed") found)
@@ -90,16 +90,16 @@ asked_in found =
     option_map_or (λ word. if is_demo_alone found then demo_in word else nothing) (first_of (codes "demo") found)
     (option_map_or run (run_in found) nothing)
 
--- Help where the words are `--help` or `-h` alone. Else what the command finds in them; nothing where it doesn't take
--- them.
+-- Help where the only argument is `--help` or `-h`. Otherwise what the command finds in the arguments; nothing where
+-- they are invalid.
 abbrev pub ask_of_texts : List Text → Asked
 ask_of_texts words = if is_help words then help else option_map_or asked_in (found_in command words) nothing
 
--- words ask for nothing where one of them isn't UTF-8
+-- arguments are invalid where one of them isn't UTF-8
 abbrev pub ask : List Text → Asked
 ask words = if are_texts words then ask_of_texts words else nothing
 
--- the run that an answer tells
+-- the run of a result
 abbrev pub run_of : told.Run → RunAsked
 run_of r =
     record {
@@ -111,7 +111,7 @@ run_of r =
       trace = r.trace.now;
     }
 
--- what an answer tells
+-- what a result requests
 abbrev pub asked_of : r2u2_ask.R2u2Ask → Asked
 asked_of r2u2_ask.TheVariants.Help = help
 asked_of (r2u2_ask.TheVariants.Run r) = run (run_of r)

@@ -1,4 +1,4 @@
--- How the words of both command lines are read: help, the words that a command takes, flags and numbers.
+-- How the arguments of both commands are read: help, the arguments that a command takes, flags and numbers.
 
 use Rattle.std.specs.Prelude.{ℕ, Bool, true, false, ◌&&◌, ◌||◌, if◌then◌else◌, nat_lt, nat_le, Option, Some, None, List}
 use Rattle.std.specs.Prelude.{[], ◌∷◌, length, codes}
@@ -11,7 +11,7 @@ use Rattle.clap.specs.Walk.{is_empty}
 use Rattle.clap.specs.Simple.{new_shape}
 use Rattle.clap.specs.Words.{App, Row, Rule, Text, fault_of, first_of, found_of, matches_of, new_rule, rows_of}
 
--- the words are the one word `--help`, or the one word `-h`
+-- the only argument is `--help` or `-h`
 abbrev pub is_help : List Text → Bool
 is_help (word ∷ []) = bytes_eq word (codes "--help") || bytes_eq word (codes "-h")
 is_help words = false
@@ -28,7 +28,7 @@ option name = record (new_rule name) { long = Some name }
 abbrev pub positional : Text → Rule
 positional name = new_rule name
 
--- A command with these arguments. It knows no `--help`, and the program's name isn't among its words.
+-- a command with these arguments, without `--help`; the program's name isn't an argument
 abbrev pub command_of : Text → List Rule → App
 command_of name rules =
     record {
@@ -36,7 +36,7 @@ command_of name rules =
       subs = [];
     }
 
--- what clap finds in the words, where its parse has no fault
+-- what clap finds in the arguments, where its parse has no fault
 abbrev pub found_in : App → List Text → Option (List Row)
 found_in app words = if is_empty (fault_of app words) then Some (matches_of app words) else None
 
@@ -48,7 +48,7 @@ rows m = rows_of (found_of m)
 abbrev pub is_set : Text → List Row → Bool
 is_set name found = option_map_or (λ value. bytes_eq value (codes "true")) (first_of name found) false
 
--- the word is one to so many decimal digits and nothing else, and its value lies from `least` to `greatest`
+-- the argument consists of one to `most` decimal digits, and its value is from `least` to `greatest`
 abbrev pub is_number : ℕ → ℕ → ℕ → Text → Bool
 is_number digits least greatest word = all_ascii_digits word && (nat_lt 0 (length word) && (nat_le (length word) digits
     && (nat_le least (digits_value 10 word) && nat_le (digits_value 10 word) greatest)))

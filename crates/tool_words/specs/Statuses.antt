@@ -1,4 +1,4 @@
--- Answers with statuses in place of the faults that they tell.
+-- Results with statuses in place of the faults that they stem from.
 
 use Rattle.std.specs.Prelude.{Result, Ok, Err}
 use Rattle.tool_words.specs.declared.status.Status.{Status}

@@ -1,4 +1,4 @@
--- What a program tells its user: help on the output, and its message on the error output.
+-- What a program prints for its user: help on the output, and its message on the error output.
 
 use Rattle.std.specs.Prelude.{◌≡◌, ℕ, Bool, false, ◌||◌, List, [], ◌∷◌, ◌++◌, map}
 use Rattle.tool_io.specs.declared.host.Place as place
@@ -8,14 +8,14 @@ use Rattle.tool_words.specs.declared.message.Tool.{Tool}
 use Rattle.tool_words.specs.declared.status.Status as status
 use Rattle.tool_words.specs.Messages.{usage, told_to_user}
 
--- help went out whole, or a front of it
+-- help went out whole, or a prefix of it
 abbrev pub HelpLog : Tool → status.Status → List Event → Type 0
 HelpLog tool status.TheVariants.Helped events = Writes place.TheVariants.Out (usage tool) events
 HelpLog tool (status.TheVariants.WriteFault place.TheVariants.Out) events =
     WritesFront place.TheVariants.Out (usage tool) events
 HelpLog tool answer events = ⊥
 
--- what the user is told is whole where the count of Err didn't rise
+-- the message is out whole where the count of Err didn't rise
 abbrev pub ToldWhole : Tool → status.Status → ℕ → ℕ → List Event → Type 0
 ToldWhole tool answer before now events =
     ¬ Rose before now → given place.TheVariants.Err events ≡ told_to_user tool answer

@@ -1,4 +1,4 @@
-//! What the words of `c2po` ask for.
+//! What the arguments of `c2po` request.
 
 ghost use Rattle.std.specs.Prelude.{◌≡◌, false, IfOk};
 ghost use Rattle.clap.specs.Words.{app_of, rule_of};
@@ -25,7 +25,7 @@ pub struct Compile<'a> {
     pub spec: &'a str,
 }
 
-/// What the words of `c2po` ask for.
+/// What the arguments of `c2po` request.
 #[derive(Clone, Copy, Debug)]
 pub enum C2poAsk<'a> {
     Help,
@@ -47,7 +47,7 @@ pub enum C2poAsk<'a> {
 /// The file that is written where none is named.
 const DEFAULT_OUT: &str = "spec.bin";
 
-/// What the words of `c2po` ask for, its own name not among them. It fails only for want of memory.
+/// Reads the arguments of `c2po`, without the program's name. It fails only when out of memory.
 pub fn c2po_ask<'a>(alloc: Global, words: &'a Words) -> Result<C2poAsk<'a>, AllocError>
     ensures { IfOk result (λ asked. c2po.asked_of asked ≡ c2po.ask words.now) }
 {

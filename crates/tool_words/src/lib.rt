@@ -1,8 +1,9 @@
 //! The words of the two programs' command lines and what they ask for; how their runs end, with their messages; and
 //! reading a file whole.
 //!
-//! Help is asked for by the one word `--help`, or the one word `-h`. All other words are read by `clap`, as one command
-//! with options, flags and positionals; how numbers are spelled and which words stand together is checked after that.
+//! Help is requested by the only argument `--help` or `-h`. All other arguments are read by `clap`, as one command
+//! with options, flags and positionals; the spelling of numbers and the combination of arguments are checked after
+//! that.
 #![tactic(auto)]
 
 mod c2po_words;

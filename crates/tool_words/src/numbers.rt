@@ -1,4 +1,4 @@
-//! Numbers among the words of a command line.
+//! Numbers among the arguments of a command line.
 
 ghost use Rattle.std.specs.Prelude.{◌≡◌, ◌≤◌, IfSome};
 ghost use Rattle.tool_words.specs.Reading.{number_in};

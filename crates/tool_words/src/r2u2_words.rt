@@ -1,4 +1,4 @@
-//! What the words of `r2u2` ask for.
+//! What the arguments of `r2u2` request.
 
 ghost use Rattle.std.specs.Prelude.{◌≡◌, ◌≤◌, ◌^◌, IfOk, IfSome, option_map};
 ghost use Rattle.mltl_base.specs.declared.limits.TheConstants.{MAX_MISSION};
@@ -31,12 +31,12 @@ pub struct Run<'a> {
     pub trace: &'a str,
 }
 
-/// What the words of `r2u2` ask for.
+/// What the arguments of `r2u2` request.
 #[derive(Clone, Copy, Debug)]
 pub enum R2u2Ask<'a> {
     Help,
     Run(Run<'a>),
-    /// A run over so many rows that are made from the seed.
+    /// A run over this many rows that are made from the seed.
     Demo { seed: u32, rows: u32 },
     /// The words aren't taken.
     Nothing,
@@ -49,21 +49,21 @@ const MISSION_TIMES: Numbers = Numbers {
     greatest: MAX_MISSION,
 };
 
-/// What stands before the comma of `--demo`.
+/// Returns what precedes the comma of `--demo`.
 const SEEDS: Numbers = Numbers {
     digits: 10,
     least: 0,
     greatest: u32::MAX as u64,
 };
 
-/// What stands after it.
+/// Returns what follows it.
 const ROW_COUNTS: Numbers = Numbers {
     digits: 10,
     least: 1,
     greatest: 10_000_000,
 };
 
-/// What the words of `r2u2` ask for, its own name not among them. It fails only for want of memory.
+/// Reads the arguments of `r2u2`, without the program's name. It fails only when out of memory.
 pub fn r2u2_ask<'a>(alloc: Global, words: &'a Words) -> Result<R2u2Ask<'a>, AllocError>
     ensures asked { IfOk result (λ asked. r2u2.asked_of asked ≡ r2u2.ask words.now) }
     ensures bounds { IfOk result r2u2.IsInBounds }
@@ -112,7 +112,7 @@ fn asked_in<'a>(matches: &ArgMatches<'a>) -> R2u2Ask<'a>
     }
 }
 
-/// Whether no file is given, and no option beside `--demo`.
+/// Whether no file is named, and no option but `--demo`.
 fn is_alone(matches: &ArgMatches<'_>) -> bool
     ensures { result ≡ r2u2.is_demo_alone (rows matches.now) }
 {

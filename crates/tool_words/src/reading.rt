@@ -1,4 +1,4 @@
-//! What both command lines have in common: help, arguments of a command, and what `clap` finds in the words.
+//! What both command lines have in common: help, arguments of a command, and what `clap` finds in the arguments.
 
 ghost use Rattle.std.specs.Prelude.{◌≡◌, true, false, IfOk, [], map, option_map};
 ghost use Rattle.clap.specs.Words.{app_of, first_of, is_simple_and_free, rule_of};
@@ -10,7 +10,7 @@ use clap::error::ErrorKind;
 use clap::{Arg, ArgAction, ArgMatches, Command};
 use std::alloc::{AllocError, Global};
 
-/// Whether the words, as texts, are the one word `--help`, or the one word `-h`.
+/// Whether the only argument is `--help` or `-h`.
 pub(crate) fn asks_for_help(words: &Words) -> bool
     ensures { result ≡ reading.is_help (map text_of words.now) }
 {
@@ -21,7 +21,7 @@ pub(crate) fn asks_for_help(words: &Words) -> bool
     word == "--help" || word == "-h"
 }
 
-/// A command without arguments yet. It knows no `--help`, and the program's name isn't among its words.
+/// Makes a command without arguments yet. It has no `--help`, and the program's name isn't an argument.
 pub(crate) fn bare_command<'a>(alloc: Global, name: &'a str) -> Command<'a>
     ensures { app_of result ≡ reading.command_of name.entry.now [] }
 {
@@ -54,7 +54,7 @@ pub(crate) fn positional<'a>(alloc: Global, name: &'a str) -> Arg<'a>
     Arg::new(alloc, name)
 }
 
-/// What `clap` finds in the words, as texts, or `None` where the command doesn't take them.
+/// Returns what `clap` finds in the arguments, or `None` where they are invalid.
 pub(crate) fn matches_in<'a>(
     command: Command<'a>,
     words: &'a Words,

@@ -10,14 +10,14 @@ use std::alloc::AllocError;
 use tool_io::Place;
 use trace_feed::TraceWhy;
 
-/// How a run ended. Lines count from 1; line 0 stands for the whole specification.
+/// How a run ended. Lines count from 1; line 0 is the whole specification.
 #[derive(Drop)]
 pub enum Status {
-    /// What the words ask for was done, and all of its output is out; a trace was read to its end.
+    /// The run did what its arguments request, and all of its output is out; a trace was read to its end.
     Done,
     /// The words asked for help, and the usage line is out.
     Helped,
-    /// The words ask for nothing that the program does.
+    /// Invalid arguments.
     Usage,
     /// The specification has a fault, or is past a limit.
     Refused(u32, Refusal),
@@ -39,9 +39,9 @@ pub enum Status {
 }
 
 impl Status {
-    /// The exit code of a program that ends with this status: 0 for success, 1 for its words, 2 for a specification, 3
-    /// for a program file, 4 for a header or a trace, 5 for a text or a trace past its limit, 6 for opening and
-    /// reading, 7 for writing, 8 for memory.
+    /// Returns the exit code of a program that ends with this status: 0 for success, 1 for its arguments, 2 for a
+    /// specification, 3 for a program file, 4 for a header or a trace, 5 for a text or a trace past its limit, 6 for
+    /// opening and reading, 7 for writing, 8 for memory.
     pub fn code(&self) -> u8
         ensures { result ≡ code_of self.now }
     {

@@ -1,4 +1,4 @@
-//! What a program tells its user: the usage line where help is asked for, and a message where a run ends otherwise.
+//! What a program prints for its user: the usage line as help, and a message where a run fails.
 
 ghost use Rattle.tool_io.specs.Log.{OnLog};
 ghost use Rattle.tool_io.specs.Host.{WriteCause};

@@ -1,4 +1,4 @@
-//! Reading the file that the words name: a specification, or a program.
+//! Reading the file of the arguments: a specification, or a program.
 
 ghost use Rattle.std.specs.Prelude.{◌≡◌, ◌≤◌, IfOk, length};
 ghost use Rattle.tool_io.specs.Log.{OnLog};

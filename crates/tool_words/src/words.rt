@@ -25,7 +25,7 @@ impl Model for Words {
 }
 
 impl Words {
-    /// No words. It takes no memory.
+    /// Makes an empty list of arguments. It does not allocate.
     pub fn new(alloc: Global) -> Words
         ensures { result ≡ [] }
     {
@@ -82,7 +82,7 @@ impl Words {
         are_utf8(&self.words)
     }
 
-    /// The words as texts, as `get` tells them.
+    /// Returns the arguments as texts, as `get` does.
     pub(crate) fn as_slice(&self) -> &[WordBytes]
         ensures { map (λ word. text_of word.bytes.items) result.now ≡ map text_of self.now }
     {
