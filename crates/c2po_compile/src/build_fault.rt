@@ -3,21 +3,17 @@
 ghost use Rattle.std.specs.Prelude.{◌≡◌};
 
 use std::alloc::{AllocError, AllocFailed};
-use thiserror::Error;
 
 /// The first limit that a specification exceeds: instructions, then delays, then slots.
-#[derive(Clone, Copy, PartialEq, Eq, Debug, Error)]
+#[derive(Clone, Copy, PartialEq, Eq, Debug)]
 pub enum BuildFault {
     /// A part would have more instructions than the limit.
-    #[error("too many nodes")]
     TooManyNodes,
     /// A future-time instruction would have a worst-case delay above the limit.
-    #[error("delay too large")]
     TooLate,
     /// The queues and boxes would have more slots together than the limit.
-    #[error("too many slots")]
     TooManySlots,
-    #[error("out of memory")]
+    /// Out of memory.
     Memory,
 }
 
