@@ -6,15 +6,7 @@
 
 #include "arena.h"
 #include "r2u2.h"
-
-struct found {
-    bool ok;
-    void *at;
-};
-
-struct found rattle_alloc(size_t size, size_t align);
-struct found rattle_realloc(void *old, size_t kept, size_t size, size_t align);
-void rattle_dealloc(void *old);
+#include "r2u2_alloc.h"
 
 static int checks, failed;
 

@@ -36,7 +36,7 @@ RUN = qemu-$(TARGET)
 endif
 
 .PHONY: embed check-embed measure-stack python install-embed uninstall-embed deb
-.PHONY: $(addprefix check-,installed symbols misuse arena bytes flight grants stack cpp rust python)
+.PHONY: $(addprefix check-,installed misra symbols misuse arena bytes flight grants stack frameworks frameworks-cpp cpp rust python)
 
 embed:
 	@mkdir -p $(EMBED)
@@ -53,19 +53,19 @@ else
 	rm -f $(EMBED)/libr2u2_heap.a
 	$(TARGET_AR) rcs $(EMBED)/libr2u2_heap.a $(EMBED)/heap.o
 endif
-	cp include/r2u2.h embed/r2u2_checked.h embed/arena.h embed/arena.c $(EMBED)
+	cp include/r2u2.h include/r2u2_alloc.h embed/r2u2_checked.h embed/arena.h embed/arena.c embed/memory.c $(EMBED)
 
 # Only what isn't there is built before an installation.
 $(EMBED)/libr2u2.a:
 	$(MAKE) embed
 
-TRIED = check-symbols check-misuse check-arena check-bytes check-flight check-stack check-grants
+TRIED = check-symbols check-misuse check-arena check-bytes check-flight check-stack check-grants check-frameworks
 
 ifdef TARGETS
 check-embed:
 	@for target in $(TARGETS); do $(MAKE) check-embed TARGET=$$target || exit; done
 else ifeq ($(TARGET),x86_64)
-check-embed: embed $(TRIED) check-cpp check-rust check-python check-installed
+check-embed: embed check-misra $(TRIED) check-frameworks-cpp check-cpp check-rust check-python check-installed
 	@echo 'check-embed: all passed for $(TARGET)'
 else
 check-embed:
@@ -87,6 +87,10 @@ check-symbols: | $(TRIES)
 	awk '$$7 ~ /W/ && $$5 !~ /^0*$$/ && $$1 !~ /^\.data\.rel\.ro/ { print; bad = 1 } END { exit bad }' $(TRIES)/sections
 	$(TARGET_LINK) -shared -nostdlib -Wl,-z,text -Wl,--whole-archive $(EMBED)/libr2u2.a -o $(TRIES)/anywhere.so
 
+# What flies keeps the required rules of MISRA C:2012, where there is cppcheck.
+check-misra:
+	embed/misra embed/arena.c embed/memory.c embed/heap.c
+
 check-misuse: | $(TRIES)
 	$(TARGET_CC) $(WARNED) -O1 $(STRICT) -o $(TRIES)/misuse embed/misuse.c $(EMBED)/libr2u2.a -lpthread
 	$(RUN) $(TRIES)/misuse $(GRANT)
@@ -107,6 +111,8 @@ check-flight: | $(TRIES)
 	$(TARGET_CC) $(WARNED) -I$(TRIES) -O2 -ffreestanding -nostdlib -r -o $(TRIES)/flight.o embed/flight/flight.c embed/arena.c $(EMBED)/libr2u2.a -lgcc
 	$(TARGET_NM) -u $(TRIES)/flight.o | awk 'NF { print $$2 }' | sort > $(TRIES)/flight.asks
 	printf '%s\n' memcpy memmove memset | cmp - $(TRIES)/flight.asks
+	$(TARGET_CC) $(WARNED) -O2 -ffreestanding -fno-builtin -nostdlib -r -o $(TRIES)/alone.o embed/memory.c $(TRIES)/flight.o
+	! $(TARGET_NM) -u $(TRIES)/alone.o | grep .
 	$(TARGET_CC) $(WARNED) -Iembed/flight -O2 $(if $(RUN),,-Wl$(comma)-Map=$(TRIES)/flight.map) -o $(TRIES)/flight embed/flight/ground.c $(TRIES)/flight.o
 	@[ -n '$(RUN)' ] || { test -s $(TRIES)/flight.map && ! grep -wE 'malloc|calloc|realloc|free|printf' $(TRIES)/flight.map; }
 	$(if $(RUN),$(RUN),env -i sh -c 'ulimit -s 64; exec "$$0"') $(TRIES)/flight > $(TRIES)/flight.out
@@ -125,6 +131,28 @@ measure-stack: check-stack
 check-grants:
 	$(MAKE) -C examples/embed clean check CC='$(TARGET_CC)' RUN='$(RUN)' LIBRARY=$(abspath $(EMBED)/libr2u2.a) HEAP=$(abspath $(EMBED)/libr2u2_heap.a)
 	@if command -v python3 > /dev/null; then embed/workloads $(RUN) examples/embed/grants; fi
+
+# The examples for flight frameworks, over stand-ins for the calls that they make.
+FRAMEWORKS = $(WARNED) -D_POSIX_C_SOURCE=200809L -Iexamples/embed/stubs -I$(TRIES)
+STATIC = embed/arena.c $(EMBED)/libr2u2.a
+
+check-frameworks: | $(TRIES)
+	embed/constant grant_program $(GRANT) > $(TRIES)/grant_program.h
+	$(TARGET_CC) $(FRAMEWORKS) -o $(TRIES)/cfs examples/embed/cfs/watch_app.c $(STATIC)
+	$(TARGET_CC) $(FRAMEWORKS) -o $(TRIES)/freertos examples/embed/freertos/watch_task.c $(STATIC)
+	$(TARGET_CC) $(FRAMEWORKS) -o $(TRIES)/zephyr examples/embed/zephyr/watch_thread.c $(STATIC)
+	@set -e; for name in cfs freertos zephyr; do $(RUN) $(TRIES)/$$name | cmp - examples/embed/$$name/expected; done
+
+FRAMEWORKS_CPP = -Wall -Wextra -Iinclude -Iembed -Iembed/cpp -Iexamples/embed/stubs -I$(TRIES)
+HEAP = $(EMBED)/libr2u2.a $(EMBED)/libr2u2_heap.a
+
+check-frameworks-cpp: check-frameworks
+	@if command -v $(firstword $(CXX)) > /dev/null; then set -e; \
+	  $(CXX) -std=c++14 $(FRAMEWORKS_CPP) -o $(TRIES)/fprime examples/embed/stubs/fprime_main.cpp examples/embed/fprime/Watch.cpp $(HEAP); \
+	  $(CXX) -std=c++17 $(FRAMEWORKS_CPP) -o $(TRIES)/ros2 examples/embed/ros2/watch_node.cpp $(HEAP); \
+	  $(TRIES)/fprime | cmp - examples/embed/fprime/expected; \
+	  $(TRIES)/ros2 $(GRANT) | cmp - examples/embed/ros2/expected; \
+	else echo 'check-embed: no compiler of C++, so the examples for F Prime and ROS 2 are passed over'; fi
 
 check-cpp: | $(TRIES)
 	@if command -v $(firstword $(CXX)) > /dev/null; then set -e; \
@@ -152,8 +180,8 @@ check-python: python | $(TRIES)
 	else echo 'check-embed: no python3, so the example in Python is passed over'; fi
 
 INSTALLED_LIBRARIES = libr2u2.a libr2u2_heap.a
-INSTALLED_HEADERS = include/r2u2.h embed/r2u2_checked.h
-INSTALLED_SOURCES = embed/arena.c embed/arena.h embed/constant embed/cpp/r2u2.hpp embed/python/r2u2.py examples/embed/grants.c
+INSTALLED_HEADERS = include/r2u2.h include/r2u2_alloc.h embed/r2u2_checked.h
+INSTALLED_SOURCES = embed/arena.c embed/arena.h embed/memory.c embed/constant embed/cpp/r2u2.hpp embed/python/r2u2.py examples/embed/grants.c
 
 install: install-embed
 uninstall: uninstall-embed

@@ -1,17 +1,7 @@
 /* The heap of the C library for the monitor, on processors for which the kit has none. */
-#include <stdbool.h>
-#include <stddef.h>
 #include <stdlib.h>
 
-/* What the library is given: a block, or no block. Its address isn't null even then. */
-struct found {
-    bool ok;
-    void *at;
-};
-
-struct found rattle_alloc(size_t size, size_t align);
-struct found rattle_realloc(void *old, size_t kept, size_t size, size_t align);
-void rattle_dealloc(void *old);
+#include "r2u2_alloc.h"
 
 static struct found found(void *at) {
     static char nothing;

@@ -7,14 +7,10 @@
 #include <stdlib.h>
 
 #include "faulty.h"
+#include "r2u2_alloc.h"
 #include "r2u2_checked.h"
 
-/* The heap, which counts, and refuses the block that it is told to. */
-struct found {
-    bool ok;
-    void *at;
-};
-
+/* The heap, which counts, and refuses the block that it is asked to refuse. */
 static atomic_long asked, held, held_bytes, refused = -1;
 
 /* What stands before each block. */
@@ -22,10 +18,6 @@ union size {
     size_t bytes;
     max_align_t aligned;
 };
-
-struct found rattle_alloc(size_t size, size_t align);
-struct found rattle_realloc(void *old, size_t kept, size_t size, size_t align);
-void rattle_dealloc(void *old);
 
 static struct found found(void *at) {
     static char nothing;

@@ -1,0 +1,31 @@
+/* The mission's part of freertos/watch_task.c and zephyr/watch_thread.c, over the rows of the first example. */
+#ifndef MISSION_H
+#define MISSION_H
+
+#include <stdint.h>
+#include <stdio.h>
+#include <stdlib.h>
+#include <string.h>
+
+#include "rows.h"
+
+enum { MISSION_COLUMNS = COLUMNS };
+
+static unsigned next_row;
+
+static inline void mission_sample(int64_t *row) { memcpy(row, rows[next_row++], sizeof rows[0]); }
+
+/* Ends the program after the last row. */
+static inline void mission_wait(void) {
+    if (next_row == ROWS) exit(0);
+}
+
+static inline void mission_no_monitor(const char *why) { printf("no monitor: %s\n", why); }
+
+static inline void mission_no_row(uint32_t code, uint32_t column) { printf("no row: code %u, column %u\n", code, column); }
+
+static inline void mission_false(uint32_t output, uint64_t time) {
+    printf("requirement %u false up to row %llu\n", output, (unsigned long long)time);
+}
+
+#endif

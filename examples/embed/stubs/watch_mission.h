@@ -1,0 +1,26 @@
+/* The mission's part of cfs/watch_app.c, over the rows of the first example; the second row doesn't fit. */
+#ifndef WATCH_MISSION_H
+#define WATCH_MISSION_H
+
+#include <string.h>
+
+#include "rows.h"
+
+enum { WATCH_DEPTH = 4, WATCH_WAKEUP_MID = 0x1880, WATCH_COLUMNS = COLUMNS };
+enum { WATCH_OPEN_EID = 1, WATCH_ROW_EID, WATCH_FALSE_EID, WATCH_MORE_EID };
+
+void WATCH_AppMain(void);
+
+static inline void WATCH_Sample(int64_t *row) {
+    static unsigned next;
+    memcpy(row, rows[next], sizeof rows[next]);
+    if (next == 4) row[0] = 2;
+    next++;
+}
+
+int main(void) {
+    WATCH_AppMain();
+    return 0;
+}
+
+#endif

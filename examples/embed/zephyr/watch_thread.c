@@ -1,0 +1,46 @@
+/* A thread of Zephyr that gives the monitor a row every 100 ms. Build with CONFIG_FPU_SHARING=y: the calls of the library use
+ * SSE or NEON. What begins with mission_ is your own. */
+#include <zephyr/kernel.h>
+
+#include "arena.h"
+#include "grant_program.h" /* by embed/constant grant_program grant.bin */
+#include "mission.h"
+#include "r2u2.h"
+
+#define WATCH_STACK 8192
+#define WATCH_PRIORITY 7
+
+enum { MEMORY = 4096 };
+
+static uint8_t memory[MEMORY] __aligned(16);
+static struct r2u2 monitor;
+
+static void take(const int64_t *row) {
+    struct r2u2_row_fault why = {0};
+    struct r2u2_report report = {0};
+    uint32_t code = r2u2_row(&monitor, row, MISSION_COLUMNS, &why);
+    if (code != R2U2_DONE) mission_no_row(code, why.column);
+    while (r2u2_next(&monitor, R2U2_RUNS, &report) == R2U2_DONE)
+        if (report.word == R2U2_FALSE || report.word == R2U2_INVALID) mission_false(report.output, report.time);
+}
+
+static void watch(void *a, void *b, void *c) {
+    struct r2u2_fault fault = {0};
+    struct k_timer timer;
+    ARG_UNUSED(a), ARG_UNUSED(b), ARG_UNUSED(c);
+    r2u2_arena(memory, sizeof memory);
+    if (r2u2_open(&monitor, grant_program, sizeof grant_program, &fault) != R2U2_DONE) {
+        mission_no_monitor(fault.text);
+        return;
+    }
+    k_timer_init(&timer, NULL, NULL);
+    k_timer_start(&timer, K_MSEC(100), K_MSEC(100));
+    for (;;) {
+        int64_t row[MISSION_COLUMNS];
+        mission_sample(row); /* the last value of each signal, taken together */
+        take(row);
+        k_timer_status_sync(&timer);
+    }
+}
+
+K_THREAD_DEFINE(watch_thread, WATCH_STACK, watch, NULL, NULL, NULL, WATCH_PRIORITY, K_FP_REGS, 0);
