@@ -124,7 +124,7 @@ check-stack: | $(TRIES)
 	$(TARGET_CC) $(WARNED) -O2 $(if $(RUN),,-Wl$(comma)-z$(comma)now) -o $(TRIES)/stack embed/stack.c $(EMBED)/libr2u2.a $(EMBED)/libr2u2_heap.a
 	$(RUN) $(TRIES)/stack $(GRANT)
 
-# The same over all programs of examples/ and bench/, for the table of docs/EMBEDDING.md.
+# The same over all programs of examples/ and bench/, for the table of docs/reference/c-interface.md.
 measure-stack: check-stack
 	$(RUN) $(TRIES)/stack $(GRANT) $$(embed/programs $(TRIES)/programs)
 

@@ -1,4 +1,4 @@
-/* Programs with one fault each, spelled byte by byte as docs/FORMATS.md says, and headers with one. For misuse.c. */
+/* Programs with one fault each, spelled byte by byte as docs/reference/formats.md says, and headers with one. For misuse.c. */
 #ifndef R2U2_FAULTY_H
 #define R2U2_FAULTY_H
 

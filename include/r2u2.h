@@ -1,7 +1,7 @@
 /* r2u2.h: the proved monitor of Mission-time LTL, for programs in C and C++.
  *
  * `make embed` leaves the library with this header in build/x86_64/: link libr2u2.a, and with it libr2u2_heap.a, by which
- * it calls malloc, realloc and free, or arena.c in the place of these. docs/EMBEDDING.md says what is proved of each call.
+ * it calls malloc, realloc and free, or arena.c in the place of these. docs/assurance/promises.md says what is proved of each call.
  *
  * WHAT A CALLER OWES. The calls are proved for callers that keep to this, and nothing checks that they do.
  *
@@ -60,7 +60,7 @@ enum r2u2_code {
 };
 
 /* Which fault a program or a header has: those of the bytes, then those of a program that they spell, then those of a
- * header. docs/FORMATS.md says in which order faults are looked for. */
+ * header. docs/reference/formats.md says in which order faults are looked for. */
 enum r2u2_fault_kind {
     R2U2_FAULT_SHORT = 1,           /* fewer bytes than the header of the file says */
     R2U2_FAULT_MAGIC = 2,           /* the first four bytes aren't MLTL */

@@ -12,23 +12,23 @@ PARTS = [".ci", "bench", "completions", "crates", "dev", "docs", "editors", "emb
 
 # A file, what stands in it, what is put in its place, and what is to be told then.
 CHANGES = [
-    ("README.md", "(docs/LANGUAGE.md)", "(docs/LANGUAGES.md)", "README.md: no file docs/LANGUAGES.md"),
+    ("README.md", "(docs/reference/language.md)", "(docs/reference/languages.md)", "README.md: no file docs/reference/languages.md"),
     ("bench/README.md", "(plain.cpp)", "(plain.c)", "bench/README.md: no file plain.c"),
-    ("CONTRIBUTING.md", "#to-change-a-rule", "#to-change", "CONTRIBUTING.md: no heading docs/DEVELOPING.md#to-change"),
+    ("CONTRIBUTING.md", "#to-change-a-rule", "#to-change", "CONTRIBUTING.md: no heading docs/contributing/change-a-rule.md#to-change"),
     ("README.md", "granted:2,F", "granted:2,T", "README.md: no case gives the lines of"),
-    ("docs/TROUBLESHOOTING.md", "`mixed tense`", "`mixed times`", "docs/TROUBLESHOOTING.md: no entry shows mixed tense"),
-    ("docs/TROUBLESHOOTING.md", "`FTSPEC f: p == q;`", "`FTSPEC f: q == p;`", "no case has the line FTSPEC f: q == p;"),
+    ("docs/reference/messages.md", "`mixed tense`", "`mixed times`", "docs/reference/messages.md: no entry shows mixed tense"),
+    ("docs/reference/messages.md", "`FTSPEC f: p == q;`", "`FTSPEC f: q == p;`", "no case has the line FTSPEC f: q == p;"),
     ("docs/man/c2po.1", "bad divisor", "bad division", "DIAGNOSTICS of the manual: no entry shows bad divisor"),
     ("docs/man/r2u2.1", ".It Fl -runs", ".It Fl -run", "docs/man/r2u2.1: no entry for --runs"),
     ("docs/man/c2po.5", "heaters, 2", "heaters, 1", "docs/man/c2po.5: no case has this specification"),
-    ("docs/FLIGHT.md", "`scq_ring/lets_go_too_early`", "`scq_ring/lets_go`", "docs/FLIGHT.md: no wrong body scq_ring/lets_go"),
-    ("docs/LANGUAGE.md", "forexactly", "forexact", "docs/LANGUAGE.md: no entry for forexactly"),
-    ("docs/LANGUAGE.md", "| 3 | 1 | 0 | F | 4 |", "| 3 | 1 | 0 | T | 4 |", "docs/LANGUAGE.md: no case gives the table"),
-    ("docs/LANGUAGE.md", "| 3 | 1 | 0 | F | 4 |", "| 3 | 1 | 0 | F | 3 |", "a case tells lines after other rows"),
+    ("docs/assurance/qualification.md", "`scq_ring/lets_go_too_early`", "`scq_ring/lets_go`", "docs/assurance/qualification.md: no wrong body scq_ring/lets_go"),
+    ("docs/reference/language.md", "forexactly", "forexact", "docs/reference/language.md: no entry for forexactly"),
+    ("docs/reference/language.md", "| 3 | 1 | 0 | F | 4 |", "| 3 | 1 | 0 | T | 4 |", "docs/reference/language.md: no case gives the table"),
+    ("docs/reference/language.md", "| 3 | 1 | 0 | F | 4 |", "| 3 | 1 | 0 | F | 3 |", "a case tells lines after other rows"),
     ("examples/grant.csv", "0,1", "1,1", "examples/grant.csv: no case has this trace"),
     ("examples/grant.c2po", "F[0,3]", "F[0,4]", "examples/grant.c2po: no case has this specification"),
     ("crates/c2po_compile/src/fault.rt", '"mixed tense"', '"mixed times"', "no entry shows mixed times"),
-    ("crates/c2po_lexer/src/token.rt", 'b"<->"', 'b"<-->"', "docs/LANGUAGE.md: no entry for <-->"),
+    ("crates/c2po_lexer/src/token.rt", 'b"<->"', 'b"<-->"', "docs/reference/language.md: no entry for <-->"),
 ]
 
 
@@ -61,7 +61,7 @@ class Pages(unittest.TestCase):
         self.assertEqual(self.told(), (0, "pages: ok\n"))
 
     def test_a_name_in_a_comment_is_none(self):
-        page, code = self.top / "docs/PROMISES.md", self.top / "crates/scq_ring/src/lib.rt"
+        page, code = self.top / "docs/assurance/promises.md", self.top / "crates/scq_ring/src/lib.rt"
         texts = [file.read_text(encoding="utf-8") for file in (page, code)]
         page.write_text(texts[0] + "\n`no_such_name`\n", encoding="utf-8")
         code.write_text(texts[1] + "\n// no_such_name\n", encoding="utf-8")

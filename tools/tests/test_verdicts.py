@@ -272,7 +272,7 @@ class Exercised(Case):
         )
 
     def test_left_sides_of_a_program(self):
-        text = (ROOT / "docs/FORMATS.md").read_text()
+        text = (ROOT / "docs/reference/formats.md").read_text()
         shown = text.split("--show grant.obs\n")[1].split("```")[0]
         spec = specs.spec_of_text("shown", shown)
         self.assertEqual(sides_of(spec, True), {"granted": "request"})
