@@ -3,7 +3,8 @@
 # make            proves and builds both programs into build/
 # make check      passes the whole gate: proofs, edits that must fail, cases; the programs and the library come into build/,
 #                 and the programs are tried on real files, pipes and terminals
-# make install    installs programs, tools, man pages, completions and syntax under PREFIX; make uninstall removes them
+# make install    installs programs, tools, man pages, completions and syntax under PREFIX, once they are built: it proves nothing;
+#                 make uninstall removes them
 # embed/embed.mk has the goals of the library for other languages: embed, check-embed, python, deb
 
 PREFIX ?= /usr/local
@@ -26,7 +27,7 @@ SHARED = $(INTO)/share/r2u2
 # All lines of a script but those of cases whose names end in (long); an empty line ends a case.
 SHORT_CASES = /^case .*\(long\)$$/ { long = 1 } !long; /^$$/ { long = 0 }
 
-.PHONY: all try test check install uninstall clean $(PROGRAMS)
+.PHONY: all try test check install uninstall built built-programs clean $(PROGRAMS)
 .NOTPARALLEL:
 
 # As many proofs side by side as there are processors.
@@ -36,9 +37,12 @@ all:
 $(PROGRAMS):
 	dev/prove $@
 
-# Only what isn't there is built before an installation.
-$(BUILT):
-	$(MAKE) $(@F)
+# An installation takes what is built. What isn't is named, with the command that builds it and the time that takes.
+built: built-programs
+
+built-programs:
+	@missing=; for file in $(BUILT); do [ -f $$file ] || { missing=1; echo "install: no $$file" >&2; }; done; \
+	    [ -z "$$missing" ] || { echo 'install: nothing is installed. "make" proves and builds both programs, in 17 to 31 minutes' >&2; exit 1; }
 
 try:
 	@echo 'Unproved. The proved programs come by "make".'
@@ -62,7 +66,7 @@ check:
 	cp $(wildcard crates/r2u2_c/out/libr2u2_c.a) $(foreach name,$(PROGRAMS),crates/$(name)/out/$(name)) build
 	dev/edges
 
-install: $(BUILT)
+install: built
 	install -d $(INTO)/bin $(INTO)/share/man/man1 $(INTO)/share/man/man5 $(SHARED)/tools/lib $(SHARED)/vscode $(BASH) $(ZSH) $(FISH) $(VIM)/syntax $(VIM)/ftdetect
 	install -m 755 $(BUILT) $(INTO)/bin
 	install -m 755 $(TOOLS:%=tools/%) $(SHARED)/tools

@@ -35,7 +35,7 @@ TARGET_READELF = $(TARGET)-linux-gnu-readelf
 RUN = qemu-$(TARGET)
 endif
 
-.PHONY: embed check-embed measure-stack python install-embed uninstall-embed deb
+.PHONY: embed check-embed measure-stack python built-embed install-embed uninstall-embed deb
 .PHONY: $(addprefix check-,installed misra symbols misuse arena bytes flight grants stack frameworks frameworks-cpp cpp rust python)
 
 embed:
@@ -55,9 +55,14 @@ else
 endif
 	cp include/r2u2.h include/r2u2_alloc.h embed/r2u2_checked.h embed/arena.h embed/arena.c embed/memory.c $(EMBED)
 
-# Only what isn't there is built before an installation.
 $(EMBED)/libr2u2.a:
 	$(MAKE) embed
+
+# An installation takes the library that is built.
+built: built-embed
+
+built-embed:
+	@[ -f $(EMBED)/libr2u2.a ] || { echo 'install: no $(EMBED)/libr2u2.a: "make embed" proves and builds the library, in some 20 minutes' >&2; exit 1; }
 
 TRIED = check-symbols check-misuse check-arena check-bytes check-flight check-stack check-grants check-frameworks
 
@@ -191,7 +196,7 @@ ifeq ($(TARGET),x86_64)
 INSTALLED_OBJECT = $(SHARED_OBJECT)
 endif
 
-install-embed: $(EMBED)/libr2u2.a $(INSTALLED_OBJECT)
+install-embed: built-embed $(INSTALLED_OBJECT)
 	install -d $(INTO)/lib/pkgconfig $(INTO)/lib/r2u2 $(INTO)/include $(INTO)/share/man/man3 $(INTO)/share/r2u2/embed
 	install -m 644 $(INSTALLED_LIBRARIES:%=$(EMBED)/%) $(INTO)/lib
 ifneq ($(INSTALLED_OBJECT),)

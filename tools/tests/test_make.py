@@ -76,3 +76,25 @@ class Goals(Case):
 
     def test_one_program(self):
         self.assertEqual(self.make("c2po")[:2], (0, "prove c2po\n"))
+
+    def test_an_installation_proves_nothing(self):
+        """What isn't built is named, with the command that builds it and its time, and nothing is installed."""
+        (self.folder / "embed").mkdir()
+        shutil.copy(ROOT / "embed/embed.mk", self.folder / "embed")
+        status, out, errors = self.make("install PREFIX=usr", MAKEFLAGS="")
+        self.assertNotEqual(status, 0)
+        self.assertEqual(out, "")
+        self.assertIn("no build/r2u2\n", errors)
+        self.assertIn("no build/c2po\n", errors)
+        self.assertIn('"make" proves and builds both programs, in 17 to 31 minutes', errors)
+        self.assertFalse((self.folder / "usr").exists())
+        (self.folder / "build").mkdir()
+        for name in ("r2u2", "c2po"):
+            self.program(f"build/{name}", "#!/bin/sh\n")
+        for goal in ("install", "install-embed", "deb"):
+            status, out, errors = self.make(f"{goal} PREFIX=usr", MAKEFLAGS="")
+            self.assertNotEqual(status, 0, goal)
+            self.assertEqual(out, "")
+            self.assertIn('no build/x86_64/libr2u2.a: "make embed" proves and builds the library, in some 20 minutes', errors)
+        self.assertFalse((self.folder / "usr").exists())
+        self.assertFalse((self.folder / "build/x86_64").exists())

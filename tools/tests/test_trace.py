@@ -166,7 +166,7 @@ class Times(Traces):
         head = "line 3, column 1 (t): "
         self.assertEqual(self.refused("t,a\n1,1\n0.9,2\n", *self.WORDS), head + "time has to rise: '0.9' is before that of line 2")
         self.assertEqual(self.refused("t,a\n1,1\n1.0,2\n", *self.WORDS), head + "time has to rise: '1.0' is also that of line 2")
-        self.assertEqual(self.refused("t,a\n1,1\n1.25,2\n", *self.WORDS), head + "'1.25' is between two rows, at 2.5: --hold counts it from the next row on")
+        self.assertEqual(self.refused("t,a\n1,1\n1.25,2\n", *self.WORDS), head + "'1.25' is between two rows, at 2.5: --hold counts it from the next row on, --snap from the nearest")
         self.assertEqual(self.refused("t,a\n1,1\nsoon,2\n", *self.WORDS), head + "'soon' is no time in seconds")
         self.assertEqual(self.refused("t,a\n1,1\n0.9,2\n", *self.WORDS, "--hold"), head + "time has to rise: '0.9' is before that of line 2")
         first = "line 2, column 1 (t): "
@@ -179,8 +179,44 @@ class Times(Traces):
         path = self.file("in.csv", "t,a,b\n0,1,5\n0.02,2,\n0.05,,6\n0.25,4,\n")
         status, out, errors = tool("trace", *self.WORDS, "--hold", path)
         self.assertEqual((status, out), (0, "# a,b\n1,5\n2,6\n2,6\n4,6\n"))
-        self.assertEqual(errors, "trace: 1 line stands in no row, as a later one has it; the first is line 3\n")
+        late = "trace: 3 times between two rows: they count from the next row on\n"
+        self.assertEqual(errors, late + "trace: 1 line stands in no row, as a later one has it; the first is line 3\n")
         self.assertEqual(tool("trace", *self.WORDS, "--hold", "--stamps", path)[1], "# a,b\n@0,1,5\n@1,2,6\n@3,4,6\n")
+
+    def told_of(self, text, *words):
+        status, out, errors = tool("trace", *self.WORDS, *words, give=text)
+        self.assertEqual(status, 0, errors)
+        return out, errors
+
+    def test_binary_fractions(self):
+        """Times as Python prints 0.1 * k: each line has its row, with and without --hold."""
+        text = "t,a\n" + "".join(f"{0.1 * k},{k}\n" for k in range(1000))
+        for words in ([], ["--hold"]):
+            out, errors = self.told_of(text, *words)
+            self.assertEqual(out.split()[2:], [str(k) for k in range(1000)])
+            self.assertRegex(errors, r"^trace: \d+ times aren't exactly those of their rows; the furthest is off by [\d.e-]+ s, in line \d+\n$")
+        self.assertIn("between two rows, at 3.0000000000000004", self.refused(text, *self.WORDS, "--snap", "0"))
+
+    def test_jitter(self):
+        """The nearest row within --snap; what is further off is refused, or counts from the next row on."""
+        rng = random.Random(3)
+        text = "t,a\n0,0\n" + "".join(f"{k / 10 + rng.randint(-40, 40) / 1000:.3f},{k}\n" for k in range(1, 500))
+        out, errors = self.told_of(text, "--snap", "0.04")
+        self.assertEqual(out.split()[2:], [str(k) for k in range(500)])
+        self.assertIn("the furthest is off by 0.04 s", errors)
+        self.assertIn("--snap from the nearest", self.refused("t,a\n0,0\n0.16,1\n", *self.WORDS, "--snap", "0.03"))
+        out, errors = self.told_of("t,a\n0,0\n0.16,1\n", "--snap", "0.03", "--hold")
+        self.assertEqual((out, errors), ("# a\n0\n0\n1\n", "trace: 1 time between two rows: it counts from the next row on\n"))
+        self.assertIn("the row of line 3 too", self.refused("t,a\n0,0\n0.09,1\n0.11,2\n", *self.WORDS, "--snap", "0.03"))
+
+    def test_rates_that_are_quotients(self):
+        text = "t,a\n" + "".join(f"{k * 1001},{k}\n" for k in range(100))
+        words = ["--time", "t", "--rate", "30000/1001", "--scale", "t=1/30000"]
+        self.assertEqual(self.made(text, *words).split()[2:], [str(k) for k in range(100)])
+        for rate in ("1/0", "/3", "3/", "0/1", "1/2/3"):
+            status, _, errors = tool("trace", "--time", "t", "--rate", rate, give="t,a\n0,1\n")
+            self.assertEqual(status, 2, errors)
+            self.one_line(errors)
 
     def test_hold_before_the_start(self):
         path = self.file("in.csv", "t,a\n1,1\n2,2\n2.1,3\n")

@@ -25,9 +25,9 @@ class Counts(Case):
         self.assertEqual(
             [line.split() for line in out.splitlines()],
             [
-                "output T F inactive invalid verified first F or invalid decided".split(),
-                "granted 5 1 0 0 0 F at 2 to 5".split(),
-                "agc 0 0 3 1 1 invalid at 2 to 4".split(),
+                "output T F inactive invalid verified first F or invalid stretches longest last decided undecided".split(),
+                "granted 5 1 0 0 0 F at 2 1 1 2 to 5 -".split(),
+                "agc 0 0 3 1 1 invalid at 2 1 1 2 to 4 1".split(),
             ],
         )
 
@@ -42,12 +42,22 @@ class Counts(Case):
         self.assertEqual(told["outputs"][0]["first"], {"time": 2, "word": "F", "log": "one"})
         self.assertEqual(told["outputs"][0]["decided"], 6)
 
+    def test_events(self):
+        """Stretches go on from line to line, in both styles; the longest and the last are shown next to the counts."""
+        lines = "f:0,F\nf:3,T\nf:4,F\nf:7,F\nf:8,T\nf:10,F\nf:12,T\n"
+        rows = tool("verdicts", give=lines)[1].splitlines()
+        self.assertEqual(rows[1].split(), "f 6 7 F at 0 3 4 9 to 10 to 12".split())
+        told = json.loads(tool("verdicts", "--json", give=lines)[1])["outputs"][0]
+        self.assertEqual((told["stretches"], told["longest"]["from"], told["longest"]["to"]), (3, 4, 7))
+        self.assertEqual((told["last"]["from"], told["last"]["to"]), (9, 10))
+
     def test_junit(self):
         status, out, _ = tool("verdicts", "--junit", "--ignore", "agc", give=GRANTED + AGC + "low:3,T\n")
         suite = ElementTree.fromstring(out)[0]
         self.assertEqual((status, suite.get("tests"), suite.get("failures"), suite.get("skipped")), (1, "3", "1", "1"))
         self.assertEqual([[part.tag for part in test] for test in suite], [["failure"], ["skipped"], []])
-        self.assertEqual(suite[0][0].get("message"), "granted is F at 2 (T 5, F 1)")
+        self.assertEqual(suite[0][0].get("message"), "granted: F at 2")
+        self.assertEqual(suite[0][0].text.splitlines()[0], "T 5, F 1")
 
     def test_ignore(self):
         self.assertEqual(tool("verdicts", "--ignore", "granted", give=GRANTED)[0], 0)
@@ -57,12 +67,45 @@ class Counts(Case):
 
     def test_outputs_without_a_line(self):
         status, out, _ = tool("verdicts", "--spec", ROOT / "examples/valves.c2po", give="shut:0,T\n")
-        self.assertEqual(status, 0)
-        self.assertEqual([line.split()[0] for line in out.splitlines()], ["output", "filling", "shut"])
+        self.assertEqual(status, 1)
+        self.assertEqual([line.split()[0] for line in out.splitlines()], ["output", "filling", "shut", "filling"])
         self.assertIn("nothing yet", out)
+        self.assertEqual(out.splitlines()[-1], "filling has no verdict")
+        words = ["--ignore", "filling", "--spec", ROOT / "examples/valves.c2po"]
+        self.assertEqual(tool("verdicts", *words, give="shut:0,T\n")[0], 0)
 
     def test_nothing(self):
-        self.assertEqual(tool("verdicts", give="")[::2], (0, ""))
+        for words in ([], ["--json"], ["--junit"], ["--spec", ROOT / "examples/valves.c2po"]):
+            self.assertEqual(tool("verdicts", *words, give="")[::2], (1, ""), words)
+        self.assertEqual(tool("verdicts", give="")[1].splitlines()[-1], "no verdict")
+        suite = ElementTree.fromstring(tool("verdicts", "--junit", give="")[1])[0]
+        self.assertEqual((suite.get("tests"), suite.get("failures")), ("1", "1"))
+
+    def test_a_run_that_prints_nothing(self):
+        status, out, errors = tool("verdicts", "--", "true")
+        self.assertEqual((status, out.splitlines()[-1], errors), (1, "no verdict", ""))
+
+    def test_a_missing_file_in_a_pipe(self):
+        line = 'cat "$NONE" 2>/dev/null | "$TOOLS/verdicts" > /dev/null; exit ${PIPESTATUS[1]}'
+        self.assertEqual(shell(line, NONE=self.folder / "none"), (1, "", ""))
+
+    def test_fail_undecided(self):
+        self.assertEqual(tool("verdicts", "--fail-undecided", give="f:2,T\ng:2,T\n")[0], 0)
+        status, out, _ = tool("verdicts", "--fail-undecided", give="f:2,T\ng:5,T\n")
+        self.assertEqual((status, out.splitlines()[1].split()), (1, "f 3 - to 2 3".split()))
+        self.assertEqual(tool("verdicts", "--fail-undecided", "--ignore", "f", give="f:2,T\ng:5,T\n")[0], 0)
+        self.assertEqual(tool("verdicts", give="f:2,T\ng:5,T\n")[0], 0)
+
+    def test_fail_untried(self):
+        lines = "c:3,inactive\n"
+        self.assertEqual(tool("verdicts", "--exercised", give=lines)[0], 0)
+        status, out, _ = tool("verdicts", "--exercised", "--fail-untried", give=lines)
+        self.assertEqual((status, out.splitlines()[-1]), (1, "c was never tried: its left side was never true"))
+        kept = self.file("kept.json", tool("verdicts", "--exercised", "--json", give=lines)[1])
+        self.assertEqual(tool("verdicts", "--merge", "--fail-untried", kept)[0], 1)
+        self.assertEqual(tool("verdicts", "--merge", kept)[0], 0)
+        failure = ElementTree.fromstring(tool("verdicts", "--merge", "--junit", "--fail-untried", kept)[1])[0][0][0]
+        self.assertEqual((failure.tag, failure.get("message")), ("failure", "c: never tried: its left side was never true"))
 
 
 class Faults(Case):
@@ -126,7 +169,7 @@ class Streams(Case):
     def test_pipe(self):
         status, out, errors = shell('printf "f:0,T\\nf:3,F" | "$TOOLS/verdicts"')
         self.assertEqual((status, errors), (1, ""))
-        self.assertEqual(out.splitlines()[1].split(), "f 1 3 F at 1 to 3".split())
+        self.assertEqual(out.splitlines()[1].split(), "f 1 3 F at 1 1 3 1 to 3 to 3".split())
 
     def test_closed_pipe(self):
         line = '("$TOOLS/verdicts" --json "$LINES"; echo "ended $?" >&2) | true'
@@ -234,10 +277,94 @@ class Merge(Case):
         self.assertEqual((status, out.splitlines()[-1]), (1, "5 logs"))
 
     def test_other_json(self):
-        for text in ("{}", "[1]", '{"verdicts": 1}', "nonsense"):
-            status, _, errors = tool("verdicts", "--merge", self.file("x.json", text))
-            self.assertEqual(status, 2)
-            self.one_line(errors)
+        good = json.loads(tool("verdicts", "--json", give=GRANTED)[1])
+        output = good["outputs"][0]
+        changed = [{key: value} for key in good if key not in ("status", "ignored") for value in (-1, [1], {"a": None}, True)]
+        changed += [{"outputs": [output | {key: value}]} for key in output for value in (-1, [[]], True, "x") if key != "name"]
+        texts = [json.dumps(good | change) for change in changed if change != {"log": "x"}]
+        texts = [text for text in texts if '"requirement": "x"' not in text]
+        whole = ["{}", "[1]", '{"verdicts": 1}', "nonsense", "[" * 100000, "1" * 5000, "\ud800", '"\\ud800"', "[NaN]"]
+        raw = [text.encode("utf-8", "surrogatepass") for text in whole + texts] + [b"\xff\xfe"]
+        paths = [self.file(f"x{k}.json", text) for k, text in enumerate(raw)]
+        status, out, errors = tool("verdicts", "--merge", *paths)
+        lines = errors.splitlines()
+        self.assertEqual((status, len(lines)), (2, len(paths)), errors)
+        for line, path in zip(lines, paths):
+            self.assertRegex(line, f"^verdicts: {path}: not ")
+        self.assertEqual(tool("verdicts", "--merge", "--json", *paths)[0], 2)
+
+    def test_a_file_given_twice(self):
+        path = self.results(1)[0]
+        status, out, errors = tool("verdicts", "--merge", "--json", path, path.parent / "." / path.name)
+        self.assertEqual((status, json.loads(out)["logs"]), (0, 1))
+        self.assertEqual(errors, f"verdicts: {path} is given twice: it counts once\n")
+        other = self.file("other.json", path.read_text())
+        status, out, errors = tool("verdicts", "--merge", "--json", path, other)
+        self.assertEqual((status, json.loads(out)["logs"]), (0, 2))
+        self.assertEqual(errors, f"verdicts: {other} has the same bytes as {path}: both count\n")
+
+    def test_a_log_without_a_verdict(self):
+        good = self.results(1)[0]
+        empty = self.file("empty.json", tool("verdicts", "--json", "--log", "short", give="")[1])
+        status, out, _ = tool("verdicts", "--merge", good, empty)
+        self.assertEqual((status, out.splitlines()[-2:]), (1, ["no verdict in short", "2 logs"]))
+
+    def test_junit_has_a_suite_for_each_log(self):
+        paths = self.results(4)
+        status, out, _ = tool("verdicts", "--merge", "--junit", *paths)
+        suites = ElementTree.fromstring(out)
+        self.assertEqual((status, [suite.get("name") for suite in suites]), (1, [f"log{k}" for k in range(4)]))
+        self.assertEqual([suite.get("failures") for suite in suites], ["0", "0", "0", "1"])
+
+
+READ_BACK = """
+import sys
+from junitparser import JUnitXml
+whole = JUnitXml.fromfile(sys.argv[1])
+print(whole.tests, whole.failures, whole.errors, whole.skipped)
+for suite in whole:
+    print(suite.name, suite.tests, suite.time)
+    for case in suite:
+        kinds = [type(it).__name__ for it in case.result]
+        print(case.classname, case.name, case._elem.get("file"), kinds, case.time, [it.text for it in case.result])
+"""
+
+
+class Parsed(Case):
+    """What --junit prints, read by a library of others."""
+
+    def parsed(self, text):
+        """Returns what junitparser makes of a document."""
+        python = next((it for it in ("/usr/bin/python3", sys.executable) if self.has_parser(it)), None)
+        if python is None:
+            self.skipTest("no junitparser: apt-get install python3-junitparser")
+        words = [python, "-c", READ_BACK, str(self.file("x.xml", text))]
+        ran = subprocess.run(words, stdout=subprocess.PIPE, stderr=subprocess.PIPE, encoding="utf-8")
+        self.assertEqual((ran.returncode, ran.stderr), (0, ""))
+        return ran.stdout.splitlines()
+
+    def has_parser(self, python):
+        words = [python, "-c", "import junitparser"]
+        return os.access(python, os.X_OK) and not subprocess.run(words, stderr=subprocess.DEVNULL).returncode
+
+    def test_one_log(self):
+        spec = self.file("bus \u00e9.c2po", "INPUT a, b: bool; FTSPEC f: a -> F[0,3] b; g: a && b;")
+        words = ["--junit", "--spec", spec, "--log", "flight <7>"]
+        _, out, _ = tool("verdicts", *words, give="f:0,T\nf:3,F\nf:5,T\ng:2,T\n")
+        lines = self.parsed(out)
+        self.assertEqual(lines[:2], ["2 1 0 0", f"flight <7> 2 {lines[1].split()[-1]}"])
+        text = "a -> F[0,3] b\nT 3, F 3\n1 stretch of F or invalid\nlongest: 3 from 1 on\nlast: 1 to 3"
+        self.assertEqual(lines[2], f"bus \u00e9 f {spec} ['Failure'] 0.0 {[text]}")
+        self.assertEqual(lines[3], f"bus \u00e9 g {spec} [] 0.0 []")
+
+    def test_runs_that_fail_and_many_logs(self):
+        paths = []
+        for k, (words, give) in enumerate((([], GRANTED), (["--", "sh", "-c", "exit 4"], ""), ([], ""))):
+            paths.append(self.file(f"{k}.json", tool("verdicts", "--json", "--log", f"log{k}", *words, give=give)[1]))
+        lines = self.parsed(tool("verdicts", "--merge", "--junit", *paths)[1])
+        self.assertEqual(lines[0], "3 2 1 0")
+        self.assertEqual([line.split()[0] for line in lines if line.startswith("log")], ["log0", "log1", "log2"])
+        self.assertIn("['failed with 4']", "".join(lines).replace("log1: ", ""))
 
 
 SPEC = """INPUT p, q, r: bool; x: int;

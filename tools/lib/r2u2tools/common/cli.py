@@ -1,6 +1,9 @@
 """How the tools tell what is wrong: one line on the error output, and a status."""
 
 import argparse
+import errno
+import io
+import os
 import re
 import signal
 import sys
@@ -18,6 +21,24 @@ class Trouble(Exception):
         self.status = status
 
 
+class Stopped(BaseException):
+    """A signal that ends the tool. It passes through all blocks, so that files and programs don't outlive the tool."""
+
+    def __init__(self, number):
+        super().__init__(number)
+        self.number = number
+
+
+class Closed(io.RawIOBase):
+    """A stream that the caller of the tool has closed."""
+
+    def writable(self):
+        return True
+
+    def write(self, _):
+        raise OSError(errno.EBADF, "it is closed", "the standard output")
+
+
 def name():
     """The name under which the tool was called."""
     return Path(sys.argv[0]).name
@@ -33,6 +54,10 @@ class Words(argparse.ArgumentParser):
     def error(self, message):
         note(f"{message} (--help tells more)")
         sys.exit(TROUBLE)
+
+    def _print_message(self, message, file=None):
+        """Writes the help; unlike the method of the library it reports that it can't."""
+        (file or sys.stdout).write(message)
 
 
 def plain(text):
@@ -61,22 +86,63 @@ def count(text):
     return int(text)
 
 
-def run(main):
-    """Runs a tool to its end: a closed pipe or an interrupt ends it without a word, trouble with one line."""
+def stop(number, _frame):
+    """Ends the tool by a signal, once; further ones don't disturb what it cleans up."""
+    for other in (signal.SIGTERM, signal.SIGHUP):
+        signal.signal(other, signal.SIG_IGN)
+    raise Stopped(number)
+
+
+def fill_streams():
+    """Opens the null device in the place of closed streams, so that no file takes their numbers."""
+    for number in range(3):
+        try:
+            os.fstat(number)
+        except OSError:
+            os.set_inheritable(os.open(os.devnull, os.O_RDWR), True)
+    if sys.stderr is None:
+        sys.stderr = open(os.devnull, "w", encoding="utf-8")
+    if sys.stdout is None:
+        sys.stdout = io.TextIOWrapper(io.BufferedWriter(Closed()))
+
+
+def prepare():
+    """Sets up streams and signals: a closed pipe ends the tool without a message, other signals after cleaning up."""
+    fill_streams()
     signal.signal(signal.SIGPIPE, signal.SIG_DFL)
+    for number in (signal.SIGTERM, signal.SIGHUP):
+        if signal.getsignal(number) == signal.SIG_DFL:
+            signal.signal(number, stop)
     sys.stdout.reconfigure(encoding="utf-8", errors="replace")
     sys.stderr.reconfigure(encoding="utf-8", errors="replace")
+
+
+def ended(main):
+    """Runs a tool, and returns its exit code when all that it printed is written."""
     try:
         status = main()
-        sys.stdout.flush()
+    except SystemExit as end:
+        status = end.code
+    sys.stdout.flush()
+    return status
+
+
+def run(main):
+    """Runs a tool to its end: a closed pipe or a signal ends it without a message, trouble with one line."""
+    prepare()
+    try:
+        status = ended(main)
     except Trouble as trouble:
         note(trouble)
         status = trouble.status
     except OSError as fault:
         note(f"{fault.filename}: {fault.strerror}" if fault.filename else fault.strerror or str(fault))
+        sys.stdout = open(os.devnull, "w", encoding="utf-8")
         status = TROUBLE
     except KeyboardInterrupt:
-        status = 130
+        status = 128 + signal.SIGINT
+    except Stopped as stopped:
+        status = 128 + stopped.number
     except MemoryError:
         note("out of memory")
         status = TROUBLE
@@ -99,6 +165,8 @@ def write(path, text):
 def opened(path):
     """A file as bytes, or the standard input for `-`."""
     if str(path) == "-":
+        if sys.stdin is None:
+            raise Trouble("cannot read the standard input: it is closed")
         return sys.stdin.buffer
     try:
         file = open(path, "rb")

@@ -7,15 +7,19 @@ from pathlib import Path
 
 from r2u2tools.common.cli import Trouble
 
-BUILT = Path(__file__).resolve().parents[4] / "build"
+# The repository, or the folder share/r2u2 of what `make install` put under a PREFIX.
+HOME = Path(__file__).resolve().parents[4]
+BUILT = HOME / "build"
+INSTALLED = not (HOME / "Makefile").is_file()
+OWN = HOME.parent.parent / "bin" if INSTALLED else BUILT
 
 
 def program(name):
-    """The path of r2u2 or c2po: the variable R2U2 or C2PO, else build/, else one on the path."""
+    """The path of r2u2 or c2po: the variable R2U2 or C2PO, else build/ or bin/ of the tool's PREFIX, else one on the path."""
     asked = os.environ.get(name.upper())
-    path = asked or next((it for it in (str(BUILT / name), shutil.which(name)) if it and os.access(it, os.X_OK)), None)
+    path = asked or next((it for it in (str(OWN / name), shutil.which(name)) if it and os.access(it, os.X_OK)), None)
     if not path or not os.access(path, os.X_OK):
-        where = asked or f"{name} in build/ or on the path"
+        where = asked or f"{name} in {OWN if INSTALLED else 'build/'} or on the path"
         raise Trouble(f"no program {where}: `make` builds it, and {name.upper()} may name another")
     return path
 

@@ -12,6 +12,8 @@ from r2u2tools.common.cli import Trouble
 
 FLAGS = ("--source", "--runs", "--timed")
 KEPT = 4096
+# How many seconds a command has to end when it is asked to.
+GRACE = 2
 
 
 class Words:
@@ -74,14 +76,26 @@ class Command:
         passing.start()
         try:
             read(child.stdout)
+            if getattr(result, "stopped", 0):
+                return end(child)
+            code = child.wait()
         except BaseException:
-            child.terminate()
+            end(child)
             raise
-        code = child.wait()
         passing.join()
         if code:
             text = programs.message(bytes(tail)) or killed(code)
             result.failed.append({"log": result.log, "code": 128 - code if code < 0 else code, "message": text})
+
+
+def end(child):
+    """Ends a command that is no longer needed, by force where it doesn't end by itself."""
+    child.terminate()
+    try:
+        child.wait(GRACE)
+    except subprocess.TimeoutExpired:
+        child.kill()
+        child.wait()
 
 
 def passed_on(errors, tail, quiet):

@@ -31,9 +31,12 @@ def exact(text):
 
 
 def fraction(text):
-    """The same in lowest terms."""
-    found = exact(text)
-    return found and Fraction(*found)
+    """The number that a text is, in lowest terms; it may be a quotient, as 30000/1001. None where it is none."""
+    over, sign, under = text.partition("/")
+    found = [exact(part.strip()) for part in ((over, under) if sign else (text,))]
+    if None in found or (sign and not found[1][0]):
+        return None
+    return Fraction(*found[0]) / (Fraction(*found[1]) if sign else 1)
 
 
 def counted(number, noun):

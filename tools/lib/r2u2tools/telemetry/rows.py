@@ -5,6 +5,7 @@ import stat
 import sys
 import tempfile
 from fractions import Fraction
+from math import ceil
 
 from r2u2tools.telemetry.records import Refused, shown
 from r2u2tools.telemetry.fields import counted, exact, factor, fraction
@@ -14,6 +15,17 @@ LONGEST = 65535
 MOST_BETWEEN = 1 << 24
 LATEST = 1 << 40
 DEFAULT_TIMES = 1 << 24
+SNAP = ", --snap from the nearest"
+# By default a time may be off by a millionth of a row, for times that were computed in binary.
+SNAPPED = Fraction(1, 1_000_000)
+
+
+def snap_of(text):
+    """The seconds of --snap."""
+    value = fraction(text)
+    if value is None or value < 0:
+        raise Trouble(f"--snap: {shown(text)} isn't a number from 0 on")
+    return value
 
 
 class Output:
@@ -92,6 +104,9 @@ class Timed:
     def __init__(self, columns, found, output):
         self.columns, self.output, self.hold, self.stamps = columns, output, found.hold, found.stamps
         self.rate = factor("--rate", found.rate)
+        # How far from a row, in rows, a time may be and still belong to it; times that were, and the furthest.
+        self.snap = SNAPPED if found.snap is None else snap_of(found.snap) * self.rate
+        self.inexact, self.furthest, self.late = 0, (0, None), 0
         self.start = None
         if found.start is not None:
             self.start = fraction(found.start)
@@ -117,9 +132,24 @@ class Timed:
         first, self.time, self.line = self.time is None, (over, under), number
         over = over * self.rate.numerator * begin.denominator - begin.numerator * under * self.rate.denominator
         under *= self.rate.denominator * begin.denominator
-        if first and over > 0:
+        row = self.in_reach(number, text, self.snapped(number, over, under))
+        if first and row > 0:
             raise self.refused(number, "the first time is after --start")
-        return self.whole_row(number, text, over, under)
+        return row
+
+    def snapped(self, number, over, under):
+        """The row at a place, or the nearest one where that is close enough; else the place itself, as a fraction."""
+        row = (2 * over + under) // (2 * under)
+        off = over - row * under
+        if not off:
+            return row
+        if abs(off) * self.snap.denominator > self.snap.numerator * under:
+            return Fraction(over, under)
+        self.inexact += 1
+        off = Fraction(abs(off), under) / self.rate
+        if off > self.furthest[0]:
+            self.furthest = (off, number)
+        return row
 
     def rises(self, number, text, change):
         """Time has to rise; lines of one time are told apart only where the last one is held."""
@@ -127,13 +157,14 @@ class Timed:
             what = "is before" if change < 0 else "is also"
             raise self.refused(number, f"time has to rise: {shown(text)} {what} that of line {self.line}")
 
-    def whole_row(self, number, text, over, under):
-        """The row at a place, or the next one where the last value is held."""
-        row = -(-over // under)
-        if not self.hold and (row * under != over or row < 0):
-            what = "before --start" if over < 0 else f"between two rows, at {over / under:g}"
-            raise self.refused(number, f"{shown(text)} is {what}: --hold counts it from the next row on")
-        row = max(0, row)
+    def in_reach(self, number, text, place):
+        """The row of a place, or the next one where the last value is held."""
+        if not self.hold and (place < 0 or place != int(place)):
+            what = "before --start" if place < 0 else f"between two rows, at {float(place):.17g}"
+            raise self.refused(number, f"{shown(text)} is {what}: --hold counts it from the next row on{SNAP * (place > 0)}")
+        row = max(0, ceil(place))
+        if place != row and place > 0:
+            self.late += 1
         if row >= LATEST or (not self.stamps and row - self.row > MOST_BETWEEN):
             hint = "" if self.stamps else ": --stamps"
             raise self.refused(number, f"{row - self.row} rows after the line before{hint}")
@@ -147,6 +178,8 @@ class Timed:
         if len(text) > LONGEST - 16:
             raise Refused(f"line {number}: a row of more than {LONGEST} bytes")
         if row == self.row:
+            if not self.hold:
+                raise self.refused(number, f"the row of line {self.kept_line} too: --hold takes the later line")
             self.replaced += 1
             self.first_replaced = self.first_replaced or self.kept_line
         else:
@@ -174,6 +207,12 @@ class Timed:
         self.write()
 
     def remarks(self):
+        if self.inexact:
+            off, line = self.furthest
+            verb = "time isn't exactly that of its row" if self.inexact == 1 else "times aren't exactly those of their rows"
+            yield f"{self.inexact} {verb}; the furthest is off by {float(off):.3g} s, in line {line}"
+        if self.late:
+            yield f"{counted(self.late, 'time')} between two rows: {'it counts' if self.late == 1 else 'they count'} from the next row on"
         if self.replaced:
             one = "stands in no row, as a later one has it"
             verb = one if self.replaced == 1 else "stand in no row, as later ones have theirs"

@@ -131,6 +131,7 @@ def watch(command, result, folder):
     again = Command([command.words[0], *words.with_file(file, not given.is_program())])
     left = Result("left sides")
     again.run(lambda lines: counted(lines, left), left)
+    result.stopped = left.stopped
     if left.failed:
         raise Trouble(f"left sides: {left.failed[0]['message']}")
     for name, output in names.items():
