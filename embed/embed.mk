@@ -36,7 +36,7 @@ RUN = qemu-$(TARGET)
 endif
 
 .PHONY: embed check-embed measure-stack python built-embed install-embed uninstall-embed deb
-.PHONY: $(addprefix check-,installed misra symbols misuse arena bytes flight grants stack frameworks frameworks-cpp cpp rust python)
+.PHONY: $(addprefix check-,installed misra symbols misuse arena bytes flight bare grants stack frameworks frameworks-cpp cpp rust python)
 
 embed:
 	@mkdir -p $(EMBED)
@@ -75,7 +75,7 @@ check-embed: embed check-misra $(TRIED) check-frameworks-cpp check-cpp check-rus
 else
 check-embed:
 	@if command -v $(TARGET_LINK) > /dev/null && command -v $(RUN) > /dev/null; then \
-	  $(MAKE) embed $(TRIED) && echo 'check-embed: all passed for $(TARGET)'; \
+	  $(MAKE) embed $(TRIED) check-bare && echo 'check-embed: all passed for $(TARGET)'; \
 	else echo 'check-embed: no $(TARGET_LINK) or no $(RUN), so $(TARGET) is passed over'; fi
 endif
 
@@ -136,6 +136,18 @@ measure-stack: check-stack
 check-grants:
 	$(MAKE) -C examples/embed clean check CC='$(TARGET_CC)' RUN='$(RUN)' LIBRARY=$(abspath $(EMBED)/libr2u2.a) HEAP=$(abspath $(EMBED)/libr2u2_heap.a)
 	@if command -v python3 > /dev/null; then embed/workloads $(RUN) examples/embed/grants; fi
+
+# The part that flies without an operating system and a C library, on a machine that qemu-system emulates.
+BARE = $(WARNED) -I$(TRIES) -Iembed/flight -O2 -ffreestanding -fno-builtin -nostdlib -static
+BARE_LINK = -T embed/bare/bare.ld -Wl,--build-id=none,--no-warn-rwx-segments
+
+check-bare: | $(TRIES)
+	@if command -v qemu-system-$(TARGET) > /dev/null; then set -e; \
+	  $(TARGET_LINK) $(BARE) $(BARE_LINK) -o $(TRIES)/bare embed/bare/start.S embed/bare/ground.c embed/flight/flight.c \
+	    embed/arena.c embed/memory.c $(EMBED)/libr2u2.a -lgcc; \
+	  timeout 60 qemu-system-$(TARGET) -M virt -cpu cortex-a53 -nographic -nic none -semihosting -kernel $(TRIES)/bare \
+	    < /dev/null | tr -d '\r' | cmp - $(EXPECTED); \
+	else echo 'check-embed: no qemu-system-$(TARGET), so bare $(TARGET) is passed over'; fi
 
 # The examples for flight frameworks, over stand-ins for the calls that they make.
 FRAMEWORKS = $(WARNED) -D_POSIX_C_SOURCE=200809L -Iexamples/embed/stubs -I$(TRIES)
