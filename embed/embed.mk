@@ -173,8 +173,10 @@ check-frameworks-cpp: check-frameworks
 
 check-cpp: | $(TRIES)
 	@if command -v $(firstword $(CXX)) > /dev/null; then set -e; \
-	  $(CXX) -std=c++17 -Wall -Wextra $(STRICT) -Iinclude -Iembed -o $(TRIES)/grants_cpp embed/cpp/grants.cpp $(EMBED)/libr2u2.a $(EMBED)/libr2u2_heap.a; \
+	  $(CXX) -std=c++11 -Wall -Wextra $(STRICT) -Iinclude -Iembed -o $(TRIES)/grants_cpp embed/cpp/grants.cpp $(EMBED)/libr2u2.a $(EMBED)/libr2u2_heap.a; \
 	  $(TRIES)/grants_cpp $(GRANT) > $(TRIES)/cpp.out; cmp $(TRIES)/cpp.out $(EXPECTED); \
+	  $(CXX) -std=c++11 -fno-exceptions -fno-rtti -Wall -Wextra -Iinclude -Iembed -fsyntax-only -x c++ embed/cpp/r2u2.hpp 2> $(TRIES)/cpp.log || \
+	    { cat $(TRIES)/cpp.log; exit 1; }; \
 	else echo 'check-embed: no compiler of C++, so its example is passed over'; fi
 
 check-rust: | $(TRIES)

@@ -1,36 +1,61 @@
 // Watches the rows of the first example: grants PROGRAM prints the lines of r2u2.
+#include <array>
 #include <fstream>
 #include <iostream>
 #include <iterator>
 
 #include "r2u2.hpp"
 
-int main(int count, char **words) try {
-    if (count != 2) return 1;
-    std::ifstream file(words[1], std::ios::binary);
-    std::vector<std::uint8_t> program{std::istreambuf_iterator<char>(file), {}};
-    mltl::Monitor first(program, "# request,grant"), monitor = std::move(first);
-    const std::vector<std::vector<std::int64_t>> rows{{1, 0}, {0, 1}, {1, 0}, {0, 0}, {0, 0}, {0, 0}};
+using Row = std::array<std::int64_t, 2>;
+
+// What the queries of a fresh monitor say.
+static bool is_described(mltl::Monitor &monitor, const std::vector<char> &program) {
+    const std::vector<mltl::Signal> signals = monitor.signals();
+    return r2u2_version() == R2U2_VERSION && signals.size() == 2 && signals[1].name == "grant" && signals[1].column == 1 &&
+           signals[1].kind == R2U2_TRUTH && monitor.rows() == 0 && monitor.delay(0) != 0 && monitor.steps() != 0 &&
+           mltl::Monitor::bytes(program) != 0;
+}
+
+// Whether a row that doesn't fit is refused, with its column.
+static bool is_refused(mltl::Monitor &monitor) {
     try {
-        monitor.row({0, 2});
-        return 1;
+        monitor.row(Row{{0, 2}});
+        return false;
     } catch (const mltl::Error &error) {
-        if (error.code != R2U2_NOT_A_ROW || error.row.column != 1) return 1;
+        return error.code == R2U2_NOT_A_ROW && error.row.column == 1;
     }
-    const auto signals = monitor.signals();
-    if (r2u2_version() != R2U2_VERSION || signals.size() != 2 || signals[1].name != "grant") return 1;
-    if (signals[1].column != 1 || signals[1].kind != R2U2_TRUTH || monitor.rows() != 0) return 1;
-    if (monitor.delay(0) == 0 || monitor.steps() == 0 || mltl::Monitor::bytes(program) == 0) return 1;
+}
+
+// Whether a monitor that isn't open says so.
+static bool is_closed(mltl::Handle &handle) {
+    mltl::Report report;
+    return !handle.is_open() && handle.next(report) == R2U2_NOT_OPEN && handle.reset() == R2U2_NOT_OPEN;
+}
+
+static int run(const char *name) {
+    std::ifstream file(name, std::ios::binary);
+    const std::vector<char> program{std::istreambuf_iterator<char>(file), {}};
+    const std::vector<Row> rows{{{1, 0}}, {{0, 1}}, {{1, 0}}, {{0, 0}}, {{0, 0}}, {{0, 0}}};
+    mltl::Monitor first(program, "# request,grant"), monitor = std::move(first);
+    mltl::Handle handle;
+    mltl::Report report;
+    if (!is_refused(monitor) || !is_described(monitor, program) || !is_closed(handle)) return 1;
     monitor.row(rows[1]);
     monitor.reset();
-    if (monitor.rows() != 0 || monitor.next()) return 1;
-    for (const auto &row : rows) {
+    if (monitor.rows() != 0 || monitor.next(report)) return 1;
+    for (const Row &row : rows) {
         monitor.row(row);
-        while (auto report = monitor.next())
-            std::cout << monitor.name(report->output) << ':' << report->time << ',' << mltl::text(report->word) << '\n';
+        while (monitor.next(report))
+            std::cout << monitor.name(report.output) << ':' << report.time << ',' << mltl::text(report.word) << '\n';
     }
     return 0;
-} catch (const mltl::Error &error) {
-    std::cerr << "grants: " << error.what() << '\n';
-    return 3;
+}
+
+int main(int count, char **arguments) {
+    try {
+        return count == 2 ? run(arguments[1]) : 1;
+    } catch (const mltl::Error &error) {
+        std::cerr << "grants: " << error.what() << '\n';
+        return 3;
+    }
 }

@@ -32,10 +32,11 @@ private:
 
     void tick() {
         monitor.row(row);
-        while (auto report = monitor.next(R2U2_RUNS)) {
-            if (report->word != R2U2_FALSE && report->word != R2U2_INVALID) continue;
+        mltl::Report report;
+        while (monitor.next(report, R2U2_RUNS)) {
+            if (report.word != R2U2_FALSE && report.word != R2U2_INVALID) continue;
             std_msgs::msg::String text;
-            text.data = monitor.name(report->output) + " is false up to row " + std::to_string(report->time);
+            text.data = monitor.name(report.output) + " is false up to row " + std::to_string(report.time);
             verdicts->publish(text);
         }
     }
