@@ -183,6 +183,11 @@ check-rust: | $(TRIES)
 	@if command -v cargo > /dev/null; then set -e; \
 	  R2U2_LIBRARIES=$(abspath $(EMBED)) cargo run --quiet --offline --manifest-path embed/rust/Cargo.toml --target-dir $(TRIES)/rust -- $(GRANT) > $(TRIES)/rust.out; \
 	  cmp $(TRIES)/rust.out $(EXPECTED); \
+	  R2U2_LIBRARIES=$(abspath $(EMBED)) R2U2_PROGRAM=$(abspath $(GRANT)) cargo test --quiet --offline --manifest-path embed/rust/Cargo.toml \
+	    --target-dir $(TRIES)/rust > $(TRIES)/rust.log 2>&1 || { cat $(TRIES)/rust.log; exit 1; }; \
+	  if cargo clippy --version > /dev/null 2>&1; then \
+	    R2U2_LIBRARIES=$(abspath $(EMBED)) cargo clippy --quiet --offline --manifest-path embed/rust/Cargo.toml --target-dir $(TRIES)/rust \
+	      --lib -- -D warnings -W clippy::pedantic; fi; \
 	else echo 'check-embed: no cargo, so the example in Rust is passed over'; fi
 
 SHARED_OBJECT = build/libr2u2.so

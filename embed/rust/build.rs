@@ -1,4 +1,4 @@
-//! Links libr2u2.a and libr2u2_heap.a from the folder that R2U2_LIBRARIES names, else from /usr/local/lib.
+//! Links `libr2u2.a` and `libr2u2_heap.a` from the folder that `R2U2_LIBRARIES` names, otherwise from `/usr/local/lib`.
 fn main() {
     let folder = std::env::var("R2U2_LIBRARIES").unwrap_or_else(|_| "/usr/local/lib".to_string());
     println!("cargo:rustc-link-search=native={folder}");

@@ -1,9 +1,23 @@
-//! The proved monitor of Mission-time LTL: a safe wrapper of its C library, without dependencies.
+//! The proved monitor of Mission-time LTL: a safe wrapper of its C library, without dependencies and without `std`.
 //!
-//! A [`Monitor`] is closed when it is dropped. It is `Send`: one thread may open it and another take rows.
+//! A [`Monitor`] is closed when it is dropped. It is `Send`: one thread may open it and another may feed it rows. Only the
+//! allocator that is linked with the library allocates, when a monitor is opened.
+//!
+//! ```no_run
+//! # fn main() -> Result<(), r2u2::Error> {
+//! let program = [0; 276]; // the bytes of a compiled program
+//! let mut monitor = r2u2::Monitor::open_under(&program, b"# request,grant")?;
+//! for report in monitor.row(&[1, 0])? {
+//!     let _ = (report.output, report.time, report.word);
+//! }
+//! # Ok(())
+//! # }
+//! ```
+#![no_std]
+#![warn(missing_docs)]
 
-use std::ffi::c_void;
-use std::fmt;
+use core::ffi::c_void;
+use core::fmt;
 
 #[repr(C)]
 struct Struct {
@@ -23,7 +37,7 @@ impl RawFault {
         RawFault { kind: 0, part: 0, place: 0, text: [0; 96] }
     }
 
-    /// What a call that answers this code did.
+    /// The result of a call with this code.
     fn unless_done(&self, code: u32) -> Result<(), Error> {
         match code {
             0 => Ok(()),
@@ -31,7 +45,7 @@ impl RawFault {
                 kind: self.kind,
                 part: self.part,
                 place: self.place,
-                text: text_of(&self.text),
+                text: Text::before_zero(&self.text),
             }),
             _ => Err(Error::NoMemory),
         }
@@ -79,17 +93,73 @@ extern "C" {
     fn r2u2_close(it: *mut Struct);
 }
 
-/// Why a call wasn't done.
+/// A text of at most 96 bytes: a name or a message.
+#[derive(Clone, Copy, PartialEq, Eq)]
+pub struct Text {
+    bytes: [u8; 96],
+    len: usize,
+}
+
+impl Text {
+    /// The bytes before the first zero byte.
+    fn before_zero(from: &[u8]) -> Text {
+        let len = from.iter().position(|byte| *byte == 0).unwrap_or(from.len()).min(96);
+        let mut bytes = [0; 96];
+        bytes[..len].copy_from_slice(&from[..len]);
+        Text { bytes, len }
+    }
+
+    /// Returns the text. Names and messages of the library are ASCII.
+    #[must_use]
+    pub fn as_str(&self) -> &str {
+        core::str::from_utf8(&self.bytes[..self.len]).unwrap_or("")
+    }
+}
+
+impl core::ops::Deref for Text {
+    type Target = str;
+
+    fn deref(&self) -> &str {
+        self.as_str()
+    }
+}
+
+impl fmt::Display for Text {
+    fn fmt(&self, out: &mut fmt::Formatter<'_>) -> fmt::Result {
+        out.write_str(self.as_str())
+    }
+}
+
+impl fmt::Debug for Text {
+    fn fmt(&self, out: &mut fmt::Formatter<'_>) -> fmt::Result {
+        fmt::Debug::fmt(self.as_str(), out)
+    }
+}
+
+/// Why a call failed.
 #[derive(Clone, Debug, PartialEq, Eq)]
+#[non_exhaustive]
 pub enum Error {
-    /// The program or the header has this fault: kind, part and place as `r2u2.h` has them, and the text.
-    Refused { kind: u32, part: u32, place: u64, text: String },
+    /// The program or the header has a fault.
+    Refused {
+        /// The kind, an `r2u2_fault_kind` of `r2u2.h`.
+        kind: u32,
+        /// The part of the instruction: 1 bz, 2 ft, 3 pt; 0 where it has none.
+        part: u32,
+        /// The byte, instruction, output or signal, counted from 0.
+        place: u64,
+        /// The message, as `operand ft 3`.
+        text: Text,
+    },
     /// Out of memory.
     NoMemory,
     /// Ask for the reports of the last row first.
     ReportsLeft,
     /// The number of this column, counted from 0, doesn't fit, or it is the first that is missing or too many.
-    NotARow { column: u32 },
+    NotARow {
+        /// The column, counted from 0.
+        column: u32,
+    },
     /// 1,099,511,627,776 rows were taken.
     TooManyRows,
 }
@@ -106,15 +176,20 @@ impl fmt::Display for Error {
     }
 }
 
-impl std::error::Error for Error {}
+impl core::error::Error for Error {}
 
 /// The word of an output at a time.
 #[derive(Clone, Copy, Debug, PartialEq, Eq)]
 pub enum Word {
+    /// The formula is false.
     False,
+    /// The formula is true.
     True,
+    /// The assumption of a contract is false.
     Inactive,
+    /// The assumption of a contract is true, and its guarantee is false.
     Invalid,
+    /// Both formulas of a contract are true.
     Verified,
 }
 
@@ -130,48 +205,65 @@ impl fmt::Display for Word {
     }
 }
 
-/// An output, a time and a word.
+/// The verdict of an output at a time.
 #[derive(Clone, Copy, Debug, PartialEq, Eq)]
 pub struct Report {
+    /// The output, counted from 0.
     pub output: u32,
+    /// The time in rows, the first of which has time 0.
     pub time: u64,
+    /// The verdict.
     pub word: Word,
 }
 
-/// How times are told: one by one, or one report for each longest stretch of one word.
+/// How times are reported.
 #[derive(Clone, Copy, Debug, PartialEq, Eq)]
 pub enum Style {
+    /// One by one.
     Each = 0,
+    /// One report for each longest run of newly known times with one word, with its last time.
     Runs = 1,
 }
 
-/// A signal that a program stores: its name, its column, counted from 0, and whether it is a truth.
-#[derive(Clone, Debug, PartialEq, Eq)]
+/// A signal that a program stores.
+#[derive(Clone, Copy, Debug, PartialEq, Eq)]
 pub struct Signal {
-    pub name: String,
+    /// The name.
+    pub name: Text,
+    /// The column, counted from 0.
     pub column: u32,
+    /// Whether it is Boolean; otherwise it is an integer.
     pub truth: bool,
 }
 
-/// The version of the library: 10,000, 100 and 1 times its three numbers.
+/// Returns the version of the library: 10,000, 100 and 1 times its three numbers.
+#[must_use]
 pub fn version() -> u32 {
     // SAFETY: it takes nothing.
     unsafe { r2u2_version() }
 }
 
-/// A monitor that is open.
+/// An open monitor.
 pub struct Monitor {
     it: Struct,
 }
 
 impl Monitor {
-    /// Opens the program that these bytes spell.
+    /// Opens the program of these bytes.
+    ///
+    /// # Errors
+    ///
+    /// `Refused` with the first fault of the program, `NoMemory`.
     pub fn open(program: &[u8]) -> Result<Monitor, Error> {
         // SAFETY: the struct is all zero, the fault was written, and both pointers have their true counts.
         Monitor::by(|it, fault| unsafe { r2u2_open(it, program.as_ptr(), program.len(), fault) })
     }
 
-    /// The same with the program's signals in the columns that a header names, as `#request,grant`.
+    /// Opens a program with its signals in the columns of a header, as `#request,grant`.
+    ///
+    /// # Errors
+    ///
+    /// `Refused` with the first fault of the program or of the header, `NoMemory`.
     pub fn open_under(program: &[u8], header: &[u8]) -> Result<Monitor, Error> {
         // SAFETY: as above.
         Monitor::by(|it, fault| unsafe {
@@ -180,72 +272,88 @@ impl Monitor {
     }
 
     fn by(call: impl FnOnce(*mut Struct, *mut RawFault) -> u32) -> Result<Monitor, Error> {
-        let mut monitor = Monitor { it: Struct { at: std::ptr::null_mut() } };
+        let mut monitor = Monitor { it: Struct { at: core::ptr::null_mut() } };
         let mut fault = RawFault::none();
-        let code = call(&mut monitor.it, &mut fault);
+        let code = call(&raw mut monitor.it, &raw mut fault);
         fault.unless_done(code).map(|()| monitor)
     }
 
-    /// How many bytes a monitor of this program holds while it is open.
+    /// Returns how many bytes a monitor of this program holds while it is open.
+    ///
+    /// # Errors
+    ///
+    /// `Refused` with the first fault of the program, `NoMemory`.
     pub fn bytes(program: &[u8]) -> Result<u64, Error> {
         let (mut bytes, mut fault) = (0, RawFault::none());
         // SAFETY: both results were written, and the pointer has its true count.
-        let code = unsafe { r2u2_bytes(program.as_ptr(), program.len(), &mut bytes, &mut fault) };
+        let code = unsafe { r2u2_bytes(program.as_ptr(), program.len(), &raw mut bytes, &raw mut fault) };
         fault.unless_done(code).map(|()| bytes)
     }
 
-    /// How many numbers a row has.
+    /// Returns how many numbers a row has.
     pub fn width(&mut self) -> u32 {
         // SAFETY: the struct is that of an open monitor, here and below.
-        unsafe { r2u2_width(&mut self.it) }
+        unsafe { r2u2_width(&raw mut self.it) }
     }
 
-    /// How many outputs there are.
+    /// Returns how many outputs there are.
     pub fn outputs(&mut self) -> u32 {
-        unsafe { r2u2_outputs(&mut self.it) }
+        // SAFETY: as above.
+        unsafe { r2u2_outputs(&raw mut self.it) }
     }
 
-    /// How many rows were taken.
+    /// Returns how many rows were taken.
     pub fn rows(&mut self) -> u64 {
-        unsafe { r2u2_rows(&mut self.it) }
+        // SAFETY: as above.
+        unsafe { r2u2_rows(&raw mut self.it) }
     }
 
-    /// The worst-case delay of an output in rows; 0 where there is none.
+    /// Returns the worst-case delay of an output in rows; 0 where there is no such output.
     pub fn delay(&mut self, output: u32) -> u32 {
-        unsafe { r2u2_delay(&mut self.it, output) }
+        // SAFETY: as above.
+        unsafe { r2u2_delay(&raw mut self.it, output) }
     }
 
-    /// The most steps of one row.
+    /// Returns the most steps of one row.
     pub fn steps(&mut self) -> u64 {
-        unsafe { r2u2_steps(&mut self.it) }
+        // SAFETY: as above.
+        unsafe { r2u2_steps(&raw mut self.it) }
     }
 
-    /// The signals that the program stores, in order of declaration.
-    pub fn signals(&mut self) -> Vec<Signal> {
-        let count = unsafe { r2u2_signals(&mut self.it) };
-        (0..count).map(|k| self.signal(k)).collect()
+    /// Returns the signals that the program stores, in order of declaration.
+    pub fn signals(&mut self) -> impl Iterator<Item = Signal> + '_ {
+        // SAFETY: as above.
+        let count = unsafe { r2u2_signals(&raw mut self.it) };
+        (0..count).filter_map(move |k| self.signal(k))
     }
 
-    fn signal(&mut self, k: u32) -> Signal {
-        let (mut column, mut kind, mut buffer) = (0, 0, [0; 64]);
+    /// Returns signal `k`, counted from 0 in order of declaration, if there is one.
+    pub fn signal(&mut self, k: u32) -> Option<Signal> {
+        let (mut column, mut kind, mut buffer) = (0, 0, [0; 65]);
+        // SAFETY: as above; the results were written, and the buffer has its true count.
         let length =
-            unsafe { r2u2_signal(&mut self.it, k, &mut column, &mut kind, buffer.as_mut_ptr(), buffer.len()) };
-        Signal { name: text_of(&buffer[..length as usize]), column, truth: kind == 1 }
+            unsafe { r2u2_signal(&raw mut self.it, k, &raw mut column, &raw mut kind, buffer.as_mut_ptr(), buffer.len()) };
+        (length > 0).then(|| Signal { name: Text::before_zero(&buffer), column, truth: kind == 1 })
     }
 
-    /// The name of an output, if there is one of this number.
-    pub fn name(&mut self, output: u32) -> Option<String> {
-        let mut buffer = [0; 64];
-        let length = unsafe { r2u2_name(&mut self.it, output, buffer.as_mut_ptr(), buffer.len()) };
-        (length > 0).then(|| text_of(&buffer[..length as usize]))
+    /// Returns the name of an output, if there is one of this number.
+    pub fn name(&mut self, output: u32) -> Option<Text> {
+        let mut buffer = [0; 65];
+        // SAFETY: as above, and the buffer has its true count.
+        let length = unsafe { r2u2_name(&raw mut self.it, output, buffer.as_mut_ptr(), buffer.len()) };
+        (length > 0).then(|| Text::before_zero(&buffer))
     }
 
-    /// Takes a row, and gives the reports that it brings. Those that the caller doesn't ask for are left, and the next row
-    /// isn't taken before.
+    /// Takes a row, and returns its reports. Reports that the caller doesn't iterate over stay, and the next row isn't taken
+    /// before them.
+    ///
+    /// # Errors
+    ///
+    /// `ReportsLeft`, `NotARow` and `TooManyRows`: the first of these that holds; the monitor is unchanged then.
     pub fn row(&mut self, numbers: &[i64]) -> Result<Reports<'_>, Error> {
         let mut fault = RawRowFault::default();
         // SAFETY: the pointer of a slice is aligned and not null, even of an empty one.
-        match unsafe { r2u2_row(&mut self.it, numbers.as_ptr(), numbers.len(), &mut fault) } {
+        match unsafe { r2u2_row(&raw mut self.it, numbers.as_ptr(), numbers.len(), &raw mut fault) } {
             0 => Ok(self.reports(Style::Each)),
             5 => Err(Error::ReportsLeft),
             6 => Err(Error::NotARow { column: fault.column }),
@@ -253,13 +361,13 @@ impl Monitor {
         }
     }
 
-    /// Begins again: it has taken no rows, and has no report to give. It keeps its program and its memory.
+    /// Resets the monitor to its state before the first row, in the memory that it has.
     pub fn reset(&mut self) {
-        // It is open, so there is no other answer than done.
-        unsafe { r2u2_reset(&mut self.it) };
+        // SAFETY: as above. It is open, so the code is always 0.
+        unsafe { r2u2_reset(&raw mut self.it) };
     }
 
-    /// The reports that are left.
+    /// Returns the reports that are left.
     pub fn reports(&mut self, style: Style) -> Reports<'_> {
         Reports { monitor: self, style }
     }
@@ -270,7 +378,8 @@ unsafe impl Send for Monitor {}
 
 impl Drop for Monitor {
     fn drop(&mut self) {
-        unsafe { r2u2_close(&mut self.it) }
+        // SAFETY: the struct is that of an open monitor, or all zero.
+        unsafe { r2u2_close(&raw mut self.it) }
     }
 }
 
@@ -281,7 +390,8 @@ pub struct Reports<'a> {
 }
 
 impl Reports<'_> {
-    /// The same in this style.
+    /// Returns the same reports in this style.
+    #[must_use]
     pub fn by(self, style: Style) -> Self {
         Reports { style, ..self }
     }
@@ -292,7 +402,8 @@ impl Iterator for Reports<'_> {
 
     fn next(&mut self) -> Option<Report> {
         let mut report = RawReport::default();
-        match unsafe { r2u2_next(&mut self.monitor.it, self.style as u32, &mut report) } {
+        // SAFETY: as above, and the report was written.
+        match unsafe { r2u2_next(&raw mut self.monitor.it, self.style as u32, &raw mut report) } {
             0 => Some(Report { output: report.output, time: report.time, word: word_of(report.word) }),
             _ => None,
         }
@@ -307,10 +418,4 @@ fn word_of(number: u32) -> Word {
         3 => Word::Invalid,
         _ => Word::Verified,
     }
-}
-
-/// The text before the first zero byte.
-fn text_of(bytes: &[u8]) -> String {
-    let end = bytes.iter().position(|byte| *byte == 0).unwrap_or(bytes.len());
-    String::from_utf8_lossy(&bytes[..end]).into_owned()
 }

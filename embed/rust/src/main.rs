@@ -1,6 +1,6 @@
 //! Watches the rows of the first example: `r2u2 PROGRAM` prints the lines of the monitor.
 
-use r2u2::{Error, Monitor, Signal, Style};
+use r2u2::{Error, Monitor, Style};
 
 const ROWS: [[i64; 2]; 6] = [[1, 0], [0, 1], [1, 0], [0, 0], [0, 0], [0, 0]];
 
@@ -10,7 +10,8 @@ fn main() -> Result<(), Box<dyn std::error::Error>> {
     let mut monitor = Monitor::open_under(&program, b"# request,grant")?;
     let name = monitor.name(0).ok_or("no output")?;
     assert_eq!((monitor.width(), monitor.outputs()), (2, 1));
-    assert_eq!(monitor.signals()[1], Signal { name: "grant".to_string(), column: 1, truth: true });
+    let signal = monitor.signals().nth(1).ok_or("no second signal")?;
+    assert_eq!((&*signal.name, signal.column, signal.truth), ("grant", 1, true));
     assert!(Monitor::bytes(&program)? > 0);
     assert!(monitor.rows() == 0 && monitor.delay(0) > 0 && monitor.steps() > 0 && r2u2::version() > 0);
     assert_eq!(monitor.row(&[0, 2]).err(), Some(Error::NotARow { column: 1 }));
