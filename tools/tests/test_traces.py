@@ -22,6 +22,11 @@ class Traces(Case):
         self.assertEqual(runs(trace), {"a": [(0, 1, "1"), (2, 2, "0")], "b": [(0, 2, "5")]})
         self.assertEqual((trace.times, trace.stamps), (3, None))
 
+    def test_a_header_with_quotes(self):
+        kept = [Signal("x", "int", 0), Signal("z", "bool", 1)]
+        self.assertEqual(runs(self.read('#"speed, m/s",x,z\n7,50,1\n', kept)), {"x": [(0, 0, "50")], "z": [(0, 0, "1")]})
+        self.assertEqual(self.read('#"a ""b""", "c",d"e\r\n1,2,3\n').names, ['a "b"', '"c"', 'd"e'])
+
     def test_no_header(self):
         self.assertEqual(runs(self.read("1,2\n3,4")), {"column 0": [(0, 0, "1"), (1, 1, "3")], "column 1": [(0, 0, "2"), (1, 1, "4")]})
 

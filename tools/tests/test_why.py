@@ -6,13 +6,13 @@ import subprocess
 from concurrent.futures import ThreadPoolExecutor
 
 import random_specs
-from support import ROOT, Case, program, tool
+from support import ROOT, Case, program, spent, tool
 from r2u2tools.common.compiled import compiled
-from r2u2tools.why.reasons import reasons_for
 from r2u2tools.common.specs import read_spec
 from r2u2tools.common.traces import read_trace
+from r2u2tools.why.explanation import Explainer
 
-SPECS, TIMES, CHANGES = 200, 2, 2
+SPECS, TIMES, CHANGES = 60, 2, 2
 AHEAD = 25
 EXAMPLES = ROOT / "examples"
 GRANT = EXAMPLES / "grant.c2po", EXAMPLES / "grant.csv"
@@ -42,8 +42,8 @@ class Watched:
         self.made, self.told = compiled(self.spec, folder), verdicts(self.spec, self.trace)
 
     def reasons(self, name, time):
-        told = self.made.shown.output(name)
-        return reasons_for(self.made, told, time, len(self.rows), self.trace, False, self.folder)
+        explainer = Explainer(self.made, self.made.shown.output(name), self.folder)
+        return explainer.explain(explainer.window(str(self.trace), time, False), time)
 
     def word(self, name, time):
         return self.told.get(name, {}).get(time)
@@ -180,7 +180,7 @@ class Sentences(Case):
         self.assertEqual(self.pattern("assume_guarantee", "sensor:0"), "sensor is inactive at 0: power is false at row 0")
 
     def test_numbers(self):
-        line = "settling is F at 6: step holds at row 6; error <= 2 is false at rows 6, 7, 9 and 11 (error is 8, 3, 4 and 3)"
+        line = "settling is F at 6: step holds at row 6; error <= 2 is false at rows 6, 7, 9 and 11 (8, 3, 4 and 3)"
         self.assertEqual(self.pattern("settling", "settling:6"), line)
 
     def test_names_and_text_of_the_specification(self):
@@ -220,6 +220,103 @@ class Sentences(Case):
         rows = "".join(f"{int(k % 50 == 0)},{int(k % 100 == 99)}\n" for k in range(30000))
         line = self.first(self.file("spec.c2po", text), self.file("rows.csv", rows), "f:3000")
         self.assertRegex(line, "^f is T at 3000: .*more stretches")
+
+    def over(self, text, rows, verdict, *words):
+        """The lines that are printed for a specification over rows."""
+        return self.told(*words, self.file("spec.c2po", text), self.file("rows.csv", rows), verdict)
+
+    def test_counting(self):
+        rows = self.file("rows.csv", "# h1,h2,h3,h4\n1,0,1,1\n")
+        line = "at_most is F at 0: h4 holds at row 0; h3 holds at row 0; h1 holds at row 0"
+        told = self.first(EXAMPLES / "patterns" / "at_most.c2po", rows, "at_most:0")
+        self.assertEqual(sorted(told.partition(": ")[2].split("; ")), sorted(line.partition(": ")[2].split("; ")))
+        text = "INPUT mode: int;\nFTSPEC f: foratleast(m: {0, 1}, 1)(mode == m);\n"
+        self.assertEqual(self.over(text, "1\n", "f:0")[0], "f is T at 0: mode == 1 at row 0 (1)")
+        self.assertEqual(self.over(text, "2\n", "f:0")[0][:9], "f is F at")
+
+    def test_a_conjunction_with_true(self):
+        text = "INPUT p, q: bool;\nFTSPEC f: p && (q && true);\n"
+        self.assertEqual(self.over(text, "1,1\n", "f:0")[0], "f is T at 0: p holds at row 0; q holds at row 0")
+
+    def test_a_contract_whose_left_side_recurs(self):
+        text = "INPUT on, cmd: bool;\nPTSPEC heater: on => on S[0,5] cmd;\n"
+        line = "heater is verified at 2: on holds at rows 1 and 2; cmd holds at row 0"
+        self.assertEqual(self.over(text, "1,1\n1,0\n1,0\n", "heater:2")[0], line)
+
+    def test_a_header_with_quotes(self):
+        text = "INPUT x: int; z: bool;\nFTSPEC f: z -> x < 9;\n"
+        line = "f is F at 0: z holds at row 0; x < 9 is false at row 0 (50)"
+        self.assertEqual(self.over(text, '#"speed, m/s",x,z\n7,50,1\n', "f:0")[0], line)
+
+    def test_an_inner_formula_that_waits_for_an_earlier_verdict(self):
+        text = "INPUT a, b: bool;\nFTSPEC f: F[1,1] (b -> F[0,3] a);\n"
+        line = (
+            "f is open at 0: waits for b -> F[0,3] a at time 1, "
+            "whose verdict of time 0 comes first and waits for a in rows 2 and 3"
+        )
+        self.assertEqual(self.over(text, "0,1\n0,0\n", "f:0")[0], line)
+
+    def test_cells_that_windows_share(self):
+        text = "INPUT p: bool;\nFTSPEC f: F[0,1] p && F[1,2] p; g: G[0,100] F[0,10] p;\n"
+        self.assertEqual(self.over(text, "1\n" * 120, "f:0")[0], "f is T at 0: p holds at row 1")
+        told = self.over(text, "1\n" * 120, "g:0", "--html", self.folder / "page.html")
+        self.assertRegex(told[0], "g is T at 0: p holds at rows ")
+        self.assertEqual(len(re.findall(r'class="[^"]*marked"', (self.folder / "page.html").read_text())), 10)
+
+    def test_what_no_part_shows_alone(self):
+        text = "INPUT p, q: bool;\nFTSPEC f: (p -> q) && (p || q); g: p || !p;\n"
+        self.assertEqual(self.over(text, "1,0\n", "f:0")[0], "f is F at 0: q is false at row 0")
+        lines = self.over(text, "1,0\n", "g:0")
+        self.assertEqual(lines[0], "g is T at 0: whatever the rows hold")
+        self.assertIn("p holds at row 0; were it otherwise, the verdict would be the same", "\n".join(lines))
+
+    def test_the_words_of_the_author(self):
+        text = (
+            "INPUT alt, vz: int; gear: bool;\nDEFINE low := alt <= 3000;\n"
+            "FTSPEC sink: !(vz < -400 && alt < 500); safe: G[0,2] (low -> vz >= -100 || gear);\n"
+        )
+        rows = "400,-557,0\n" + "2000,-120,0\n" * 3
+        self.assertEqual(self.over(text, rows, "sink:0"), [
+            "sink is F at 0: vz < -400 at row 0 (-557); alt < 500 at row 0 (400)",
+            "  !(vz < -400 && alt < 500) is false at time 0",
+            "    vz < -400 at row 0 (-557)",
+            "    alt < 500 at row 0 (400)",
+        ])
+        lines = "\n".join(self.over(text, rows, "safe:0"))
+        self.assertIn("vz >= -100 is false at row", lines)
+        self.assertIn("  G[0,2] (low -> vz >= -100 || gear) is false at time 0", lines)
+
+    def test_ranges_of_values(self):
+        text = "INPUT x: int;\nFTSPEC f: G[0,9] (x > 3);\n"
+        rows = "".join(f"{4 + k % 7}\n" for k in range(12))
+        self.assertEqual(self.over(text, rows, "f:0")[0], "f is T at 0: x > 3 at rows 0 to 9 (4 to 10)")
+
+    def test_a_long_formula_keeps_its_outer_operator(self):
+        names = [f"a_signal_with_a_long_name_{k}" for k in range(6)]
+        body = f"{' && '.join(names[:4])} || {names[4]} && {names[5]}"
+        text = f"INPUT {', '.join(names)}: bool;\nFTSPEC f: {body};\n"
+        line = self.over(text, "0,1,1,1,1,1\n", "f:0")[1]
+        self.assertRegex(line, r"^  \S.* \|\| .* holds at time 0$")
+        self.assertLess(len(line), 100)
+
+    def test_a_pasted_line(self):
+        self.assertEqual(self.first(*GRANT, "granted:2,F"), self.first(*GRANT, "granted:2"))
+        status, out, errors = tool("why", *GRANT, "granted:2,T")
+        self.assertEqual((status, out.splitlines()[0]), (0, self.first(*GRANT, "granted:2")))
+        self.assertEqual(errors, "why: the line has T, and over this trace the verdict is F\n")
+
+    def test_a_fault_in_a_row_that_counts(self):
+        rows = self.file("rows.csv", "# request,grant\n" + "0,0\n" * 50 + "x,0\n")
+        status, _, errors = tool("why", GRANT[0], rows, "granted:48")
+        self.assertEqual(status, 2)
+        self.assertIn("line 52: not a whole number in column 1", errors)
+
+    def test_a_million_rows(self):
+        rows = self.file("rows.csv", "# request,grant\n" + "0,0\n" * 999_990 + "1,0\n" * 10)
+        for time, word in ((999_995, "F"), (2, "T")):
+            before = spent()
+            self.assertRegex(self.first(GRANT[0], rows, f"granted:{time}"), f"granted is {word} at {time}: ")
+            self.assertLess(spent() - before, 6)
 
     def test_a_page(self):
         page = self.folder / "why.html"

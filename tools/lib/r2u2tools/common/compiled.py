@@ -1,18 +1,22 @@
-"""From a specification, or a compiled program, to the program's text, with the names that the specification gave."""
+"""From a specification, or a compiled program, to the program's text, with the names and the words that the author gave."""
+
+from __future__ import annotations
 
 import re
 from dataclasses import dataclass
 from pathlib import Path
+from typing import Iterator, Optional, Union
 
+from r2u2tools.common.expressions import TRUTHS, Expression, bound_names, plain, tree_of
 from r2u2tools.common.programs import program, ran, written
-from r2u2tools.common.rendering import Shown, shown
-from r2u2tools.common.specs import MAGIC, read_spec
+from r2u2tools.common.program_text import ProgramText, Requirement, program_text
+from r2u2tools.common.specs import MAGIC, Item, Spec, Token, read_spec
 from r2u2tools.common.cli import Trouble, opened
 
 REFUSED = re.compile(r"c2po: line (\d+): (.*)")
-COMMENT = re.compile(r"--[^\n]*")
 QUANTIFIERS = ("foreach", "forsome", "forexactly", "foratleast", "foratmost")
-MOST_NAMES = 256
+MOST_NAMES, MOST_QUOTED, MOST_TOKENS = 256, 400, 20_000
+FilePath = Union[str, Path]
 
 
 @dataclass
@@ -20,33 +24,33 @@ class Compiled:
     """A program of version 2 in a file, its text, and what the file that was given stores."""
 
     path: Path
-    shown: Shown
-    given: object
+    shown: ProgramText
+    given: Spec
     old: bool = False
 
-    def flown(self):
+    def flown(self) -> bytes:
         """The bytes of the program that is run: of the one that was given, or of what was compiled."""
         return self.given.raw or self.path.read_bytes()
 
-    def columns(self):
+    def columns(self) -> list[str]:
         """The names of the columns of a row, with others where no signal stands."""
         by_column = {signal.column: signal.name for signal in read_spec(self.path).signals}
         free = (f"_{k}" for k in range(1 << 32) if f"_{k}" not in self.shown.signals)
         return [by_column[k] if k in by_column else next(free) for k in range(max(by_column, default=-1) + 1)]
 
 
-def text_of(path):
-    return shown(written([program("c2po"), "--show", str(path)], "c2po --show").decode("ascii"))
+def text_of(path: FilePath) -> ProgramText:
+    return program_text(written([program("c2po"), "--show", str(path)], "c2po --show").decode("ascii"))
 
 
-def make(spec, out, *words):
+def make(spec: FilePath, out: FilePath, *words: str) -> None:
     """Compiles a specification; what c2po says of it is told as it is."""
     status, _, text = ran([program("c2po"), *words, "-o", str(out), str(spec)])
     if status:
         raise Trouble(text.removeprefix("c2po: ") if text else f"c2po ended with status {status}")
 
 
-def compiled(path, folder):
+def compiled(path: FilePath, folder: FilePath) -> Compiled:
     """The program of a file, which may be a specification or a program of either version."""
     out = Path(folder, "whole.obs")
     with opened(path) as file:
@@ -64,60 +68,123 @@ def compiled(path, folder):
     return made
 
 
-def texts_of(text, body):
-    """A formula, or the two of a contract, as the specification writes them, without comments and line ends."""
+def sides_of(body: list[Token]) -> list[list[Token]]:
+    """The tokens of a formula, or of the two of a contract."""
     cut = [k for k, token in enumerate(body) if token.text == "=>"]
-    for part in (body[: cut[0]], body[cut[0] + 1 :]) if cut else (body,):
-        yield " ".join(COMMENT.sub(" ", text[part[0].start : part[-1].end]).split())
+    return [body[: cut[0]], body[cut[0] + 1 :]] if cut else [body]
 
 
-def definitions(given):
+def texts_of(text: str, body: list[Token]) -> list[str]:
+    """A formula, or the two of a contract, as the specification writes them, without comments and line ends."""
+    return [plain(text, side) for side in sides_of(body)]
+
+
+def definitions(given: Spec) -> list[str]:
     """The names that a specification defines, but those of sets and structs."""
-    found = [item for item in given.items if item.section == "DEFINE" and item.name and item.body]
-    return [item.name for item in found if item.body[0].text != "{" and not is_build(item.body)]
+    return [item.name for item in given.items if item.section == "DEFINE" and item.name and is_formula(item.body)]
 
 
-def is_build(body):
-    """Whether a definition begins with a name and a bracket, as a struct does."""
-    return len(body) > 1 and body[1].text == "(" and body[0].text.isidentifier() and body[0].text not in QUANTIFIERS
+def is_formula(body: list[Token]) -> bool:
+    """Whether the body of a definition isn't a set or a struct."""
+    is_build = len(body) > 1 and body[1].text == "(" and body[0].text.isidentifier() and body[0].text not in QUANTIFIERS
+    return bool(body) and body[0].text != "{" and not is_build
 
 
-def name(text, given, folder):
-    """Gives the parts of a program the names that its specification defines.
+def with_outputs(given: Spec, asked: dict[str, str], folder: FilePath) -> Optional[tuple[ProgramText, list[str]]]:
+    """The program of a specification with further formulas as its only outputs, each in its section.
 
-    The specification is compiled once more, with each definition that is a formula as one more output.
+    A formula that isn't one by itself is left out, as c2po says: as one of numbers, or one that looks back and was asked for
+    as one that looks ahead, which is then tried so.
     """
-    asked = {it: "FTSPEC" for it in definitions(given)[:MOST_NAMES]}
-    label = "part"
-    while any(told.name.startswith(label) for told in given.outputs):
-        label += "_"
+    kept = [f"{item.section} {given.text[item.start : item.end]};" for item in given.items]
+    head = "\n".join(line for line, item in zip(kept, given.items) if item.section not in ("FTSPEC", "PTSPEC"))
+    left, first, turned = dict(asked), head.count("\n") + 2, set()
     spec, out = Path(folder, "named.c2po"), Path(folder, "named.obs")
-    first = given.text.count("\n") + 2
-    while asked:
-        lines = [f"{section} {label}{k}: {it};" for k, (it, section) in enumerate(asked.items())]
-        spec.write_text(given.text + "\n" + "\n".join(lines) + "\n", encoding="latin-1")
+    while left:
+        lines = "\n".join(f"{section} {formula};" for formula, section in left.items())
+        spec.write_text(f"{head}\n{lines}\n", encoding="latin-1")
         status, _, refusal = ran([program("c2po"), "-o", str(out), str(spec)])
         if not status:
-            return call(text, out, list(asked))
+            return shown_or_none(out, list(left))
         told = REFUSED.fullmatch(refusal)
-        if not told or not 0 <= int(told[1]) - first < len(asked):
+        if not told or not 0 <= int(told[1]) - first < len(left):
             return None
-        it = list(asked)[int(told[1]) - first]
-        if told[2] == "mixed tense" and asked[it] == "FTSPEC":
-            asked[it] = "PTSPEC"
+        formula = list(left)[int(told[1]) - first]
+        if told[2] == "mixed tense" and formula not in turned:
+            turned.add(formula)
+            left[formula] = "PTSPEC" if left[formula] == "FTSPEC" else "FTSPEC"
         else:
-            del asked[it]
+            del left[formula]
     return None
 
 
-def call(text, named, names):
-    """Gives names to the parts of a program that equal the last outputs of another one, where that isn't too large to show."""
+def shown_or_none(out: Path, formulas: list[str]) -> Optional[tuple[ProgramText, list[str]]]:
+    """The text of a program, where it isn't too large to show."""
     try:
-        other = text_of(named)
+        return text_of(out), formulas
     except Trouble:
-        return
+        return None
+
+
+def equal_parts(text: ProgramText, other: ProgramText) -> Iterator[tuple[int, str, bool]]:
+    """Of each output of another program, by number, the parts that it equals here, and whether it denies them."""
     equal = text.equals_of(other)
-    for told, it in zip(other.outputs[-len(names) :], names):
+    for number, told in enumerate(other.outputs):
         bare, denied = other.bare(told.left)
-        for ref in equal.get(bare, ()):
-            text.called.setdefault((ref, denied), it)
+        for ref in equal.get(bare, [bare] if bare in text.signals else []):
+            yield number, ref, denied
+
+
+def name(text: ProgramText, given: Spec, folder: FilePath) -> None:
+    """Gives the parts of a program the names that its specification defines."""
+    asked = {it: "FTSPEC" for it in definitions(given)[:MOST_NAMES]}
+    if found := with_outputs(given, asked, folder):
+        other, names = found
+        for number, ref, denied in equal_parts(text, other):
+            text.called.setdefault((ref, denied), names[number])
+
+
+def quote(made: Compiled, told: Requirement, folder: FilePath) -> None:
+    """Lets the parts of an output have the words with which its specification writes them."""
+    if made.given.is_program():
+        return
+    output = made.given.outputs[made.shown.outputs.index(told)]
+    asked = {it: output.section for it in written_formulas(made.given, output.body)}
+    if found := with_outputs(made.given, asked, folder):
+        other, formulas = found
+        for number, ref, denied in equal_parts(made.shown, other):
+            if (ref, denied) not in made.shown.called and ref not in made.shown.signals:
+                made.shown.quoted.setdefault((ref, denied), formulas[number])
+
+
+def written_formulas(given: Spec, body: list[Token]) -> list[str]:
+    """The formulas that a requirement consists of, and those of the definitions that it reads, as they are written."""
+    by_name = {item.name: item for item in given.items if item.section == "DEFINE"}
+    left, seen, found = sides_of(body), set(), list[str]()
+    size = 0
+    while left and len(found) < MOST_QUOTED and size < MOST_TOKENS:
+        read = left.pop(0)
+        for first, last in formulas_in(read):
+            found.append(plain(given.text, read[first:last]))
+            size += last - first
+        for item in names_in(read, by_name):
+            if item.name not in seen:
+                seen.add(item.name)
+                left.append(item.body)
+    return list(dict.fromkeys(found))[:MOST_QUOTED]
+
+
+def names_in(read: list[Token], by_name: dict[Optional[str], Item]) -> list[Item]:
+    return [by_name[token.text] for token in read if token.text in by_name]
+
+
+def formulas_in(read: list[Token]) -> Iterator[tuple[int, int]]:
+    """The tokens of each formula within some, but of those that speak of a member of a quantifier."""
+    tree = tree_of(read)
+    left: list[tuple[Expression, set[str]]] = [(tree, set())] if tree else []
+    while left:
+        it, bound = left.pop()
+        if it.op in TRUTHS and not bound.intersection(token.text for token in read[it.first : it.last]):
+            yield it.first, it.last
+        within = bound | bound_names(it, read)
+        left += [(part, within) for part in it.parts]

@@ -4,6 +4,7 @@ A trace of a million rows is kept in little memory where its fields stay the
 same for long, and a gap of millions of stamps takes no time.
 """
 
+import csv
 from array import array
 from bisect import bisect_left
 
@@ -64,7 +65,9 @@ class Trace:
 
 
 def header_of(line):
-    return [name.strip(" \t\r").strip('"') for name in line[1:].decode("utf-8", "replace").split(",")]
+    """The names of a header, which is one record of CSV after its sign."""
+    text = line[1:].decode("utf-8", "replace").rstrip("\r\n")
+    return [name.strip(" \t") for name in next(csv.reader([text]), [""])]
 
 
 def stamp_of(line, number):

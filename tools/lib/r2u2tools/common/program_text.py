@@ -4,11 +4,17 @@ The text has the operators of the core alone. A formula is spelled with those
 of the language where they can be found again: `!(true U[0,3] !p)` as `G[0,3] p`.
 """
 
+from __future__ import annotations
+
 import re
 from dataclasses import dataclass, field
 from itertools import product
+from typing import Optional
 
 from r2u2tools.common.cli import Trouble
+
+# A formula without the denials around it, and whether it is denied.
+Bare = tuple[str, bool]
 
 SIGNAL = re.compile(r"INPUT (\w+): (bool|int);")
 OUTPUT = re.compile(r"(FTSPEC|PTSPEC) (?:(\w+): )?(-?\w+)(?: => (-?\w+))?;")
@@ -34,26 +40,26 @@ class Node:
 
     op: str
     left: str
-    right: str = None
+    right: str = ""
     low: int = 0
     high: int = 0
 
-    def operands(self):
-        return (self.left,) if self.right is None else (self.left, self.right)
+    def operands(self) -> tuple[str, ...]:
+        return (self.left, self.right) if self.right else (self.left,)
 
 
 @dataclass(frozen=True)
-class Told:
+class Requirement:
     """An output: its name, its section, one reference or the two of a contract, and how the specification writes them."""
 
     name: str
     section: str
     left: str
-    right: str = None
-    texts: dict = field(default_factory=dict, compare=False)
+    right: str = ""
+    texts: dict[str, str] = field(default_factory=dict, compare=False)
 
-    def operands(self):
-        return (self.left,) if self.right is None else (self.left, self.right)
+    def operands(self) -> tuple[str, ...]:
+        return (self.left, self.right) if self.right else (self.left,)
 
 
 @dataclass
@@ -61,19 +67,22 @@ class Form:
     """An operator of the language, what it stands between, each as it is or denied, and its interval."""
 
     op: str
-    parts: list
+    parts: list[Bare]
     window: str = ""
 
 
 @dataclass
-class Shown:
-    signals: dict = field(default_factory=dict)
-    nodes: dict = field(default_factory=dict)
-    outputs: list = field(default_factory=list)
-    # The names that the specification gives to formulas, by what they are without denials and whether they are denied.
-    called: dict = field(default_factory=dict)
+class ProgramText:
+    """The text of a program: its signals with their kinds, its definitions, and its outputs."""
 
-    def output(self, name):
+    signals: dict[str, str] = field(default_factory=dict)
+    nodes: dict[str, Node] = field(default_factory=dict)
+    outputs: list[Requirement] = field(default_factory=list)
+    # The names that the specification gives to formulas, and how it writes others.
+    called: dict[Bare, str] = field(default_factory=dict)
+    quoted: dict[Bare, str] = field(default_factory=dict)
+
+    def output(self, name: str) -> Requirement:
         for told in self.outputs:
             if told.name == name:
                 return told
@@ -81,10 +90,10 @@ class Shown:
         known = f"there {'is' if len(names) == 1 else 'are'} {', '.join(names[:20])}" if names else "there is none"
         raise Trouble(f"no output {name}: {known}")
 
-    def op(self, ref):
+    def op(self, ref: str) -> Optional[str]:
         return self.nodes[ref].op if ref in self.nodes else None
 
-    def below(self, *refs):
+    def below(self, *refs: str) -> set[str]:
         """All that formulas read, with themselves: signals, numbers, true and definitions."""
         found, left = set(), list(refs)
         while left:
@@ -94,33 +103,34 @@ class Shown:
                 left += self.nodes[ref].operands() if ref in self.nodes else ()
         return found
 
-    def is_truth(self, ref):
+    def is_truth(self, ref: str) -> bool:
         """Whether a reference is a formula, and not a whole number."""
         if ref in self.nodes:
             return self.nodes[ref].op in (*ATOMS, "!", "&&", "U", "S")
         return ref == "true" or self.signals.get(ref) == "bool"
 
-    def is_leaf(self, ref):
+    def is_leaf(self, ref: str) -> bool:
         """Whether a formula speaks of one row by itself: a signal, a comparison, true."""
         return ref not in self.nodes or self.nodes[ref].op in ATOMS
 
-    def equals_of(self, other):
+    def equals_of(self, other: ProgramText) -> dict[str, list[str]]:
         """Which definitions equal those of another text; both engines may have one."""
-        refs, equal = {}, {}
+        refs: dict[Node, list[str]] = {}
         for ref, node in self.nodes.items():
             refs.setdefault(node, []).append(ref)
+        equal: dict[str, list[str]] = {}
         for ref, node in other.nodes.items():
-            sides = [equal.get(operand, [None]) if operand in other.nodes else [operand] for operand in node.operands()]
-            looked_for = (Node(node.op, *pair, *[None] * (2 - len(pair)), node.low, node.high) for pair in product(*sides))
-            if found := [it for node in looked_for for it in refs.get(node, ())]:
+            sides = [equal.get(operand, []) if operand in other.nodes else [operand] for operand in node.operands()]
+            wanted = (Node(node.op, pair[0], "".join(pair[1:]), node.low, node.high) for pair in product(*sides))
+            if found := [it for node in wanted for it in refs.get(node, ())]:
                 equal[ref] = found
         return equal
 
-    def signals_of(self, ref):
+    def signals_of(self, ref: str) -> list[str]:
         below = self.below(ref)
         return [name for name in self.signals if name in below]
 
-    def is_negative(self, ref):
+    def is_negative(self, ref: str) -> bool:
         """Whether a formula is spelled shorter when it is denied: a denial without a name, or several joined by `&&`."""
         left = [ref]
         while left:
@@ -130,23 +140,23 @@ class Shown:
             left += self.nodes[ref].operands() if self.op(ref) == "&&" else ()
         return True
 
-    def bare(self, ref, denied=False):
+    def bare(self, ref: str, denied: bool = False) -> Bare:
         """A formula without the denials around it, and whether it is then denied."""
         while (inner := self.within(ref)) != ref:
             ref, denied = inner, denied != (self.op(ref) == "!")
         return ref, denied
 
-    def within(self, ref):
+    def within(self, ref: str) -> str:
         """What a formula denies, or joins with true; else itself."""
         node = self.nodes.get(ref)
         if node and node.op == "&&" and "true" in node.operands():
             return node.left if node.right == "true" else node.right
         return node.left if node and node.op == "!" else ref
 
-    def name(self, ref, denied=False):
+    def name(self, ref: str, denied: bool = False) -> Optional[str]:
         return self.called.get(self.bare(ref, denied))
 
-    def form(self, ref, denied=False):
+    def form(self, ref: str, denied: bool = False) -> Form:
         """A formula, or its denial, by its outermost operator; a leaf has no parts."""
         ref, denied = self.bare(ref, denied)
         if (ref, denied) in self.called:
@@ -160,16 +170,16 @@ class Shown:
             return self.compared(node, DENIED[node.op] if denied else node.op)
         return self.denied(ref, node) if denied else self.plain(node)
 
-    def compared(self, node, op):
+    def compared(self, node: Node, op: str) -> Form:
         """A comparison, of an order with a number on its right side."""
         parts = [(node.left, False), (node.right, False)]
         return Form(TURNED[op], parts[::-1]) if op in TURNED and self.is_number(node.left) else Form(op, parts)
 
-    def is_number(self, ref):
+    def is_number(self, ref: str) -> bool:
         node = self.nodes.get(ref)
         return ref.lstrip("-").isdigit() or bool(node and node.op == "-" and not node.right and node.left.isdigit())
 
-    def plain(self, node):
+    def plain(self, node: Node) -> Form:
         window = f"[{node.low},{node.high}]" if node.op in "US" else ""
         if window and node.left == "true":
             return Form({"U": "F", "S": "O"}[node.op], [(node.right, False)], window)
@@ -177,7 +187,7 @@ class Shown:
             return Form("<->", pair)
         return Form(node.op, [(part, False) for part in node.operands()], window)
 
-    def denied(self, ref, node):
+    def denied(self, ref: str, node: Node) -> Form:
         window = f"[{node.low},{node.high}]" if node.op in "US" else ""
         if window and node.left == "true":
             return Form({"U": "G", "S": "H"}[node.op], [(node.right, True)], window)
@@ -191,7 +201,7 @@ class Shown:
                 return Form("->", [(node.left, False), (node.right, True)])
         return Form("!", [(ref, False)])
 
-    def equals(self, node):
+    def equals(self, node: Node) -> Optional[list[Bare]]:
         """The two sides of an equivalence, where a conjunction is one: !(x && !y) && !(y && !x)."""
         if not all(self.op(part) == "!" for part in node.operands()):
             return None
@@ -202,10 +212,10 @@ class Shown:
             return [(one.left, False), (one.right, True)]
         return None
 
-    def are_opposite(self, one, other):
+    def are_opposite(self, one: str, other: str) -> bool:
         return self.nodes.get(one) == Node("!", other) or self.nodes.get(other) == Node("!", one)
 
-    def text(self, ref, denied=False, level=1, depth=0):
+    def text(self, ref: str, denied: bool = False, level: int = 1, depth: int = 0) -> str:
         """A formula, or its denial, in the operators of the language; what lies too deep is three dots."""
         form = self.form(ref, denied)
         if not form.parts:
@@ -221,7 +231,7 @@ class Shown:
             text = f"{left} {form.op}{form.window} {right}"
         return f"({text})" if mine < level else text
 
-    def uncalled(self, ref):
+    def uncalled(self, ref: str) -> str:
         """A formula by its own operators, also where it has a name."""
         bare = self.bare(ref)
         name = self.called.pop(bare, None)
@@ -230,28 +240,24 @@ class Shown:
             self.called[bare] = name
         return text
 
-    def inner(self, part, mine, level, depth):
+    def inner(self, part: Bare, mine: int, level: int, depth: int) -> str:
         """A part of a formula; a comparison below a temporal operator or a denial has brackets, for the eye."""
         compared = LEVELS.get(self.form(*part).op) == COMPARED
         return self.text(*part, level if mine not in TEMPORAL or not compared else LEAF, depth + 1)
 
 
-def shortened(text, room=72):
-    return text if len(text) <= room else text[: room - 3] + "..."
-
-
-def node_of(form):
+def node_of(form: str) -> Node:
     if found := UNARY.fullmatch(form):
-        return Node(*found.groups())
+        return Node(found[1], found[2])
     if found := BINARY.fullmatch(form):
         left, op, low, high, right = found.groups()
         return Node(op, left, right, int(low or 0), int(high or 0))
     raise Trouble(f"cannot read what c2po --show wrote: {form}")
 
 
-def shown(text):
+def program_text(text: str) -> ProgramText:
     """What `c2po --show` wrote."""
-    found = Shown()
+    found = ProgramText()
     for line in text.splitlines():
         if told := DEFINED.fullmatch(line):
             found.nodes[told[1]] = node_of(told[2])
@@ -259,7 +265,7 @@ def shown(text):
             found.signals[told[1]] = told[2]
         elif told := OUTPUT.fullmatch(line):
             section, name, left, right = told.groups()
-            found.outputs.append(Told(name or str(len(found.outputs)), section, left, right))
+            found.outputs.append(Requirement(name or str(len(found.outputs)), section, left, right or ""))
         else:
             raise Trouble(f"cannot read what c2po --show wrote: {line}")
     return found

@@ -1,6 +1,13 @@
 """The reasons of a verdict as a page: what is said of it, and the rows around it with the cells that decide it marked."""
 
+from __future__ import annotations
+
 from html import escape
+from typing import Optional
+
+from r2u2tools.why.deciding import Cell
+from r2u2tools.why.explanation import Explanation
+from r2u2tools.why.trace_window import Cells
 
 AROUND, MOST_ROWS = 3, 400
 STYLE = """
@@ -21,42 +28,45 @@ td.good { background: #2f74c0; color: #fff; }
 td.open { outline: 2px dashed #8a96a3; background: #fff; }
 p { color: #6b7785; }
 """
-LOOKS = {"T": "good", "verified": "good", "F": "bad", "invalid": "bad", None: "open"}
+LOOKS: dict[Optional[str], str] = {"T": "good", "verified": "good", "F": "bad", "invalid": "bad", None: "open"}
 
 
-def shown_rows(reasons, time, rows):
+def shown_rows(found: Explanation, time: int, trace: Cells) -> range:
     """The rows that the page shows: those of the cells and of the verdict, and a few of the trace around them."""
-    times = [at for _, at in reasons.cells] + [time]
-    low, high = max(0, min(times) - AROUND), max(*times, min(max(times) + AROUND, rows - 1))
+    times = [at for _, at in found.cells] + [time]
+    there = trace.by_time
+    low, high = min(times), max(times)
+    low -= next((k for k in range(AROUND, 0, -1) if low - k in there), 0)
+    high += next((k for k in range(AROUND, 0, -1) if high + k in there), 0)
     return range(low, min(high, low + MOST_ROWS - 1) + 1)
 
 
-def cell(name, kind, time, trace, marked):
+def cell(name: str, kind: str, time: int, trace: Cells, marked: frozenset[Cell]) -> str:
     """A field of the trace; a row to come has a question mark where a verdict waits for it."""
-    field = trace.value(name, time) if time < trace.rows else None
+    field = trace.value(name, time) if time in trace.by_time else None
     looks = ["none"] * (field is None) + ["on"] * (field == "1" and kind == "bool") + ["marked"] * ((name, time) in marked)
     return f'<td class="{" ".join(looks)}">{escape(field) if field is not None else "?" * ("marked" in looks)}</td>'
 
 
-def lane(name, cells):
+def lane(name: str, cells: list[str]) -> str:
     return f"<tr><th>{escape(name)}</th>{''.join(cells)}</tr>"
 
 
-def page(sentence, tree, told, reasons, time, trace, signals):
-    """A page that stands by itself."""
-    rows = shown_rows(reasons, time, trace.rows)
-    looks = {time: f'<td class="{LOOKS.get(reasons.word, "")}">{reasons.word or "?"}</td>'}
-    lanes = [lane(name, [cell(name, kind, at, trace, reasons.cells) for at in rows]) for name, kind in signals.items()]
-    lanes.append(lane(told.name, [looks.get(at, '<td class="none"></td>') for at in rows]))
+def page(lines: list[str], name: str, found: Explanation, time: int, trace: Cells, signals: dict[str, str]) -> str:
+    """A page that needs no other file."""
+    rows = shown_rows(found, time, trace)
+    looks = {time: f'<td class="{LOOKS.get(found.word, "")}">{found.word or "?"}</td>'}
+    lanes = [lane(signal, [cell(signal, kind, at, trace, found.cells) for at in rows]) for signal, kind in signals.items()]
+    lanes.append(lane(name, [looks.get(at, '<td class="none"></td>') for at in rows]))
     heads = "".join(f"<th>{at}</th>" for at in rows)
-    cut = max([at for _, at in reasons.cells], default=0) > rows[-1]
+    cut = max([at for _, at in found.cells], default=0) > rows[-1]
     return f"""<!DOCTYPE html>
-<html lang="en"><meta charset="utf-8"><title>{escape(sentence[:80])}</title><style>{STYLE}</style>
-<h1>{escape(sentence)}</h1>
+<html lang="en"><meta charset="utf-8"><title>{escape(lines[0][:80])}</title><style>{STYLE}</style>
+<h1>{escape(lines[0])}</h1>
 <div><table><thead><tr><th></th>{heads}</tr></thead>
 {chr(10).join(lanes)}
 </table></div>
 <p>{f"The rows up to {rows[-1]}; more cells decide it. " if cut else ""}Marked: the cells that decide it.</p>
-<pre>{escape(tree)}</pre>
+<pre>{escape(chr(10).join(lines[1:]))}</pre>
 </html>
 """

@@ -1,0 +1,33 @@
+"""How what two versions of a specification cost differs."""
+
+from __future__ import annotations
+
+from dataclasses import dataclass
+
+from r2u2tools.budget.costs import PARTS, Costs
+from r2u2tools.compare.differences import Version
+
+KINDS = (*PARTS, "slots", "boxes", "delay", "steps")
+
+
+@dataclass(frozen=True)
+class CostChange:
+    """A figure of the whole of both versions: instructions, slots, boxes, rows of delay, steps of a row."""
+
+    kind: str
+    old: int
+    new: int
+
+
+def figures(version: Version) -> dict[str, int]:
+    costs = Costs(version.made, version.folder)
+    places = set(costs.all)
+    found = {part: costs.count(places, part) for part in PARTS}
+    found["slots"], found["boxes"] = costs.sizes(places, "ft"), costs.sizes(places, "pt")
+    found["delay"], found["steps"] = costs.delay(), costs.steps(places)
+    return found
+
+
+def cost_changes(old: Version, new: Version) -> list[CostChange]:
+    before, after = figures(old), figures(new)
+    return [CostChange(kind, before[kind], after[kind]) for kind in KINDS]

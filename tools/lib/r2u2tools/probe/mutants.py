@@ -1,0 +1,146 @@
+"""Small changes of a requirement: of a bound, a constant, an operator, or of a part that becomes a constant."""
+
+from __future__ import annotations
+
+from dataclasses import dataclass
+from typing import Iterator
+
+from r2u2tools.common.expressions import COMPARISONS, TEMPORAL, TRUTHS, Expression
+from r2u2tools.common.specs import Token
+from r2u2tools.probe.requirements import Edit, Place, Requirement, Source
+
+SWAPPED = {
+    "&&": ("||",), "||": ("&&",), "->": ("<->",), "<->": ("->",), "<": ("<=",), "<=": ("<",), ">": (">=",), ">=": (">",),
+    "==": ("!=",), "!=": ("==",), "+": ("-",), "F": ("G",), "G": ("F",), "O": ("H",), "H": ("O",), "U": ("R",), "R": ("U",),
+}
+COUNTING = ("forexactly", "foratleast", "foratmost")
+LATEST = 1 << 20
+GREATEST = (1 << 31) - 1
+
+
+@dataclass(frozen=True)
+class Mutant:
+    """A change with its kind, where it is, and what it makes of what."""
+
+    kind: str
+    edit: Edit
+    place: Place
+    old: str
+    new: str
+
+
+def mutants(source: Source, requirement: Requirement) -> Iterator[Mutant]:
+    """All small changes of a requirement and of the definitions that it reads."""
+    for number in requirement.items():
+        yield from bounds_and_constants(source, number)
+        yield from operators(source, number)
+
+
+def is_number(token: Token) -> bool:
+    return token.text.isdigit()
+
+
+def interval_places(body: list[Token]) -> dict[int, tuple[int, int]]:
+    """The places of the numbers of intervals, each with those of the lower and the upper end; one alone is the upper end."""
+    found: dict[int, tuple[int, int]] = {}
+    for k, token in enumerate(body[:-3]):
+        if token.text in TEMPORAL and body[k + 1].text == "[":
+            low, high = (k + 2, k + 2) if body[k + 3].text == "]" else (k + 2, k + 4)
+            found[low] = found[high] = (low, high)
+    return found
+
+
+def count_places(body: list[Token]) -> set[int]:
+    """The places of the numbers of counting quantifiers."""
+    found = set()
+    for k, token in enumerate(body):
+        if token.text in COUNTING and (comma := last_comma(body, k + 1)):
+            found.add(comma + 1)
+    return found
+
+
+def last_comma(body: list[Token], begin: int) -> int:
+    """The last comma of the bracket that begins at a place."""
+    depth = comma = 0
+    for k in range(begin, len(body)):
+        depth += (body[k].text in ("(", "{")) - (body[k].text in (")", "}"))
+        comma = k if body[k].text == "," and depth == 1 else comma
+        if depth == 0:
+            break
+    return comma
+
+
+def bounds_and_constants(source: Source, number: int) -> Iterator[Mutant]:
+    """Each number one more, and one less."""
+    body = source.items[number].body
+    intervals, counts = interval_places(body), count_places(body)
+    for k, token in enumerate(body):
+        if is_number(token):
+            kind = "bound" if k in intervals else "count" if k in counts else "constant"
+            for value in neighbours(body, k, intervals):
+                yield Mutant(kind, Edit(number, k, k + 1, str(value)), source.place(token), *around(body, k, str(value)))
+
+
+def neighbours(body: list[Token], k: int, intervals: dict[int, tuple[int, int]]) -> list[int]:
+    value = int(body[k].text)
+    least, most = 0, GREATEST
+    if k in intervals:
+        low, high = intervals[k]
+        least = int(body[low].text) if k == high and low != high else 0
+        most = int(body[high].text) if k == low and low != high else LATEST
+    return [it for it in (value - 1, value + 1) if least <= it <= most]
+
+
+def around(body: list[Token], k: int, text: str) -> tuple[str, str]:
+    """A number with its interval, or with its comparison, as it is and as it becomes."""
+    first, last = k, k + 1
+    if (found := interval_places(body).get(k)) is not None:
+        first, last = found[0] - 2, found[1] + 2
+    elif k >= 2 and body[k - 1].text in COMPARISONS:
+        first = k - 2
+    elif k + 2 < len(body) and body[k + 1].text in COMPARISONS:
+        last = k + 3
+    words = [token.text for token in body]
+    return written(words[first:last]), written([*words[first:k], text, *words[k + 1 : last]])
+
+
+def written(words: list[str]) -> str:
+    """A few tokens: comparisons with spaces, intervals without."""
+    return (" " if any(word in COMPARISONS for word in words) else "").join(words)
+
+
+def operators(source: Source, number: int) -> Iterator[Mutant]:
+    """Each operator as its neighbour, and each denial left out."""
+    body, tree = source.items[number].body, source.tree(number)
+    for it in tree.each() if tree else ():
+        k = it.sign[0]
+        if it.op == "!":
+            yield Mutant("operator", Edit(number, k, k + 1, ""), source.place(body[k]), "!", "nothing")
+        if it.op == "-" and len(it.parts) == 2:
+            yield Mutant("operator", Edit(number, k, k + 1, "+"), source.place(body[k]), "-", "+")
+        for other in SWAPPED.get(it.op, ()):
+            yield Mutant("operator", Edit(number, k, k + 1, other), source.place(body[k]), it.op, other)
+
+
+def parts(source: Source, requirement: Requirement) -> Iterator[tuple[Expression, int]]:
+    """The formulas that a requirement consists of, below its own operator, with the item of each."""
+    for number in requirement.items():
+        tree = source.tree(number)
+        for it in tree.each() if tree else ():
+            is_whole = number == requirement.number and it.bare() is tree.bare() if tree else False
+            if not is_whole and is_truth(source, number, it):
+                yield it, number
+
+
+def is_truth(source: Source, number: int, it: Expression) -> bool:
+    """Whether an expression is a formula by its operator, or a signal that is a truth."""
+    if it.op in TRUTHS and it.op != "=>":
+        return True
+    body = source.items[number].body
+    signals = {signal.name for signal in source.given.signals if signal.kind == "bool"}
+    return it.op == "" and it.last == it.first + 1 and body[it.first].text in signals
+
+
+def constants(part: Expression, number: int, body: list[Token], place: Place, text: str) -> list[Mutant]:
+    """A part that is true throughout, and one that is false."""
+    return [Mutant("part", Edit(number, part.first, part.last, word), place, text, word) for word in ("true", "false")]

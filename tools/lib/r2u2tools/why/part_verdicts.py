@@ -1,0 +1,187 @@
+"""The verdicts of the parts of a formula, from r2u2 itself.
+
+The text of a program, with each part of one of its outputs as an output, is
+compiled once and watched over rows. Of each part the verdicts of those times
+are kept on which the output may depend.
+"""
+
+from __future__ import annotations
+
+import subprocess
+from dataclasses import dataclass, field
+from pathlib import Path
+from typing import Iterable, Iterator, Optional, Sequence
+
+from r2u2tools.common.compiled import make
+from r2u2tools.common.program_text import Node, ProgramText, Requirement
+from r2u2tools.common.programs import message, program
+from r2u2tools.common.cli import Trouble
+from r2u2tools.common.verdict_lines import Reader
+
+FALSE, TRUE, UNKNOWN = 0, 1, 2
+WORDS = {"T": TRUE, "F": FALSE, "verified": TRUE, "invalid": FALSE, "inactive": FALSE}
+# The outputs of one program weigh at most 65,536; those of a part never weigh more.
+MOST_WEIGHT = 60_000
+MOST_TIMES = 1 << 22
+
+
+@dataclass
+class Part:
+    """The verdicts of a part at the times from `low` to `high`; `known` is the first time that has none."""
+
+    low: int
+    high: int
+    words: bytearray = field(default_factory=bytearray)
+    known: int = 0
+
+    def at(self, time: int) -> int:
+        return self.words[time - self.low]
+
+    def fill(self, first: int, last: int, word: int) -> None:
+        self.known = last + 1
+        low, high = max(first, self.low), min(last, self.high)
+        if low <= high:
+            self.words[low - self.low : high + 1 - self.low] = bytes([word]) * (high - low + 1)
+
+
+class Parts:
+    """The parts of an output below its references, operands first, and how far from a time those rows lie that matter."""
+
+    def __init__(self, shown: ProgramText, told: Requirement) -> None:
+        self.shown, self.told = shown, told
+        below = shown.below(*told.operands())
+        self.refs = [ref for ref in (*shown.signals, "true", *shown.nodes) if ref in below and shown.is_truth(ref)]
+        self.ahead, self.back = self.farthest("U"), self.farthest("S")
+        self.signals = [name for name in shown.signals if name in below]
+
+    def node(self, ref: str) -> Optional[Node]:
+        """The definition of a part; a leaf has none."""
+        return None if self.shown.is_leaf(ref) else self.shown.nodes[ref]
+
+    def farthest(self, op: str) -> int:
+        """How many rows after a time, or before it, those may lie on which the output depends there."""
+        far: dict[str, int] = {}
+        for ref in self.refs:
+            node = self.node(ref)
+            own = node.high if node and node.op == op else 0
+            far[ref] = own + max(far[operand] for operand in node.operands()) if node else 0
+        return max(far[ref] for ref in self.told.operands())
+
+    def first(self, time: int, rows: int) -> int:
+        """The first time whose verdict may keep that of a time back, over so many rows."""
+        return min(time, max(0, rows - self.ahead))
+
+    def spans(self, first: int, last: int) -> dict[str, tuple[int, int]]:
+        """The times of each part that matter to the output from one time to another."""
+        spans = {ref: (first, last) for ref in self.refs}
+        for ref in reversed(self.refs):
+            node, (low, high) = self.node(ref), spans[ref]
+            for operand in node.operands() if node else ():
+                before, after = spans[operand]
+                back = node.high if node and node.op == "S" else 0
+                ahead = node.high if node and node.op == "U" else 0
+                spans[operand] = min(before, max(0, low - back)), max(after, high + ahead)
+        if sum(high - low + 1 for low, high in spans.values()) > MOST_TIMES:
+            raise Trouble(f"{self.told.name} at {last} reads more than {MOST_TIMES} times of its parts: too many to tell")
+        return spans
+
+
+@dataclass
+class Verdicts:
+    """The verdicts of parts over some rows."""
+
+    parts: Parts
+    by_ref: dict[str, Part]
+
+    def at(self, ref: str, time: int) -> int:
+        return self.by_ref[ref].at(time)
+
+    def word(self, time: int) -> Optional[str]:
+        """The word of the output at a time by those of its references; None where they leave it open."""
+        words = [self.at(ref, time) for ref in self.parts.told.operands()]
+        if words[0] == FALSE and len(words) == 2:
+            return "inactive"
+        if UNKNOWN in words:
+            return None
+        return "FT"[words[0]] if len(words) == 1 else ("invalid", "verified")[words[1]]
+
+
+class PartWatch:
+    """Asks r2u2 for the verdicts of all parts, over any rows."""
+
+    def __init__(self, parts: Parts, columns: Sequence[str], folder: Path) -> None:
+        self.parts, self.shown, self.folder = parts, parts.shown, folder
+        self.batches: list[tuple[list[str], Path]] = []
+        header = Path(folder, "parts.csv")
+        header.write_text(f"#{','.join(columns)}\n", encoding="ascii")
+        for number, batch in enumerate(self.cut()):
+            spec, out = Path(folder, f"parts{number}.c2po"), Path(folder, f"parts{number}.obs")
+            spec.write_text(self.text(batch), encoding="ascii")
+            make(spec, out, "--header", str(header))
+            self.batches.append((batch, out))
+
+    def cut(self) -> Iterator[list[str]]:
+        """The parts, so many at a time as one program may have."""
+        weight: dict[str, int] = {}
+        batch: list[str] = []
+        total = 0
+        for ref in self.parts.refs:
+            node = self.parts.node(ref)
+            weight[ref] = 1 + (sum(weight[it] for it in node.operands()) if node else len(self.shown.below(ref)))
+            if batch and total + weight[ref] > MOST_WEIGHT:
+                yield batch
+                batch, total = [], 0
+            batch.append(ref)
+            total += weight[ref]
+        yield batch
+
+    def text(self, batch: list[str]) -> str:
+        """A specification whose output k is part k of a batch."""
+        below, sections = self.shown.below(*batch), self.sections()
+        lines = [f"INPUT {name}: {kind};" for name, kind in self.shown.signals.items()]
+        lines += [f"DEFINE {ref} := {written(node)};" for ref, node in self.shown.nodes.items() if ref in below]
+        lines += [f"{sections[ref]} {ref};" for ref in batch]
+        return "\n".join(lines) + "\n"
+
+    def sections(self) -> dict[str, str]:
+        """Which engine knows of a part: one that looks back is of the past."""
+        past: set[str] = set()
+        for ref in self.parts.refs:
+            node = self.parts.node(ref)
+            if node and (node.op == "S" or past.intersection(node.operands())):
+                past.add(ref)
+        return {ref: "PTSPEC" if ref in past else "FTSPEC" for ref in self.parts.refs}
+
+    def over(self, rows: Iterable[bytes], origin: int, spans: dict[str, tuple[int, int]]) -> Verdicts:
+        """The verdicts over rows, of which the first one is that of the time `origin`."""
+        trace = Path(self.folder, "rows.csv")
+        with open(trace, "wb") as file:
+            file.writelines(rows)
+        found = {ref: Part(low, high, bytearray([UNKNOWN]) * (high - low + 1), origin) for ref, (low, high) in spans.items()}
+        for batch, out in self.batches:
+            self.listen([program("r2u2"), "--runs", str(out), str(trace)], [found[ref] for ref in batch], origin)
+        return Verdicts(self.parts, found)
+
+    def listen(self, words: list[str], parts: list[Part], origin: int) -> None:
+        """Takes the lines of a run until all that was asked for is told, or the run ends."""
+        missing = len(parts)
+        with subprocess.Popen(words, stdout=subprocess.PIPE, stderr=subprocess.PIPE) as run:
+            assert run.stdout and run.stderr
+            for name, first, last, word in Reader("r2u2").stretches(run.stdout):
+                part = parts[int(name)]
+                part.fill(first + origin, last + origin, WORDS[word])
+                missing -= first + origin <= part.high <= last + origin
+                if not missing:
+                    run.kill()
+                    return
+            text = message(run.stderr.read())
+        if run.returncode:
+            raise Trouble(text or f"r2u2 ended with status {run.returncode}")
+
+
+def written(node: Node) -> str:
+    """A definition as the language writes it."""
+    if not node.right:
+        return node.op + node.left
+    window = f"[{node.low},{node.high}]" if node.op in "US" else ""
+    return f"{node.left} {node.op}{window} {node.right}"

@@ -1,0 +1,110 @@
+"""The rows of a trace that the windows of one verdict reach: the others are passed over."""
+
+from __future__ import annotations
+
+from dataclasses import dataclass, field
+from typing import BinaryIO, Iterable, Iterator, Optional, Sequence
+
+from r2u2tools.common.cli import Trouble, opened
+from r2u2tools.common.specs import Signal
+from r2u2tools.common.streams import lines_of
+from r2u2tools.common.traces import LONGEST, header_of, places_of, stamp_of
+
+BLANK = b" \t\r"
+
+
+@dataclass
+class Line:
+    """A row of a file: its number there, the first and the last time for which it holds, and its fields as one text."""
+
+    number: int
+    first: int
+    last: int
+    text: bytes
+
+
+@dataclass
+class TraceWindow:
+    """The rows that hold from one time to another. `rows` is the first time without one, or the first after what was read."""
+
+    path: str
+    header: Optional[bytes] = None
+    lines: list[Line] = field(default_factory=list)
+    rows: int = 0
+    stamped: bool = False
+
+    def since(self, first: int) -> Iterator[tuple[int, bytes]]:
+        """One row for each time from `first` on, with its number in the file."""
+        for line in self.lines:
+            for _ in range(max(first, line.first), line.last + 1):
+                yield line.number, line.text + b"\n"
+
+    def places(self, signals: Sequence[Signal]) -> dict[str, int]:
+        """Where the field of each signal stands in a row."""
+        names = [signal.name for signal in signals]
+        if self.header is None:
+            return {signal.name: signal.column for signal in signals}
+        return dict(zip(names, places_of(header_of(self.header), names)))
+
+
+class Cells:
+    """The fields of a window by signal and time."""
+
+    def __init__(self, window: TraceWindow, signals: Sequence[Signal]) -> None:
+        self.rows, self.places = window.rows, window.places(signals)
+        self.by_time: dict[int, list[str]] = {}
+        for line in window.lines:
+            fields = [it.strip(" \t\r") for it in line.text.decode("utf-8", "replace").split(",")]
+            if len(fields) <= max(self.places.values(), default=-1):
+                raise Trouble(f"{window.path}: line {line.number}: too few fields")
+            self.by_time.update(dict.fromkeys(range(line.first, line.last + 1), fields))
+
+    def value(self, name: str, time: int) -> str:
+        return self.by_time[time][self.places[name]]
+
+
+def rows_of(file: BinaryIO, window: TraceWindow, timed: bool) -> Iterator[tuple[int, int, bytes]]:
+    """The number, the time and the fields of each row; the header goes into the window."""
+    time = -1
+    for number, line in lines_of(file, LONGEST):
+        if number == 1 and line[:1] == b"#":
+            window.header = line
+        elif line.strip(BLANK):
+            if timed:
+                at, line = stamp_of(line, number)
+                if at <= time or (time < 0 and at):
+                    raise Trouble(f"line {number}: times not rising")
+                time = at
+            else:
+                window.stamped = window.stamped or line[:1] == b"@"
+                time += 1
+            window.rows = time + 1
+            yield number, time, line
+
+
+def kept_rows(rows: Iterable[tuple[int, int, bytes]], low: int, high: int) -> Iterator[Line]:
+    """The rows that hold at a time from `low` to `high`, each once it is known how long it holds."""
+    before: Optional[tuple[int, int, bytes]] = None
+    for row in rows:
+        if before and row[1] > low:
+            yield Line(before[0], max(low, before[1]), min(high, row[1] - 1), before[2])
+        before = row
+        if row[1] > high:
+            return
+    if before and before[1] >= low:
+        yield Line(before[0], before[1], before[1], before[2])
+
+
+def read_window(path: str, low: int, high: int, timed: bool) -> TraceWindow:
+    """The rows of a file, or of the standard input for `-`, from `low` to `high`; what follows isn't read."""
+    window = TraceWindow(path)
+    try:
+        with opened(path) as file:
+            window.lines = list(kept_rows(rows_of(file, window, timed), low, high))
+    except Trouble as trouble:
+        text = str(trouble)
+        raise Trouble(text if text.startswith("cannot") else f"{path}: {text}") from None
+    if window.stamped:
+        raise Trouble(f"{path}: the rows have stamps: give --timed")
+    window.rows = min(window.rows, high + 1)
+    return window
