@@ -1,0 +1,3 @@
+/* A program as embed/constant writes it. */
+#include <stdint.h>
+static const uint8_t bus_program[] = {77, 76, 84, 76};

@@ -1,0 +1,12 @@
+/* What statements on a page use without declaring it. */
+#ifndef PAGE_H
+#define PAGE_H
+
+#include "arena.h"
+#include "r2u2.h"
+
+extern const uint8_t program[];
+extern const size_t program_count;
+void report_fault(const char *text);
+
+#endif
