@@ -1,6 +1,6 @@
 //! The host over files and the standard streams: the edge at which the system is trusted.
 
-ghost use Rattle.std.specs.Prelude.{◌≡◌, ◌<◌, length, IfOk, ◌≤◌};
+ghost use Rattle.std.specs.Prelude.{◌≡◌, ◌<◌, length, IfOk, ◌≤◌, None, IsErr, is_some};
 ghost use Rattle.std.specs.Io.{ReadsAtMost, WritesAtMost};
 ghost use Rattle.tool_io.specs.Host.{IsSource, IsSink, AttachCause, AttachLog, ReadRange, ReadCause, ReadLog, ReadLeft, WriteRange, WriteCause, WriteLog, LeftElsewhere, LeftAlone};
 ghost use Rattle.tool_io.specs.RealHost.{new_edge, faults_of, no_log, none_left, after_attach, Reads, after_write};
@@ -19,9 +19,14 @@ enum Stream {
     Standard,
     /// A file.
     At(File),
+    /// The end of a file, which is closed.
+    Ended,
 }
 
 /// A host over the system's files and standard streams. The name `-` is the place's standard stream.
+///
+/// A file that was read to its end is closed, so that its descriptor isn't taken for the standard input of a program that
+/// was started without one.
 ///
 /// It counts a fault at each error of the system, at a write that takes nothing, and at a read of a place that isn't
 /// attached. It shows neither a log nor what is left.
@@ -93,7 +98,28 @@ fn read_from(stream: &Stream, rt: HostRuntime, into: &mut [u8]) -> io::Result<us
             let mut file: &File = file;
             file.read(into)
         }
+        Stream::Ended => Ok(0),
     }
+}
+
+/// One read of a place, whose file is closed where the read meets its end.
+fn read_place(
+    place: &mut Option<Stream>,
+    rt: HostRuntime,
+    into: &mut [u8],
+) -> io::Result<usize>
+    ensures reads { ReadsAtMost result into.new }
+    ensures attached { is_some place.new ≡ is_some place.old }
+    ensures unattached { place.old ≡ None → IsErr result }
+{
+    let Some(stream) = place else {
+        return Err(io::Error::from(io::ErrorKind::NotFound));
+    };
+    let count = read_from(stream, rt, into)?;
+    if let (0, Stream::At(_)) = (count, &stream) {
+        *stream = Stream::Ended;
+    }
+    Ok(count)
 }
 
 /// One write to a stream, which for `Err` is the standard error where it is a standard one.
@@ -104,6 +130,7 @@ fn write_to(stream: &Stream, rt: HostRuntime, place: Place, piece: &[u8]) -> io:
         (Stream::At(file), _) => send(file, piece),
         (Stream::Standard, Place::Err) => send(rt.stderr(), piece),
         (Stream::Standard, _) => send(rt.stdout(), piece),
+        (Stream::Ended, _) => Ok(0),
     }
 }
 
@@ -155,15 +182,11 @@ impl Host for RealHost {
             (none_left self.old place) (none_left self.new place) into.new }
         ensures elsewhere { LeftElsewhere (none_left self.old) (none_left self.new) place }
     {
-        let stream = match place {
-            Place::Spec => &self.spec,
-            Place::Header => &self.header,
-            Place::Program => &self.program,
-            _ => &self.trace,
-        };
-        let answer = match stream {
-            Some(stream) => read_from(stream, self.rt, into),
-            None => Err(io::Error::from(io::ErrorKind::NotFound)),
+        let answer = match place {
+            Place::Spec => read_place(&mut self.spec, self.rt, into),
+            Place::Header => read_place(&mut self.header, self.rt, into),
+            Place::Program => read_place(&mut self.program, self.rt, into),
+            _ => read_place(&mut self.trace, self.rt, into),
         };
         match answer {
             Ok(0) => Got::End,
