@@ -3,6 +3,7 @@
 # make embed TARGET=aarch64   the same for that processor, into build/aarch64/
 # make check-embed            builds and runs what lies in embed/ and examples/embed/, for both processors, or for TARGET alone
 # make python                 build/libr2u2.so, which embed/python/r2u2.py and tools/budget call
+# make wheel                   a wheel for pip, of the Python module and the shared object
 # make deb                    a Debian package of all that `make install` installs
 #
 # LIBRARY=FILE takes an archive that was built before, of TARGET, in the place of proving and building one.
@@ -35,7 +36,7 @@ TARGET_READELF = $(TARGET)-linux-gnu-readelf
 RUN = qemu-$(TARGET)
 endif
 
-.PHONY: embed check-embed measure-stack python built-embed install-embed uninstall-embed deb
+.PHONY: embed check-embed measure-stack python wheel built-embed install-embed uninstall-embed deb
 .PHONY: $(addprefix check-,installed misra symbols misuse arena bytes flight bare grants stack frameworks frameworks-cpp cpp rust python)
 
 embed:
@@ -197,10 +198,18 @@ python: $(SHARED_OBJECT)
 $(SHARED_OBJECT): $(EMBED)/libr2u2.a
 	$(CC) -shared -Wl,--whole-archive $(EMBED)/libr2u2.a -Wl,--no-whole-archive $(EMBED)/libr2u2_heap.a -o $@
 
+# For pip: the module with its library.
+wheel: python
+	@python3 embed/python/wheel $(SHARED_OBJECT) $(VERSION) build
+
 check-python: python | $(TRIES)
 	@if command -v python3 > /dev/null; then set -e; \
 	  R2U2_LIBRARY=$(abspath build/libr2u2.so) PYTHONDONTWRITEBYTECODE=1 python3 embed/python/grants.py $(GRANT) > $(TRIES)/python.out; \
 	  cmp $(TRIES)/python.out $(EXPECTED); \
+	  rm -rf $(TRIES)/wheel && mkdir $(TRIES)/wheel; \
+	  wheel=$$(python3 embed/python/wheel $(SHARED_OBJECT) $(VERSION) $(TRIES)/wheel); \
+	  (cd $(TRIES)/wheel && python3 -m zipfile -e $$(basename $$wheel) .); \
+	  PYTHONPATH=$(TRIES)/wheel PYTHONDONTWRITEBYTECODE=1 python3 -c 'import r2u2; assert r2u2.version() > 0'; \
 	else echo 'check-embed: no python3, so the example in Python is passed over'; fi
 
 INSTALLED_LIBRARIES = libr2u2.a libr2u2_heap.a

@@ -1,15 +1,20 @@
-"""The monitor in Python, by ctypes over libr2u2.so, which `make python` builds.
+"""The monitor in Python, by ctypes over libr2u2.so, which `make python` builds and `make wheel` packs.
 
     with Monitor(open("grant.bin", "rb").read(), "#request,grant") as monitor:
         for report in monitor.watch([[1, 0], [0, 1]]):
             print(report)
 
-The object is the one that the variable R2U2_LIBRARY names, else libr2u2.so as the system finds it.
+The library is the one that the variable R2U2_LIBRARY names, otherwise the one next to this file, otherwise libr2u2.so as the
+system finds it. Rows are sequences of integers, or buffers of 64-bit integers such as array("q") and numpy's int64, which
+aren't copied.
 """
 
 import ctypes
+import functools
+import html
 import os
-from typing import NamedTuple
+from collections.abc import Iterable, Iterator, Sequence
+from typing import Any, NamedTuple, Optional, Union
 
 WORDS = ("F", "T", "inactive", "invalid", "verified")
 DONE, NOT_OPEN, ALREADY_OPEN, REFUSED, NO_MEMORY, REPORTS_LEFT, NOT_A_ROW, TOO_MANY_ROWS, NO_REPORT = range(9)
@@ -35,10 +40,10 @@ class _Report(ctypes.Structure):
 
 
 class Error(Exception):
-    """A code above 0. `fault` has kind, part, place and text where a program was refused, and `column` is that of a
-    number that doesn't fit."""
+    """A code above 0. `fault` has kind, part, place and text where a program was refused; `column` is that of a number
+    that doesn't fit."""
 
-    def __init__(self, code, text="", fault=None, column=None):
+    def __init__(self, code: int, text: str = "", fault: "Optional[Fault]" = None, column: Optional[int] = None) -> None:
         super().__init__(text or CODES[code])
         self.code, self.fault, self.column = code, fault, column
 
@@ -55,7 +60,7 @@ class Report(NamedTuple):
     time: int
     word: str
 
-    def __str__(self):
+    def __str__(self) -> str:
         return f"{self.name}:{self.time},{self.word}"
 
 
@@ -65,27 +70,67 @@ class Signal(NamedTuple):
     is_truth: bool
 
 
-def _unless_done(code, fault):
+class Table(dict[str, list[str]]):
+    """The words of each output by name, one for each decided time; a notebook shows it as a table."""
+
+    def _repr_html_(self) -> str:
+        times = max((len(words) for words in self.values()), default=0)
+        head = "".join(f"<th>{time}</th>" for time in range(times))
+        rows = (
+            f"<tr><th>{html.escape(name)}</th>" + "".join(f"<td>{word}</td>" for word in words) + "</tr>"
+            for name, words in self.items()
+        )
+        return f"<table><tr><th>output</th>{head}</tr>{''.join(rows)}</table>"
+
+
+Row = Union[Sequence[int], "memoryview", Any]
+
+
+def _numbers(row: Row) -> "tuple[Any, int]":
+    """The numbers of a row as C has them, and their count: a buffer of 64-bit integers as it is, others copied."""
+    try:
+        view = memoryview(row)
+    except TypeError:
+        view = None
+    if view is not None and view.format in ("q", "l") and view.itemsize == 8 and view.ndim == 1 and view.c_contiguous:
+        count = len(view)
+        if not count or view.readonly:
+            return (ctypes.c_int64 * max(count, 1))(*view), count
+        return (ctypes.c_int64 * count).from_buffer(view), count
+    numbers = list(row)
+    for k, number in enumerate(numbers):
+        if not -2**63 <= number < 2**63:
+            raise Error(NOT_A_ROW, f"no number that fits in column {k + 1}", column=k)
+    return (ctypes.c_int64 * max(len(numbers), 1))(*numbers), len(numbers)
+
+
+def _unless_done(code: int, fault: _Fault) -> None:
     if code:
         text = fault.text.decode()
         told = Fault(fault.kind, fault.part, fault.place, text) if code == REFUSED else None
         raise Error(code, text, fault=told)
 
 
-def bytes_of(program):
-    """How many bytes a monitor of this program holds while it is open."""
+def bytes_of(program: bytes) -> int:
+    """Returns how many bytes a monitor of this program holds while it is open."""
     found, fault, program = ctypes.c_uint64(), _Fault(), bytes(program)
     _unless_done(_library().r2u2_bytes(program, len(program), found, fault), fault)
-    return found.value
+    return int(found.value)
 
 
-def version():
-    """The version of the library: 10,000, 100 and 1 times its three numbers."""
-    return _library().r2u2_version()
+def version() -> int:
+    """Returns the version of the library: 10,000, 100 and 1 times its three numbers."""
+    return int(_library().r2u2_version())
 
 
-def _library():
-    library = ctypes.CDLL(os.environ.get("R2U2_LIBRARY", "libr2u2.so"))
+def _path() -> str:
+    beside = os.path.join(os.path.dirname(os.path.abspath(__file__)), "libr2u2.so")
+    return os.environ.get("R2U2_LIBRARY") or (beside if os.path.isfile(beside) else "libr2u2.so")
+
+
+@functools.lru_cache(maxsize=None)
+def _loaded(path: str) -> Any:
+    library = ctypes.CDLL(path)
     it, size, number = ctypes.POINTER(_Struct), ctypes.c_size_t, ctypes.c_uint32
     fault, chars = ctypes.POINTER(_Fault), ctypes.c_char_p
     calls = {
@@ -106,26 +151,31 @@ def _library():
         "reset": (number, [it]),
         "close": (None, [it]),
     }
-    for name, (answer, words) in calls.items():
+    for name, (result, arguments) in calls.items():
         call = getattr(library, f"r2u2_{name}")
-        call.restype, call.argtypes = answer, words
+        call.restype, call.argtypes = result, arguments
     return library
 
 
-class Monitor:
-    """A monitor of the program that these bytes spell, under a header where one is given. One thread uses it at a time. It
-    is closed by `close`, or at the end of a `with`."""
+def _library() -> Any:
+    return _loaded(_path())
 
-    def __init__(self, program, header=None):
+
+class Monitor:
+    """A monitor of a compiled program, under a header where one is given. One thread uses it at a time. It is closed by
+    `close`, or at the end of a `with`."""
+
+    def __init__(self, program: bytes, header: Optional[str] = None) -> None:
         self._call = _library()
         self._it = _Struct()
+        self._fault = _RowFault()
         fault = _Fault()
         program = bytes(program)
         if header is None:
             code = self._call.r2u2_open(self._it, program, len(program), fault)
         else:
-            header = header.encode()
-            code = self._call.r2u2_open_under(self._it, program, len(program), header, len(header), fault)
+            line = header.encode()
+            code = self._call.r2u2_open_under(self._it, program, len(program), line, len(line), fault)
         _unless_done(code, fault)
         self.width = self._call.r2u2_width(self._it)
         outputs = range(self._call.r2u2_outputs(self._it))
@@ -134,70 +184,68 @@ class Monitor:
         self.steps = self._call.r2u2_steps(self._it)
         self.signals = [self._signal(k) for k in range(self._call.r2u2_signals(self._it))]
 
-    def _name(self, k):
+    def _name(self, k: int) -> str:
         buffer = ctypes.create_string_buffer(65)
         self._call.r2u2_name(self._it, k, buffer, len(buffer))
         return buffer.value.decode()
 
-    def _signal(self, k):
+    def _signal(self, k: int) -> Signal:
         buffer, column, kind = ctypes.create_string_buffer(65), ctypes.c_uint32(), ctypes.c_uint32()
         self._call.r2u2_signal(self._it, k, column, kind, buffer, len(buffer))
         return Signal(buffer.value.decode(), column.value, kind.value == 1)
 
     @property
-    def rows(self):
+    def rows(self) -> int:
         """How many rows were taken."""
         return self._call.r2u2_rows(self._it)
 
-    def row(self, numbers):
-        """Takes a row. The reports of the row before have all been given."""
-        numbers = list(numbers)
-        for k, number in enumerate(numbers):
-            if not -2**63 <= number < 2**63:
-                raise Error(NOT_A_ROW, f"no number that fits in column {k + 1}", column=k)
-        row, fault = (ctypes.c_int64 * max(len(numbers), 1))(*numbers), _RowFault()
-        code = self._call.r2u2_row(self._it, row, len(numbers), fault)
+    def row(self, numbers: Row) -> None:
+        """Takes a row. All reports of the row before have to be asked for first."""
+        row, count = _numbers(numbers)
+        fault = self._fault
+        code = self._call.r2u2_row(self._it, row, count, fault)
         if code == NOT_A_ROW:
             raise Error(code, f"no number that fits in column {fault.column + 1}", column=fault.column)
         if code:
             raise Error(code)
 
-    def reports(self, runs=False):
-        """The reports of the rows so far that weren't given yet: of each time, or of each longest stretch of one word."""
+    def reports(self, runs: bool = False) -> Iterator[Report]:
+        """Yields the reports of the rows so far that weren't returned yet: of each time, or of each longest run of one word."""
         report = _Report()
         while (code := self._call.r2u2_next(self._it, int(runs), report)) == DONE:
             yield Report(self.names[report.output], report.time, WORDS[report.word])
         if code == NOT_OPEN:
             raise Error(code)
 
-    def watch(self, rows, runs=False):
-        """Takes rows one by one, and gives the reports of each before the next is asked for."""
+    def watch(self, rows: Iterable[Row], runs: bool = False) -> Iterator[Report]:
+        """Takes rows one by one, and yields the reports of each before it takes the next."""
         for row in rows:
             self.row(row)
             yield from self.reports(runs)
 
-    def table(self, rows):
-        """The words of each output for the times that the rows decide: a dict of lists by name."""
-        words = {name: [] for name in self.names}
+    def table(self, rows: Iterable[Row]) -> Table:
+        """Returns the words of each output for the times that the rows decide, by name."""
+        words = Table((name, []) for name in self.names)
         for report in self.watch(rows):
             words[report.name].append(report.word)
         return words
 
-    def reset(self):
-        """Begins again: it has taken no rows, and has no report to give. It keeps its program and its memory."""
+    def reset(self) -> None:
+        """Resets the monitor to its state before the first row, in the memory that it has."""
         code = self._call.r2u2_reset(self._it)
         if code:
             raise Error(code)
 
-    def close(self):
+    def close(self) -> None:
+        """Closes the monitor, and frees its memory."""
         self._call.r2u2_close(self._it)
 
-    def __enter__(self):
+    def __enter__(self) -> "Monitor":
         return self
 
-    def __exit__(self, *_):
+    def __exit__(self, *_: object) -> None:
         self.close()
 
-    def __del__(self):
+    def __del__(self) -> None:
         if hasattr(self, "_it"):
             self.close()
