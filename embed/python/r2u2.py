@@ -86,7 +86,7 @@ class Table(dict[str, list[str]]):
 Row = Union[Sequence[int], "memoryview", Any]
 
 
-def _numbers(row: Row) -> "tuple[Any, int]":
+def _numbers(row: Any) -> "tuple[Any, int]":
     """The numbers of a row as C has them, and their count: a buffer of 64-bit integers as it is, others copied."""
     try:
         view = memoryview(row)
@@ -197,7 +197,7 @@ class Monitor:
     @property
     def rows(self) -> int:
         """How many rows were taken."""
-        return self._call.r2u2_rows(self._it)
+        return int(self._call.r2u2_rows(self._it))
 
     def row(self, numbers: Row) -> None:
         """Takes a row. All reports of the row before have to be asked for first."""
