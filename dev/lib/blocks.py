@@ -14,7 +14,7 @@ The word after the three backticks says what a block is:
 
 `title="NAME"` makes a file of the block, in a folder that all blocks of a page
 share. `needs="NAME"` skips a block where no program has the name; the name
-`library` is build/x86_64/libr2u2.a.
+`library` is build/x86_64/libr2u2.a, `libr2u2.so` the shared object of build/.
 """
 
 import ast
@@ -58,7 +58,7 @@ class Place:
     def has(self, need: str) -> bool:
         if need == "library":
             return all((self.root / "build/x86_64" / name).exists() for name in ("libr2u2.a", "libr2u2_heap.a"))
-        if need in ("so", "bytes"):
+        if need == "libr2u2.so":
             return (self.root / "build/libr2u2.so").exists()
         return shutil.which(need) is not None
 
@@ -118,6 +118,7 @@ def run_console(block: Block, folder: Path, place: Place) -> Iterator[str]:
         script += f"printf '\\n%s\\n' '{MARK}{number}'\n(exit $code)\n{command}\ncode=$?\n"
     environment = {key: value for key, value in os.environ.items() if key not in ("R2U2", "C2PO")}
     environment.update({name.upper(): path for name, path in place.programs.items() if path})
+    environment["PATH"] = f"{folder / '.bin'}:{environment.get('PATH', '')}"
     environment.update(LC_ALL="C.UTF-8", PYTHONDONTWRITEBYTECODE="1", COLUMNS="80")
     ran = subprocess.run(
         ["bash", "-c", "exec 2>&1\n" + script], cwd=folder, env=environment, stdin=subprocess.DEVNULL,
@@ -167,12 +168,23 @@ class Session:
             if entry.name not in ("build", ".git"):
                 (folder / entry.name).symlink_to(entry)
         (folder / "build").mkdir()
+        self.link_installed(folder / ".bin")
         for name, path in place.programs.items():
             if path:
                 (folder / "build" / name).symlink_to(path)
         for name in ("x86_64", "libr2u2.so"):
             if (place.root / "build" / name).exists():
                 (folder / "build" / name).symlink_to(place.root / "build" / name)
+
+    def link_installed(self, folder: Path) -> None:
+        """The names under which `make install` puts programs and tools on the path."""
+        folder.mkdir()
+        for name, path in self.place.programs.items():
+            if path:
+                (folder / name).symlink_to(path)
+        for tool in (self.place.root / "tools").iterdir():
+            if tool.is_file():
+                (folder / f"r2u2-{tool.name}").symlink_to(tool)
 
     def keep(self, block: Block) -> Path:
         """The file of a block: that of its title, or one that no page names."""
