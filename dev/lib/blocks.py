@@ -2,7 +2,8 @@
 
 The word after the three backticks says what a block is:
 
-  console   commands after `$ `, with what they print; a line `...` stands for any lines
+  console   commands after `$ `, with what they print; `> ` begins a further line of a command,
+            and a line `...` is any lines
   c2po      a specification, which has to compile
   csv       a trace, which the specification before it takes
   c, cpp    a listing, which has to compile over include/, embed/ and dev/stubs/
@@ -14,7 +15,7 @@ The word after the three backticks says what a block is:
 
 `title="NAME"` makes a file of the block, in a folder that all blocks of a page
 share. `needs="NAME"` skips a block where no program has the name; the name
-`library` is build/x86_64/libr2u2.a.
+`library` is build/x86_64/libr2u2.a, `libr2u2.so` the shared object of build/.
 """
 
 import ast
@@ -46,6 +47,7 @@ class Block:
     kind: str
     marks: Dict[str, str]
     text: str
+    shown: Optional[str] = None
 
 
 @dataclasses.dataclass
@@ -58,7 +60,7 @@ class Place:
     def has(self, need: str) -> bool:
         if need == "library":
             return all((self.root / "build/x86_64" / name).exists() for name in ("libr2u2.a", "libr2u2_heap.a"))
-        if need in ("so", "bytes"):
+        if need == "libr2u2.so":
             return (self.root / "build/libr2u2.so").exists()
         return shutil.which(need) is not None
 
@@ -94,8 +96,8 @@ def commands_of(text: str) -> List[List[str]]:
             found[-1].append(line)
             continue
         command = line[2:]
-        while lines and (command.endswith("\\") or lines[0].startswith("> ")):
-            command += "\n" + lines.pop(0).removeprefix("> ") if hasattr(str, "removeprefix") else "\n" + lines.pop(0)[2:]
+        while lines and lines[0].startswith("> "):
+            command += "\n" + lines.pop(0)[2:]
         found.append([command])
     return found
 
@@ -106,32 +108,41 @@ def agree(wanted: List[str], given: List[str]) -> bool:
     return re.fullmatch(form, "".join(line.rstrip() + "\n" for line in given)) is not None
 
 
-def run_console(block: Block, folder: Path, place: Place) -> Iterator[str]:
-    """Runs the commands of a block in one shell, and compares what each prints."""
-    try:
-        commands = commands_of(block.text)
-    except ValueError as error:
-        yield str(error)
-        return
+def run_commands(commands: List[List[str]], folder: Path, place: Place) -> List[List[str]]:
+    """Runs the commands of a block in one shell; the lines that each prints."""
     script = "code=0\n"
     for number, (command, *_) in enumerate(commands):
         script += f"printf '\\n%s\\n' '{MARK}{number}'\n(exit $code)\n{command}\ncode=$?\n"
     environment = {key: value for key, value in os.environ.items() if key not in ("R2U2", "C2PO")}
     environment.update({name.upper(): path for name, path in place.programs.items() if path})
+    environment["PATH"] = f"{folder / '.bin'}:{environment.get('PATH', '')}"
     environment.update(LC_ALL="C.UTF-8", PYTHONDONTWRITEBYTECODE="1", COLUMNS="80")
     ran = subprocess.run(
         ["bash", "-c", "exec 2>&1\n" + script], cwd=folder, env=environment, stdin=subprocess.DEVNULL,
         stdout=subprocess.PIPE, stderr=subprocess.STDOUT, encoding="utf-8", errors="replace", timeout=SECONDS,
     )
     parts = re.split(rf"\n{re.escape(MARK)}\d+\n", ran.stdout)[1:]
-    for number, (command, *wanted) in enumerate(commands):
-        given = parts[number].split("\n") if number < len(parts) else ["(the shell ended before)"]
-        while given and given[-1] == "":
-            given.pop()
+    given = [part.rstrip("\n").split("\n") if part.strip("\n") else [] for part in parts]
+    return given + [["(the shell ended before)"]] * (len(commands) - len(given))
+
+
+def run_console(block: Block, folder: Path, place: Place) -> Iterator[str]:
+    """Runs the commands of a block, and compares what each prints; the block gets the lines that they print."""
+    try:
+        commands = commands_of(block.text)
+    except ValueError as error:
+        yield str(error)
+        return
+    shown = ""
+    for (command, *wanted), given in zip(commands, run_commands(commands, folder, place)):
         while wanted and wanted[-1] == "":
             wanted.pop()
-        if not agree(wanted, given):
+        is_shown = agree(wanted, given)
+        lines = wanted if is_shown else given
+        shown += "$ " + command.replace("\n", "\n> ") + "\n" + "".join(f"{line}\n" for line in lines)
+        if not is_shown:
             yield f"$ {command}\nprints\n" + "\n".join(given)
+    block.shown = shown
 
 
 def run_tool(words: List[str], text: str = "", cwd: Optional[Path] = None) -> Iterator[str]:
@@ -167,12 +178,23 @@ class Session:
             if entry.name not in ("build", ".git"):
                 (folder / entry.name).symlink_to(entry)
         (folder / "build").mkdir()
+        self.link_installed(folder / ".bin")
         for name, path in place.programs.items():
             if path:
                 (folder / "build" / name).symlink_to(path)
         for name in ("x86_64", "libr2u2.so"):
             if (place.root / "build" / name).exists():
                 (folder / "build" / name).symlink_to(place.root / "build" / name)
+
+    def link_installed(self, folder: Path) -> None:
+        """The names under which `make install` puts programs and tools on the path."""
+        folder.mkdir()
+        for name, path in self.place.programs.items():
+            if path:
+                (folder / name).symlink_to(path)
+        for tool in (self.place.root / "tools").iterdir():
+            if tool.is_file():
+                (folder / f"r2u2-{tool.name}").symlink_to(tool)
 
     def keep(self, block: Block) -> Path:
         """The file of a block: that of its title, or one that no page names."""
@@ -242,23 +264,34 @@ def strange(block: Block) -> Iterator[str]:
         yield f"{block.kind or 'nothing'} says what this block is"
 
 
-def check_page(page: Path, text: str, place: Place) -> List[str]:
+def rewrite(page: Path, text: str, blocks: List[Block]) -> None:
+    """Puts what commands print into a page."""
+    for block in blocks:
+        if block.shown is not None and block.shown != block.text:
+            text = text.replace(f"\n{block.text}```", f"\n{block.shown}```", 1)
+    page.write_text(text, encoding="utf-8")
+
+
+def check_page(page: Path, text: str, place: Place, write: bool = False) -> List[str]:
     """The faults of all blocks of a page; a text `skipped: WHY` for each that was passed over."""
     name, found = page.relative_to(place.root), []
+    blocks = blocks_of(page, text)
     with tempfile.TemporaryDirectory() as folder:
         session = Session(place, Path(folder))
-        for block in blocks_of(page, text):
+        for block in blocks:
             try:
                 for fault in [*strange(block), *session.faults(block)]:
                     found.append(f"{name}:{block.line}: {fault}")
             except (OSError, ValueError, subprocess.TimeoutExpired) as error:
                 found.append(f"{name}:{block.line}: {error}")
+    if write:
+        rewrite(page, text, blocks)
     return found + [f"skipped: {why}" for why in session.skipped]
 
 
-def check(root: Path, texts: Dict[Path, str]) -> List[str]:
-    """The faults of the blocks of all pages, pages side by side."""
+def check(root: Path, texts: Dict[Path, str], write: bool = False) -> List[str]:
+    """The faults of the blocks of all pages, pages side by side; with `write` outputs are put into the pages."""
     place = place_of(root)
     with concurrent.futures.ThreadPoolExecutor(os.cpu_count() or 1) as pool:
-        done = pool.map(lambda it: check_page(it[0], it[1], place), texts.items())
+        done = pool.map(lambda it: check_page(it[0], it[1], place, write), texts.items())
     return [fault for faults in done for fault in faults]

@@ -50,7 +50,7 @@ class Pages(unittest.TestCase):
     def test_help(self):
         ran = subprocess.run([sys.executable, str(ROOT / "dev/pages"), "--help"], capture_output=True, encoding="utf-8")
         self.assertEqual((ran.returncode, ran.stderr), (0, ""))
-        self.assertIn("usage: dev/pages [--unrun]\n", ran.stdout)
+        self.assertIn("usage: dev/pages [--unrun | --write]\n", ran.stdout)
 
     def told(self):
         ran = subprocess.run([sys.executable, str(self.top / "dev/pages"), "--unrun"], capture_output=True, encoding="utf-8")
