@@ -1,13 +1,13 @@
 """tools/timeline: squares, bars, marks, the page in a browser, and quick answers."""
 
 import os
+import pty
 import re
-import shutil
 import subprocess
 import sys
-import unittest
 import xml.etree.ElementTree as ElementTree
 
+import chromium
 from support import ROOT, TOOLS, Case, program, shell, spent, tool
 
 from r2u2tools.timeline import html_page
@@ -29,14 +29,6 @@ tick:5,T
 """
 GRANT = ["--spec", ROOT / "examples/grant.c2po", "--trace", ROOT / "examples/grant.csv", "--ticks", "tick"]
 SVG = "{http://www.w3.org/2000/svg}"
-
-
-def browser():
-    """A chromium, or the test is skipped."""
-    for name in ("chromium", "chromium-browser", "google-chrome"):
-        if shutil.which(name):
-            return shutil.which(name)
-    raise unittest.SkipTest("no chromium: apt-get install chromium")
 
 
 class Pictures(Case):
@@ -203,9 +195,7 @@ class Page(Pictures):
 
     def opened(self, path, place=""):
         """The document as the browser has it after the page's start."""
-        command = [browser(), "--headless", "--no-sandbox", "--disable-gpu", f"--user-data-dir={self.folder}/profile"]
-        command += ["--window-size=1200,600", "--dump-dom", f"file://{path}{place}"]
-        return subprocess.run(command, stdout=subprocess.PIPE, stderr=subprocess.DEVNULL, encoding="utf-8", timeout=250).stdout
+        return chromium.Page(self, f"file://{path}{place}").run("document.documentElement.outerHTML")
 
     def told(self, document):
         """What the page tells of the row under the pointer, without marks."""
@@ -217,7 +207,7 @@ class Page(Pictures):
         return tuple(int(re.search(rf'data-{name}="(\d+)"', document)[1]) for name in ("ready", "shapes"))
 
     def test_grant(self):
-        browser()
+        chromium.path()
         path = self.file("page.html", self.made("--html", *GRANT, give=TICKS))
         document = self.opened(path, "#find=granted")
         self.assertEqual(self.told(document), "row 2 request 1 grant 0 granted F, told with 5 (+3)".split())
@@ -226,13 +216,13 @@ class Page(Pictures):
         self.assertIn("granted: request -&gt; F[0,3] grant", document)
 
     def test_names_that_look_like_a_page(self):
-        browser()
+        chromium.path()
         trace = self.file("trace", "# </script><b>x\n1\n")
         path = self.file("page.html", self.made("--html", "--trace", trace, give="f:0,F\n"))
         self.assertEqual(self.told(self.opened(path, "#row=0")), "row 0 &lt;/script&gt;&lt;b&gt;x 1 f F".split())
 
     def test_a_million_rows_open_within_three_seconds(self):
-        browser()
+        chromium.path()
         trace = self.folder / "trace"
         with trace.open("w") as file:
             file.write("# p,q,x\n")
@@ -255,6 +245,209 @@ class Page(Pictures):
         self.assertGreater(shapes, 1000)
         told = self.told(self.opened(path, "#row=777777&find=f"))
         self.assertEqual(told[:2], ["row", "777,779"])
+
+
+class Handled(Pictures):
+    """The page in the hands of a reader."""
+
+    def page(self, *words, give="", place="", made=None):
+        """The page of a command, opened."""
+        chromium.path()
+        path = self.file("page.html", made or self.made("--html", *words, give=give))
+        return chromium.Page(self, f"file://{path}{place}")
+
+    def many(self, lanes, rows=60):
+        """Lines of many outputs, each with its own row of F."""
+        return "".join(f"f{k}:{t},{'F' if t == k % rows else 'T'}\n" for k in range(lanes) for t in range(rows))
+
+    def colours(self, page, x=None):
+        """The colours of the dots of the canvas, as texts."""
+        script = """(() => {
+            const data = pen.getImageData(0, 0, canvas.width, canvas.height).data, found = new Set();
+            for (let k = 0; k < data.length; k += 4) { if (data[k + 3]) { found.add([...data.slice(k, k + 4)].join()); } }
+            return [...found];
+        })()"""
+        return set(page.run(script))
+
+    def hexes(self, page, *names):
+        """Colours of the palette, as the canvas has them."""
+        texts = [page.run(f"colours['{name}']") for name in names]
+        return {",".join(str(int(text[k : k + 2], 16)) for k in (1, 3, 5)) + ",255" for text in texts}
+
+    def test_many_lanes_scroll_by_wheel(self):
+        page = self.page(give=self.many(1500))
+        self.assertGreater(page.run("shapes"), 100)
+        self.assertLessEqual(page.run("canvas.height"), 600 * page.run("ratio"))
+        self.assertEqual(page.run("document.querySelector('#names button').textContent"), "f0")
+        span = page.run("[low, high]")
+        page.wheel(600, 400, down=3200)
+        page.until("scroller.scrollTop > 3000 && shapes > 100")
+        names = page.run("[...document.querySelectorAll('#names button')].map((one) => one.textContent)")
+        self.assertTrue(40 < int(names[0][1:]) < 140 and len(names) < 40, names)
+        self.assertEqual(page.run("[low, high]"), span)
+        page.run("scroller.scrollTop = 1e9")
+        page.until("document.querySelector('#names').textContent.includes('f1499')")
+        self.assertGreater(page.run("shapes"), 100)
+        self.assertIn(next(iter(self.hexes(page, "false"))), self.colours(page))
+
+    def test_wheel_moves_and_zooms(self):
+        page = self.page(give=self.many(3, 1000))
+        page.wheel(600, 300, down=-300, modifiers=2)
+        page.until("high - low < 501")
+        low = page.run("low")
+        page.wheel(600, 300, across=300)
+        page.until(f"low > {low} + 1")
+        page.wheel(600, 300, down=-300, modifiers=8)
+        page.until(f"low < {low} + 1e-6")
+
+    def test_touch_scrolls_moves_and_zooms(self):
+        page = self.page(give=self.many(200, 1000))
+        page.ask("Emulation.setTouchEmulationEnabled", enabled=True, maxTouchPoints=5)
+        page.touch(*[[(600, 500 - 20 * k)] for k in range(16)])
+        page.until("scroller.scrollTop > 50")
+        self.assertEqual(page.run("[low, high]"), [0, 1000])
+        page.touch(*[[(500 - 10 * k, 400), (700 + 10 * k, 400)] for k in range(11)])
+        page.until("high - low < 600")
+        low = page.run("low")
+        page.touch(*[[(700 - 20 * k, 400)] for k in range(11)])
+        page.until(f"low > {low} + 10")
+
+    def test_colours_do_not_mix(self):
+        """At a place between two dots each dot has one colour, and an F between is seen."""
+        lines = "f:9,T\nf:10,F\nf:1999,T\ng:4,T\ng:1999,F\n"
+        page = self.page(give=lines)
+        page.run("label = () => {}")
+        for low, high in ((0, 2000), (0.37, 700.91), (3.3, 99.7), (1.1, 1303.7)):
+            page.run(f"show({low}, {high})")
+            self.assertLessEqual(self.colours(page), self.hexes(page, "true", "false"))
+            row = page.run("""(() => {
+                const data = pen.getImageData(0, Math.round((entries[0].y + 3) * ratio), canvas.width, 1).data;
+                let count = 0;
+                for (let k = 0; k < data.length; k += 4) { count += data[k] > data[k + 2]; }
+                return count;
+            })()""")
+            self.assertGreaterEqual(row, 1, (low, high))
+
+    def test_next_f_goes_from_stretch_to_stretch(self):
+        page = self.page(give="f:9,T\nf:12,F\nf:13,F\nf:20,T\nf:30,F\nf:40,T\ng:11,T\ng:15,F\ng:40,T\n")
+        found = []
+        for key in "nnnnppp":
+            page.key(key)
+            page.run("0")
+            found.append(page.run("pinned"))
+        self.assertEqual(found, [10, 12, 21, 21, 12, 10, 10])
+        page.run("at('which').value = 'f'")
+        page.key("n")
+        self.assertEqual(page.run("pinned"), 21)
+
+    def test_a_title_is_a_text(self):
+        for title in ("@DATA@", "@{data}", "@{title}", "@TITLE@", "</title><script>document.x = 1</script>", "a\x07b $x"):
+            page = self.page("--title", title, give="f:3,F\n")
+            self.assertEqual(page.run("document.querySelector('h1').textContent"), title.replace("\x07", "\ufffd"))
+            self.assertEqual(page.run("document.title"), title.replace("\x07", "\ufffd"))
+            self.assertIsNone(page.run("document.x ?? null"))
+
+    def test_legend_units_ranges_and_texts(self):
+        spec = self.file("spec", "INPUT up: bool; alt: int; FTSPEC low: up -> F[0,1] (alt <= 3000); c: up => up;")
+        trace = self.file("trace", "# alt,up\n" + "".join(f"{k * 50},1\n" for k in range(100)))
+        words = ["--spec", spec, "--trace", trace, "--unit", "alt=m", "--rate", "10"]
+        page = self.page(*words, give="low:3,T\nlow:9,F\nc:3,inactive\nc:5,verified\n")
+        legend = page.run("at('legend').textContent")
+        for word in ("true", "false", "inactive", "verified", "undecided"):
+            self.assertIn(word, legend)
+        self.assertEqual(page.run("[...document.querySelectorAll('#names button')].map((one) => one.textContent)"),
+                         ["up", "alt [m]0 to 4,950", "low", "c"])
+        page.run("document.querySelectorAll('#names button')[2].click()")
+        self.assertEqual(page.run("at('requirement').textContent"), "low: up -> F[0,1] (alt <= 3000)")
+        self.assertIn("up -> F[0,1]", page.run("document.querySelectorAll('#names button')[2].title"))
+        page.run("tell(5)")
+        self.assertIn("row 5 (0.5 s)", page.run("at('told').textContent"))
+        self.assertIn("alt 250 m", page.run("at('told').textContent"))
+
+    def test_a_click_pins_and_leads_to_why(self):
+        page = self.page(*GRANT, give=TICKS)
+        lane = page.run("({ x: left + x(2.5) / ratio, y: entries[2].y + 5 + scroller.getBoundingClientRect().top })")
+        page.click(lane["x"], lane["y"])
+        self.assertEqual(page.run("[pinned, at('reason').hidden]"), [2, False])
+        told = page.run("at('why').textContent")
+        self.assertRegex(told, r"/why \S+/examples/grant.c2po \S+/examples/grant.csv granted:2$")
+        page.mouse("mouseMoved", lane["x"] + 300, lane["y"])
+        self.assertIn("granted F", page.run("at('told').textContent"))
+        page.key("Escape")
+        self.assertEqual(page.run("[pinned, at('reason').hidden]"), [None, True])
+        stamped = self.file("stamped", "# request,grant\n@0,1,0\n@7,0,0\n")
+        page = self.page(*GRANT[:2], "--trace", stamped, give="granted:3,F\n", place="#row=3")
+        self.assertIn("why --timed ", page.run("at('why').textContent"))
+
+    def test_roles_and_labels(self):
+        page = self.page(*GRANT, give=TICKS)
+        nodes = page.ask("Accessibility.getFullAXTree")["nodes"]
+        found = {(node["role"]["value"], node.get("name", {}).get("value")) for node in nodes if not node.get("ignored")}
+        for one in (("image", "1 outputs and 2 signals, row 0 to 5"), ("toolbar", "View"), ("button", "next F"), ("textbox", "row"),
+                    ("combobox", "Output to search"), ("region", "Signals and outputs"), ("button", "granted"), ("heading", "granted: request -> F[0,3] grant")):
+            self.assertIn(one, {(role.replace("img", "image"), name) for role, name in found})
+        for role, name in found:
+            if role in ("button", "textbox", "combobox", "image", "region", "toolbar"):
+                self.assertTrue(name, role)
+
+    def test_dark_mode(self):
+        page = self.page(give="f:99,F\n")
+        light = page.run("getComputedStyle(document.body).backgroundColor")
+        before = self.colours(page)
+        page.ask("Emulation.setEmulatedMedia", features=[{"name": "prefers-color-scheme", "value": "dark"}])
+        self.assertNotEqual(page.run("getComputedStyle(document.body).backgroundColor"), light)
+        self.assertIn(next(iter(self.hexes(page, "false"))), self.colours(page))
+        self.assertNotEqual(self.colours(page), before)
+
+
+def luminance(text):
+    """The relative luminance of a colour, as WCAG defines it."""
+    parts = [int(text[k : k + 2], 16) / 255 for k in (1, 3, 5)]
+    red, green, blue = [part / 12.92 if part <= 0.03928 else ((part + 0.055) / 1.055) ** 2.4 for part in parts]
+    return 0.2126 * red + 0.7152 * green + 0.0722 * blue
+
+
+class Contrast(Case):
+    def test_every_text_of_the_page(self):
+        """At least 4.5 to 1, in light and in dark."""
+        style = html_page.PAGE.read_text(encoding="utf-8").partition("</style>")[0]
+        for block in re.findall(r":root \{(.*?)\}", style, re.S):
+            colours = dict(re.findall(r"--([a-z-]+): (#[0-9a-f]{6})\b", block))
+            pairs = [(ink, "back") for ink in ("ink", "faint", "bad")] + [("ink", "pale"), ("ink", "curve")]
+            pairs += [(f"{word}-ink", word) for word in ("true", "false", "idle", "open")]
+            for ink, back in pairs:
+                one, other = sorted((luminance(colours[ink]), luminance(colours[back])))
+                self.assertGreaterEqual((other + 0.05) / (one + 0.05), 4.5, (ink, back, colours[ink], colours[back]))
+
+
+class Large(Case):
+    def test_a_million_rows_in_ten_seconds_and_200_mb(self):
+        trace, lines = self.folder / "trace", self.folder / "lines"
+        with trace.open("w") as file:
+            file.write("# p,q,x\n")
+            file.writelines(f"{k // 3 % 2},{k // 5 % 2},{k * 7919 % 4099}\n" for k in range(1000000))
+        with lines.open("w") as file:
+            file.writelines(f"f:{k},{'TTF'[k % 3]}\ntick:{k},T\n" if k % 4 else f"tick:{k},T\n" for k in range(1000000))
+        script = "import resource, subprocess, sys; subprocess.run(sys.argv[1:], check=True); u = resource.getrusage(resource.RUSAGE_CHILDREN); print(u.ru_maxrss, u.ru_utime)"
+        words = [sys.executable, TOOLS / "timeline", "--html", "--trace", trace, "--ticks", "tick", "-o", self.folder / "page.html", lines]
+        ran = subprocess.run([sys.executable, "-c", script, *map(str, words)], stdout=subprocess.PIPE, encoding="utf-8", check=True)
+        kilobytes, seconds = map(float, ran.stdout.split())
+        print(f"{seconds:.1f} s, {kilobytes / 1024:.0f} MB ... ", end="", flush=True)
+        self.assertLess(kilobytes, 200 * 1024)
+        if seconds >= 10 and os.getloadavg()[0] > os.cpu_count():
+            self.skipTest(f"{seconds:.1f} s, which says little: {os.getloadavg()[0]:.0f} processes want {os.cpu_count()} processors")
+        self.assertLess(seconds, 10)
+
+    def test_progress_on_a_terminal(self):
+        head, tail = pty.openpty()
+        lines = self.file("lines", "".join(f"f:{k},{'TF'[k % 2]}\n" for k in range(60000)))
+        words = [sys.executable, str(TOOLS / "timeline"), "--html", "-o", str(self.folder / "x.html"), str(lines)]
+        ran = subprocess.run(words, stderr=tail, stdin=subprocess.DEVNULL)
+        os.close(tail)
+        told = os.read(head, 4096).decode()
+        os.close(head)
+        self.assertEqual(ran.returncode, 0)
+        self.assertRegex(told, r"reading verdicts: [\d.]+ MB")
 
 
 class Real(Pictures):

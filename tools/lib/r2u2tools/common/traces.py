@@ -13,6 +13,7 @@ from r2u2tools.common.cli import Trouble, opened
 
 LONGEST = 65536
 LATEST = 1 << 40
+MOST_KNOWN = 1 << 16
 
 
 class Runs:
@@ -85,6 +86,8 @@ class Filler:
         self.places = places
         self.columns = [Runs() for _ in places]
         self.row, self.fields, self.time, self.stamps = None, None, -1, None
+        # Equal fields as one text, so that a long trace takes little memory.
+        self.known = {}
 
     def close(self, last):
         """The fields of the row before hold up to this time."""
@@ -107,11 +110,18 @@ class Filler:
         self.time = time
 
     def chosen(self, number, line):
-        fields = line.decode("utf-8", "replace").split(",")
+        fields = line.split(b",")
         try:
-            return [fields[place].strip(" \t\r") for place in self.places]
+            return [self.known.get(fields[place]) or self.text(fields[place]) for place in self.places]
         except IndexError:
             raise Trouble(f"line {number}: too few fields") from None
+
+    def text(self, raw):
+        """A field as a text, without blanks around it."""
+        text = raw.decode("utf-8", "replace").strip(" \t\r")
+        if len(self.known) < MOST_KNOWN:
+            self.known[raw] = text
+        return text
 
 
 def places_of(names, wanted):

@@ -4,8 +4,23 @@ import json
 from base64 import b64encode
 from html import escape
 from pathlib import Path
+from string import Template
+
+from r2u2tools.common.cli import plain
+from r2u2tools.common.progress import Progress
 
 PAGE = Path(__file__).resolve().parent / "page.html"
+
+
+class PageTemplate(Template):
+    """A page with places as @{title}; each is filled once, whatever the texts hold."""
+
+    delimiter = "@"
+    idpattern = "(?!)"
+    braceidpattern = "[a-z]+"
+    pattern = r"""
+    @(?:(?P<escaped>(?!))|(?P<named>(?!))|\{(?P<braced>[a-z]+)\}|(?P<invalid>(?!)))
+    """
 
 
 def pack(out, number):
@@ -16,19 +31,24 @@ def pack(out, number):
     out.append(number)
 
 
+def code(number):
+    """A number packed by itself."""
+    out = bytearray()
+    pack(out, number)
+    return bytes(out)
+
+
 def packed(runs, first, last):
     """Runs between two times: the values that occur, and for each run its length and the place of its value."""
-    places, out = {}, bytearray()
-    for begin, end, value in runs.between(first, last):
-        place = places.setdefault(value, len(places))
-        length = end - begin + 1
-        if length < 128 and place < 128:
-            out.append(length)
-            out.append(place)
-        else:
-            pack(out, length)
-            pack(out, place)
-    return {"values": list(places), "runs": b64encode(out).decode("ascii")}
+    codes, out, after = {}, bytearray(), first
+    for _, end, value in runs.between(first, last):
+        place = codes.get(value)
+        if place is None:
+            place = codes[value] = code(len(codes))
+        length, after = end + 1 - after, end + 1
+        out += SHORT[length] if length < len(SHORT) else code(length)
+        out += place
+    return {"values": list(codes), "runs": b64encode(out).decode("ascii")}
 
 
 def packed_told(lane, first, last):
@@ -61,18 +81,40 @@ def packed_stamps(model):
     return b64encode(out).decode("ascii")
 
 
+SHORT = [code(length) for length in range(1024)]
+
+
+def column_data(column, model):
+    """A column for the page; its runs aren't needed any more."""
+    kept = {"name": column.name, "kind": column.kind, **packed(column.runs, model.first, model.last)}
+    column.runs = None
+    return kept | ({"unit": model.units[column.name]} if column.name in model.units else {})
+
+
+def lane_data(lane, model):
+    """An output for the page; its runs aren't needed any more."""
+    kept = {"name": lane.name, **packed(lane.words, model.first, model.last)}
+    kept["told"] = packed_told(lane, model.first, model.last)
+    lane.words = lane.told = None
+    return kept | ({"text": lane.text} if lane.text else {})
+
+
 def data(model):
-    first, last = model.first, model.last
-    columns = [{"name": it.name, "kind": it.kind, **packed(it.runs, first, last)} for it in model.columns]
-    lanes = [
-        {"name": lane.name, **packed(lane.words, first, last), "told": packed_told(lane, first, last)}
-        for lane in model.lanes.values()
-    ]
-    kept = {"title": model.title, "axis": model.axis(), "first": first, "last": last}
-    return kept | {"columns": columns, "lanes": lanes, "stamps": packed_stamps(model)}
+    """All that the page shows, lane by lane, so that little is held twice."""
+    kept = {"title": plain(model.title), "axis": model.axis(), "first": model.first, "last": model.last}
+    kept |= {"stamps": packed_stamps(model), "why": model.why, "rate": model.rate, "columns": [], "lanes": []}
+    progress = Progress()
+    for column in model.columns:
+        progress.tell(f"packing {column.name}")
+        kept["columns"].append(column_data(column, model))
+    for lane in model.lanes.values():
+        progress.tell(f"packing {lane.name}")
+        kept["lanes"].append(lane_data(lane, model))
+    progress.done()
+    return kept
 
 
 def html(model):
     text = json.dumps(data(model), ensure_ascii=True).replace("<", "\\u003c")
-    page = PAGE.read_text(encoding="utf-8")
-    return page.replace("@TITLE@", escape(model.title or "timeline")).replace("@DATA@", text)
+    page = PageTemplate(PAGE.read_text(encoding="utf-8"))
+    return page.substitute(title=escape(plain(model.title or "timeline")), data=text)

@@ -1,6 +1,9 @@
 """A run of r2u2 for a timeline: over the same trace, with one output more that is told with every row."""
 
+import shlex
+import sys
 import tempfile
+from pathlib import Path
 from types import SimpleNamespace
 
 from r2u2tools.common.rerun import as_text, fresh, made
@@ -16,6 +19,13 @@ def title_of(spec):
     return text if len(text) <= 100 and "--" not in text else ""
 
 
+def why_command(spec, trace, timed):
+    """The beginning of the command that explains a verdict of a run; its end is the output and the time."""
+    tool = Path(sys.argv[0])
+    words = [str(tool.with_name(tool.name.replace("timeline", "why"))), *["--timed"] * timed, spec, trace]
+    return " ".join(shlex.quote(str(word)) for word in words)
+
+
 def run(words, model, every):
     """Takes a run into the model; where r2u2 fails, the lines before that, and its message is returned."""
     command = Command(words)
@@ -28,8 +38,8 @@ def run(words, model, every):
         ticks = fresh(spec, "tick")
         text = f"{spec.text}\nFTSPEC {ticks}: true;\n"
         file = made(given, text, folder, "timeline")
-        for output in given.outputs:
-            model.lane(output.name)
+        model.take_spec(given)
+        model.why = why_command(told.file, told.trace, "--timed" in told.flags)
         model.title = title_of(given) if not given.is_program() else ""
         take_trace(model, told.trace, given.signals, every)
         again = Command([command.words[0], *told.with_file(file, not given.is_program())], quiet=True)
