@@ -45,5 +45,10 @@ fn are_16777216_rows_at_most(rt: HostRuntime) {
     let sixteen = matches!(delay_over(rt.alloc(), 16), Ok(Some(16_777_216)));
     assert!(rt; sixteen);
     let seventeen = delay_over(rt.alloc(), 17);
-    assert!(rt; matches!(seventeen, Err(FileFault::Program(ProgramFault::TooLate(17)))));
+    assert!(rt;
+        matches!(
+            seventeen,
+            Err(FileFault::Program(ProgramFault::TooLate(17)))
+        )
+    );
 }
