@@ -4,7 +4,7 @@ _r2u2_options() {
     case $1 in
         r2u2) echo --source --runs --timed --mission-time --demo --help ;;
         c2po) echo --header --output --table --simplify --upgrade --show --help ;;
-        r2u2-budget) echo --rate --top --json --max-slots --max-steps --max-delay --max-bytes --help ;;
+        r2u2-budget) echo --rate --top --json --max-slots --max-steps --max-reports --max-delay --max-bytes --help ;;
         r2u2-timeline) echo --html --trace --spec --all-columns --from --to --ticks --title -o --help ;;
         r2u2-trace) echo --spec --columns --names --rename --scale --map --round --time --rate --start --stamps --hold \
             --delimiter -o --help ;;
@@ -16,7 +16,7 @@ _r2u2_options() {
 # Options before a word that is neither a file nor an option.
 _r2u2_takes_a_word() {
     case $1 in
-        --mission-time | --demo | --rate | --top | --max-slots | --max-steps | --max-delay | --max-bytes | --from | --to | --ticks | --title) ;;
+        --mission-time | --demo | --rate | --top | --max-slots | --max-steps | --max-reports | --max-delay | --max-bytes | --from | --to | --ticks | --title) ;;
         --columns | --names | --rename | --scale | --map | --round | --time | --start | --delimiter | --ignore | --log) ;;
         *) return 1 ;;
     esac

@@ -18,11 +18,11 @@ DEFINE near := x - y < 3 && p; late := F[0,5] near;
 FTSPEC a: near -> late; b: q => late;
 PTSPEC d: O[2,9] (x - y < 3);
 """
-TEXT = """       bz  ft  pt  slots  boxes          delay  steps
-whole   7   9   3     39      2  5 rows, 0.5 s    336
-a       6   8   0     33      0  5 rows, 0.5 s    296
-b       7   6   0     21      0  5 rows, 0.5 s    160
-d       5   0   3      0      2    0 rows, 0 s      8
+TEXT = """       bz  ft  pt  slots  boxes          delay  steps  reports
+whole   7   9   3     39      2  5 rows, 0.5 s    336       13
+a       6   8   0     33      0  5 rows, 0.5 s    296        6
+b       7   6   0     21      0  5 rows, 0.5 s    160        6
+d       5   0   3      0      2    0 rows, 0 s      8        1
 
 bytes are left out: no nowhere.so: `make python` builds it, and R2U2_LIBRARY may name another
 
@@ -75,6 +75,7 @@ class Figures(Case):
             self.assertTrue(all(it[key] <= whole[key] for it in outputs), key)
             self.assertLessEqual(whole[key], sum(it[key] for it in outputs), key)
         self.assertEqual(whole["delay"], max(it["delay"] for it in outputs))
+        self.assertEqual(whole["reports"], sum(it["reports"] for it in outputs))
 
     def test_the_table_of_each_example(self):
         program("c2po")
@@ -134,8 +135,9 @@ class Limits(Case):
         return status, errors
 
     def test_each_limit(self):
-        self.assertEqual(self.over("--max-slots", 22, "--max-steps", 196, "--max-delay", 3), (0, ""))
+        self.assertEqual(self.over("--max-slots", 22, "--max-steps", 196, "--max-reports", 4, "--max-delay", 3), (0, ""))
         self.assertEqual(self.over("--max-slots", 21), (1, "budget: 22 slots and boxes, above 21\n"))
+        self.assertEqual(self.over("--max-reports", 3), (1, "budget: 4 reports in one row, above 3\n"))
         self.assertEqual(self.over("--max-steps", 195), (1, "budget: 196 steps in one row, above 195\n"))
         self.assertEqual(self.over("--max-delay", 2), (1, "budget: granted: a delay of 3 rows, above 2\n"))
 

@@ -8,3 +8,4 @@ pub mod Settled
 pub mod Alike
 pub mod Fitting
 pub mod Delays
+pub mod FewReports

@@ -13,8 +13,9 @@ ghost use Rattle.ft_engine.specs.Standing.{lowest_at, width_of};
 ghost use Rattle.contract_status.specs.Open.{known_counts_of};
 ghost use Rattle.trace_feed.specs.Rows.{reading_of};
 ghost use Rattle.r2u2_monitor.specs.declared.state.State.{State as Shown};
+ghost use Rattle.r2u2_monitor.specs.Bursts.{OpensFew};
 ghost use Rattle.r2u2_monitor.specs.Bytes.{bytes_of, monitor_bytes};
-ghost use Rattle.r2u2_monitor.specs.Monitoring.{IsDrained, IsSound, Stands, open_of, places_of, program_of, room_total_of, slot_total_of, slots_of};
+ghost use Rattle.r2u2_monitor.specs.Monitoring.{IsDrained, IsSound, Stands, TakesRow, open_of, places_of, program_of, room_total_of, slot_total_of, slots_of};
 ghost use Rattle.r2u2_monitor.specs.RowFaults.{FitsColumn};
 
 /// Each future-time instruction has the slots that are stored for it, which are as many as it needs.
@@ -92,6 +93,12 @@ pub fn reports_come_in_time()
         Stands monitor rows → IsDrained monitor
         → slice_get (outputs (program_of monitor)) k ≡ Some o
         → length rows ≤ slice_index (places_of monitor) k + delay o }
+{}
+
+/// A row brings at most as many reports as `most_reports` says of the program, in either style.
+pub fn rows_bring_few_reports()
+    ensures { (row : Row) (before after : Shown) → TakesRow row before after
+        → OpensFew row before after }
 {}
 
 /// Numbers are a row of a program exactly where there is one for each column, and each column can hold its number.

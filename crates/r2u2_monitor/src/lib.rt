@@ -4,6 +4,7 @@
 //! program that it is loaded with, and the call that binds a program to the columns of a header, [`bind_to_header`].
 #![tactic(auto)]
 
+mod bursts;
 pub mod bytes;
 pub mod laws;
 mod monitor;
@@ -14,6 +15,7 @@ mod running;
 mod state;
 mod unfit;
 
+pub use bursts::most_reports;
 pub use bytes::monitor_bytes;
 pub use mltl_base::{Report, Style, Word};
 pub use monitor::Monitor;

@@ -57,6 +57,7 @@ impl Monitor {
     ghost use Rattle.mltl_base.specs.Lines.{line};
     ghost use Rattle.mltl_base.specs.Programs.{IsFit, output_names};
     ghost use Rattle.r2u2_monitor.specs.Bytes.{bytes_of, monitor_bytes};
+    ghost use Rattle.r2u2_monitor.specs.Bursts.{OpensFew};
     ghost use Rattle.r2u2_monitor.specs.Running.{row_work};
     ghost use Rattle.trace_feed.specs.Rows.{Tells, line_meaning};
     ghost use Rattle.r2u2_monitor.specs.TakingLines.{TakesLine};
@@ -119,6 +120,7 @@ impl Monitor {
     #[tactic(auto, using(crate::proofs::Fitting::unready))]
     pub fn take(&mut self, row: &[i64]) -> Result<(), RowFault>
         ensures takes { OnOk result (TakesRow row.now self.old self.new) }
+        ensures few { OnOk result (OpensFew row.now self.old self.new) }
         ensures ready { IsOk result ↔ IsReady self.old row.now }
         ensures cause { IfErr result (λ fault. IsRowCause fault self.old row.now) }
         ensures same { OnErr result (self.new ≡ self.old) }
@@ -155,12 +157,14 @@ impl Monitor {
         self.advance(row, &mut Steps::<L>::start(blank));
     }
 
-    /// Takes the next row, of one number for each column. Its steps are the reads and writes of queues and boxes.
+    /// Takes the next row, of one number for each column. Its steps are the reads and writes of queues and boxes. It brings
+    /// at most as many reports as `most_reports` says.
     pub fn advance<L: Ledger>(&mut self, fields: &[i64], steps: &mut Steps<L>)
         requires drained { IsDrained self.old }
         requires early { taken_by self.old < MAX_MISSION }
         requires fit { IsFit (program_of self.old) fields.now }
         ensures takes { TakesRow fields.now self.old self.new }
+        ensures few { OpensFew fields.now self.old self.new }
         ensures counted { steps.new ≤ steps.old + row_work (program_of self.old) }
     {
         self.state.last.as_mut_slice().copy_from_slice(fields);

@@ -16,11 +16,12 @@ NO_LINE = (*NO_OPERANDS, "load")
 
 @dataclass(frozen=True)
 class Instruction:
-    """A line of the table. `reads` are the places of its operands, and `size` its slots or boxes."""
+    """A line of the table. `reads` are the places of its operands, `best` and `worst` its delays, `size` its slots or boxes."""
 
     part: str
     op: str
     reads: tuple
+    best: int
     worst: int
     size: int
     operand: str
@@ -61,10 +62,13 @@ class Costs:
         """The slots of future time, or the boxes of past time."""
         return sum(self.all[place].size for place in places if place[0] == part)
 
-    def delay(self, name=None):
-        """The worst-case delay in rows, of an output or of all; past time has none."""
-        roots = self.roots[name] if name else [place for it in self.roots.values() for place in it]
-        return max((self.all[place].worst for place in roots), default=0)
+    def delay(self, name):
+        """The worst-case delay of an output in rows; past time has none."""
+        return max(self.all[place].worst for place in self.roots[name])
+
+    def reports(self, name):
+        """The most reports of an output in one row, as `most_over` states them over the delays of what it tells."""
+        return self.delay(name) - self.all[self.roots[name][0]].best + 1
 
     def steps(self, places):
         return sum(self.work(self.all[place]) for place in places)
@@ -108,7 +112,7 @@ def instruction(line):
     part, op = line["engine"], line["operation"]
     sides = [] if op in NO_OPERANDS else [side for side in (line["left"], line["right"]) if side]
     reads = tuple(("bz" if op == "load" else part, int(side)) for side in sides)
-    return Instruction(part, op, reads, int(line["worst"] or 0), int(line["size"] or 0), line["left"])
+    return Instruction(part, op, reads, int(line["best"] or 0), int(line["worst"] or 0), int(line["size"] or 0), line["left"])
 
 
 def refs_of(found, text, columns):

@@ -3,6 +3,8 @@ use Rattle.fixed_list.specs.Lending.{with_members}
 use Rattle.fixed_list.proofs.Members.{with_members_is}
 use Rattle.trace_feed.specs.Readings.{readings_of}
 use Rattle.r2u2_monitor.specs.declared.state.State.{State}
+use Rattle.r2u2_monitor.specs.Bursts.{OpensFew}
+use Rattle.r2u2_monitor.proofs.FewReports.{running_few}
 use Rattle.r2u2_monitor.proofs.Keeping.{sound_after}
 use Rattle.r2u2_monitor.proofs.monitor.Monitor.advance.Goals as goal
 
@@ -18,3 +20,9 @@ invariant_of-self g c =
       λ rows future past count known. c.start-self-inside.ensures c.take.new.self.checked rows c.take.new.self.outs,
       c.self.invariant.2 ∙ ap readings_of (sym c.take.ensures.takes.program),
     )
+
+pub returns-clause-few : goal.returns-clause-few
+returns-clause-few g c =
+    let monitor : State = c.self.inside.state in
+    let after : State = record { running = c.take.new.self; last = with_members monitor.last c.copy_from_slice.new.self; read = monitor.read } in
+    subst (λ (m : State). OpensFew c.args.fields.now m after) c.self.view_is (running_few c.args.fields.now monitor after c.take.ensures.takes)
