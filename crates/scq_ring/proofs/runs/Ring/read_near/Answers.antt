@@ -1,7 +1,7 @@
 use Rattle.std.proofs.Common.{arith}
 use Rattle.scq_ring.specs.Runs.{frontier_of}
 use Rattle.scq_ring.proofs.RunLemmas.{verdict_newest}
-use Rattle.scq_ring.proofs.runs.Ring.read.Goals as goal
+use Rattle.scq_ring.proofs.runs.Ring.read_near.Goals as goal
 
 pub returns-then-self-from-2-clause-seen : goal.returns-then-self-from-2-clause-seen
 unfolding frontier_of
