@@ -2,7 +2,7 @@
 
 ghost use Rattle.std.specs.Prelude.{◌≡◌, ◌≢◌, ℕ, ◌+◌, ◌-◌, ◌^◌, ◌<◌, ◌≤◌, max, length, List, nat_lt, if◌then◌else◌};
 ghost use Rattle.mltl_base.specs.declared.limits.TheConstants.{TIME_END};
-ghost use Rattle.scq_ring.specs.Runs.{Belongs, IsAround, IsClear, IsClosed, IsTurned, KeepsNewest, Shows, frontier_of, low_of, ring_index_of, runs_of, upto_at, verdict_at};
+ghost use Rattle.scq_ring.specs.Runs.{Belongs, IsAround, IsClear, IsClosed, IsTurned, KeepsNewest, Shows, TakesRun, frontier_of, low_of, ring_index_of, runs_of, runs_to, upto_at, verdict_at};
 ghost use Rattle.scq_ring.specs.declared.runs.Slot.{Slot};
 
 use crate::steps::Steps;
@@ -140,6 +140,7 @@ impl Ring {
         requires belongs { Belongs self.now slots.now }
         requires kept { low_of self.now ≤ from }
         ensures seen { Shows self.now slots.now from result }
+        ensures takes { TakesRun self.now slots.now from result }
         ensures step { steps.new ≡ steps.old + 1 }
     {
         let mut near = self.used;
@@ -161,6 +162,7 @@ impl Ring {
         requires belongs { Belongs self.now slots.now }
         requires kept { low_of self.now ≤ from }
         ensures seen { Shows self.now slots.now from result }
+        ensures takes { TakesRun self.now slots.now from result }
         ensures step { steps.new ≡ steps.old + 1 }
     {
         steps.tick();
@@ -246,6 +248,8 @@ impl Ring {
         ensures verdict { (t : ℕ) → from ≤ t → t ≤ result.upto
             → verdict_at self.now slots.now t ≡ result.value }
         ensures ends { verdict_at self.now slots.now (result.upto + 1) ≢ result.value }
+        ensures takes { runs_to (result.upto + 1) (runs_of self.now slots.now) + 1
+            ≤ runs_to from (runs_of self.now slots.now) }
     {
         let (mut first, mut last) = self.around(slots, from, *near);
         'halving: while first < last {
