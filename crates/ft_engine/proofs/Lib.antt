@@ -1,3 +1,4 @@
+pub mod Costs
 pub mod Going
 pub mod KleeneLaws
 pub mod Making

@@ -1,11 +1,11 @@
 -- What is known of an operand, and what an operator has decided.
-use Rattle.std.specs.Prelude.{◌≡◌, ℕ, ◌-◌, ◌<◌, ◌≤◌, max, min, List, length, Some, None, IsSome, ⊤}
+use Rattle.std.specs.Prelude.{◌≡◌, ℕ, ◌+◌, ◌-◌, ◌<◌, ◌≤◌, max, min, List, length, Some, None, IsSome, ⊤}
 use Rattle.mltl_base.specs.Verdicts.{Known}
 use Rattle.scq_ring.specs.declared.Ring.{Ring}
 use Rattle.scq_ring.specs.declared.Slot.{Slot}
 use Rattle.scq_ring.specs.declared.Seen.{Seen}
 use Rattle.scq_ring.specs.declared.Seen.TheVariants.{Run, Nothing}
-use Rattle.scq_ring.specs.Runs.{Belongs, frontier_of, low_of, verdict_at}
+use Rattle.scq_ring.specs.Runs.{Belongs, frontier_of, low_of, runs_from, verdict_at}
 use Rattle.ft_engine.specs.declared.operand.Operand.{Operand}
 
 -- what is known ends at the ring's frontier, and from the low time on the ring has it
@@ -56,3 +56,13 @@ IsWithin from end Nothing = ⊤
 abbrev pub IsStoppedAfter : ℕ → ℕ → Seen → Type 0
 IsStoppedAfter end from (Run upto v) = ⊤
 IsStoppedAfter end from Nothing = end ≤ from
+
+-- how many runs of an operand end at or after a time
+abbrev pub operand_runs : Operand → ℕ → ℕ
+operand_runs operand from = runs_from operand.ring.now operand.slots.now from
+
+-- where a run is shown, one run less of the two operands ends after it than at or after its first time, at least
+abbrev pub TakesOne : Operand → Operand → ℕ → Seen → Type 0
+TakesOne left right from (Run upto v) =
+    operand_runs left (upto + 1) + operand_runs right (upto + 1) + 1 ≤ operand_runs left from + operand_runs right from
+TakesOne left right from Nothing = ⊤

@@ -1,5 +1,5 @@
 -- What an until knows of its operands between two decisions.
-use Rattle.std.specs.Prelude.{◌≡◌, ℕ, ◌+◌, ◌*◌, ◌-◌, ◌<◌, ◌≤◌, ◌⊎◌, max, min, true, false, List, Some, None}
+use Rattle.std.specs.Prelude.{◌≡◌, ℕ, ◌+◌, ◌*◌, ◌-◌, ◌<◌, ◌≤◌, ◌⊎◌, max, min, true, false, List, Some, None, nat_lt, if◌then◌else◌}
 use Rattle.mltl_base.specs.declared.limits.TheConstants.{TIME_END}
 use Rattle.mltl_base.specs.declared.interval.Interval.{Interval}
 use Rattle.mltl_base.specs.Verdicts.{Known, k_until}
@@ -10,7 +10,7 @@ use Rattle.ft_engine.specs.declared.until.Reading.{Reading}
 use Rattle.ft_engine.specs.declared.until.Turn.{Turn}
 use Rattle.ft_engine.specs.declared.until.Turn.TheVariants.{Look, Decide, Stop}
 use Rattle.ft_engine.specs.declared.until.Until.{Until}
-use Rattle.ft_engine.specs.Decisions.{Decides, IsReadable, ShownBy}
+use Rattle.ft_engine.specs.Decisions.{Decides, IsReadable, ShownBy, operand_runs}
 
 -- From the lower end of the window of time t on, the right operand is false before `seen`, and the left one true before
 -- `reads_at`.
@@ -52,6 +52,19 @@ abbrev pub row_steps : Until → ℕ → Ring → Ring → ℕ
 row_steps until reads_at old new =
     3 * (max reads_at (frontier_of until.right.ring.now) - reads_at) + (frontier_of new - frontier_of old) + 2
 
+-- The most steps of a row by the runs that the operands hold from the reading time on: two for each run of the left
+-- operand, four for each one of the right operand, and three.
+abbrev pub steps_by_runs : Until → ℕ → ℕ
+steps_by_runs until reads_at = 2 * operand_runs until.left reads_at + 4 * operand_runs until.right reads_at + 3
+
+-- The most steps that are left of a row, with a queue up to time t: two for each run of the left operand from the reading
+-- time on and four for each run of the right one that isn't seen, two where what is seen is ahead, one where it covers the
+-- window of t, and two for the stop.
+abbrev pub steps_left : Until → ℕ → ℕ → ℕ → ℕ
+steps_left until t reads_at seen =
+    2 * operand_runs until.left reads_at + 4 * operand_runs until.right seen
+    + (if nat_lt reads_at seen then 2 else 0) + (if nat_lt (t + until.window.hi) seen then 1 else 0) + 2
+
 -- the until is decided as far as it can be: at its reading time one operand is unknown, and up to there it is scanned
 pub record DecidesUntil (i : Interval) (p q : Known) (ring : Ring) (own : List Slot) (start reads_at : ℕ) : Type 0 where
   pub decides : Decides (k_until i p q) ring own start
@@ -88,6 +101,12 @@ abbrev pub reads_of : Reading → Turn → ℕ
 reads_of at (Look next) = (next.reads_at - at.reads_at) + 2 * (next.seen - at.seen)
 reads_of at (Decide upto value next) = (next.reads_at - at.reads_at) + 2 * (next.seen - at.seen)
 reads_of at Stop = 2
+
+-- the most steps that are left after a turn, where a decision takes one to be written
+abbrev pub steps_after : Until → ℕ → Turn → ℕ
+steps_after until t (Look next) = steps_left until t next.reads_at next.seen
+steps_after until t (Decide upto value next) = 1 + steps_left until (upto + 1) next.reads_at next.seen
+steps_after until t Stop = 0
 
 -- what a turn finds out about the until at time t
 abbrev pub Finds : Interval → Known → Known → ℕ → ℕ → Turn → Type 0

@@ -4,7 +4,7 @@ ghost use Rattle.std.specs.Prelude.{◌≡◌, ℕ, ◌+◌, ◌-◌, ◌*◌, �
 ghost use Rattle.mltl_base.specs.declared.limits.TheConstants.{TIME_END};
 ghost use Rattle.mltl_base.specs.Verdicts.{Known, k_negation};
 ghost use Rattle.scq_ring.specs.Runs.{Belongs, frontier_of};
-ghost use Rattle.ft_engine.specs.Decisions.{Decides, GoesOn, IsReadable, ShownBy};
+ghost use Rattle.ft_engine.specs.Decisions.{Decides, GoesOn, IsReadable, ShownBy, operand_runs};
 
 use crate::operand::Operand;
 use scq_ring::steps::Steps;
@@ -25,11 +25,17 @@ pub fn not_row<L: Ledger>(
     ensures frontier { frontier_of own.new
         ≡ max (frontier_of own.old) (frontier_of operand.entry.ring.now) }
     ensures counted { steps.new ≤ steps.old + 2 * (frontier_of own.new - frontier_of own.old) + 1 }
+    ensures by_runs { steps.new
+        ≤ steps.old + 2 * operand_runs operand.entry (frontier_of own.old) + 1 }
     ensures decided { (p : Known) → ShownBy operand.entry p
         → Decides (k_negation p) own.new own_slots.new (frontier_of own.old) }
 {
+    let mut near = usize::MAX;
     'turns: loop {
-        match operand.ring.read(operand.slots, own.frontier(), steps) {
+        match operand
+            .ring
+            .read_near(operand.slots, own.frontier(), &mut near, steps)
+        {
             Seen::Nothing => return,
             Seen::Run(end, value) => own.write(own_slots, end, !value, steps),
         }

@@ -3,9 +3,9 @@
 ghost use Rattle.std.specs.Prelude.{◌≡◌, ℕ, ◌+◌, ◌^◌, ◌<◌, ◌≤◌};
 ghost use Rattle.scq_ring.specs.Runs.{Belongs, frontier_of};
 ghost use Rattle.ft_engine.specs.Decisions.{GoesOn};
-ghost use Rattle.ft_engine.specs.Scans.{CanScan, DecidesFrom, HasEnough, IsNextRead, IsReadingOf, Leads, TurnFinds, reads_of, row_steps};
+ghost use Rattle.ft_engine.specs.Scans.{CanScan, DecidesFrom, HasEnough, IsNextRead, IsReadingOf, Leads, TurnFinds, reads_of, row_steps, steps_after, steps_by_runs, steps_left};
 
-use crate::operand::Operand;
+use crate::operand::{Near, Operand};
 use mltl_base::Interval;
 use scq_ring::steps::Steps;
 use scq_ring::{Ring, Seen, Slot};
@@ -54,6 +54,7 @@ pub fn until_row<L: Ledger>(
     ensures goes_on { GoesOn own.old own_slots.old own.new own_slots.new }
     ensures enough { HasEnough until.entry (frontier_of own.new) }
     ensures counted { steps.new ≤ steps.old + row_steps until.entry reads_at own.old own.new }
+    ensures by_runs { steps.new ≤ steps.old + steps_by_runs until.entry reads_at }
     ensures reads_at { IsNextRead until.entry (frontier_of own.new) reads_at result }
     ensures decided { DecidesFrom until.entry own.old reads_at own.new own_slots.new result }
 {
@@ -61,8 +62,9 @@ pub fn until_row<L: Ledger>(
         reads_at,
         seen: reads_at,
     };
+    let mut near = Near::NONE;
     'turns: loop {
-        match next_turn(own.frontier(), at, until, steps) {
+        match next_turn(own.frontier(), at, until, &mut near, steps) {
             Turn::Stop => return at.reads_at,
             Turn::Look(next) => at = next,
             Turn::Decide(upto, value, next) => {
@@ -74,11 +76,19 @@ pub fn until_row<L: Ledger>(
 }
 
 /// What comes next where time `from` isn't decided.
-fn next_turn<L: Ledger>(from: u64, at: Reading, until: Until, steps: &mut Steps<L>) -> Turn
+fn next_turn<L: Ledger>(
+    from: u64,
+    at: Reading,
+    until: Until,
+    near: &mut Near,
+    steps: &mut Steps<L>,
+) -> Turn
     requires can_scan { CanScan until from at.reads_at }
     requires reading { IsReadingOf until at }
     ensures leads { Leads until.entry from at result }
     ensures counted { steps.new ≤ steps.old + reads_of at result }
+    ensures by_runs { steps.new + steps_after until.entry from result
+        ≤ steps.old + steps_left until.entry from at.reads_at at.seen }
     ensures finds { TurnFinds until.entry from at result }
 {
     let lo = u64::from(until.window.lo);
@@ -89,23 +99,35 @@ fn next_turn<L: Ledger>(from: u64, at: Reading, until: Until, steps: &mut Steps<
         return Turn::Decide(at.seen - 1 - hi, false, Reading { reads_at, ..at });
     }
     if at.reads_at == at.seen {
-        read_right(from, at, until, steps)
+        read_right(from, at, until, near, steps)
     } else {
-        read_left(from, at, until, steps)
+        read_left(from, at, until, near, steps)
     }
 }
 
 /// What the right operand brings, where the left one is true up to where it was seen.
-fn read_right<L: Ledger>(from: u64, at: Reading, until: Until, steps: &mut Steps<L>) -> Turn
+fn read_right<L: Ledger>(
+    from: u64,
+    at: Reading,
+    until: Until,
+    near: &mut Near,
+    steps: &mut Steps<L>,
+) -> Turn
     requires can_scan { CanScan until from at.reads_at }
     requires reading { IsReadingOf until at }
     requires within { at.seen ≤ from + until.window.hi }
     requires level { at.reads_at ≡ at.seen }
     ensures leads { Leads until.entry from at result }
     ensures counted { steps.new ≤ steps.old + reads_of at result }
+    ensures by_runs { steps.new + steps_after until.entry from result
+        ≤ steps.old + steps_left until.entry from at.reads_at at.seen }
     ensures finds { TurnFinds until.entry from at result }
 {
-    match until.right.ring.read(until.right.slots, at.reads_at, steps) {
+    match until
+        .right
+        .ring
+        .read_near(until.right.slots, at.reads_at, &mut near.right, steps)
+    {
         Seen::Nothing => Turn::Stop,
         Seen::Run(end, value) => {
             let seen = end + 1;
@@ -127,17 +149,29 @@ fn read_right<L: Ledger>(from: u64, at: Reading, until: Until, steps: &mut Steps
 }
 
 /// What the left operand brings, where the right one is seen to be false ahead of the reading time.
-fn read_left<L: Ledger>(from: u64, at: Reading, until: Until, steps: &mut Steps<L>) -> Turn
+fn read_left<L: Ledger>(
+    from: u64,
+    at: Reading,
+    until: Until,
+    near: &mut Near,
+    steps: &mut Steps<L>,
+) -> Turn
     requires can_scan { CanScan until from at.reads_at }
     requires reading { IsReadingOf until at }
     requires within { at.seen ≤ from + until.window.hi }
     requires earlier { at.reads_at < at.seen }
     ensures leads { Leads until.entry from at result }
     ensures counted { steps.new ≤ steps.old + reads_of at result }
+    ensures by_runs { steps.new + steps_after until.entry from result
+        ≤ steps.old + steps_left until.entry from at.reads_at at.seen }
     ensures finds { TurnFinds until.entry from at result }
 {
-    match until.left.ring.read(until.left.slots, at.reads_at, steps) {
-        Seen::Nothing => read_ahead(from, at, until, steps),
+    match until
+        .left
+        .ring
+        .read_near(until.left.slots, at.reads_at, &mut near.left, steps)
+    {
+        Seen::Nothing => read_ahead(from, at, until, near, steps),
         Seen::Run(end, value) => {
             let last = end.min(at.seen - 1);
             let next = Reading {
@@ -155,7 +189,13 @@ fn read_left<L: Ledger>(from: u64, at: Reading, until: Until, steps: &mut Steps<
 }
 
 /// What the right operand brings past the left one's end: it may still be false to the end of the window.
-fn read_ahead<L: Ledger>(from: u64, at: Reading, until: Until, steps: &mut Steps<L>) -> Turn
+fn read_ahead<L: Ledger>(
+    from: u64,
+    at: Reading,
+    until: Until,
+    near: &mut Near,
+    steps: &mut Steps<L>,
+) -> Turn
     requires can_scan { CanScan until from at.reads_at }
     requires reading { IsReadingOf until at }
     requires within { at.seen ≤ from + until.window.hi }
@@ -163,9 +203,15 @@ fn read_ahead<L: Ledger>(from: u64, at: Reading, until: Until, steps: &mut Steps
     requires ended { frontier_of until.left.ring.now ≤ at.reads_at }
     ensures leads { Leads until.entry from at result }
     ensures counted { steps.new + 1 ≤ steps.old + reads_of at result }
+    ensures by_runs { steps.new + 1 + steps_after until.entry from result
+        ≤ steps.old + steps_left until.entry from at.reads_at at.seen }
     ensures finds { TurnFinds until.entry from at result }
 {
-    match until.right.ring.read(until.right.slots, at.seen, steps) {
+    match until
+        .right
+        .ring
+        .read_near(until.right.slots, at.seen, &mut near.right, steps)
+    {
         Seen::Nothing => Turn::Stop,
         Seen::Run(end, value) => if value {
             Turn::Stop

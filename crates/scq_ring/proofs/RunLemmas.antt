@@ -3,7 +3,7 @@ use Rattle.std.proofs.Common.{◌≡◌, ◌≢◌, ℕ, Bool, ◌+◌, ◌-◌,
 use Rattle.std.proofs.lemmas.Bool.Decides.{nat_tests}
 use Rattle.std.proofs.lemmas.Bool.{cases_lt}
 use Rattle.scq_ring.specs.declared.runs.Slot.{Slot}
-use Rattle.scq_ring.specs.Runs.{Alternate, Belongs, Spans, first_value, low_of, no_slot, ring_index_of, runs_of, upto_at, value_in, verdict_at}
+use Rattle.scq_ring.specs.Runs.{Alternate, Belongs, Spans, first_value, low_of, no_slot, ring_index_of, runs_from, runs_of, runs_to, upto_at, value_in, verdict_at}
 use Rattle.scq_ring.proofs.Windows.{get_or-window, length-window}
 use Rattle.scq_ring.specs.declared.runs.Ring.{Ring}
 
@@ -104,6 +104,22 @@ value_in_first (r ∷ rs) (suc k) from k_in below t t_from t_to =
     let rest : value_in rs t ≡ (get_or rs k no_slot).value = value_in_first rs k from (omega arith) (λ j jk. below (suc j) (omega arith)) t t_from t_to in
     grind (arith, nat_tests, rest)
 
+-- the later a time, the fewer runs end at or after it
+pub runs_to-falls : (runs : List Slot) (t u : ℕ) → t ≤ u → runs_to u runs ≤ runs_to t runs
+runs_to-falls [] t u h = omega arith
+runs_to-falls (r ∷ rs) t u h = let rest = runs_to-falls rs t u h in grind (arith, nat_tests, rest)
+
+-- past the end of a run that reaches a time, this run is left out
+pub runs_to-past : (runs : List Slot) (k from : ℕ) → k < length runs → from ≤ (get_or runs k no_slot).upto → runs_to ((get_or runs k no_slot).upto + 1) runs + 1 ≤ runs_to from runs
+runs_to-past [] k from k_in h = absurd (omega arith)
+runs_to-past (r ∷ rs) zero from k_in h = let rest = runs_to-falls rs from (r.upto + 1) (omega arith) in grind (arith, nat_tests, rest)
+runs_to-past (r ∷ rs) (suc k) from k_in h = let rest = runs_to-past rs k from (omega arith) h in grind (arith, nat_tests, rest)
+
+-- so it is with the runs of a ring
+pub runs_from_later : (ring : Ring) (slots : List Slot) (t u : ℕ) → t ≤ u → runs_from ring slots u ≤ runs_from ring slots t
+unfolding runs_from
+runs_from_later ring slots t u h = let rest = runs_to-falls (runs_of ring slots) t u h in grind (arith, nat_tests, rest)
+
 -- a run is added, and a newest one of another value comes after it
 first_pushed : (runs : List Slot) (r : Slot) (newest : Bool) → first_value (runs ++ r ∷ []) newest ≡ first_value runs r.value
 first_pushed [] r newest = refl
@@ -187,3 +203,17 @@ has_last ring slots b covered =
     let size = length-runs ring slots b in
     let some = some_run ring.low (runs_of ring slots) ring.since b.spans covered in
     record { some_run = omega arith; ends = Spans-last ring.low (runs_of ring slots) ring.since b.spans (ring.used - 1) (omega arith) }
+
+-- runs that end at or after a time are some of the runs
+runs_to-few : (runs : List Slot) (from : ℕ) → runs_to from runs ≤ length runs
+runs_to-few [] from = omega arith
+runs_to-few (r ∷ rs) from = let rest = runs_to-few rs from in grind (arith, nat_tests, rest)
+
+-- a ring holds one run more than it has slots at most
+pub runs_from_few : (ring : Ring) (slots : List Slot) (from : ℕ) → Belongs ring slots → runs_from ring slots from ≤ length slots + 1
+unfolding runs_from
+runs_from_few ring slots from b =
+    let few = runs_to-few (runs_of ring slots) from in
+    let size : length (runs_of ring slots) ≡ ring.used = length-runs ring slots b in
+    let used : ring.used ≤ length slots = b.used_in in
+    grind (arith, nat_tests, few, size, used)

@@ -117,6 +117,20 @@ abbrev pub Shows : Ring → List Slot → ℕ → Seen → Type 0
 Shows ring slots from (Run end value) = IsLongestRun (frontier_of ring) (verdict_at ring slots) from end value
 Shows ring slots from Nothing = frontier_of ring ≤ from
 
+-- how many of these runs end at or after a time
+abbrev pub runs_to : ℕ → List Slot → ℕ
+runs_to from [] = 0
+runs_to from (run ∷ runs) = (if nat_le from run.upto then 1 else 0) + runs_to from runs
+
+-- how many runs a ring holds that end at or after a time, the newest one among them
+unfoldable pub runs_from : Ring → List Slot → ℕ → ℕ
+runs_from ring slots from = runs_to from (runs_of ring slots) + (if nat_lt from ring.frontier then 1 else 0)
+
+-- a run that is shown is one of those from the read's time on, and isn't one of those after its end
+abbrev pub TakesRun : Ring → List Slot → ℕ → Seen → Type 0
+TakesRun ring slots from (Run end value) = runs_from ring slots (end + 1) + 1 ≤ runs_from ring slots from
+TakesRun ring slots from Nothing = ⊤
+
 -- the slot holds no verdict
 unfoldable pub IsClear : Slot → Type 0
 IsClear slot = (slot.upto ≡ 0) × (slot.value ≡ false)

@@ -5,6 +5,7 @@
 //! "Embedding Online Runtime Verification for Fault Disambiguation on Robonaut2", 2020).
 #![tactic(auto)]
 
+pub mod laws;
 mod runs;
 mod seat;
 pub mod steps;

@@ -2,7 +2,7 @@
 
 ghost use Rattle.std.specs.Prelude.{◌≡◌, ◌≢◌, ℕ, ◌+◌, ◌-◌, ◌^◌, ◌<◌, ◌≤◌, max, length, List, nat_lt, if◌then◌else◌};
 ghost use Rattle.mltl_base.specs.declared.limits.TheConstants.{TIME_END};
-ghost use Rattle.scq_ring.specs.Runs.{Belongs, IsAround, IsClear, IsClosed, IsTurned, KeepsNewest, Shows, frontier_of, low_of, ring_index_of, verdict_at};
+ghost use Rattle.scq_ring.specs.Runs.{Belongs, IsAround, IsClear, IsClosed, IsTurned, KeepsNewest, Shows, TakesRun, frontier_of, low_of, ring_index_of, runs_of, runs_to, upto_at, verdict_at};
 ghost use Rattle.scq_ring.specs.declared.runs.Slot.{Slot};
 
 use crate::steps::Steps;
@@ -136,11 +136,33 @@ impl Ring {
     }
 
     /// The verdict at time `from`, and the last time up to which it stays the same; counts one step.
-    #[tactic(auto, unfolding(crate::specs::Runs::frontier_of, crate::specs::Runs::low_of))]
     pub fn read<L: Ledger>(&self, slots: &[Slot], from: u64, steps: &mut Steps<L>) -> Seen
         requires belongs { Belongs self.now slots.now }
         requires kept { low_of self.now ≤ from }
         ensures seen { Shows self.now slots.now from result }
+        ensures takes { TakesRun self.now slots.now from result }
+        ensures step { steps.new ≡ steps.old + 1 }
+    {
+        let mut near = self.used;
+        self.read_near(slots, from, &mut near, steps)
+    }
+
+    /// Reads as `read` does, and looks first at run `near` and at the one after it. Leaves in `near` which run it was.
+    ///
+    /// A caller that reads on from where a run ended so finds the next run at once, however many there are. Any number may
+    /// be passed as `near`: where it is no run that helps, the runs are searched.
+    #[tactic(auto, unfolding(crate::specs::Runs::frontier_of, crate::specs::Runs::low_of))]
+    pub fn read_near<L: Ledger>(
+        &self,
+        slots: &[Slot],
+        from: u64,
+        near: &mut usize,
+        steps: &mut Steps<L>,
+    ) -> Seen
+        requires belongs { Belongs self.now slots.now }
+        requires kept { low_of self.now ≤ from }
+        ensures seen { Shows self.now slots.now from result }
+        ensures takes { TakesRun self.now slots.now from result }
         ensures step { steps.new ≡ steps.old + 1 }
     {
         steps.tick();
@@ -150,7 +172,7 @@ impl Ring {
         if self.since <= from {
             return Seen::Run(self.frontier - 1, self.value);
         }
-        let run = self.run_at(slots, from);
+        let run = self.run_at(slots, from, near);
         Seen::Run(run.upto, run.value)
     }
 
@@ -217,7 +239,7 @@ impl Ring {
     }
 
     /// The run before the newest one that holds time `from`, found by halving the runs that may.
-    fn run_at(&self, slots: &[Slot], from: u64) -> Slot
+    fn run_at(&self, slots: &[Slot], from: u64, near: &mut usize) -> Slot
         requires belongs { Belongs self.now slots.now }
         requires kept { low_of self.now ≤ from }
         requires before { from < self.now.since }
@@ -226,8 +248,10 @@ impl Ring {
         ensures verdict { (t : ℕ) → from ≤ t → t ≤ result.upto
             → verdict_at self.now slots.now t ≡ result.value }
         ensures ends { verdict_at self.now slots.now (result.upto + 1) ≢ result.value }
+        ensures takes { runs_to (result.upto + 1) (runs_of self.now slots.now) + 1
+            ≤ runs_to from (runs_of self.now slots.now) }
     {
-        let (mut first, mut last) = self.newest_around(slots, from);
+        let (mut first, mut last) = self.around(slots, from, *near);
         'halving: while first < last {
             let middle = first + (last - first) / 2;
             if slots[ring_index(self.oldest, middle, slots.len())].upto < from {
@@ -236,7 +260,37 @@ impl Ring {
                 last = middle;
             }
         }
+        *near = first;
         slots[ring_index(self.oldest, first, slots.len())]
+    }
+
+    /// The first and the last of the runs in the slots that may hold time `from`: just run `near`, or the one after it,
+    /// where it is one of these.
+    fn around(&self, slots: &[Slot], from: u64, near: usize) -> (usize, usize)
+        requires belongs { Belongs self.now slots.now }
+        requires kept { low_of self.now ≤ from }
+        requires before { from < self.now.since }
+        ensures around { IsAround self.now slots.now from result.0 result.1 }
+    {
+        if near < self.used && (near == 0 || self.end_of(slots, near - 1) < from) {
+            if from <= self.end_of(slots, near) {
+                return (near, near);
+            }
+            let next = near + 1;
+            if next < self.used && from <= self.end_of(slots, next) {
+                return (next, next);
+            }
+        }
+        self.newest_around(slots, from)
+    }
+
+    /// The last time of run `k` of those in the slots.
+    fn end_of(&self, slots: &[Slot], k: usize) -> u64
+        requires belongs { Belongs self.now slots.now }
+        requires exists { k < self.now.used }
+        ensures { result ≡ upto_at (runs_of self.now slots.now) k }
+    {
+        slots[ring_index(self.oldest, k, slots.len())].upto
     }
 
     /// The first and the last of the runs in the slots that may hold time `from`. Nearly every reader wants a new one, so it

@@ -1,7 +1,7 @@
-use Rattle.std.proofs.Common.{◌≡◌, ℕ, ◌≤◌, arith, subst, sym, None}
+use Rattle.std.proofs.Common.{◌≡◌, ℕ, ◌+◌, ◌≤◌, arith, subst, sym, None}
 use Rattle.mltl_base.specs.Verdicts.{k_until}
 use Rattle.scq_ring.specs.Runs.{frontier_of}
-use Rattle.ft_engine.specs.Scans.{Scan}
+use Rattle.ft_engine.specs.Scans.{Scan, steps_by_runs, steps_left}
 use Rattle.ft_engine.proofs.Going.{Written, goes_further, tells_more}
 use Rattle.ft_engine.proofs.Rules.{nearer_scan}
 use Rattle.ft_engine.proofs.until.until_row.Goals as goal
@@ -18,6 +18,9 @@ turns-preserved-in-Look g c =
       order = moves.order;
       in_time = omega (arith, moves.in_time);
       counted = omega (arith, moves.onward, moves.sees_on, c.in-Look.ensures.counted);
+      by_runs =
+          let taken = subst (λ (t : ℕ). c.next_turn.new.steps + steps_left c.args.until t c.in-Look.next.reads_at c.in-Look.next.seen ≤ c.turns.steps + steps_left c.args.until t c.turns.at.reads_at c.turns.at.seen) from c.in-Look.ensures.by_runs in
+          omega (arith, taken, i.by_runs);
       told = λ p q left right start. (
         (i.told p q left right start).0,
         subst (λ (t : ℕ). Scan c.args.until.window p q t c.in-Look.next.reads_at c.in-Look.next.seen) from
@@ -44,6 +47,10 @@ turns-preserved g c =
       order = moves.order;
       in_time = omega (arith, moves.in_time);
       counted = omega (arith, moves.onward, moves.sees_on, c.in-Decide.ensures.counted, e.step, e.frontier);
+      by_runs =
+          let taken = subst (λ (t : ℕ). c.next_turn.new.steps + (1 + steps_left c.args.until (c.in-Decide.upto + 1) c.in-Decide.next.reads_at c.in-Decide.next.seen) ≤ c.turns.steps + steps_left c.args.until t c.turns.at.reads_at c.turns.at.seen) from c.in-Decide.ensures.by_runs in
+          let left = subst (λ (t : ℕ). c.write.new.steps + steps_left c.args.until t c.in-Decide.next.reads_at c.in-Decide.next.seen ≤ c.args.steps.now + steps_by_runs c.args.until c.args.reads_at) (sym e.frontier) (omega (arith, e.step, taken, i.by_runs)) in
+          left;
       told = λ p q left right start.
           let found = c.in-Decide.ensures.finds p q left right (subst (λ (t : ℕ). Scan c.args.until.window p q t c.turns.at.reads_at c.turns.at.seen) (sym from) (i.told p q left right start).1) in (
             tells_more (k_until c.args.until.window p q) (frontier_of c.args.own.now) c.turns.own c.turns.own_slots c.in-Decide.upto c.in-Decide.value c.write.new.self c.write.new.slots (i.told p q left right start).0 w

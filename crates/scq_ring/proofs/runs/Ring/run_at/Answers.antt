@@ -1,7 +1,7 @@
 use Rattle.std.proofs.Common.{◌≡◌, ◌≢◌, ℕ, ◌+◌, ◌-◌, ◌/◌, ◌<◌, ◌≤◌, List, length, get_or, arith, subst, sym, ◌∙◌}
-use Rattle.scq_ring.specs.Runs.{no_slot, runs_of, value_in, verdict_at}
+use Rattle.scq_ring.specs.Runs.{no_slot, runs_of, runs_to, value_in, verdict_at}
 use Rattle.scq_ring.specs.declared.runs.Slot.{Slot}
-use Rattle.scq_ring.proofs.RunLemmas.{Spans-upto, Spans-rising, length-runs, run_at_index, value_in_first, verdict_before, verdict_turns}
+use Rattle.scq_ring.proofs.RunLemmas.{Spans-upto, Spans-rising, length-runs, run_at_index, runs_to-past, value_in_first, verdict_before, verdict_turns}
 use Rattle.scq_ring.proofs.runs.Ring.run_at.Goals as goal
 
 pub halving-preserved-then-slots-ring_index : goal.halving-preserved-then-slots-ring_index
@@ -61,10 +61,12 @@ returns c =
     let Alike : Slot → Type 0 = λ r. (t : ℕ) → c.args.from ≤ t → t ≤ r.upto → value_in runs t ≡ r.value in
     let alike = subst Alike same (value_in_first runs c.halving.first c.args.from (omega arith) around.below) in
     let Turns : Slot → Type 0 = λ r. verdict_at ring slots (r.upto + 1) ≢ r.value in
+    let Takes : Slot → Type 0 = λ r. runs_to (r.upto + 1) runs + 1 ≤ runs_to c.args.from runs in
     let At : ℕ → Type 0 = λ k. c.args.from ≤ (get_or runs k no_slot).upto in
     record {
       reaches = subst Reaches same (subst At (sym only) around.reached);
       before = before;
       verdict = λ t from to. verdict_before ring slots t (omega arith) ∙ alike t from to;
+      takes = subst Takes same (runs_to-past runs c.halving.first c.args.from (omega arith) (subst At (sym only) around.reached));
       ends = subst Turns same (verdict_turns ring slots c.halving.first c.requires.belongs (omega arith));
     }
