@@ -137,7 +137,7 @@ class Columns:
     def __init__(self, source: Any, found: Any, signals: Optional[list[Any]]) -> None:
         other = dict(pairs("--rename", found.rename))
         for name in other:
-            if name not in source.names:
+            if name not in getattr(source, "own_names", source.names):
                 raise Trouble(f"--rename: no column {shown(name)} (the file has {', '.join(source.names[:20])})")
         self.line, self.width, self.hold, self.sparse = source.line, len(source.names), found.hold, source.sparse
         self.names = [other.get(name, name) for name in source.names]

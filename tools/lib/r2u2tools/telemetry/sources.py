@@ -71,6 +71,7 @@ class Merged:
         self.sources, self.clock, self.line = sources, clock, 1
         renamed = dict(pairs("--rename", found.rename))
         self.names, self.shifts, self.times = [found.time], [], []
+        self.own_names = {name for _, source in sources for name in source.names}
         for path, source in sources:
             names = [renamed.get(name, name) for name in source.names]
             if names.count(found.time) != 1:
