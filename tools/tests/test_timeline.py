@@ -199,7 +199,7 @@ class Page(Pictures):
 
     def told(self, document):
         """What the page tells of the row under the pointer, without marks."""
-        return re.sub(r"<[^>]*>", " ", re.search(r'id="told">(.*?)</div>', document)[1]).split()
+        return re.sub(r"<[^>]*>", " ", re.search(r'id="told"[^>]*>(.*?)</div>', document)[1]).split()
 
     def ready(self, path):
         """After how many thousandths of a second the page is drawn, and how many shapes it drew."""

@@ -1,57 +1,38 @@
-"""Fields of telemetry, converted to the truths and whole numbers of a trace. Nothing is rounded unasked."""
+"""Fields of telemetry, converted to the Booleans and integers of a trace. Nothing is rounded unless it is asked for."""
+
+from __future__ import annotations
 
 import re
 from fractions import Fraction
+from typing import Any, Callable, Iterator, Optional
 
-from r2u2tools.telemetry.records import Refused, shown
 from r2u2tools.common.cli import Trouble
+from r2u2tools.telemetry.numbers import exact, factor, rounded
+from r2u2tools.telemetry.records import Refused, shown
 
-NUMBER = re.compile(r"([+-]?)(\d*)(?:\.(\d*))?(?:[eE]([+-]?\d{1,3}))?", re.ASCII)
 WHOLE = re.compile(r"[+-]?\d{1,10}", re.ASCII)
+HEX = re.compile(r"(?:0[xX])?[0-9a-fA-F]{1,16}", re.ASCII)
 NAME = re.compile(r"[^,\"\r\n#]+")
 TRUTHS = {"0": "0", "1": "1", "true": "1", "false": "0"}
 LEAST, GREATEST = -(1 << 31), (1 << 31) - 1
+# Texts that say that there is no value, in any case.
+MISSING = ("", "nan", "+nan", "-nan", "null", "none", "na", "n/a")
+RULES = ("refuse", "hold", "skip")
+COMBINED: dict[str, Optional[Callable[[int, int], int]]] = {
+    "last": None, "first": lambda one, _: one, "max": max, "min": min, "any": max, "all": min,
+}
 
 
 class Unfit(Exception):
     """Why a field can't be converted."""
 
 
-def exact(text):
-    """The number that a text is, as a fraction of whole numbers, not in lowest terms; None where it is none."""
-    found = NUMBER.fullmatch(text)
-    if not found or len(text) > 400:
-        return None
-    sign, whole, places, exponent = found.groups()
-    if not (whole or places):
-        return None
-    up = int(exponent or 0) - len(places or "")
-    value = int(sign + whole + (places or ""))
-    return (value * 10**up, 1) if up >= 0 else (value, 10**-up)
-
-
-def fraction(text):
-    """The number that a text is, in lowest terms; it may be a quotient, as 30000/1001. None where it is none."""
-    over, sign, under = text.partition("/")
-    found = [exact(part.strip()) for part in ((over, under) if sign else (text,))]
-    if None in found or (sign and not found[1][0]):
-        return None
-    return Fraction(*found[0]) / (Fraction(*found[1]) if sign else 1)
-
-
-def counted(number, noun):
+def counted(number: int, noun: str) -> str:
     return f"{number} {noun}{'' if number == 1 else 's'}"
 
 
-def factor(option, text):
-    value = fraction(text)
-    if value is None or value <= 0:
-        raise Trouble(f"{option}: {shown(text)} isn't a number above 0")
-    return value
-
-
-def pairs(option, given, sign="="):
-    """What stands on both sides of the sign, for each time that an option was given."""
+def pairs(option: str, given: list[str], sign: str = "=") -> Iterator[tuple[str, str]]:
+    """Yields both sides of the sign, for each time that an option was given."""
     for text in given:
         left, found, right = text.partition(sign)
         if not found or not left or not right:
@@ -59,9 +40,9 @@ def pairs(option, given, sign="="):
         yield left.strip(), right.strip()
 
 
-def maps(given):
-    """The numbers of the words of each column."""
-    found = {}
+def maps(given: list[str]) -> dict[str, dict[str, str]]:
+    """Returns the numbers of the words of each column."""
+    found: dict[str, dict[str, str]] = {}
     for name, text in pairs("--map", given):
         kept = found.setdefault(name, {})
         for entry in text.split(","):
@@ -73,38 +54,64 @@ def maps(given):
     return found
 
 
-def within(value):
+def within(value: int) -> str:
     if not LEAST <= value <= GREATEST:
         raise Unfit(f"{value} is out of range: a number has 32 bits")
     return str(value)
 
 
-def rounded(over, under):
-    """The nearest whole number to a fraction, halves away from 0."""
-    whole = (2 * abs(over) + under) // (2 * under)
-    return whole if over >= 0 else -whole
-
-
 class Column:
-    """One column of the trace: where it stands in the file, and how its fields are converted."""
+    """One column of the trace: its place in the file, how its fields are converted, and its values so far."""
 
-    def __init__(self, name, place, kind):
+    def __init__(self, name: str, place: int, kind: Optional[str]) -> None:
         self.name, self.place, self.kind = name, place, kind
-        self.scale, self.words, self.rounds = None, None, False
-        self.changed, self.last = 0, None
+        self.scale: Optional[Fraction] = None
+        self.words: Optional[dict[str, str]] = None
+        self.rounds = self.hex = self.comma = False
+        self.missing: Optional[str] = None
+        self.combine: Optional[Callable[[int, int], int]] = None
+        self.changed = self.lost = 0
+        # The last value, and that of the row which is being filled.
+        self.last: Optional[str] = None
+        self.now: Optional[str] = None
 
-    def convert(self, text):
+    def is_missing(self, text: str) -> bool:
+        """Returns whether a field has no value by the rule of the column; without a rule an empty one alone has none."""
+        if self.missing is None:
+            return not text
+        return text.lower() in MISSING and not (self.words and text in self.words)
+
+    def put(self, value: str) -> None:
+        """Takes a value: within a row it joins those before, or takes their place."""
+        if self.now is None:
+            self.now = value
+        elif self.combine is None:
+            self.lost += 1
+            self.now = value
+        else:
+            self.now = str(self.combine(int(self.now), int(value)))
+        self.last = value
+
+    def convert(self, text: str) -> str:
         if self.words is not None:
             if text not in self.words:
                 raise Unfit(f"{shown(text)} stands in no --map of the column")
             return self.words[text]
-        if self.scale is None and self.kind != "bool" and WHOLE.fullmatch(text):
+        if self.scale is None and self.kind != "bool" and not self.hex and WHOLE.fullmatch(text):
             return within(int(text))
         truth = TRUTHS.get(text.lower()) if self.kind != "int" and self.scale is None else None
         return truth or self.number(text)
 
-    def number(self, text):
-        value = exact(text)
+    def value(self, text: str) -> Optional[tuple[int, int]]:
+        """Returns the number of a field as a quotient, by the notation of the column."""
+        if self.hex:
+            return (int(text, 16), 1) if HEX.fullmatch(text) else None
+        if self.comma:
+            return None if "." in text else exact(text.replace(",", "."))
+        return exact(text)
+
+    def number(self, text: str) -> str:
+        value = self.value(text)
         if value is None:
             truth = self.kind == "int" and text.lower() in ("true", "false")
             raise Unfit(f"{shown(text)} is no number" + (": the input is int" if truth else ""))
@@ -125,20 +132,21 @@ class Column:
 
 
 class Columns:
-    """The columns of the trace, chosen among those of the file."""
+    """The columns of the trace, chosen among those of the source."""
 
-    def __init__(self, names, line, found, signals):
+    def __init__(self, source: Any, found: Any, signals: Optional[list[Any]]) -> None:
         other = dict(pairs("--rename", found.rename))
         for name in other:
-            if name not in names:
-                raise Trouble(f"--rename: no column {shown(name)} (the file has {', '.join(names)})")
-        self.line, self.width, self.hold = line, len(names), found.hold
-        self.names = [other.get(name, name) for name in names]
+            if name not in getattr(source, "own_names", source.names):
+                raise Trouble(f"--rename: no column {shown(name)} (the file has {', '.join(source.names[:20])})")
+        self.line, self.width, self.hold, self.sparse = source.line, len(source.names), found.hold, source.sparse
+        self.names = [other.get(name, name) for name in source.names]
         self.time = self.place(found.time, "--time") if found.time else None
         self.chosen = self.choose(found, signals)
+        self.skipped = 0
         self.options(found)
 
-    def place(self, name, why):
+    def place(self, name: str, why: str) -> int:
         count = self.names.count(name)
         if count == 0:
             text = ", ".join(self.names[:20]) + (", ..." if len(self.names) > 20 else "")
@@ -147,7 +155,7 @@ class Columns:
             raise Refused(f"line {self.line}: two columns {name}")
         return self.names.index(name)
 
-    def choose(self, found, signals):
+    def choose(self, found: Any, signals: Optional[list[Any]]) -> list[Column]:
         if signals is not None:
             return [Column(it.name, self.place(it.name, "--spec"), it.kind) for it in signals]
         if found.columns:
@@ -161,10 +169,10 @@ class Columns:
             self.place(column.name, "the trace")
         return chosen
 
-    def options(self, found):
+    def options(self, found: Any) -> None:
         by_name = {column.name: column for column in self.chosen}
 
-        def column(option, name):
+        def column(option: str, name: str) -> Column:
             if name not in by_name:
                 raise Trouble(f"{option}: the trace has no column {name}")
             return by_name[name]
@@ -181,33 +189,99 @@ class Columns:
                 raise Trouble(f"column {name} has both --scale and --map")
         for name in found.round:
             column("--round", name).rounds = True
+        for name in found.hex:
+            column("--hex", name).hex = True
+        for it in self.chosen:
+            it.comma = found.decimal_comma
+        self.missing_rules(found.missing, column)
+        for name, text in pairs("--within", found.within):
+            self.combined(column("--within", name), text)
 
-    def header(self):
+    def missing_rules(self, given: list[str], column: Callable[[str, str], Column]) -> None:
+        """Sets what an empty field becomes: of one column, or of all that have no rule of their own."""
+        own = {name: rule for name, sign, rule in (text.rpartition("=") for text in given) if sign}
+        every = [text for text in given if "=" not in text]
+        if len(every) > 1:
+            raise Trouble("--missing: two rules for all columns")
+        for rule in [*own.values(), *every]:
+            if rule not in RULES and not WHOLE.fullmatch(rule):
+                raise Trouble(f"--missing: {shown(rule)} isn't {', '.join(RULES)} or a number")
+        for it in self.chosen:
+            it.missing = every[0] if every else it.missing
+        for name, rule in own.items():
+            column("--missing", name).missing = rule
+
+    def combined(self, column: Column, text: str) -> None:
+        if text not in COMBINED:
+            raise Trouble(f"--within {column.name}: {shown(text)} isn't {', '.join(COMBINED)}")
+        if text in ("any", "all") and column.kind == "int":
+            raise Trouble(f"--within {column.name}: {text} is for bool, the input is int")
+        column.combine = COMBINED[text]
+
+    def header(self) -> str:
         return "# " + ",".join(column.name for column in self.chosen)
 
-    def refused(self, number, place, why):
-        return Refused(f"line {number}, column {place + 1} ({self.names[place]}): {why}")
+    def refused(self, number: Any, place: int, why: Any) -> Refused:
+        where = f"line {number} ({self.names[place]})" if self.sparse else f"line {number}, column {place + 1} ({self.names[place]})"
+        return Refused(f"{where}: {why}")
 
-    def row(self, number, fields):
-        """The fields of a row of the trace."""
+    def skips(self, fields: list[Optional[str]]) -> bool:
+        """Returns whether a line is left out, by a rule for fields without a value."""
+        for column in self.chosen:
+            if column.missing == "skip" and len(fields) == self.width:
+                text = fields[column.place]
+                if text is not None and column.is_missing(text.strip()):
+                    self.skipped += 1
+                    return True
+        return False
+
+    def begin(self) -> None:
+        """Begins a row."""
+        for column in self.chosen:
+            column.now = None
+
+    def take(self, number: Any, fields: list[Optional[str]]) -> None:
+        """Takes the fields of a line into the row that is being filled."""
         if len(fields) != self.width:
             raise Refused(f"line {number}: {len(fields)} fields, where {self.width} columns have names")
+        for column in self.chosen:
+            text = fields[column.place]
+            if text is None:
+                continue
+            text = text.strip()
+            if column.is_missing(text):
+                self.without(column, number)
+                continue
+            try:
+                column.put(column.convert(text))
+            except Unfit as unfit:
+                raise self.refused(number, column.place, unfit) from None
+
+    def without(self, column: Column, number: Any) -> None:
+        """Takes a field without a value, by the rule of its column."""
+        if column.missing not in (None, *RULES):
+            column.put(str(int(column.missing)))
+        elif column.missing == "refuse" or (column.missing is None and not self.hold):
+            hint = "" if column.missing else ": --hold takes the last value"
+            raise self.refused(number, column.place, f"an empty field{hint}")
+
+    def text(self, number: Any, held: bool = False) -> str:
+        """Returns the row, or what holds after it."""
         kept = []
         for column in self.chosen:
-            text = fields[column.place].strip()
-            if not text:
-                if not self.hold or column.last is None:
-                    why = "no value yet" if self.hold else "an empty field: --hold takes the last value"
-                    raise self.refused(number, column.place, why)
-            else:
-                try:
-                    column.last = column.convert(text)
-                except Unfit as unfit:
-                    raise self.refused(number, column.place, unfit) from None
-            kept.append(column.last)
+            value = column.last if held or column.now is None else column.now
+            if value is None:
+                if column.missing in (None, *RULES):
+                    raise self.refused(number, column.place, "no value yet")
+                value = str(int(column.missing))
+            kept.append(value)
         return ",".join(kept)
 
-    def remarks(self):
+    def remarks(self) -> Iterator[str]:
         for column in self.chosen:
             if column.changed:
                 yield f"{counted(column.changed, 'value')} of {column.name} {'is' if column.changed == 1 else 'are'} rounded"
+            if self.sparse and column.lost:
+                yield f"{counted(column.lost, 'value')} of {column.name}: later ones of the same row replace them"
+        if self.skipped:
+            yield f"{counted(self.skipped, 'line')} left out for fields without a value"

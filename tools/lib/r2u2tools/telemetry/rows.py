@@ -1,15 +1,17 @@
 """Rows of a trace, out of lines of telemetry: one for each line, or by their times."""
 
-import os
-import stat
-import sys
-import tempfile
+from __future__ import annotations
+
 from fractions import Fraction
 from math import ceil
+from typing import Any, Iterator, Optional
 
+from r2u2tools.common.cli import Trouble
+from r2u2tools.telemetry.fields import Columns, counted
+from r2u2tools.telemetry.numbers import factor, fraction
+from r2u2tools.telemetry.output import Output
 from r2u2tools.telemetry.records import Refused, shown
-from r2u2tools.telemetry.fields import counted, exact, factor, fraction
-from r2u2tools.common.cli import Trouble, told_os
+from r2u2tools.telemetry.times import Clock
 
 LONGEST = 65535
 MOST_BETWEEN = 1 << 24
@@ -20,108 +22,65 @@ SNAP = ", --snap from the nearest"
 SNAPPED = Fraction(1, 1_000_000)
 
 
-def snap_of(text):
-    """The seconds of --snap."""
+def snap_of(text: str) -> Fraction:
+    """Returns the seconds of --snap."""
     value = fraction(text)
     if value is None or value < 0:
         raise Trouble(f"--snap: {shown(text)} isn't a number from 0 on")
     return value
 
 
-class Output:
-    """Where the trace goes. A file takes its place only when it is whole."""
-
-    def __init__(self, path, source):
-        self.path, self.temporary = path, None
-        self.live = not is_regular(source)
-
-    def __enter__(self):
-        if not self.path or self.path == "-":
-            self.file = sys.stdout
-            return self
-        try:
-            if os.path.exists(self.path) and not os.path.isfile(self.path):
-                self.file = open(self.path, "w", encoding="utf-8")
-            else:
-                folder = os.path.dirname(os.path.abspath(self.path))
-                handle, self.temporary = tempfile.mkstemp(prefix=".trace", dir=folder)
-                self.file = os.fdopen(handle, "w", encoding="utf-8")
-        except OSError as fault:
-            raise told_os(self.path, "write", fault) from None
-        return self
-
-    def line(self, text):
-        self.file.write(text + "\n")
-        if self.live:
-            self.file.flush()
-
-    def keep(self):
-        """The trace is whole."""
-        self.file.flush()
-        if self.temporary:
-            mask = os.umask(0)
-            os.umask(mask)
-            os.chmod(self.temporary, 0o666 & ~mask)
-            os.replace(self.temporary, self.path)
-            self.temporary = None
-
-    def __exit__(self, *_):
-        if self.file is not sys.stdout:
-            self.file.close()
-        if self.temporary:
-            os.unlink(self.temporary)
-
-
-def is_regular(file):
-    try:
-        return stat.S_ISREG(os.fstat(file.fileno()).st_mode)
-    except (OSError, ValueError):
-        return False
-
-
 class Plain:
     """A row for each line."""
 
-    def __init__(self, columns, _found, output):
+    def __init__(self, columns: Columns, _found: Any, _clock: Clock, output: Output) -> None:
         self.columns, self.output = columns, output
 
-    def take(self, number, fields):
-        text = self.columns.row(number, fields)
+    def take(self, number: Any, fields: list[Optional[str]]) -> None:
+        if self.columns.skips(fields):
+            return
+        self.columns.begin()
+        self.columns.take(number, fields)
+        text = self.columns.text(number)
         if len(text) > LONGEST:
             raise Refused(f"line {number}: a row of more than {LONGEST} bytes")
         self.output.line(text)
 
-    def end(self):
-        pass
+    def end(self) -> None:
+        """A row is written when it comes."""
 
-    def remarks(self):
-        return []
+    def remarks(self) -> Iterator[str]:
+        return iter(())
 
 
 class Timed:
     """Rows by the times of the lines."""
 
-    def __init__(self, columns, found, output):
-        self.columns, self.output, self.hold, self.stamps = columns, output, found.hold, found.stamps
+    def __init__(self, columns: Columns, found: Any, clock: Clock, output: Output) -> None:
+        self.columns, self.output, self.clock, self.stamps = columns, output, clock, found.stamps
+        self.hold = found.hold
+        # Whether a row is written only when the next one begins, since further lines may belong to it.
+        self.waits = found.hold or columns.sparse or bool(found.within)
         self.rate = factor("--rate", found.rate)
         # How far from a row, in rows, a time may be and still belong to it; times that were, and the furthest.
         self.snap = SNAPPED if found.snap is None else snap_of(found.snap) * self.rate
-        self.inexact, self.furthest, self.late = 0, (0, None), 0
-        self.start = None
+        self.inexact, self.furthest, self.late = 0, (Fraction(0), None), 0
+        self.start: Optional[Fraction] = None
         if found.start is not None:
-            self.start = fraction(found.start)
+            self.start = clock.fraction(found.start)
             if self.start is None:
-                raise Trouble(f"--start: {shown(found.start)} is no number")
-        # The row that was taken last, its text, and whether it is still to be written.
-        self.row, self.text, self.open = -1, None, False
-        self.time, self.line, self.replaced, self.first_replaced = None, None, 0, None
+                raise Trouble(f"--start: {shown(found.start)} is no number and no date")
+        # The row that is being filled, whether it is still to be written, and what holds after it.
+        self.row, self.open, self.held = -1, False, None
+        self.time, self.line = None, None
+        self.replaced, self.first_replaced, self.kept_line = 0, None, None
 
-    def refused(self, number, why):
+    def refused(self, number: Any, why: str) -> Refused:
         return self.columns.refused(number, self.columns.time, why)
 
-    def row_of(self, number, text):
-        """The row of a line, by its time."""
-        time = exact(text)
+    def row_of(self, number: Any, text: str) -> int:
+        """Returns the row of a line, by its time."""
+        time = self.clock.read(text)
         if time is None:
             raise self.refused(number, f"{shown(text)} is no time in seconds")
         over, under = time[0] * self.columns.time_scale.numerator, time[1] * self.columns.time_scale.denominator
@@ -137,8 +96,14 @@ class Timed:
             raise self.refused(number, "the first time is after --start")
         return row
 
-    def snapped(self, number, over, under):
-        """The row at a place, or the nearest one where that is close enough; else the place itself, as a fraction."""
+    def rises(self, number: Any, text: str, change: int) -> None:
+        """Refuses a time that doesn't rise; equal times are one row where further lines of a row are waited for."""
+        if change < 0 or change == 0 and not self.waits:
+            what = "is before" if change < 0 else "is also"
+            raise self.refused(number, f"time has to rise: {shown(text)} {what} that of line {self.line}")
+
+    def snapped(self, number: Any, over: int, under: int) -> Any:
+        """Returns the row at a place, or the nearest one where that is close enough; else the place, as a fraction."""
         row = (2 * over + under) // (2 * under)
         off = over - row * under
         if not off:
@@ -146,19 +111,13 @@ class Timed:
         if abs(off) * self.snap.denominator > self.snap.numerator * under:
             return Fraction(over, under)
         self.inexact += 1
-        off = Fraction(abs(off), under) / self.rate
-        if off > self.furthest[0]:
-            self.furthest = (off, number)
+        seconds = Fraction(abs(off), under) / self.rate
+        if seconds > self.furthest[0]:
+            self.furthest = (seconds, number)
         return row
 
-    def rises(self, number, text, change):
-        """Time has to rise; lines of one time are told apart only where the last one is held."""
-        if change < 0 or change == 0 and not self.hold:
-            what = "is before" if change < 0 else "is also"
-            raise self.refused(number, f"time has to rise: {shown(text)} {what} that of line {self.line}")
-
-    def in_reach(self, number, text, place):
-        """The row of a place, or the next one where the last value is held."""
+    def in_reach(self, number: Any, text: str, place: Any) -> int:
+        """Returns the row of a place, or the next one where the last value is held."""
         if not self.hold and (place < 0 or place != int(place)):
             what = "before --start" if place < 0 else f"between two rows, at {float(place):.17g}"
             raise self.refused(number, f"{shown(text)} is {what}: --hold counts it from the next row on{SNAP * (place > 0)}")
@@ -170,43 +129,53 @@ class Timed:
             raise self.refused(number, f"{row - self.row} rows after the line before{hint}")
         return row
 
-    def take(self, number, fields):
+    def take(self, number: Any, fields: list[Optional[str]]) -> None:
+        """Takes a line into its row; a row before is complete then."""
+        if self.columns.skips(fields):
+            return
         if len(fields) != self.columns.width:
-            self.columns.row(number, fields)
-        row = self.row_of(number, fields[self.columns.time].strip())
-        text = self.columns.row(number, fields)
-        if len(text) > LONGEST - 16:
-            raise Refused(f"line {number}: a row of more than {LONGEST} bytes")
+            self.columns.take(number, fields)
+        row = self.row_of(number, (fields[self.columns.time] or "").strip())
         if row == self.row:
-            if not self.hold:
-                raise self.refused(number, f"the row of line {self.kept_line} too: --hold takes the later line")
-            self.replaced += 1
-            self.first_replaced = self.first_replaced or self.kept_line
+            self.joins(number)
         else:
-            self.write_to(row)
-        self.row, self.text, self.open, self.kept_line = row, text, True, number
-        if not self.hold:
+            self.finish(row)
+            self.columns.begin()
+        self.columns.take(number, fields)
+        self.row, self.open, self.kept_line = row, True, number
+        if not self.waits:
             self.write()
 
-    kept_line = None
+    def joins(self, number: Any) -> None:
+        """A further line of the same row: it is counted where it takes the place of the one before."""
+        if not self.waits:
+            raise self.refused(number, f"the row of line {self.kept_line} too: --hold takes the later line")
+        if not self.columns.sparse and any(column.combine is None for column in self.columns.chosen):
+            self.replaced += 1
+            self.first_replaced = self.first_replaced or self.kept_line
 
-    def write(self):
-        """The row that was taken last, which nothing can replace any more."""
-        if self.open:
-            self.output.line(f"@{self.row},{self.text}" if self.stamps else self.text)
-            self.open = False
+    def write(self) -> None:
+        """Writes the row that is complete, and keeps what holds after it."""
+        if not self.open:
+            return
+        text = self.columns.text(self.kept_line)
+        if len(text) > LONGEST - 16:
+            raise Refused(f"line {self.kept_line}: a row of more than {LONGEST} bytes")
+        self.output.line(f"@{self.row},{text}" if self.stamps else text)
+        self.open, self.held = False, self.columns.text(self.kept_line, True)
 
-    def write_to(self, row):
-        """All that stands before a row: the one that was taken last, and those between, which hold its values."""
+    def finish(self, row: int) -> None:
+        """Writes all before a row: the one that was filled, and those between, where its last values hold."""
         self.write()
-        if not self.stamps and self.text is not None:
+        if not self.stamps and self.held is not None:
             for _ in range(row - self.row - 1):
-                self.output.line(self.text)
+                self.output.line(self.held)
 
-    def end(self):
+    def end(self) -> None:
+        """Writes the last row."""
         self.write()
 
-    def remarks(self):
+    def remarks(self) -> Iterator[str]:
         if self.inexact:
             off, line = self.furthest
             verb = "time isn't exactly that of its row" if self.inexact == 1 else "times aren't exactly those of their rows"

@@ -1,0 +1,368 @@
+"""Specifications of C2PO 3, item by item, into this language.
+
+What reads alike in both is kept. What has another form here is rewritten; what has none, or what both might read
+differently, is left out with its line and the reason, and so is what uses it. c2po has the last word on the result.
+"""
+
+from __future__ import annotations
+
+import re
+import tempfile
+from dataclasses import dataclass, field
+from pathlib import Path
+from typing import Iterator, Optional
+
+from r2u2tools.common.programs import program, ran
+
+SECTIONS = ("STRUCT", "INPUT", "DEFINE", "FTSPEC", "PTSPEC")
+FOREIGN = {"ATOMIC": "atomic checkers: compare in the formula", "ENUM": "enumerations: define a number for each name"}
+TOKEN = re.compile(
+    r"(?P<blank>[ \t\r\n]+)|(?P<comment>--[^\n]*)|(?P<float>[0-9]+\.[0-9]+)|(?P<word>[A-Za-z_]\w*)|(?P<number>[0-9]+)"
+    r"|(?P<sign><->|->|=>|:=|==|!=|<=|>=|<<|>>|&&|\|\||[(){}\[\],;:.!<>+\-*/%~&|^])|(?P<other>.)",
+    re.ASCII | re.S,
+)
+QUANTIFIERS = ("foreach", "forsome", "forexactly", "foratleast", "foratmost")
+UNARY, BINARY = ("F", "G", "O", "H"), ("U", "R", "S", "T")
+LEVELS = (("<->", "->"), ("||",), ("&&",), ("xor",), ("==", "!=", "<", "<=", ">", ">="), ("+", "-"), ("*", "/", "%"))
+COMPARED = 4
+BITS = ("~", "&", "|", "^", "<<", ">>")
+WIDEST = 1048576
+
+
+class Unfit(Exception):
+    """Why an item can't be taken."""
+
+    def __init__(self, why: str, line: int) -> None:
+        super().__init__(why)
+        self.line = line
+
+
+@dataclass
+class Token:
+    kind: str
+    text: str
+    line: int
+
+
+@dataclass
+class Item:
+    """An item with the comments before it: its section, its tokens, and what became of it."""
+
+    section: str
+    tokens: list[Token]
+    comments: list[str] = field(default_factory=list)
+    text: str = ""
+    refusal: str = ""
+    why: str = ""
+    line: int = 0
+
+    def names(self) -> list[str]:
+        """Returns the names that the item declares."""
+        words = [token.text for token in self.tokens]
+        sign = ":=" if self.section == "DEFINE" else ":"
+        if self.section in ("FTSPEC", "PTSPEC") or sign not in words:
+            return []
+        return [word for word in words[: words.index(sign)] if word != ","]
+
+
+def items_of(text: str) -> Iterator[Item]:
+    """Yields the items of a specification in their order; the last may have comments alone."""
+    section, tokens, comments, line, depth = "", [], [], 1, 0
+    for found in TOKEN.finditer(text):
+        token = Token(found.lastgroup or "", found[0], line)
+        line += found[0].count("\n")
+        if token.kind == "comment":
+            comments.append(token.text)
+        elif token.kind != "blank":
+            if not tokens and (token.text in SECTIONS or token.text in FOREIGN):
+                section = token.text
+                continue
+            depth += (token.text == "{") - (token.text == "}")
+            tokens.append(token)
+            if token.text == ";" and depth <= 0:
+                yield Item(section, tokens[:-1], comments, line=tokens[0].line)
+                tokens, comments, depth = [], [], 0
+    yield Item(section, tokens, comments, line=tokens[0].line if tokens else line)
+
+
+class Expression:
+    """Reads an expression and writes it in this language."""
+
+    def __init__(self, tokens: list[Token], structs: set[str], mission: Optional[int]) -> None:
+        self.tokens, self.place = tokens, 0
+        self.structs, self.mission = structs, mission
+
+    def next(self) -> str:
+        return self.tokens[self.place].text if self.place < len(self.tokens) else ""
+
+    def unfit(self, why: str) -> Unfit:
+        return Unfit(why, self.tokens[min(self.place, len(self.tokens) - 1)].line)
+
+    def take(self, text: str = "") -> str:
+        found = self.next()
+        if text and found in BITS:
+            raise self.unfit(f"bits: no {found} here")
+        if not found or (text and found != text):
+            raise self.unfit(f"{text or 'more'} is expected" + (f" in place of {found}" if found else " at the end"))
+        self.place += 1
+        return found
+
+    def whole(self) -> str:
+        """Returns the expression of all tokens."""
+        text = self.level(0)
+        if self.next() in BITS:
+            raise self.unfit(f"bits: no {self.next()} here")
+        if self.next():
+            raise self.unfit(f"{self.next()} isn't understood")
+        return text
+
+    def level(self, k: int) -> str:
+        """Returns an expression of operators of the level k, and of tighter ones."""
+        if k == len(LEVELS):
+            return self.binary_in_time()
+        began = self.place
+        text, before = self.level(k + 1), ""
+        while self.next() in LEVELS[k]:
+            sign = self.next()
+            if before and k in (0, 4):
+                raise self.unfit(f"brackets are needed: {before} and then {sign}")
+            self.mixed(began, k, sign)
+            self.take()
+            other = self.level(k + 1)
+            if sign == "xor":
+                self.alone(began)
+                text = f"!(({text}) <-> ({other}))"
+            else:
+                text = f"{text} {sign} {other}"
+            before = sign
+        return text
+
+    def alone(self, began: int) -> None:
+        """Refuses an xor next to another operator of logic, which might bind tighter or looser elsewhere."""
+        around = (self.tokens[began - 1].text if began else "", self.next())
+        if set(around) & {"&&", "||", "xor"}:
+            raise self.unfit("brackets are needed around xor")
+
+    def mixed(self, began: int, k: int, sign: str) -> None:
+        """Refuses an operator in time or a denial just before a comparison or a sum."""
+        if k >= COMPARED and self.tokens[began].text in ("!", *UNARY, "X"):
+            raise self.unfit(f"brackets are needed: {self.tokens[began].text} and then {sign}")
+
+    def binary_in_time(self) -> str:
+        began = self.place
+        text = self.prefix()
+        if self.next() not in BINARY:
+            return text
+        sign = self.next()
+        if not self.single(began, self.place):
+            raise self.unfit(f"brackets are needed around the operands of {sign}")
+        self.take()
+        bounds, right = self.interval(sign), self.place
+        other = self.prefix()
+        if not self.single(right, self.place) or self.next() in BINARY:
+            raise self.unfit(f"brackets are needed around the operands of {sign}")
+        return f"!((!{text}) S{bounds} (!{other}))" if sign == "T" else f"{text} {sign}{bounds} {other}"
+
+    def single(self, began: int, end: int) -> bool:
+        """Returns whether tokens are an operand that no reading cuts: a name with fields, a number or brackets."""
+        return self.tokens[began].text not in ("!", "-", "X", *UNARY)
+
+    def interval(self, sign: str) -> str:
+        """Returns an interval, where the mission time is a number that was given."""
+        if self.next() != "[":
+            return f"[0,{self.bound('M', sign)}]"
+        self.take("[")
+        ends = [self.bound(self.take(), sign)]
+        while self.next() == ",":
+            self.take(",")
+            ends.append(self.bound(self.take(), sign))
+        self.take("]")
+        if len(ends) > 2:
+            raise self.unfit(f"an interval of {len(ends)} numbers")
+        return f"[{','.join(ends if len(ends) == 2 else ['0', *ends])}]"
+
+    def bound(self, text: str, sign: str) -> str:
+        if text == "M":
+            if self.mission is None:
+                raise self.unfit(f"{sign} over the mission time: --mission N gives it a number")
+            text = str(self.mission)
+        if not text.isdigit():
+            raise self.unfit(f"{text} isn't a number of an interval")
+        if int(text) > WIDEST:
+            raise self.unfit(f"{text}: an interval ends at {WIDEST} at the latest")
+        return text
+
+    def prefix(self) -> str:
+        sign = self.next()
+        if sign in ("!", "-"):
+            return self.take() + self.prefix()
+        if sign == "X":
+            self.take()
+            return f"F[1,1] {self.prefix()}"
+        if sign in UNARY:
+            self.take()
+            return f"{sign}{self.interval(sign)} {self.prefix()}"
+        return self.primary()
+
+    def primary(self) -> str:
+        token = self.tokens[self.place] if self.place < len(self.tokens) else Token("", "", 0)
+        if token.kind == "float":
+            raise self.unfit(f"float: {token.text} isn't an integer; scale it")
+        if token.text in QUANTIFIERS:
+            text = self.quantifier()
+        elif token.text in ("(", "{"):
+            text = self.take() + self.several() + self.take(")" if token.text == "(" else "}")
+        elif token.kind in ("word", "number"):
+            text = self.take()
+            if self.next() == "(":
+                if text not in self.structs:
+                    self.place -= 1
+                    raise self.unfit(f"no function {text} here")
+                text += self.take("(") + self.several() + self.take(")")
+        else:
+            raise self.unfit(f"bits: no {token.text} here" if token.text in BITS else f"{token.text or 'the end'} isn't understood")
+        while self.next() in (".", "["):
+            if self.next() == "[":
+                raise self.unfit("arrays: no index here")
+            text += self.take() + self.take()
+        return text
+
+    def several(self) -> str:
+        """Returns the expressions between brackets."""
+        found = [] if self.next() in (")", "}") else [self.level(0)]
+        while self.next() == ",":
+            self.take(",")
+            found.append(self.level(0))
+        return ", ".join(found)
+
+    def quantifier(self) -> str:
+        kind = self.take()
+        self.take("(")
+        name = self.take()
+        self.take(":")
+        text = f"{kind}({name}: {self.level(0)}"
+        if self.next() == ",":
+            self.take(",")
+            text += f", {self.level(0)}"
+        self.take(")")
+        self.take("(")
+        text += f")({self.level(0)}"
+        return text + self.take(")")
+
+
+class Importer:
+    """Takes one specification."""
+
+    def __init__(self, text: str, mission: Optional[int] = None) -> None:
+        self.items, self.mission = list(items_of(text)), mission
+        self.lost: dict[str, int] = {}
+        self.structs: set[str] = set()
+
+    def run(self) -> str:
+        """Returns the text in this language, which c2po accepts."""
+        for _ in range(len(self.items) + 1):
+            self.translate()
+            text, places = self.written()
+            line, why = refusal_of(text)
+            if not why:
+                return text
+            item = next((it for it, (first, last) in places if first <= line <= last), None)
+            if item is None or item.refusal:
+                return text
+            item.refusal = f"c2po: {why}"
+        return text
+
+    def translate(self) -> None:
+        self.lost, self.structs = {}, set()
+        for item in self.items:
+            item.why, item.text = "", ""
+            if not item.tokens:
+                continue
+            try:
+                item.text = self.taken(item)
+                if item.section == "STRUCT":
+                    self.structs |= set(item.names())
+            except Unfit as unfit:
+                item.why, item.line = str(unfit), unfit.line
+                self.lost.update((name, unfit.line) for name in item.names())
+
+    def taken(self, item: Item) -> str:
+        """Returns an item in this language."""
+        first = item.tokens[0]
+        if item.section in FOREIGN:
+            raise Unfit(FOREIGN[item.section], first.line)
+        if not item.section:
+            raise Unfit("no section begins here", first.line)
+        for token in item.tokens:
+            if token.kind == "other":
+                raise Unfit(f"the character {token.text!r}", token.line)
+            if token.text in self.lost and token.text not in item.names():
+                raise Unfit(f"it uses {token.text}, of line {self.lost[token.text]}", token.line)
+            if token.text == "float":
+                raise Unfit("float: scale it to integers, as millivolts", token.line)
+        if item.refusal:
+            raise Unfit(item.refusal, first.line)
+        if item.section in ("STRUCT", "INPUT"):
+            return self.declaration(item)
+        return self.formula(item)
+
+    def declaration(self, item: Item) -> str:
+        """Returns an item of STRUCT or INPUT, whose forms are alike."""
+        for token in item.tokens:
+            if token.text in ("[", "<"):
+                raise Unfit("arrays and sets have no type here", token.line)
+        text = ""
+        for token in item.tokens:
+            text += token.text if token.text in ",:;." or not text else f" {token.text}"
+        return text.replace("( ", "(")
+
+    def formula(self, item: Item) -> str:
+        """Returns a definition, a formula or a contract."""
+        words = [token.text for token in item.tokens]
+        sign = ":=" if item.section == "DEFINE" else ":"
+        named = len(words) > 1 and words[1] == sign
+        if item.section == "DEFINE" and not named:
+            raise Unfit("a definition is NAME := EXPRESSION", item.tokens[0].line)
+        head = f"{words[0]} :{'=' * (sign == ':=')} ".replace(" : ", ": ") if named else ""
+        body = item.tokens[2:] if named else item.tokens
+        depth, cuts = 0, [-1]
+        for k, token in enumerate(body):
+            depth += (token.text in "([{") - (token.text in ")]}")
+            if token.text == "=>" and not depth:
+                cuts.append(k)
+        parts = [body[one + 1 : other] for one, other in zip(cuts, [*cuts[1:], len(body)])]
+        if len(parts) > 2 or not all(parts):
+            raise Unfit("=> has two sides, once", item.tokens[0].line)
+        return head + " => ".join(Expression(part, self.structs, self.mission).whole() for part in parts)
+
+    def written(self) -> tuple[str, list[tuple[Item, tuple[int, int]]]]:
+        """Returns the text with comments, and the lines of each item in it."""
+        lines, places, section = [], [], ""
+        for item in self.items:
+            lines += item.comments
+            if item.tokens and not item.why:
+                if item.section != section:
+                    section = item.section
+                    lines.append(section)
+                lines.append(f"  {item.text};")
+                places.append((item, (len(lines), len(lines))))
+            elif item.tokens:
+                source = " ".join(token.text for token in item.tokens)
+                lines.append(f"-- line {item.line} isn't taken: {item.why}: {item.section} {source};")
+        return "\n".join([*lines, ""]), places
+
+    def refused(self) -> list[tuple[int, str]]:
+        """Returns what wasn't taken: line and reason."""
+        return [(item.line, item.why) for item in self.items if item.why]
+
+
+def refusal_of(text: str) -> tuple[int, str]:
+    """Returns the line and the reason for which c2po refuses a text; no reason where it doesn't."""
+    with tempfile.TemporaryDirectory() as folder:
+        path = Path(folder, "taken.c2po")
+        path.write_text(text, encoding="utf-8")
+        status, _, said = ran([program("c2po"), "-o", str(Path(folder, "taken.obs")), str(path)])
+    found = re.fullmatch(r"c2po: line (\d+): (.*)", said)
+    if not status:
+        return 0, ""
+    return (int(found[1]), found[2]) if found else (0, said)

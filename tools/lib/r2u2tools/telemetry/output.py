@@ -1,0 +1,62 @@
+"""Where a trace goes: the standard output, or a file that takes its place only when it is complete."""
+
+from __future__ import annotations
+
+import os
+import stat
+import sys
+import tempfile
+from typing import Any, BinaryIO, Optional
+
+from r2u2tools.common.cli import told_os
+
+
+class Output:
+    """Where the trace goes. A file takes its place only when it is whole."""
+
+    def __init__(self, path: Optional[str], sources: list[BinaryIO]) -> None:
+        self.path, self.temporary = path, None
+        self.live = not all(is_regular(source) for source in sources)
+
+    def __enter__(self) -> "Output":
+        if not self.path or self.path == "-":
+            self.file = sys.stdout
+            return self
+        try:
+            if os.path.exists(self.path) and not os.path.isfile(self.path):
+                self.file = open(self.path, "w", encoding="utf-8")
+            else:
+                folder = os.path.dirname(os.path.abspath(self.path))
+                handle, self.temporary = tempfile.mkstemp(prefix=".trace", dir=folder)
+                self.file = os.fdopen(handle, "w", encoding="utf-8")
+        except OSError as fault:
+            raise told_os(self.path, "write", fault) from None
+        return self
+
+    def line(self, text: str) -> None:
+        self.file.write(text + "\n")
+        if self.live:
+            self.file.flush()
+
+    def keep(self) -> None:
+        """The trace is whole."""
+        self.file.flush()
+        if self.temporary:
+            mask = os.umask(0)
+            os.umask(mask)
+            os.chmod(self.temporary, 0o666 & ~mask)
+            os.replace(self.temporary, self.path)
+            self.temporary = None
+
+    def __exit__(self, *_: Any) -> None:
+        if self.file is not sys.stdout:
+            self.file.close()
+        if self.temporary:
+            os.unlink(self.temporary)
+
+
+def is_regular(file: BinaryIO) -> bool:
+    try:
+        return stat.S_ISREG(os.fstat(file.fileno()).st_mode)
+    except (OSError, ValueError):
+        return False

@@ -1,0 +1,308 @@
+"""tools/convert: requirements of C2PO 3 and FRET, maps, and verdicts in the forms of other programs."""
+
+import csv
+import io
+import itertools
+import json
+import random
+import shutil
+import subprocess
+
+from support import ROOT, Case, program, shell, tool
+
+ARBITER = """-- an arbiter
+STRUCT Request: { state: int; };
+INPUT st0, st1: int;
+  idle, busy: bool;
+DEFINE ASKED := 1; GRANTED := 2;
+  requests := { Request(st0), Request(st1) };
+FTSPEC foreach(r: requests)(r.state == ASKED -> F[0,3] (r.state == GRANTED));
+  foratmost(r: requests, 1)(r.state == GRANTED);
+  idle xor busy; -- at the end
+  freed: busy => F[2] idle;
+  next: X idle;
+PTSPEC rested: busy && O[1,1] !busy -> O[1,1] idle;
+"""
+TAKEN = """-- an arbiter
+STRUCT
+  Request: { state: int; };
+INPUT
+  st0, st1: int;
+  idle, busy: bool;
+DEFINE
+  ASKED := 1;
+  GRANTED := 2;
+  requests := {Request(st0), Request(st1)};
+FTSPEC
+  foreach(r: requests)(r.state == ASKED -> F[0,3] (r.state == GRANTED));
+  foratmost(r: requests, 1)(r.state == GRANTED);
+  !((idle) <-> (busy));
+-- at the end
+  freed: busy => F[0,2] idle;
+  next: F[1,1] idle;
+PTSPEC
+  rested: busy && O[1,1] !busy -> O[1,1] idle;
+"""
+
+
+class Converted(Case):
+    def run_it(self, form, text, *words, status=0, ending="txt"):
+        """The result and the remarks of a conversion."""
+        env = {name.upper(): program(name) for name in ("c2po", "r2u2")}
+        code, out, errors = tool("convert", form, *words, self.file(f"in.{ending}", text), env=env)
+        self.assertEqual(code, status, errors)
+        return out, [line.removeprefix("convert: not taken: ") for line in errors.splitlines()]
+
+    def verdicts(self, text, trace):
+        """The verdicts of a specification by output."""
+        spec, rows = self.file("spec.c2po", text), self.file("trace.csv", trace)
+        ran = subprocess.run([program("r2u2"), "--source", spec, rows], stdout=subprocess.PIPE, stderr=subprocess.PIPE, encoding="utf-8")
+        self.assertEqual((ran.returncode, ran.stderr), (0, ""), text)
+        found = {}
+        for line in ran.stdout.split():
+            name, _, rest = line.partition(":")
+            found.setdefault(name, []).append(rest)
+        return found
+
+
+class C2po(Converted):
+    def test_an_arbiter(self):
+        self.assertEqual(self.run_it("from-c2po", ARBITER), (TAKEN, []))
+
+    def test_what_is_not_taken(self):
+        """Each item that isn't taken is listed by its line, and is a comment in a text that c2po accepts."""
+        head = "INPUT a, b, c: bool; x: int;\nFTSPEC ok: a;\n"
+        for text, said in (
+            ("low: x < 2.5;", "float: 2.5 isn't an integer; scale it"),
+            ("m: G a;", "G over the mission time: --mission N gives it a number"),
+            ("m: F[0,M] a;", "F over the mission time: --mission N gives it a number"),
+            ("wide: F[0,2000000] a;", "2000000: an interval ends at 1048576 at the latest"),
+            ("mixed: a -> O[1,1] b && F[1,1] c;", "c2po: mixed tense"),
+            ("two: a -> b -> c;", "brackets are needed: -> and then ->"),
+            ("cmp: F[0,3] x == 2;", "brackets are needed: F and then =="),
+            ("u: !a U[0,4] b;", "brackets are needed around the operands of U"),
+            ("v: a U[0,4] b U[0,4] c;", "brackets are needed around the operands of U"),
+            ("e: a xor b && c;", "brackets are needed around xor"),
+            ("bits: (x & 3) == 1;", "bits: no & here"),
+            ("shift: x << 2 == 4;", "bits: no << here"),
+            ("f: rate(x) < 3;", "no function rate here"),
+            ("at: x[1] == 3;", "arrays: no index here"),
+            ("q: nothing;", "c2po: unknown name"),
+            ("half: a &&;", "the end isn't understood"),
+            ("odd: a ? b;", "the character '?'"),
+        ):
+            out, told = self.run_it("from-c2po", head + text + "\nlast: b;\n", status=1)
+            self.assertEqual(told, [f"line 3: {said}"], text)
+            self.assertIn(f"-- line 3 isn't taken: {said}: FTSPEC {text[:3].split(':')[0]}", out)
+            self.assertIn("last: b;", out)
+
+    def test_what_uses_it_is_not_taken_either(self):
+        text = "INPUT v: float; a: bool;\nDEFINE low := v < 3;\n  lower := low && a;\nFTSPEC f: lower -> a;\n g: a;\n"
+        out, told = self.run_it("from-c2po", text, status=1)
+        self.assertEqual(told, ["line 1: float: scale it to integers, as millivolts", "line 2: it uses v, of line 1",
+                                "line 3: it uses low, of line 2", "line 4: it uses lower, of line 3"])
+        self.assertEqual([line for line in out.splitlines() if not line.startswith("--")], ["INPUT", "  a: bool;", "FTSPEC", "  g: a;"])
+
+    def test_other_sections(self):
+        text = "INPUT a: bool;\nATOMIC a0 := rate(a) < 3;\nENUM Mode: { ON, OFF };\nFTSPEC f: a;\n"
+        self.assertEqual(self.run_it("from-c2po", text, status=1)[1], [
+            "line 2: atomic checkers: compare in the formula", "line 3: enumerations: define a number for each name"])
+
+    def test_mission_time(self):
+        text = "INPUT a: bool; FTSPEC f: G[0,M] a; g: F a; PTSPEC h: H a;\n"
+        out = self.run_it("from-c2po", text, "--mission", "99")[0]
+        for line in ("f: G[0,99] a;", "g: F[0,99] a;", "h: H[0,99] a;"):
+            self.assertIn(line, out)
+
+    def test_meanings(self):
+        """Exclusive or, the next row and the trigger of the past, over all short traces."""
+        out = self.run_it("from-c2po", "INPUT a, b: bool; FTSPEC e: (a xor b); n: X a; PTSPEC t: a T[0,2] b;\n")[0]
+        for rows in itertools.product(("0,0", "0,1", "1,0", "1,1"), repeat=4):
+            bits = [(row[0] == "1", row[2] == "1") for row in rows]
+            told = self.verdicts(out, "# a,b\n" + "".join(f"{row}\n" for row in rows))
+            self.assertEqual(told["e"], [f"{k},{'T' if a != b else 'F'}" for k, (a, b) in enumerate(bits)])
+            self.assertEqual(told["n"], [f"{k},{'T' if bits[k + 1][0] else 'F'}" for k in range(3)])
+            held = [all(bits[j][1] or any(bits[i][0] for i in range(j + 1, k + 1)) for j in range(max(0, k - 2), k + 1)) for k in range(4)]
+            self.assertEqual(told["t"], [f"{k},{'T' if it else 'F'}" for k, it in enumerate(held)])
+
+    def test_maps(self):
+        out, told = self.run_it("from-map", "a: 0\nb:2 -- the bus\n# none\n\nc: 4\n")
+        self.assertEqual((out, told), ("# a,_0,b,_1,c\n", []))
+        told = self.run_it("from-map", "a: 0\nx\nb: 0\na: 3\nc: 70000\n", status=1)[1]
+        self.assertEqual(told, ["line 2: it isn't NAME: COLUMN", "line 3: column 0 is that of a", "line 4: a has a column already",
+                                "line 5: a trace has 65536 columns"])
+        self.run_it("from-map", "x\n", status=2)
+
+
+def requirement(label, timing, p="p", text="", duration="2", scope="null", mode="", condition="null", when=""):
+    """A requirement as FRET exports it."""
+    meaning = {"scope": {"type": scope}, "scope_mode": mode, "condition": condition, "regular_condition": when, "timing": timing,
+               "duration": duration, "post_condition": f"({p})"}
+    return {"reqid": label, "project": "P", "fulltext": text, "semantics": meaning}
+
+
+class Fret(Converted):
+    TIMINGS = ("always", "immediately", "within", "for", "after")
+    MODELS = [{"variable_name": name, "dataType": "boolean"} for name in "pqr"]
+
+    def fret(self, requirements, *words, status=0, models=None):
+        document = {"requirements": requirements, "modelDocs": self.MODELS if models is None else models}
+        return self.run_it("from-fret", json.dumps(document), *words, status=status, ending="json")
+
+    def against(self, example, made, columns):
+        """The formulas have the verdicts of those of the example that look back, over random traces."""
+        text = self.fret(made)[0]
+        plain = (ROOT / f"examples/patterns/{example}.c2po").read_text()
+        rng = random.Random(example)
+        for _ in range(12):
+            rows = "".join(",".join(str(int(rng.random() < (0.5 if name == "p" else 0.25))) for name in columns) + "\n" for _ in range(30))
+            trace = f"# {','.join(columns)}\n{rows}"
+            mine, theirs = self.verdicts(text, trace), self.verdicts(plain, trace)
+            for timing in self.TIMINGS:
+                other = next((theirs[name] for name in (f"{timing}_back", f"{timing}_ahead_back") if name in theirs), None)
+                if other is None and timing == "always":
+                    continue
+                self.assertEqual(mine[timing], other, (example, timing, trace))
+
+    def test_globally(self):
+        self.against("scope_globally", [requirement(it, it) for it in self.TIMINGS], "p")
+
+    def test_before(self):
+        self.against("scope_before", [requirement(it, it, scope="before", mode="r") for it in self.TIMINGS], "pr")
+
+    def test_after_a_condition(self):
+        self.against("scope_after", [requirement(it, it, condition="holding", when="q") for it in self.TIMINGS], "pq")
+
+    def test_after_until(self):
+        made = [requirement(it, it, condition="holding", when="q", scope="notin", mode="r") for it in self.TIMINGS]
+        self.against("scope_after_until", made, "pqr")
+
+    def test_in_a_mode_by_hand(self):
+        out = self.fret([requirement("w", "within", scope="in", mode="q", duration="1")])[0]
+        told = self.verdicts(out, "# p,q\n0,0\n0,1\n0,1\n0,1\n1,0\n0,1\n0,0\n0,1\n1,1\n")
+        self.assertEqual([line for line in told["w"] if line.endswith("F")], ["2,F"])
+
+    def test_a_condition_is_an_edge_within_the_scope(self):
+        out = self.fret([requirement("i", "immediately", scope="in", mode="q", condition="regular", when="r")])[0]
+        told = self.verdicts(out, "# p,q,r\n0,0,1\n0,1,1\n0,1,1\n0,1,0\n1,1,1\n0,0,1\n")
+        self.assertEqual([line for line in told["i"] if line.endswith("F")], ["1,F"])
+
+    def test_after_a_mode(self):
+        """From the row on at which the mode ends the first time."""
+        out = self.fret([requirement("i", "immediately", scope="after", mode="q")])[0]
+        told = self.verdicts(out, "# p,q\n0,0\n0,1\n0,0\n0,1\n0,0\n")
+        self.assertEqual([line for line in told["i"] if line.endswith("F")], ["2,F"])
+
+    def test_units(self):
+        made = [requirement("a", "within", text="it shall within 0.5 seconds satisfy p"), requirement("b", "for", text="it shall for 3 ticks satisfy p")]
+        out = self.fret(made, "--rate", "10")[0]
+        self.assertIn("O[5,5] first -> O[0,5] a_p", out)
+        self.assertIn("O[0,3] first -> b_p", out)
+        told = self.fret(made, status=1)[1]
+        self.assertEqual(told, ["a: within 0.5 seconds: --rate says how many rows a second has"])
+        self.assertEqual(self.fret(made, "--rate", "3", status=1)[1], ["a: within 1/2 seconds: 1.5 rows"])
+
+    def test_expressions(self):
+        made = [requirement("e", "always", "(x + 1 > 3 & !q => p | r) <=> (x = y)")]
+        out = self.fret(made, models=[])[0]
+        self.assertIn("INPUT q, p, r: bool;\nINPUT x, y: int;\n", out)
+        self.assertIn("DEFINE e_p := ((x + 1 > 3 && !q -> p || r) <-> (x == y));", out)
+
+    def test_what_is_not_taken(self):
+        for made, said in (
+            (requirement("a", "until"), "a: the timing until isn't in the tables"),
+            (requirement("a", "null"), "a: the timing eventually isn't in the tables"),
+            (requirement("a", "always", scope="onlyIn", mode="q"), "a: the scope onlyin isn't in the tables"),
+            (requirement("a", "always", "abs(x) > 2"), "a: no function abs here"),
+            (requirement("a", "always", "p xor q"), "a: xor isn't in the language here"),
+            (requirement("a", "always", "x > 2.5"), "a: 2.5 isn't an integer: scale it"),
+            (requirement("a", "always", "p > q"), "a: c2po: wrong kind"),
+            (requirement("a", "always", "p @ q"), "a: '@ q)' isn't understood"),
+            (requirement("a", "always", "v > 2"), "a: v is double: scale it to integers"),
+            (requirement("a", "within", duration=""), "a: no duration of within"),
+            (requirement("a", "always", condition="regular"), "a: its condition has no text"),
+            ({"reqid": "a", "fulltext": "free text"}, "a: it has no semantics"),
+        ):
+            models = self.MODELS + [{"variable_name": "v", "dataType": "double"}]
+            out, told = self.fret([made, requirement("good", "always", "q")], status=1, models=models)
+            self.assertEqual(told, [said])
+            self.assertIn(f"-- a isn't taken: {said[3:]}", out)
+            self.assertIn("PTSPEC good: good_p;", out)
+
+    def test_labels(self):
+        out = self.fret([requirement("FSM-001", "always"), requirement("FSM 001", "always"), requirement("1", "always"), requirement("F", "always")])[0]
+        for label in ("FSM_001", "FSM_001_", "r_1", "r_F"):
+            self.assertIn(f"PTSPEC {label}: ", out)
+
+    def test_foreign_json(self):
+        for text in ("{", "[1]", "7", '{"requirements": 3}', "[" * 100000):
+            env = {"C2PO": program("c2po")}
+            status, out, errors = tool("convert", "from-fret", self.file("x.json", text), env=env)
+            self.assertEqual((status, out), (2, ""))
+            self.one_line(errors)
+
+
+LINES = "f:1,T\ng:4,inactive\nf:2,F\nf:6,T\ng:5,verified\n"
+
+
+class Verdicts(Case):
+    def made(self, form, *words, give=LINES):
+        status, out, errors = tool("convert", form, *words, give=give)
+        self.assertEqual((status, errors), (0, ""))
+        return out
+
+    def test_vcd(self):
+        out = self.made("to-vcd", "--rate", "10")
+        self.assertEqual(out.partition("$enddefinitions $end\n")[2].split(),
+                         '#0 1! z" #200000000 0! #300000000 1! #500000000 1" #600000000 x" #700000000'.split())
+        self.assertIn("$var wire 1 ! f $end", out)
+
+    def test_vcd_is_read_back(self):
+        """By tools/trace, and by the readers of Debian's gtkwave where they are there."""
+        path = self.file("f.vcd", self.made("to-vcd", give="f:1,T\nf:2,F\nf:6,T\ng:3,T\ng:6,F\n"))
+        status, out, errors = tool("trace", "--rate", "1", path)
+        self.assertEqual((status, out, errors), (0, "# f,g\n1,1\n1,1\n0,1\n1,1\n1,0\n1,0\n1,0\n1,0\n", ""))
+        if not shutil.which("vcd2fst"):
+            self.skipTest("no vcd2fst: apt-get install gtkwave")
+        self.assertEqual(shell('vcd2fst "$IN" "$IN.fst" && fst2vcd "$IN.fst" | grep -c "^[01]"', IN=path)[:2], (0, "5\n"))
+
+    def test_vcd_of_many_outputs(self):
+        out = self.made("to-vcd", give="".join(f"f{k}:0,T\n" for k in range(20000)))
+        codes = [line.split()[3] for line in out.splitlines() if line.startswith("$var")]
+        self.assertEqual(len(set(codes)), 20000)
+
+    def test_csv(self):
+        rows = list(csv.reader(io.StringIO(self.made("to-csv"))))
+        self.assertEqual(rows[0], ["time", "f", "g"])
+        self.assertEqual(rows[3], ["2", "F", "inactive"])
+        self.assertEqual(rows[7], ["6", "T", ""])
+        self.assertEqual(self.made("to-csv", "--rate", "4", give="f:1,T\n"), "time,f\n0,T\n0.25,T\n")
+        spec = ROOT / "examples/valves.c2po"
+        self.assertEqual(self.made("to-csv", "--spec", spec, give="shut:0,T\n"), "time,filling,shut\n0,,T\n")
+
+    def test_rows_come_as_soon_as_they_are_complete(self):
+        line = '(printf "shut:0,T\\nfilling:0,T\\n"; sleep 5) | "$TOOLS/convert" to-csv --spec "$SPEC" | (read -t 4 head; read -t 4 row; echo "$row")'
+        self.assertEqual(shell(line, SPEC=ROOT / "examples/valves.c2po")[1], "0,T,T\n")
+
+    def test_json(self):
+        told = [json.loads(line) for line in self.made("to-json", "--rate", "10").splitlines()]
+        self.assertEqual(told[2], {"output": "f", "from": 2, "to": 2, "word": "F", "seconds": 0.2})
+        self.assertEqual(len(told), 5)
+
+    def test_faults(self):
+        for words, give in (
+            ([], ""), (["to-pdf"], ""), (["to-vcd", "--mission", "3"], ""), (["from-map", "--rate", "3"], ""), (["to-csv", "--rate", "0"], ""),
+            (["to-csv"], "f;1\n"), (["to-vcd", "none"], ""), (["to-csv", "--spec", "none"], ""), (["to-json", "-o", "no/such/file"], ""),
+            (["to-csv", "--spec", ROOT / "examples/grant.c2po"], "g:0,T\n"), (["from-fret"], "x"), (["from-map"], ""),
+        ):
+            status, _, errors = tool("convert", *words, give=give)
+            self.assertEqual(status, 2, (words, errors))
+            self.one_line(errors)
+        self.assertEqual(tool("convert", "--help")[0], 0)
+
+    def test_a_file_is_written_whole_or_not_at_all(self):
+        path = self.file("out.csv", "before")
+        self.assertEqual(tool("convert", "to-csv", "-o", path, give="f;1\n")[0], 2)
+        self.assertEqual(path.read_text(), "before")
+        self.made("to-csv", "-o", path)
+        self.assertTrue(path.read_text().startswith("time,f,g\n"))
