@@ -5,6 +5,8 @@
 #                 and the programs are tried on real files, pipes and terminals
 # make install    installs programs, tools, man pages, completions and syntax under PREFIX, once they are built: it proves nothing;
 #                 make uninstall removes them
+# make docs       makes the pages into a site with search, build/site/index.html, where mkdocs and mkdocs-material are there
+# make dist       a tarball of all that `make install` installs, with the pages and checksums
 # embed/embed.mk has the goals of the library for other languages: embed, check-embed, python, deb
 
 PREFIX ?= /usr/local
@@ -27,7 +29,7 @@ SHARED = $(INTO)/share/r2u2
 # All lines of a script but those of cases whose names end in (long); an empty line ends a case.
 SHORT_CASES = /^case .*\(long\)$$/ { long = 1 } !long; /^$$/ { long = 0 }
 
-.PHONY: all try test check install uninstall built built-programs clean $(PROGRAMS)
+.PHONY: all try test check docs dist install uninstall built built-programs clean $(PROGRAMS)
 .NOTPARALLEL:
 
 # As many proofs side by side as there are processors.
@@ -65,6 +67,24 @@ check:
 	@mkdir -p build
 	cp $(wildcard crates/r2u2_c/out/libr2u2_c.a) $(foreach name,$(PROGRAMS),crates/$(name)/out/$(name)) build
 	dev/edges
+
+docs:
+	dev/site
+
+DIST = r2u2-$(VERSION)-$(shell uname -m)
+PAGES = README.md CONTRIBUTING.md CHANGELOG.md VERSION docs examples bench/README.md
+
+# The tarball has the same bytes for the same files: sorted, without names of users, with the time of the last commit.
+dist:
+	rm -rf build/$(DIST)
+	$(MAKE) install DESTDIR=$(abspath build/$(DIST)) PREFIX=
+	sed -i 's|^prefix=.*|prefix=$${pcfiledir}/../..|' build/$(DIST)/lib/pkgconfig/r2u2.pc
+	install -d build/$(DIST)/share/doc/r2u2
+	tar -cf - --exclude='*.o' --exclude=examples/embed/grants $(PAGES) | tar -xf - -C build/$(DIST)/share/doc/r2u2
+	cd build/$(DIST) && find . -type f ! -name SHA256SUMS | LC_ALL=C sort | xargs sha256sum > SHA256SUMS
+	tar -czf build/$(DIST).tar.gz -C build --sort=name --owner=0 --group=0 --numeric-owner --mtime=@$$(git log -1 --format=%ct 2>/dev/null || echo 0) $(DIST)
+	rm -rf build/$(DIST)
+	@echo build/$(DIST).tar.gz
 
 install: built
 	install -d $(INTO)/bin $(INTO)/share/man/man1 $(INTO)/share/man/man5 $(SHARED)/tools/lib $(SHARED)/vscode $(BASH) $(ZSH) $(FISH) $(VIM)/syntax $(VIM)/ftdetect
