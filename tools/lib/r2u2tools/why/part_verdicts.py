@@ -154,7 +154,7 @@ class PartWatch:
 
     def over(self, rows: Iterable[bytes], origin: int, spans: dict[str, tuple[int, int]]) -> Verdicts:
         """The verdicts over rows, of which the first one is that of the time `origin`."""
-        trace = Path(self.folder, "rows.csv")
+        trace = Path(self.folder, "parts-rows.csv")
         with open(trace, "wb") as file:
             file.writelines(rows)
         found = {ref: Part(low, high, bytearray([UNKNOWN]) * (high - low + 1), origin) for ref, (low, high) in spans.items()}
