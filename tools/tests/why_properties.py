@@ -16,10 +16,10 @@ from r2u2tools.why.part_verdicts import FALSE, TRUE
 from r2u2tools.why.sentences import Sentences
 from r2u2tools.why.trace_window import Cells
 
-QUESTIONS = int(os.environ.get("R2U2_QUESTIONS", "60"))
+QUESTIONS = int(os.environ.get("R2U2_QUESTIONS", "50"))
 CHANGES, AHEAD = 3, 25
 NAMES = list(specs.SIGNALS)
-MOST_UNSHOWN = 0.03
+MOST_UNSHOWN = 0.05
 
 
 def text_of(rows):
@@ -94,6 +94,7 @@ class Why(Case):
                 self.check_needed(question, spec, found, cell, folder)
             else:
                 self.unshown += 1
+                self.assertFalse(found.exact, (cell, found.cells))
 
     def check_needed(self, question, spec, found, cell, folder):
         """Over rows that agree in all cells but one, the verdict is another one."""

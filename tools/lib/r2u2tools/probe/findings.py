@@ -37,7 +37,7 @@ class Unused:
 
 @dataclass
 class Limit:
-    """A number of a requirement that holds: the last value with which it still does, and the first with which not."""
+    """A number of a requirement that is never false: the last other value with which that is so, and the first without."""
 
     line: int
     column: int
@@ -135,9 +135,12 @@ class Probe:
 
     def margins(self, requirement: Requirement) -> list[Limit]:
         return [
-            Limit(it.place.line, it.place.column, described(self.source, it), it.value, it.holds, it.fails)
+            Limit(
+                it.place.line, it.place.column, described(self.source, it),
+                it.sign * it.value, it.sign * it.holds, it.sign * it.fails,
+            )
             for it in margins(self.source, requirement, self.trials)
-            if it.fails is not None
+            if it.fails is not None and it.holds != it.value
         ]
 
 
