@@ -96,7 +96,7 @@ class Probe(Case):
         self.assertEqual((status, errors), (0, ""))
         self.assertRegex(out, r"^requirement +verdicts +false +tried +noticed +unused parts +margins\nsink +6 +0 +yes ")
         self.assertIn(f"\n  {self.spec}:3:28: vz >= -400: still holds with -350, not with -349\n", out)
-        self.assertIn(f"\n  {self.spec}:5:36: never decides: alt > 3000\n", out)
+        self.assertIn(f"\n  {self.spec}:5:31: never decides: alt > 3000\n", out)
         self.assertIn("\naborted\n  not tried: the left side never holds\n", out)
 
     def test_a_second_log_notices_more(self):

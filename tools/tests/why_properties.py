@@ -40,7 +40,7 @@ def verdicts(spec, rows, folder):
 
 
 class Why(Case):
-    """The cells that are named decide a verdict, none of them can be left out, and each line of the tree is true."""
+    """The named cells decide a verdict, none of them can be left out, and each line of the tree is true."""
 
     asked = shown = unshown = decided = 0
 
@@ -106,7 +106,7 @@ class Why(Case):
         self.assertNotIn(verdicts(spec, rows, folder)["f"].get(question.time), (found.word, None))
 
     def check_open(self, question, spec, found, folder):
-        """The rows to come that are named decide what the verdict of that time will be."""
+        """The named rows to come decide what the verdict of that time will be."""
         self.assertTrue(all(at >= len(question.rows) for _, at in found.cells))
         dice = random.Random(0)
         there = {(name, at) for name in NAMES for at in range(len(question.rows))}

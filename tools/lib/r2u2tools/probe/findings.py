@@ -17,7 +17,7 @@ BROKEN = ("F", "invalid")
 
 @dataclass
 class Change:
-    """A change that no log tells from the requirement."""
+    """A change that no log notices."""
 
     kind: str
     line: int
@@ -92,7 +92,7 @@ class Probe:
                 found[name].broken += sum(last - first + 1 for first, last, word in words if word in BROKEN)
 
     def was_tried(self, requirement: Requirement) -> Optional[bool]:
-        """Whether the left side of a requirement held at some row; None where there is no left side."""
+        """Whether the left side of a requirement held at some row; None where it has no left side."""
         tree = self.source.tree(requirement.number)
         left = left_side(tree) if tree else None
         if left is None:

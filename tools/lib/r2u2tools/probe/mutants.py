@@ -139,7 +139,7 @@ def parts(source: Source, requirement: Requirement) -> Iterator[tuple[Expression
 
 
 def is_truth(source: Source, number: int, it: Expression) -> bool:
-    """Whether an expression is a formula by its operator, or a signal that is a truth."""
+    """Whether an expression is a formula by its operator, or a Boolean signal."""
     if it.op in TRUTHS and it.op != "=>":
         return True
     body = source.items[number].body
@@ -148,5 +148,5 @@ def is_truth(source: Source, number: int, it: Expression) -> bool:
 
 
 def constants(part: Expression, number: int, body: list[Token], place: Place, text: str) -> list[Mutant]:
-    """A part that is true throughout, and one that is false."""
+    """A part replaced by true, and by false."""
     return [Mutant("part", Edit(number, part.first, part.last, word), place, text, word) for word in ("true", "false")]

@@ -97,7 +97,7 @@ class Tree:
 
     def merged(self, ref: str, denied: bool, below: Below) -> list[Reason]:
         """The parts below. A conjunction within a conjunction gives way to its own, and what no row decides is left out
-        beside what one does."""
+        where a row decides another one."""
         spelled, found = dict(self.shown.form(ref, denied).parts), list[Reason]()
         for (operand, word), times in below.items():
             reason = self.reason(operand, word, times, spelled.get(operand, False))

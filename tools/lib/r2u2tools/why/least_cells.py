@@ -1,4 +1,4 @@
-"""Which cells of an explanation can be left out, whatever the cells beside them hold.
+"""Which cells of an explanation can be left out, whatever they hold.
 
 A verdict may be decided by fewer cells than any of its parts, as that of
 `(p -> q) && (p || q)` is by q alone. Whether it is, r2u2 says: it watches rows
@@ -131,7 +131,7 @@ class LeastCells:
         return self.runs < self.most_runs and self.values.exhaustive.issuperset(self.parts.signals)
 
     def other_verdict(self, kept: frozenset[Cell]) -> Optional[Rows]:
-        """Rows with these cells and another verdict; none at all where there are no such rows, and None where that is open."""
+        """Rows with these cells and another verdict; an empty answer where such rows can't be, and None where that is open."""
         exact = True
         left = [{cell: self.actual[cell] for cell in kept}]
         while left:
@@ -154,7 +154,7 @@ class LeastCells:
         return {} if exact else None
 
     def free(self, verdicts: Verdicts, fixed: Rows) -> list[Cell]:
-        """The cells beside the fixed ones by which this verdict follows."""
+        """The cells, other than the fixed ones, by which this verdict follows."""
         other = Derivation(verdicts, CellCosts(1.0, dict.fromkeys(fixed, 0.0)))
         return sorted(other.choose(self.roots) - frozenset(fixed))
 

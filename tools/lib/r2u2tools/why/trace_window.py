@@ -40,7 +40,7 @@ class TraceWindow:
                 yield line.number, line.text + b"\n"
 
     def places(self, signals: Sequence[Signal]) -> dict[str, int]:
-        """Where the field of each signal stands in a row."""
+        """The place of each signal's field in a row."""
         names = [signal.name for signal in signals]
         if self.header is None:
             return {signal.name: signal.column for signal in signals}
