@@ -1,9 +1,10 @@
 """Properties over what hypothesis makes, under an interpreter that has it.
 
-R2U2_QUESTIONS is how many questions `why` is asked, by default 60.
+R2U2_QUESTIONS is how many questions `why` is asked, by default 50.
 """
 
 import os
+import signal
 import subprocess
 import sys
 import unittest
@@ -26,6 +27,8 @@ def interpreter():
 class Properties(unittest.TestCase):
     def check(self, name):
         program("r2u2"), program("c2po")
+        if "R2U2_QUESTIONS" in os.environ:
+            signal.alarm(0)
         env = {**os.environ, "PYTHONPATH": os.pathsep.join((str(HERE), str(TOOLS / "lib"))), "PYTHONDONTWRITEBYTECODE": "1"}
         words = [interpreter(), "-m", "unittest", "-b", name]
         ran = subprocess.run(words, cwd=HERE, env=env, stdout=subprocess.PIPE, stderr=subprocess.STDOUT, encoding="utf-8")

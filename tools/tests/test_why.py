@@ -180,7 +180,7 @@ class Sentences(Case):
         self.assertEqual(self.pattern("assume_guarantee", "sensor:0"), "sensor is inactive at 0: power is false at row 0")
 
     def test_numbers(self):
-        line = "settling is F at 6: step holds at row 6; error <= 2 is false at rows 6, 7, 9 and 11 (8, 3, 4 and 3)"
+        line = "settling is F at 6: step holds at row 6; error <= 2 is false at rows 7, 9 and 11 (3, 4 and 3)"
         self.assertEqual(self.pattern("settling", "settling:6"), line)
 
     def test_names_and_text_of_the_specification(self):

@@ -16,10 +16,10 @@ from r2u2tools.why.part_verdicts import FALSE, TRUE
 from r2u2tools.why.sentences import Sentences
 from r2u2tools.why.trace_window import Cells
 
-QUESTIONS = int(os.environ.get("R2U2_QUESTIONS", "60"))
+QUESTIONS = int(os.environ.get("R2U2_QUESTIONS", "50"))
 CHANGES, AHEAD = 3, 25
 NAMES = list(specs.SIGNALS)
-MOST_UNSHOWN = 0.03
+MOST_UNSHOWN = 0.05
 
 
 def text_of(rows):
@@ -40,7 +40,7 @@ def verdicts(spec, rows, folder):
 
 
 class Why(Case):
-    """The cells that are named decide a verdict, none of them can be left out, and each line of the tree is true."""
+    """The named cells decide a verdict, none of them can be left out, and each line of the tree is true."""
 
     asked = shown = unshown = decided = 0
 
@@ -94,6 +94,7 @@ class Why(Case):
                 self.check_needed(question, spec, found, cell, folder)
             else:
                 self.unshown += 1
+                self.assertFalse(found.exact, (cell, found.cells))
 
     def check_needed(self, question, spec, found, cell, folder):
         """Over rows that agree in all cells but one, the verdict is another one."""
@@ -105,7 +106,7 @@ class Why(Case):
         self.assertNotIn(verdicts(spec, rows, folder)["f"].get(question.time), (found.word, None))
 
     def check_open(self, question, spec, found, folder):
-        """The rows to come that are named decide what the verdict of that time will be."""
+        """The named rows to come decide what the verdict of that time will be."""
         self.assertTrue(all(at >= len(question.rows) for _, at in found.cells))
         dice = random.Random(0)
         there = {(name, at) for name in NAMES for at in range(len(question.rows))}

@@ -1,5 +1,7 @@
 """How the tools tell what is wrong: one line on the error output, and a status."""
 
+from __future__ import annotations
+
 import argparse
 import errno
 import io
@@ -8,6 +10,7 @@ import re
 import signal
 import sys
 from pathlib import Path
+from typing import IO, Any, Callable, NoReturn, Optional, Union
 
 # Where a tool can't do what it was asked for: a file can't be read, a line isn't what it should be.
 TROUBLE = 2
@@ -16,7 +19,7 @@ TROUBLE = 2
 class Trouble(Exception):
     """What is wrong, in one line, with its place."""
 
-    def __init__(self, text, status=TROUBLE):
+    def __init__(self, text: str, status: int = TROUBLE) -> None:
         super().__init__(text)
         self.status = status
 
@@ -24,7 +27,7 @@ class Trouble(Exception):
 class Stopped(BaseException):
     """A signal that ends the tool. It passes through all blocks, so that files and programs don't outlive the tool."""
 
-    def __init__(self, number):
+    def __init__(self, number: int) -> None:
         super().__init__(number)
         self.number = number
 
@@ -32,42 +35,42 @@ class Stopped(BaseException):
 class Closed(io.RawIOBase):
     """A stream that the caller of the tool has closed."""
 
-    def writable(self):
+    def writable(self) -> bool:
         return True
 
-    def write(self, _):
+    def write(self, _: Any) -> int:
         raise OSError(errno.EBADF, "it is closed", "the standard output")
 
 
-def name():
+def name() -> str:
     """The name under which the tool was called."""
     return Path(sys.argv[0]).name
 
 
-def note(text):
+def note(text: object) -> None:
     print(f"{name()}: {text}", file=sys.stderr, flush=True)
 
 
 class Words(argparse.ArgumentParser):
     """A reader of the command line that tells a fault in one line."""
 
-    def error(self, message):
+    def error(self, message: str) -> NoReturn:
         note(f"{message} (--help tells more)")
         sys.exit(TROUBLE)
 
-    def _print_message(self, message, file=None):
+    def _print_message(self, message: str, file: Any = None) -> None:
         """Writes the help; unlike the method of the library it reports that it can't."""
         (file or sys.stdout).write(message)
 
 
-def plain(text):
+def plain(text: str) -> str:
     """A text without control characters, which no XML may hold."""
     return "".join(letter if letter.isprintable() or letter in "\t\n" else "\N{REPLACEMENT CHARACTER}" for letter in text)
 
 
-def words(doc, **more):
+def words(doc: Optional[str], **more: Any) -> Words:
     """A reader of the command line: its text for --help, and the forms that it shows, are those at the top of the tool."""
-    head, usage, body = doc.split("\n\n", 2)
+    head, usage, body = (doc or "").split("\n\n", 2)
     forms = re.sub(r"^(usage: | {7})\w+", lambda found: found[1] + "%(prog)s", usage, flags=re.M)
     return Words(
         prog=name(),
@@ -79,21 +82,21 @@ def words(doc, **more):
     )
 
 
-def count(text):
+def count(text: str) -> int:
     """A number among the words."""
     if not re.fullmatch(r"[0-9]+", text):
         raise argparse.ArgumentTypeError(f"{text} isn't a whole number from 0 on")
     return int(text)
 
 
-def stop(number, _frame):
+def stop(number: int, _frame: object) -> NoReturn:
     """Ends the tool by a signal, once; further ones don't disturb what it cleans up."""
     for other in (signal.SIGTERM, signal.SIGHUP):
         signal.signal(other, signal.SIG_IGN)
     raise Stopped(number)
 
 
-def fill_streams():
+def fill_streams() -> None:
     """Opens the null device in the place of closed streams, so that no file takes their numbers."""
     for number in range(3):
         try:
@@ -106,18 +109,19 @@ def fill_streams():
         sys.stdout = io.TextIOWrapper(io.BufferedWriter(Closed()))
 
 
-def prepare():
+def prepare() -> None:
     """Sets up streams and signals: a closed pipe ends the tool without a message, other signals after cleaning up."""
     fill_streams()
     signal.signal(signal.SIGPIPE, signal.SIG_DFL)
     for number in (signal.SIGTERM, signal.SIGHUP):
         if signal.getsignal(number) == signal.SIG_DFL:
             signal.signal(number, stop)
-    sys.stdout.reconfigure(encoding="utf-8", errors="replace")
-    sys.stderr.reconfigure(encoding="utf-8", errors="replace")
+    for stream in (sys.stdout, sys.stderr):
+        if isinstance(stream, io.TextIOWrapper):
+            stream.reconfigure(encoding="utf-8", errors="replace")
 
 
-def ended(main):
+def ended(main: Callable[[], Any]) -> Any:
     """Runs a tool, and returns its exit code when all that it printed is written."""
     try:
         status = main()
@@ -127,7 +131,7 @@ def ended(main):
     return status
 
 
-def run(main):
+def run(main: Callable[[], Any]) -> NoReturn:
     """Runs a tool to its end: a closed pipe or a signal ends it without a message, trouble with one line."""
     prepare()
     try:
@@ -149,12 +153,12 @@ def run(main):
     sys.exit(status)
 
 
-def told_os(path, doing, fault):
+def told_os(path: object, doing: str, fault: OSError) -> Trouble:
     """Trouble with a file: `cannot open x.csv: No such file or directory`."""
     return Trouble(f"cannot {doing} {path}: {fault.strerror}")
 
 
-def write(path, text):
+def write(path: Union[str, Path], text: str) -> None:
     """Writes a text into a file."""
     try:
         Path(path).write_text(text, encoding="utf-8", errors="replace")
@@ -162,7 +166,7 @@ def write(path, text):
         raise told_os(path, "write", fault) from None
 
 
-def opened(path):
+def opened(path: Union[str, Path]) -> IO[bytes]:
     """A file as bytes, or the standard input for `-`."""
     if str(path) == "-":
         if sys.stdin is None:

@@ -1,4 +1,4 @@
-"""From a specification, or a compiled program, to the program's text, with the names and the words that the author gave."""
+"""The text of a specification or a compiled program, with the names and the spelling that the author gave."""
 
 from __future__ import annotations
 
@@ -29,11 +29,11 @@ class Compiled:
     old: bool = False
 
     def flown(self) -> bytes:
-        """The bytes of the program that is run: of the one that was given, or of what was compiled."""
+        """The bytes of the program that is run: those that were given, or that were compiled."""
         return self.given.raw or self.path.read_bytes()
 
     def columns(self) -> list[str]:
-        """The names of the columns of a row, with others where no signal stands."""
+        """The names of the columns of a row, with others in columns without a signal."""
         by_column = {signal.column: signal.name for signal in read_spec(self.path).signals}
         free = (f"_{k}" for k in range(1 << 32) if f"_{k}" not in self.shown.signals)
         return [by_column[k] if k in by_column else next(free) for k in range(max(by_column, default=-1) + 1)]
@@ -93,8 +93,8 @@ def is_formula(body: list[Token]) -> bool:
 def with_outputs(given: Spec, asked: dict[str, str], folder: FilePath) -> Optional[tuple[ProgramText, list[str]]]:
     """The program of a specification with further formulas as its only outputs, each in its section.
 
-    A formula that isn't one by itself is left out, as c2po says: as one of numbers, or one that looks back and was asked for
-    as one that looks ahead, which is then tried so.
+    A formula that isn't one by itself is left out, as c2po says: as an expression of numbers. A formula that looks back
+    and was asked for in FTSPEC is tried in PTSPEC.
     """
     kept = [f"{item.section} {given.text[item.start : item.end]};" for item in given.items]
     head = "\n".join(line for line, item in zip(kept, given.items) if item.section not in ("FTSPEC", "PTSPEC"))
@@ -145,7 +145,7 @@ def name(text: ProgramText, given: Spec, folder: FilePath) -> None:
 
 
 def quote(made: Compiled, told: Requirement, folder: FilePath) -> None:
-    """Lets the parts of an output have the words with which its specification writes them."""
+    """Gives the parts of an output the spelling of its specification."""
     if made.given.is_program():
         return
     output = made.given.outputs[made.shown.outputs.index(told)]

@@ -100,7 +100,7 @@ class Reader:
                 pass
 
     def before_operand(self) -> Expression:
-        """An operand with the operators that stand before it."""
+        """An operand with the operators before it."""
         op, begin = self.peek(), self.place
         if op not in ("!", "-", "F", "G", "O", "H"):
             return self.with_parts(self.primary())
@@ -173,7 +173,7 @@ def plain(text: str, read: Sequence[Token]) -> str:
 
 
 def shortened(text: str, room: int = 72) -> str:
-    """An expression in at most about so many letters: operands give way to two dots, and never an outer operator."""
+    """An expression in about `room` letters: operands give way to two dots, and never an outer operator."""
     if len(text) <= room:
         return text
     try:

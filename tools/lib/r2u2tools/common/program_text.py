@@ -64,7 +64,7 @@ class Requirement:
 
 @dataclass
 class Form:
-    """An operator of the language, what it stands between, each as it is or denied, and its interval."""
+    """An operator of the language, its operands, each as it is or denied, and its interval."""
 
     op: str
     parts: list[Bare]
@@ -104,7 +104,7 @@ class ProgramText:
         return found
 
     def is_truth(self, ref: str) -> bool:
-        """Whether a reference is a formula, and not a whole number."""
+        """Whether a reference is a formula, and not a number."""
         if ref in self.nodes:
             return self.nodes[ref].op in (*ATOMS, "!", "&&", "U", "S")
         return ref == "true" or self.signals.get(ref) == "bool"

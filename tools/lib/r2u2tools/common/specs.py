@@ -4,9 +4,13 @@ c2po alone says what is a specification. Here its text is cut into items, so
 that names can be found; a text that c2po refuses may pass.
 """
 
+from __future__ import annotations
+
 import re
 import struct
 from dataclasses import dataclass, field
+from pathlib import Path
+from typing import Iterator, Optional, Union
 
 from r2u2tools.common.cli import Trouble, told_os
 
@@ -32,8 +36,8 @@ class Item:
     """One item: its section, its name or None, and the tokens after the name and its sign."""
 
     section: str
-    name: str
-    body: list
+    name: Optional[str]
+    body: list[Token]
     start: int = 0
     end: int = 0
 
@@ -51,7 +55,7 @@ class Output:
 
     name: str
     section: str
-    body: list = field(default_factory=list)
+    body: list[Token] = field(default_factory=list)
 
 
 @dataclass
@@ -59,17 +63,17 @@ class Spec:
     """A specification, with its text, or a compiled program, with its bytes."""
 
     path: str
-    signals: list
-    outputs: list
-    text: str = None
-    items: list = field(default_factory=list)
+    signals: list[Signal]
+    outputs: list[Output]
+    text: str = ""
+    items: list[Item] = field(default_factory=list)
     raw: bytes = b""
 
-    def is_program(self):
-        return self.text is None
+    def is_program(self) -> bool:
+        return bool(self.raw)
 
 
-def tokens(text):
+def tokens(text: str) -> list[Token]:
     """The tokens of a text, without blanks and comments."""
     found, place, line = [], 0, 1
     while place < len(text):
@@ -83,14 +87,14 @@ def tokens(text):
     return found
 
 
-def cut(found):
+def cut(found: list[Token]) -> Iterator[tuple[str, list[Token]]]:
     """The tokens cut into items: pairs of a section and the tokens before a `;` outside braces."""
-    section, item, depth = None, [], 0
+    section, item, depth = "", list[Token](), 0
     for token in found:
         if token.text in SECTIONS and not item:
             section = token.text
             continue
-        if section is None:
+        if not section:
             raise Trouble(f"line {token.line}: no section begins here")
         depth += (token.text == "{") - (token.text == "}")
         if token.text == ";" and depth <= 0:
@@ -102,16 +106,16 @@ def cut(found):
         raise Trouble(f"line {item[-1].line}: an item without its ;")
 
 
-def items(text):
+def items(text: str) -> Iterator[Item]:
     """The items of a specification in their order."""
     for section, item in cut(tokens(text)):
-        sign = {"DEFINE": ":=", "INPUT": None}.get(section, ":")
+        sign = {"DEFINE": ":=", "INPUT": ""}.get(section, ":")
         named = len(item) > 1 and item[1].text == sign
         ends = (item[0].start, item[-1].end) if item else (0, 0)
         yield Item(section, item[0].text if named else None, item[2:] if named else item, *ends)
 
 
-def declared(item):
+def declared(item: Item) -> list[tuple[str, str]]:
     """The names and the kind of one item of INPUT."""
     names = [token.text for token in item.body]
     if len(names) < 3 or names[-2] != ":":
@@ -119,7 +123,7 @@ def declared(item):
     return [(name, names[-1]) for name in names[:-2] if name != ","]
 
 
-def spec_of_text(path, text):
+def spec_of_text(path: str, text: str) -> Spec:
     found = list(items(text))
     pairs = [pair for item in found if item.section == "INPUT" for pair in declared(item)]
     signals = [Signal(name, kind, column) for column, (name, kind) in enumerate(pairs)]
@@ -128,7 +132,7 @@ def spec_of_text(path, text):
     return Spec(path, signals, outputs, text, found)
 
 
-def spec_of_bytes(path, raw):
+def spec_of_bytes(path: str, raw: bytes) -> Spec:
     """The names that a compiled program stores."""
     try:
         version, _, _, bz, ft, pt, outs, _ = struct.unpack_from("<HHIIIIII", raw, 4)
@@ -138,7 +142,7 @@ def spec_of_bytes(path, raw):
         place += 24 * outs
         kept = [struct.unpack_from("<IBBH", raw, place + 8 * k) for k in range(count)]
         place += 8 * count
-        outputs, signals = [], []
+        outputs, signals = list[Output](), list[Signal]()
         for _, engine, size in told:
             name = raw[place : place + size].decode("ascii")
             outputs.append(Output(name, "PTSPEC" if engine else "FTSPEC"))
@@ -151,7 +155,7 @@ def spec_of_bytes(path, raw):
     return Spec(path, signals, outputs, raw=raw)
 
 
-def read_spec(path):
+def read_spec(path: Union[str, Path]) -> Spec:
     """A specification or a compiled program, by what the file begins with."""
     try:
         with open(path, "rb") as file:
@@ -159,8 +163,8 @@ def read_spec(path):
     except OSError as fault:
         raise told_os(path, "open", fault) from None
     if raw.startswith(MAGIC):
-        return spec_of_bytes(path, raw)
+        return spec_of_bytes(str(path), raw)
     try:
-        return spec_of_text(path, raw.decode("latin-1"))
+        return spec_of_text(str(path), raw.decode("latin-1"))
     except Trouble as trouble:
         raise Trouble(f"{path}: {trouble}") from None

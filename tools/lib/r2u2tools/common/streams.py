@@ -1,11 +1,15 @@
 """Lines of a file or a pipe, in constant memory."""
 
+from __future__ import annotations
+
+from typing import IO, Iterator
+
 from r2u2tools.common.cli import Trouble
 
 BLOCK = 1 << 16
 
 
-def lines_of(file, longest):
+def lines_of(file: IO[bytes], longest: int) -> Iterator[tuple[int, bytes]]:
     """The lines of a file of bytes, as soon as they are there, with their numbers; none is longer than `longest`."""
     read = getattr(file, "read1", file.read)
     rest, number = b"", 0

@@ -4,7 +4,10 @@ A line tells its word of all times after the line of the same output before
 it, up to its own time: so both styles of r2u2 are read alike.
 """
 
+from __future__ import annotations
+
 import re
+from typing import IO, Iterator, Optional
 
 from r2u2tools.common.streams import lines_of
 from r2u2tools.common.cli import Trouble
@@ -16,7 +19,7 @@ NAMED = {word.encode(): word for word in WORDS}
 LONGEST = 128
 
 
-def shown(line):
+def shown(line: bytes) -> str:
     """The start of a line that isn't one, as a message can hold it."""
     text = line[:40].decode("ascii", "backslashreplace")
     text = "".join(letter if letter.isprintable() else "?" for letter in text)
@@ -26,17 +29,19 @@ def shown(line):
 class Reader:
     """Reads verdict lines, and keeps of each output the first time of which no line spoke yet."""
 
-    def __init__(self, what=""):
-        self.next, self.names, self.count = {}, {}, 0
+    def __init__(self, what: str = "") -> None:
+        self.next: dict[bytes, int] = {}
+        self.names: dict[bytes, str] = {}
+        self.count = 0
         self.where = f"{what} " if what else ""
 
-    def fault(self, number, line, found):
+    def fault(self, number: int, line: bytes, found: Optional[re.Match[bytes]]) -> Trouble:
         """What is wrong with a line."""
         if not found:
             return Trouble(f"{self.where}line {number}: not a verdict line: {shown(line)}")
         return Trouble(f"{self.where}line {number}: time {int(found[2])} of {found[1].decode()} is told twice")
 
-    def stretches(self, file):
+    def stretches(self, file: IO[bytes]) -> Iterator[tuple[str, int, int, str]]:
         """What each line of a file tells: the output's name, the first and the last time, and the word."""
         match, after, names = LINE.fullmatch, self.next, self.names
         for number, line in self.numbered(file):
@@ -53,7 +58,7 @@ class Reader:
             self.count = number
             yield names[raw], first, last, NAMED[word]
 
-    def numbered(self, file):
+    def numbered(self, file: IO[bytes]) -> Iterator[tuple[int, bytes]]:
         try:
             yield from lines_of(file, LONGEST)
         except Trouble as trouble:

@@ -32,7 +32,7 @@ def numbers_in(texts: Iterable[ProgramText]) -> list[int]:
 
 
 def columns_of(texts: Sequence[ProgramText]) -> list[Column]:
-    """The signals of programs, each once. A signal that is a truth for one of them has truths alone."""
+    """The signals of programs, each once. A signal that is Boolean for one of them has 0 and 1 alone."""
     kinds: dict[str, str] = {}
     for text in texts:
         for name, kind in text.signals.items():

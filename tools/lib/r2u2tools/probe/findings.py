@@ -17,7 +17,7 @@ BROKEN = ("F", "invalid")
 
 @dataclass
 class Change:
-    """A change that no log tells from the requirement."""
+    """A change that no log notices."""
 
     kind: str
     line: int
@@ -37,7 +37,7 @@ class Unused:
 
 @dataclass
 class Limit:
-    """A number of a requirement that holds: the last value with which it still does, and the first with which not."""
+    """A number of a requirement that is never false: the last other value with which that is so, and the first without."""
 
     line: int
     column: int
@@ -92,7 +92,7 @@ class Probe:
                 found[name].broken += sum(last - first + 1 for first, last, word in words if word in BROKEN)
 
     def was_tried(self, requirement: Requirement) -> Optional[bool]:
-        """Whether the left side of a requirement held at some row; None where there is no left side."""
+        """Whether the left side of a requirement held at some row; None where it has no left side."""
         tree = self.source.tree(requirement.number)
         left = left_side(tree) if tree else None
         if left is None:
@@ -135,9 +135,12 @@ class Probe:
 
     def margins(self, requirement: Requirement) -> list[Limit]:
         return [
-            Limit(it.place.line, it.place.column, described(self.source, it), it.value, it.holds, it.fails)
+            Limit(
+                it.place.line, it.place.column, described(self.source, it),
+                it.sign * it.value, it.sign * it.holds, it.sign * it.fails,
+            )
             for it in margins(self.source, requirement, self.trials)
-            if it.fails is not None
+            if it.fails is not None and it.holds != it.value
         ]
 
 

@@ -6,7 +6,7 @@ from dataclasses import dataclass
 from typing import Iterator, Optional
 
 from r2u2tools.common.specs import Token
-from r2u2tools.probe.mutants import GREATEST, LATEST, around, count_places, interval_places, is_number
+from r2u2tools.probe.mutants import GREATEST, LATEST, around, count_places, interval_places, is_negated, is_number
 from r2u2tools.probe.requirements import Edit, Place, Requirement, Source, kept
 from r2u2tools.probe.trials import Trial, Trials
 
@@ -23,6 +23,7 @@ class Margin:
     value: int
     step: int
     limit: int
+    sign: int = 1
     holds: int = 0
     fails: Optional[int] = None
     closed: bool = False
@@ -72,11 +73,11 @@ def numbers(source: Source, requirement: Requirement) -> Iterator[Margin]:
         for k, token in enumerate(body):
             if is_number(token):
                 least, most = limits(body, k)
-                place, value = source.place(token), int(token.text)
+                place, value, sign = source.place(token), int(token.text), -1 if is_negated(body, k) else 1
                 if value < most:
-                    yield Margin(number, k, place, value, 1, most)
+                    yield Margin(number, k, place, value, 1, most, sign)
                 if value > least:
-                    yield Margin(number, k, place, value, -1, least)
+                    yield Margin(number, k, place, value, -1, least, sign)
 
 
 def margins(source: Source, requirement: Requirement, trials: Trials) -> list[Margin]:

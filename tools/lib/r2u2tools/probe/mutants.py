@@ -91,22 +91,28 @@ def neighbours(body: list[Token], k: int, intervals: dict[int, tuple[int, int]])
     return [it for it in (value - 1, value + 1) if least <= it <= most]
 
 
+def is_negated(body: list[Token], k: int) -> bool:
+    """Whether a minus before a number is its sign."""
+    before = body[k - 2].text if k >= 2 else ""
+    return k >= 1 and body[k - 1].text == "-" and not (before.isalnum() or before.isidentifier() or before in (")", "}"))
+
+
 def around(body: list[Token], k: int, text: str) -> tuple[str, str]:
-    """A number with its interval, or with its comparison, as it is and as it becomes."""
-    first, last = k, k + 1
+    """A number with its interval, or with its sign and its comparison, as it is and as it becomes."""
+    first, last = k - is_negated(body, k), k + 1
     if (found := interval_places(body).get(k)) is not None:
         first, last = found[0] - 2, found[1] + 2
-    elif k >= 2 and body[k - 1].text in COMPARISONS:
-        first = k - 2
-    elif k + 2 < len(body) and body[k + 1].text in COMPARISONS:
-        last = k + 3
+    elif first >= 2 and body[first - 1].text in COMPARISONS:
+        first -= 2
+    elif last + 1 < len(body) and body[last].text in COMPARISONS:
+        last += 2
     words = [token.text for token in body]
     return written(words[first:last]), written([*words[first:k], text, *words[k + 1 : last]])
 
 
 def written(words: list[str]) -> str:
-    """A few tokens: comparisons with spaces, intervals without."""
-    return (" " if any(word in COMPARISONS for word in words) else "").join(words)
+    """A few tokens: comparisons with spaces, intervals and signs without."""
+    return "".join(f" {word} " if word in COMPARISONS else word for word in words)
 
 
 def operators(source: Source, number: int) -> Iterator[Mutant]:
@@ -133,7 +139,7 @@ def parts(source: Source, requirement: Requirement) -> Iterator[tuple[Expression
 
 
 def is_truth(source: Source, number: int, it: Expression) -> bool:
-    """Whether an expression is a formula by its operator, or a signal that is a truth."""
+    """Whether an expression is a formula by its operator, or a Boolean signal."""
     if it.op in TRUTHS and it.op != "=>":
         return True
     body = source.items[number].body
@@ -142,5 +148,5 @@ def is_truth(source: Source, number: int, it: Expression) -> bool:
 
 
 def constants(part: Expression, number: int, body: list[Token], place: Place, text: str) -> list[Mutant]:
-    """A part that is true throughout, and one that is false."""
+    """A part replaced by true, and by false."""
     return [Mutant("part", Edit(number, part.first, part.last, word), place, text, word) for word in ("true", "false")]

@@ -21,7 +21,7 @@ HEAD_ROWS, MOST_TRIALS, MOST_LETTERS, BLOCK = 1000, 64, 40_000, 1 << 18
 
 @dataclass(frozen=True)
 class Trial:
-    """A formula, with the definitions that it needs beside those of the specification."""
+    """A formula, with the definitions that it needs in addition to those of the specification."""
 
     section: str
     formula: str
@@ -48,7 +48,7 @@ class Trials:
                 self.heads.append(str(path))
 
     def false(self, trials: Sequence[Trial]) -> list[Optional[bool]]:
-        """Of each formula whether it is false somewhere; None of one that c2po refuses."""
+        """Whether each formula is false somewhere; None where c2po refuses it."""
         found: list[Optional[bool]] = [False] * len(trials)
         for batch in batches(trials):
             self.batch(trials, batch, found)

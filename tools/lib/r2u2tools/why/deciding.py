@@ -1,7 +1,7 @@
 """Which parts of a formula decide its verdict, and at which times.
 
 Each verdict of a part follows from verdicts of its operands. Where several
-choices decide it, one that takes few cells of the trace is taken, and cells
+choices decide it, the one with few cells of the trace is taken, and cells
 that several parts share count once.
 """
 
@@ -248,7 +248,7 @@ class Derivation:
         return low <= kept <= high
 
     def cheaper(self, node: Node, time: int, pick: Pick) -> Pick:
-        """The operand of a conjunction that is false and counts already, else the one that takes fewer cells."""
+        """The operand of a conjunction that is false and counts already, else the one with fewer cells."""
         for k, ref in enumerate(node.operands()):
             part = self.verdicts.by_ref[ref]
             if time in self.chosen[ref] and part.at(time) == FALSE and self.cost[ref][time - part.low] < NEVER:

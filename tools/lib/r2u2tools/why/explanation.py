@@ -50,7 +50,8 @@ class Explanation:
 
     `word` is what is told of it, None of an open one, and `at` the time of which the reasons speak: of an open verdict
     that its parts decide, an earlier one, whose line comes first. `cells` decide the verdict; the reasons may speak of
-    more, where no part alone is decided by fewer.
+    more, where no part alone is decided by fewer. `needed` has of a cell rows that show that it can't be left out, of each
+    one where `exact`.
     """
 
     word: Optional[str]
@@ -59,6 +60,7 @@ class Explanation:
     cells: frozenset[Cell]
     leaves: list[Reason]
     needed: dict[Cell, Rows] = field(default_factory=dict)
+    exact: bool = False
     held: Optional[Held] = None
 
 
@@ -95,7 +97,7 @@ class Tree:
 
     def merged(self, ref: str, denied: bool, below: Below) -> list[Reason]:
         """The parts below. A conjunction within a conjunction gives way to its own, and what no row decides is left out
-        beside what one does."""
+        where a row decides another one."""
         spelled, found = dict(self.shown.form(ref, denied).parts), list[Reason]()
         for (operand, word), times in below.items():
             reason = self.reason(operand, word, times, spelled.get(operand, False))
@@ -202,7 +204,8 @@ class Explainer:
         tree = Tree(self.shown, Follows(made))
         reasons = in_order([tree.reason(ref, need, {time}) for ref, need in roots])
         least = self.least(window, verdicts, at, time)
-        return Explanation(word, time, reasons, least.least(union(reasons)), tree.leaves(reasons), least.needed)
+        cells = least.least(union(reasons))
+        return Explanation(word, time, reasons, cells, tree.leaves(reasons), least.needed, least.is_exact())
 
     def least(self, window: TraceWindow, verdicts: Verdicts, at: list[tuple[str, int]], time: int) -> LeastCells:
         spans = {ref: (part.low, part.high) for ref, part in verdicts.by_ref.items()}

@@ -1,4 +1,4 @@
-"""Which cells of an explanation can be left out, whatever the cells beside them hold.
+"""Which cells of an explanation can be left out, whatever they hold.
 
 A verdict may be decided by fewer cells than any of its parts, as that of
 `(p -> q) && (p || q)` is by q alone. Whether it is, r2u2 says: it watches rows
@@ -13,7 +13,7 @@ import random
 from dataclasses import dataclass, field
 from typing import Optional, Sequence
 
-from r2u2tools.common.program_text import ATOMS, ProgramText
+from r2u2tools.common.program_text import ATOMS, Node, ProgramText
 from r2u2tools.common.cli import Trouble
 from r2u2tools.why.deciding import Cell, CellCosts, Derivation
 from r2u2tools.why.part_verdicts import Parts, PartWatch, Verdicts
@@ -23,38 +23,66 @@ MOST_RUNS, MOST_SIZE, MOST_CELLS, MOST_VALUES = 400, 20_000, 64, 24
 Rows = dict[Cell, int]
 
 
+@dataclass(frozen=True)
+class Line:
+    """An expression that is a constant times one signal, plus a constant; without a signal the name is empty."""
+
+    name: str
+    times: int
+    plus: int
+
+
 class Values:
-    """The values that are tried in a cell of each signal, and whether these are all cases."""
+    """The values that are tried in a cell of each signal, and whether these are all cases.
+
+    They are where a signal is compared with constants: there a comparison changes, and nowhere else.
+    """
 
     def __init__(self, shown: ProgramText, names: Sequence[str]) -> None:
         self.by_name: dict[str, list[int]] = {}
-        self.exhaustive: set[str] = set()
+        self.exhaustive = {name for name in names if shown.signals[name] == "bool"}
         atoms = [node for node in shown.nodes.values() if node.op in ATOMS]
-        sides = [(node.left, node.right) for node in atoms]
-        sides += [(right, left) for left, right in sides]
-        numbers = {int(ref) for ref in shown.below(*shown.nodes) if ref.lstrip("-").isdigit()}
+        numbers = {int(ref) for ref in shown.below(*shown.nodes) if ref.lstrip("-").isdigit()} | {0}
         for name in names:
-            if shown.signals[name] == "bool":
+            if name in self.exhaustive:
                 self.by_name[name] = [0, 1]
-                self.exhaustive.add(name)
                 continue
-            compared = {number_of(shown, other) for side, other in sides if side == name}
-            readers = sum(name in shown.below(node.left, node.right) for node in atoms)
-            direct = sum(side == name for side, _ in sides)
-            simple = None not in compared and readers == direct
-            constants = {it for it in compared if it is not None} if simple else numbers | {0}
-            near = sorted({it + more for it in constants for more in (-1, 0, 1) if LEAST <= it + more <= GREATEST})
+            turns = [turn_of(shown, node) for node in atoms if name in shown.below(node.left, node.right)]
+            known = {turn for turn in turns if turn is not None}
+            near = sorted({it + more for it in (known if None not in turns else numbers | known) for more in (-1, 0, 1)})
+            near = [it for it in near if LEAST <= it <= GREATEST]
             self.by_name[name] = near[:MOST_VALUES] or [0, 1]
-            if simple and len(near) <= MOST_VALUES:
+            if None not in turns and len(near) <= MOST_VALUES:
                 self.exhaustive.add(name)
 
 
-def number_of(shown: ProgramText, ref: str) -> Optional[int]:
-    """The value of a constant."""
+def turn_of(shown: ProgramText, node: Node) -> Optional[int]:
+    """The integer at which or next to which a comparison changes; None where it isn't one of a signal with constants."""
+    left, right = line_of(shown, node.left), line_of(shown, node.right)
+    if left is None or right is None or (left.name and right.name and left.name != right.name):
+        return None
+    times, plus = left.times - right.times, left.plus - right.plus
+    return -plus // times if times else 0
+
+
+def line_of(shown: ProgramText, ref: str) -> Optional[Line]:
+    """An expression as a line, where it is one."""
     node = shown.nodes.get(ref)
-    if node and node.op == "-" and not node.right and node.left.isdigit():
-        return -int(node.left)
-    return int(ref) if ref.lstrip("-").isdigit() else None
+    if node is None:
+        return Line("", 0, int(ref)) if ref.lstrip("-").isdigit() else Line(ref, 1, 0)
+    sides = [line_of(shown, operand) for operand in node.operands()]
+    left, right = sides[0], sides[-1]
+    if left is None or right is None:
+        return None
+    if node.op == "-" and not node.right:
+        return Line(left.name, -left.times, -left.plus)
+    if node.op in "+-" and not (left.name and right.name and left.name != right.name):
+        sign = 1 if node.op == "+" else -1
+        return Line(left.name or right.name, left.times + sign * right.times, left.plus + sign * right.plus)
+    if node.op == "*" and not (left.name and right.name):
+        it, by = (left, right.plus) if left.name else (right, left.plus)
+        return Line(it.name, it.times * by, it.plus * by)
+    return None
 
 
 @dataclass
@@ -87,6 +115,7 @@ class LeastCells:
     def least(self, cells: frozenset[Cell]) -> frozenset[Cell]:
         """Those of some cells that decide the verdict without the others."""
         if len(cells) > MOST_CELLS:
+            self.most_runs = 0
             return cells
         for cell in sorted(cells, key=lambda cell: (cell[1], cell[0])):
             rest = cells - {cell}
@@ -97,8 +126,12 @@ class LeastCells:
                 self.needed[cell] = found
         return cells
 
+    def is_exact(self) -> bool:
+        """Whether each cell was left out or shown to be needed: all cases can be tried, and there were runs enough."""
+        return self.runs < self.most_runs and self.values.exhaustive.issuperset(self.parts.signals)
+
     def other_verdict(self, kept: frozenset[Cell]) -> Optional[Rows]:
-        """Rows with these cells and another verdict; none at all where there are no such rows, and None where that is open."""
+        """Rows with these cells and another verdict; an empty answer where such rows can't be, and None where that is open."""
         exact = True
         left = [{cell: self.actual[cell] for cell in kept}]
         while left:
@@ -121,7 +154,7 @@ class LeastCells:
         return {} if exact else None
 
     def free(self, verdicts: Verdicts, fixed: Rows) -> list[Cell]:
-        """The cells beside the fixed ones by which this verdict follows."""
+        """The cells, other than the fixed ones, by which this verdict follows."""
         other = Derivation(verdicts, CellCosts(1.0, dict.fromkeys(fixed, 0.0)))
         return sorted(other.choose(self.roots) - frozenset(fixed))
 

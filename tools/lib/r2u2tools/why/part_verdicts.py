@@ -68,7 +68,7 @@ class Parts:
         return max(far[ref] for ref in self.told.operands())
 
     def first(self, time: int, rows: int) -> int:
-        """The first time whose verdict may keep that of a time back, over so many rows."""
+        """The first time whose verdict may keep that of a time back, over that number of rows."""
         return min(time, max(0, rows - self.ahead))
 
     def spans(self, first: int, last: int) -> dict[str, tuple[int, int]]:
@@ -82,7 +82,7 @@ class Parts:
                 ahead = node.high if node and node.op == "U" else 0
                 spans[operand] = min(before, max(0, low - back)), max(after, high + ahead)
         if sum(high - low + 1 for low, high in spans.values()) > MOST_TIMES:
-            raise Trouble(f"{self.told.name} at {last} reads more than {MOST_TIMES} times of its parts: too many to tell")
+            raise Trouble(f"{self.told.name} at {last} reads more than {MOST_TIMES} times of its parts: too many to explain")
         return spans
 
 
@@ -121,7 +121,7 @@ class PartWatch:
             self.batches.append((batch, out))
 
     def cut(self) -> Iterator[list[str]]:
-        """The parts, so many at a time as one program may have."""
+        """The parts in batches, each as large as a program may be."""
         weight: dict[str, int] = {}
         batch: list[str] = []
         total = 0
@@ -144,7 +144,7 @@ class PartWatch:
         return "\n".join(lines) + "\n"
 
     def sections(self) -> dict[str, str]:
-        """Which engine knows of a part: one that looks back is of the past."""
+        """Which engine knows of a part: that of the past where it looks back."""
         past: set[str] = set()
         for ref in self.parts.refs:
             node = self.parts.node(ref)
@@ -154,7 +154,7 @@ class PartWatch:
 
     def over(self, rows: Iterable[bytes], origin: int, spans: dict[str, tuple[int, int]]) -> Verdicts:
         """The verdicts over rows, of which the first one is that of the time `origin`."""
-        trace = Path(self.folder, "rows.csv")
+        trace = Path(self.folder, "parts-rows.csv")
         with open(trace, "wb") as file:
             file.writelines(rows)
         found = {ref: Part(low, high, bytearray([UNKNOWN]) * (high - low + 1), origin) for ref, (low, high) in spans.items()}

@@ -37,7 +37,7 @@ def stretch(times: Sequence[int], singly: int = SINGLY) -> str:
 
 
 def span_of(values: Sequence[str]) -> str:
-    """The values of a signal: the one that it has, each where they are few, else from the least to the greatest."""
+    """The values of a signal: a single one, each where they are few, else from the least to the greatest."""
     if len(set(values)) == 1:
         return values[0]
     if len(values) <= MOST_VALUES:
@@ -66,7 +66,7 @@ class Sentences:
         return self.shown.text(ref, denied), word
 
     def values(self, leaf: Reason) -> str:
-        """What the signals of a comparison are: of one that is compared by itself its values alone."""
+        """What the signals of a comparison are: where one signal is compared by itself, its values alone."""
         names = self.shown.signals_of(leaf.ref)
         if leaf.ref in names or not names:
             return ""

@@ -3,7 +3,7 @@
 from __future__ import annotations
 
 from dataclasses import dataclass, field
-from typing import BinaryIO, Iterable, Iterator, Optional, Sequence
+from typing import IO, Iterable, Iterator, Optional, Sequence
 
 from r2u2tools.common.cli import Trouble, opened
 from r2u2tools.common.specs import Signal
@@ -40,7 +40,7 @@ class TraceWindow:
                 yield line.number, line.text + b"\n"
 
     def places(self, signals: Sequence[Signal]) -> dict[str, int]:
-        """Where the field of each signal stands in a row."""
+        """The place of each signal's field in a row."""
         names = [signal.name for signal in signals]
         if self.header is None:
             return {signal.name: signal.column for signal in signals}
@@ -63,7 +63,7 @@ class Cells:
         return self.by_time[time][self.places[name]]
 
 
-def rows_of(file: BinaryIO, window: TraceWindow, timed: bool) -> Iterator[tuple[int, int, bytes]]:
+def rows_of(file: IO[bytes], window: TraceWindow, timed: bool) -> Iterator[tuple[int, int, bytes]]:
     """The number, the time and the fields of each row; the header goes into the window."""
     time = -1
     for number, line in lines_of(file, LONGEST):
