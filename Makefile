@@ -16,7 +16,7 @@ VERSION = $(shell cat VERSION)
 
 PROGRAMS = r2u2 c2po
 BUILT = $(PROGRAMS:%=build/%)
-TOOLS = budget compare probe timeline trace verdicts why
+TOOLS = budget compare convert probe timeline trace verdicts why
 NAMES = $(PROGRAMS) $(TOOLS:%=r2u2-%)
 
 INTO = $(DESTDIR)$(PREFIX)

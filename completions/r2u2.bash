@@ -7,10 +7,11 @@ _r2u2_options() {
         r2u2-budget) echo --rate --top --json --max-slots --max-steps --max-reports --max-delay --max-bytes --help ;;
         r2u2-compare) echo --timed --random --rows --seed --keep --markdown --help ;;
         r2u2-probe) echo --timed --json --no-margins --fail-untried --least-noticed --help ;;
-        r2u2-timeline) echo --html --trace --spec --all-columns --from --to --ticks --title -o --help ;;
-        r2u2-trace) echo --spec --columns --names --rename --scale --map --round --time --rate --start --stamps --hold \
-            --delimiter -o --help ;;
-        r2u2-verdicts) echo --json --junit --ignore --spec --log --exercised --diff --merge --help ;;
+        r2u2-convert) echo --mission --rate --spec -o --help ;;
+        r2u2-timeline) echo --html --trace --spec --all-columns --from --to --unit --rate --ticks --title -o --help ;;
+        r2u2-trace) echo --spec --columns --names --rename --scale --map --round --hex --missing --within --time --rate \
+            --time-unit --start --snap --stamps --hold --delimiter --decimal-comma --skip --comment --format --long -o --help ;;
+        r2u2-verdicts) echo --json --junit --ignore --spec --log --exercised --fail-untried --fail-undecided --diff --merge --help ;;
         r2u2-why) echo --timed --html --help ;;
     esac
 }
@@ -20,6 +21,7 @@ _r2u2_takes_a_word() {
     case $1 in
         --mission-time | --demo | --random | --rows | --seed | --least-noticed | --rate | --top | --max-slots | --max-steps | --max-reports | --max-delay | --max-bytes | --from | --to | --ticks | --title) ;;
         --columns | --names | --rename | --scale | --map | --round | --time | --start | --delimiter | --ignore | --log) ;;
+        --hex | --missing | --within | --time-unit | --snap | --skip | --comment | --format | --long | --unit | --mission) ;;
         *) return 1 ;;
     esac
 }
@@ -28,10 +30,14 @@ _r2u2() {
     local word=${COMP_WORDS[COMP_CWORD]} before=${COMP_WORDS[COMP_CWORD - 1]}
     COMPREPLY=()
     _r2u2_takes_a_word "$before" && return
+    if [[ ${COMP_WORDS[0]##*/} == r2u2-convert && $COMP_CWORD == 1 && $word != -* ]]; then
+        mapfile -t COMPREPLY < <(compgen -W "from-c2po from-map from-fret to-vcd to-csv to-json" -- "$word")
+        return
+    fi
     case $word in
         -*) mapfile -t COMPREPLY < <(compgen -W "$(_r2u2_options "${COMP_WORDS[0]##*/}")" -- "$word") ;;
         *) mapfile -t COMPREPLY < <(compgen -f -- "$word") ;;
     esac
 }
 
-complete -o filenames -F _r2u2 r2u2 c2po r2u2-budget r2u2-compare r2u2-probe r2u2-timeline r2u2-trace r2u2-verdicts r2u2-why
+complete -o filenames -F _r2u2 r2u2 c2po r2u2-budget r2u2-compare r2u2-convert r2u2-probe r2u2-timeline r2u2-trace r2u2-verdicts r2u2-why

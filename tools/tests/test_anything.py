@@ -9,7 +9,19 @@ from support import ROOT, TOOLS, Case, tool
 
 LINES = b"granted:0,T\ngranted:1,F\nagc:7,inactive\n"
 TELEMETRY = b'\xef\xbb\xbft,"volts",on\n0,1.5,true\n0.1,2,false\n'
-RESULT = b'{"verdicts": 1, "log": "a", "logs": 1, "lines": 3, "status": 0, "ignored": [], "failed": [], "outputs": []}'
+RESULT = (
+    b'{"verdicts": 2, "log": "a", "logs": 1, "lines": 3, "spec": null, "seconds": 0.1, "status": 0, "ignored": [], "failed": [],'
+    b' "empty": [], "outputs": [{"name": "f", "logs": 1, "decided": 2, "undecided": 0, "words": {"T": 1, "F": 1}, "bad_logs": 1,'
+    b' "first": {"time": 1, "word": "F", "log": "a"}, "stretches": 1, "longest": {"from": 1, "to": 1, "log": "a"},'
+    b' "last": {"from": 1, "to": 1, "log": "a"}}]}'
+)
+DUMP = b"$timescale 1 s $end\n$var wire 1 ! up $end\n$enddefinitions $end\n#0\n1!\n#2\nb0 !\n#3\nr1 !\n"
+OBJECTS = b'{"t": 0, "a": {"b": 1}, "c": [true, null]}\n{"t": 1, "a": {"b": 2}, "c": [false, 3]}\n'
+OLD = b"INPUT a: bool; x: int;\nDEFINE d := x > 3;\nFTSPEC f: a xor d -> F[0,3] a; PTSPEC p: H a;\n"
+FRET = (
+    b'[{"reqid": "A-1", "fulltext": "it shall within 2 ticks satisfy p", "semantics": {"scope": {"type": "in"}, "scope_mode": "m",'
+    b' "condition": "regular", "regular_condition": "(c)", "timing": "within", "duration": "2", "post_condition": "(p)"}}]'
+)
 
 
 def spoilt(rng, raw):
@@ -42,6 +54,16 @@ class Anything(Case):
 
     def test_trace(self):
         self.tried("trace", 3, TELEMETRY, "--scale", "volts=10", "--time", "t", "--rate", "10", "--hold")
+
+        self.tried("trace", 8, DUMP, "--format", "vcd", "--time", "t", "--rate", "10", "--missing", "hold")
+        self.tried("trace", 9, OBJECTS, "--format", "json", "--columns", "a.b", "--missing", "0")
+
+    def test_convert(self):
+        self.tried("convert", 10, OLD, "from-c2po", "--mission", "9")
+        self.tried("convert", 11, FRET, "from-fret")
+        self.tried("convert", 12, b"a: 0\nb: 1\n", "from-map")
+        self.tried("convert", 13, LINES, "to-vcd")
+        self.tried("convert", 14, LINES, "to-csv")
 
     def test_timeline(self):
         lines = self.file("lines", LINES)
