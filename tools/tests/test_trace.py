@@ -5,7 +5,7 @@ import random
 import subprocess
 import sys
 
-from support import ROOT, TOOLS, Case, program, shell, spent, tool
+from support import TOOLS, Case, program, shell, spent, tool
 
 SPEC = "INPUT volts: int; on: bool;\nFTSPEC f: on -> F[0,3] volts > 5;\n"
 

@@ -67,7 +67,9 @@ class Item:
 
 def items_of(text: str) -> Iterator[Item]:
     """Yields the items of a specification in their order; the last may have comments alone."""
-    section, tokens, comments, line, depth = "", [], [], 1, 0
+    section, line, depth = "", 1, 0
+    tokens: list[Token] = []
+    comments: list[str] = []
     for found in TOKEN.finditer(text):
         token = Token(found.lastgroup or "", found[0], line)
         line += found[0].count("\n")

@@ -143,12 +143,14 @@ class Importer:
 
     def __init__(self, document: Any, rate: Optional[Fraction]) -> None:
         if isinstance(document, dict):
-            self.records, models = document.get("requirements"), document.get("modelDocs") or document.get("variables") or []
+            records, models = document.get("requirements"), document.get("modelDocs") or document.get("variables") or []
         else:
-            self.records, models = document, []
-        if not isinstance(self.records, list) or not all(isinstance(it, dict) for it in self.records):
+            records, models = document, []
+        if not isinstance(records, list) or not all(isinstance(it, dict) for it in records):
             raise Trouble("not FRET's JSON: a list of requirements, or an object that has one")
-        self.rate, self.kinds, self.labels = rate, Kinds(), set()
+        self.records: list[dict[str, Any]] = records
+        self.rate, self.kinds = rate, Kinds()
+        self.labels: set[str] = set()
         for it in models if isinstance(models, list) else []:
             if isinstance(it, dict) and it.get("dataType"):
                 self.kinds.given[str(it.get("variable_name"))] = kind_of(str(it["dataType"]))
@@ -203,17 +205,17 @@ class Importer:
         if timing not in ("within", "for", "after"):
             raise Unfit(f"the timing {timing} isn't in the tables")
         found = next((it for it in DURATION.finditer(made.text) if it[1].lower() == timing), None)
-        unit = found[3].lower() if found else "tick"
+        unit, shown = (found[3].lower(), found[0]) if found else ("tick", timing)
         value = fraction(found[2] if found else str(meaning.get("duration", "")).strip())
         if value is None:
             raise Unfit(f"no duration of {timing}")
         rows = value
         if unit in SECONDS:
             if self.rate is None:
-                raise Unfit(f"{found[0]}: --rate says how many rows a second has")
+                raise Unfit(f"{shown}: --rate says how many rows a second has")
             rows = value * SECONDS[unit] * self.rate
         elif unit not in ("tick", "row", "step", "sample", "frame", "cycle"):
-            raise Unfit(f"{found[0]}: the unit {unit} isn't known")
+            raise Unfit(f"{shown}: the unit {unit} isn't known")
         if rows.denominator != 1 or rows >= WIDEST:
             raise Unfit(f"{timing} {value} {unit}s: {float(rows):g} rows" + (" are too many" if rows >= WIDEST else ""))
         return timing, int(rows)

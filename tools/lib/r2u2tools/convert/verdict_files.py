@@ -3,7 +3,6 @@
 from __future__ import annotations
 
 import csv
-import io
 import json
 from collections import deque
 from dataclasses import dataclass, field
@@ -77,12 +76,12 @@ def to_csv(file: BinaryIO, out: TextIO, names: list[str], rate: Optional[Fractio
     writer = csv.writer(out, lineterminator="\n")
     if names:
         writer.writerow(["time", *names])
-    for row in table.rows(file):
+    for row, words in table.rows(file):
         if table.fresh:
             writer.writerow(["time", *table.names])
             table.fresh = False
-        time = row[0] if rate is None else f"{float(Fraction(row[0]) / rate):.9g}"
-        writer.writerow([time, *row[1:]])
+        time = row if rate is None else f"{float(row / rate):.9g}"
+        writer.writerow([time, *words])
 
 
 class Table:
@@ -93,7 +92,7 @@ class Table:
         self.pending = {name: Pending() for name in names}
         self.next, self.fresh = 0, not names
 
-    def rows(self, file: BinaryIO) -> Iterator[list[object]]:
+    def rows(self, file: BinaryIO) -> Iterator[tuple[int, list[str]]]:
         for name, _, last, word in Reader().stretches(file):
             if name not in self.pending:
                 if self.known:
@@ -107,9 +106,9 @@ class Table:
                 yield from self.upto(min(kept.end for kept in self.pending.values()))
         yield from self.upto(max((kept.end for kept in self.pending.values()), default=0))
 
-    def upto(self, end: int) -> Iterator[list[object]]:
+    def upto(self, end: int) -> Iterator[tuple[int, list[str]]]:
         for time in range(self.next, end):
-            yield [time, *[self.word(self.pending[name], time) for name in self.names]]
+            yield time, [self.word(self.pending[name], time) for name in self.names]
             self.next = time + 1
 
     def word(self, it: Pending, time: int) -> str:

@@ -141,7 +141,7 @@ class Columns:
                 raise Trouble(f"--rename: no column {shown(name)} (the file has {', '.join(source.names[:20])})")
         self.line, self.width, self.hold, self.sparse = source.line, len(source.names), found.hold, source.sparse
         self.names = [other.get(name, name) for name in source.names]
-        self.time = self.place(found.time, "--time") if found.time else None
+        self.time = self.place(found.time, "--time") if found.time else -1
         self.chosen = self.choose(found, signals)
         self.skipped = 0
         self.options(found)
@@ -259,7 +259,7 @@ class Columns:
 
     def without(self, column: Column, number: Any) -> None:
         """Takes a field without a value, by the rule of its column."""
-        if column.missing not in (None, *RULES):
+        if column.missing is not None and column.missing not in RULES:
             column.put(str(int(column.missing)))
         elif column.missing == "refuse" or (column.missing is None and not self.hold):
             hint = "" if column.missing else ": --hold takes the last value"
@@ -271,7 +271,7 @@ class Columns:
         for column in self.chosen:
             value = column.last if held or column.now is None else column.now
             if value is None:
-                if column.missing in (None, *RULES):
+                if column.missing is None or column.missing in RULES:
                     raise self.refused(number, column.place, "no value yet")
                 value = str(int(column.missing))
             kept.append(value)

@@ -28,10 +28,10 @@ def exact(text: str) -> Optional[tuple[int, int]]:
 def fraction(text: str) -> Optional[Fraction]:
     """Returns a decimal in lowest terms; it may be a quotient, as 30000/1001."""
     over, sign, under = text.partition("/")
-    found = [exact(part.strip()) for part in ((over, under) if sign else (text,))]
-    if None in found or (sign and not found[1][0]):
+    one, other = exact(over.strip()), exact(under.strip()) if sign else (1, 1)
+    if one is None or other is None or not other[0]:
         return None
-    return Fraction(*found[0]) / (Fraction(*found[1]) if sign else 1)
+    return Fraction(*one) / Fraction(*other)
 
 
 def factor(option: str, text: str) -> Fraction:

@@ -15,7 +15,8 @@ class Output:
     """Where the trace goes. A file takes its place only when it is whole."""
 
     def __init__(self, path: Optional[str], sources: list[BinaryIO]) -> None:
-        self.path, self.temporary = path, None
+        self.path = path
+        self.temporary: Optional[str] = None
         self.live = not all(is_regular(source) for source in sources)
 
     def __enter__(self) -> "Output":
@@ -45,7 +46,7 @@ class Output:
             mask = os.umask(0)
             os.umask(mask)
             os.chmod(self.temporary, 0o666 & ~mask)
-            os.replace(self.temporary, self.path)
+            os.replace(self.temporary, str(self.path))
             self.temporary = None
 
     def __exit__(self, *_: Any) -> None:

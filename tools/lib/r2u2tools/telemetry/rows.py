@@ -64,16 +64,21 @@ class Timed:
         self.rate = factor("--rate", found.rate)
         # How far from a row, in rows, a time may be and still belong to it; times that were, and the furthest.
         self.snap = SNAPPED if found.snap is None else snap_of(found.snap) * self.rate
-        self.inexact, self.furthest, self.late = 0, (Fraction(0), None), 0
+        self.inexact = self.late = 0
+        self.furthest: tuple[Fraction, Any] = (Fraction(0), None)
         self.start: Optional[Fraction] = None
         if found.start is not None:
             self.start = clock.fraction(found.start)
             if self.start is None:
                 raise Trouble(f"--start: {shown(found.start)} is no number and no date")
         # The row that is being filled, whether it is still to be written, and what holds after it.
-        self.row, self.open, self.held = -1, False, None
-        self.time, self.line = None, None
-        self.replaced, self.first_replaced, self.kept_line = 0, None, None
+        self.row, self.open = -1, False
+        self.held: Optional[str] = None
+        self.time: Optional[tuple[int, int]] = None
+        self.line: Any = None
+        self.replaced = 0
+        self.first_replaced: Any = None
+        self.kept_line: Any = None
 
     def refused(self, number: Any, why: str) -> Refused:
         return self.columns.refused(number, self.columns.time, why)
@@ -121,7 +126,7 @@ class Timed:
         if not self.hold and (place < 0 or place != int(place)):
             what = "before --start" if place < 0 else f"between two rows, at {float(place):.17g}"
             raise self.refused(number, f"{shown(text)} is {what}: --hold counts it from the next row on{SNAP * (place > 0)}")
-        row = max(0, ceil(place))
+        row: int = max(0, ceil(place))
         if place != row and place > 0:
             self.late += 1
         if row >= LATEST or (not self.stamps and row - self.row > MOST_BETWEEN):

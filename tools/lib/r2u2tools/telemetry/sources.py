@@ -21,7 +21,7 @@ FORMATS = ("csv", "json", "vcd")
 def format_of(path: str, asked: Optional[str]) -> str:
     """Returns the form of a file: what is asked for, else by the end of its name."""
     ending = path[path.rfind(".") :].lower() if "." in path else ""
-    return asked or ENDINGS.get(ending, "csv")
+    return asked if asked else ENDINGS.get(ending, "csv")
 
 
 def wanted_names(found: Any, signals: Optional[list[Any]]) -> list[str]:
@@ -48,7 +48,7 @@ class Long:
         if names.count(name) != 1:
             what = "two columns" if name in names else "no column"
             raise Refused(f"line {self.line}: {what} {name} (it has {', '.join(names[:20])})")
-        return names.index(name)
+        return int(names.index(name))
 
     def __iter__(self) -> Iterator[tuple[Any, list[Optional[str]]]]:
         name, value, time = self.places
@@ -107,7 +107,8 @@ class Sources:
 
     def __init__(self, found: Any, signals: Optional[list[Any]], clock: Clock) -> None:
         self.found, self.clock, self.wanted = found, clock, wanted_names(found, signals)
-        self.stack, self.files = ExitStack(), []
+        self.stack = ExitStack()
+        self.files: list[BinaryIO] = []
 
     def __enter__(self) -> Any:
         paths = self.found.telemetry

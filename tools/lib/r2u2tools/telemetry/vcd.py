@@ -30,7 +30,8 @@ class Dump:
     def __init__(self, file: BinaryIO, time: str) -> None:
         self.words = self.tokens(file)
         self.number, self.line = 0, 1
-        self.unit, self.variables = "e0", {}
+        self.unit = "e0"
+        self.variables: dict[str, Variable] = {}
         scope: list[str] = []
         while (word := self.next()) != "$enddefinitions":
             self.declare(word, scope)

@@ -14,7 +14,7 @@ FOREIGN = "not what verdicts --json prints"
 
 
 def event_record(event: Optional[Event]) -> Optional[dict[str, Any]]:
-    return event and {"from": event.first, "to": event.last, "log": event.log}
+    return None if event is None else {"from": event.first, "to": event.last, "log": event.log}
 
 
 def output_record(output: Output) -> dict[str, Any]:
@@ -31,7 +31,7 @@ def output_record(output: Output) -> dict[str, Any]:
 
 def as_json(result: Result, rules: Rules) -> str:
     """Returns the result as one object, with a line for each output."""
-    kept = {"verdicts": LAYOUT, "log": result.log, "logs": result.logs, "lines": result.lines}
+    kept: dict[str, Any] = {"verdicts": LAYOUT, "log": result.log, "logs": result.logs, "lines": result.lines}
     kept |= {"spec": result.spec, "seconds": round(result.seconds, 3), "status": result.status(rules)}
     kept |= {"ignored": sorted(rules.ignored), "failed": result.failed, "empty": result.empty}
     outputs = [json.dumps(output_record(output)) for output in result.outputs.values()]
@@ -47,11 +47,13 @@ def fit(value: Any, *kinds: type) -> Any:
 
 
 def number(record: Any, key: str) -> int:
-    return fit(fit(record, dict)[key], int)
+    found: int = fit(fit(record, dict)[key], int)
+    return found
 
 
 def text(record: Any, key: str) -> Optional[str]:
-    return fit(fit(record, dict).get(key), str, type(None))
+    found: Optional[str] = fit(fit(record, dict).get(key), str, type(None))
+    return found
 
 
 def event_of(record: Any) -> Optional[Event]:

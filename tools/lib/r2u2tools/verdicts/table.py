@@ -2,7 +2,7 @@
 
 from __future__ import annotations
 
-from typing import Iterator, Optional
+from typing import Any, Iterator, Optional
 
 from r2u2tools.common.verdict_lines import WORDS
 from r2u2tools.verdicts.counts import NO_VERDICT, Event, Output, Result, Rules
@@ -90,7 +90,7 @@ def remarks(result: Result, rules: Rules) -> Iterator[str]:
         yield f"{len(result.failed)} runs failed; these are the first {SHOWN}"
 
 
-def failure_text(fault: dict) -> str:
+def failure_text(fault: dict[str, Any]) -> str:
     where = f"{fault['log']}: " if fault.get("log") else ""
     text = f"{where}failed with {fault['code']}" if fault["code"] is not None else f"{where}failed"
     return f"{text}: {fault['message']}" if fault["message"] else text
