@@ -1,4 +1,4 @@
-"""Requirements of FRET's JSON, as formulas of the past by the tables of docs/PATTERNS.md.
+"""Requirements of FRET's JSON, as formulas of the past by the tables of docs/reference/scopes.md.
 
 Scope and condition become q, which opens, and r, which closes; the response is p. Each formula is false at the row at
 which the requirement is broken.
