@@ -213,6 +213,7 @@ check-python: python | $(TRIES)
 	else echo 'check-embed: no python3, so the example in Python is passed over'; fi
 
 INSTALLED_LIBRARIES = libr2u2.a libr2u2_heap.a
+MANUALS = r2u2 r2u2_arena r2u2_wrappers
 INSTALLED_HEADERS = include/r2u2.h include/r2u2_alloc.h embed/r2u2_checked.h
 INSTALLED_SOURCES = embed/arena.c embed/arena.h embed/memory.c embed/constant embed/cpp/r2u2.hpp embed/python/r2u2.py examples/embed/grants.c
 
@@ -237,12 +238,12 @@ endif
 	install -m 644 embed/rust/build.rs $(INTO)/share/r2u2/embed/rust
 	install -m 644 embed/rust/src/lib.rs embed/rust/src/main.rs $(INTO)/share/r2u2/embed/rust/src
 	sed 's/"0.0.0"/"$(VERSION)"/' embed/rust/Cargo.toml > $(INTO)/share/r2u2/embed/rust/Cargo.toml
-	install -m 644 docs/man/r2u2.3 $(INTO)/share/man/man3
+	install -m 644 $(MANUALS:%=docs/man/%.3) $(INTO)/share/man/man3
 	sed 's|@PREFIX@|$(PREFIX)|; s|@VERSION@|$(VERSION)|' embed/r2u2.pc.in > $(INTO)/lib/pkgconfig/r2u2.pc
 
 uninstall-embed:
 	rm -f $(INSTALLED_LIBRARIES:%=$(INTO)/lib/%) $(addprefix $(INTO)/include/,$(notdir $(INSTALLED_HEADERS)))
-	rm -f $(INTO)/share/man/man3/r2u2.3 $(INTO)/lib/pkgconfig/r2u2.pc
+	rm -f $(MANUALS:%=$(INTO)/share/man/man3/%.3) $(INTO)/lib/pkgconfig/r2u2.pc
 	rm -rf $(INTO)/share/r2u2/embed $(INTO)/lib/r2u2
 
 # The example builds and runs outside the repository, by what was installed alone.

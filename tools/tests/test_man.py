@@ -36,3 +36,15 @@ class Man(Case):
         for page in sorted((ROOT / "docs/man").glob("*.[1-9]")):
             name = page.name
             self.assertEqual(shell('groff -Tutf8 -mdoc -ww "$PAGE" >/dev/null', PAGE=page), (0, "", ""), name)
+
+    def test_see_also(self):
+        """A page that another one refers to refers back."""
+        seen = {}
+        for page in sorted((ROOT / "docs/man").glob("*.[1-9]")):
+            also = page.read_text(encoding="utf-8").partition(".Sh SEE ALSO")[2]
+            seen[page.name] = {f"{name}.{part}" for name, part in re.findall(r"^\.Xr (\S+) (\d)", also, re.M)}
+        for page, others in seen.items():
+            self.assertTrue(others, page)
+            for other in others & set(seen):
+                if not (page.startswith("r2u2-") and other in ("r2u2.1", "c2po.1")):
+                    self.assertIn(page, seen[other], f"{other} doesn't refer to {page}")
