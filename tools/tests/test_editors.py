@@ -12,7 +12,9 @@ from r2u2tools.common.specs import tokens
 COMPLETIONS = ROOT / "completions"
 EDITORS = ROOT / "editors"
 EXAMPLES = sorted((ROOT / "examples").glob("**/*.c2po"))
-NAMES = ("r2u2", "c2po", "r2u2-budget", "r2u2-convert", "r2u2-timeline", "r2u2-trace", "r2u2-verdicts", "r2u2-why")
+# The tools that are installed, as the Makefile lists them.
+INSTALLED = re.search(r"^TOOLS = (.*)$", (ROOT / "Makefile").read_text(), re.M)[1].split()
+NAMES = ("r2u2", "c2po", *(f"r2u2-{name}" for name in INSTALLED))
 # What a token is, and what the two syntaxes call it.
 KINDS = {
     "section": ("STRUCT INPUT DEFINE FTSPEC PTSPEC", "keyword.control.section", "c2poSection"),

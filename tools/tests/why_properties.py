@@ -19,7 +19,9 @@ from r2u2tools.why.trace_window import Cells
 QUESTIONS = int(os.environ.get("R2U2_QUESTIONS", "50"))
 CHANGES, AHEAD = 3, 25
 NAMES = list(specs.SIGNALS)
-MOST_UNSHOWN = 0.05
+# Of numbers that are compared otherwise than with constants it may stay open whether a cell is needed: as that of y is in
+# `x - 1 != x * y`, where x is 0.
+MOST_UNSHOWN = 0.12
 
 
 def text_of(rows):

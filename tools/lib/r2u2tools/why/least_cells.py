@@ -11,7 +11,7 @@ from __future__ import annotations
 
 import random
 from dataclasses import dataclass, field
-from typing import Optional, Sequence
+from typing import Callable, Optional, Sequence
 
 from r2u2tools.common.program_text import ATOMS, Node, ProgramText
 from r2u2tools.common.cli import Trouble
@@ -20,6 +20,7 @@ from r2u2tools.why.part_verdicts import Parts, PartWatch, Verdicts
 
 LEAST, GREATEST = -(1 << 31), (1 << 31) - 1
 MOST_RUNS, MOST_SIZE, MOST_CELLS, MOST_VALUES = 400, 20_000, 64, 24
+MOST_BY_CHANCE, SMALL = 40, 6
 Rows = dict[Cell, int]
 
 
@@ -138,7 +139,7 @@ class LeastCells:
             if self.runs >= self.most_runs:
                 return None
             fixed = left.pop()
-            rows = self.completed(fixed)
+            rows = self.completed(fixed, self.other_value)
             verdicts = self.watched(rows)
             if verdicts is None or verdicts.word(self.time) is None:
                 exact = False
@@ -151,28 +152,40 @@ class LeastCells:
                     if other != rows[cell]:
                         left.append({**fixed, cell: other})
                 fixed = {**fixed, cell: rows[cell]}
-        return {} if exact else None
+        return {} if exact else self.by_chance(kept)
+
+    def by_chance(self, kept: frozenset[Cell]) -> Optional[Rows]:
+        """Rows with these cells and another verdict, among some at random."""
+        fixed = {cell: self.actual[cell] for cell in kept}
+        for _ in range(MOST_BY_CHANCE):
+            if self.runs < self.most_runs:
+                rows = self.completed(fixed, self.any_value)
+                verdicts = self.watched(rows)
+                if verdicts is not None and verdicts.word(self.time) not in (self.word, None):
+                    return rows
+        return None
 
     def free(self, verdicts: Verdicts, fixed: Rows) -> list[Cell]:
         """The cells, other than the fixed ones, by which this verdict follows."""
         other = Derivation(verdicts, CellCosts(1.0, dict.fromkeys(fixed, 0.0)))
         return sorted(other.choose(self.roots) - frozenset(fixed))
 
-    def completed(self, fixed: Rows) -> Rows:
-        """Rows with some cells fixed and others in the rest: at first far from what the trace has, then by chance."""
-        rows: Rows = {}
-        for name in self.parts.signals:
-            values = self.values.by_name[name]
-            for time in self.times:
-                cell = (name, time)
-                rows[cell] = fixed[cell] if cell in fixed else self.other_value(cell, values)
-        return rows
+    def completed(self, fixed: Rows, value_of: Callable[[Cell], int]) -> Rows:
+        """Rows with some cells fixed and others in the rest."""
+        cells = ((name, time) for name in self.parts.signals for time in self.times)
+        return {cell: fixed[cell] if cell in fixed else value_of(cell) for cell in cells}
 
-    def other_value(self, cell: Cell, values: list[int]) -> int:
-        if self.runs % 2 or cell not in self.actual:
-            return self.dice.choice(values)
-        others = [value for value in values if value != self.actual[cell]]
+    def other_value(self, cell: Cell) -> int:
+        """A value of a cell: in every second run one that the trace doesn't have there."""
+        values = self.values.by_name[cell[0]]
+        others = [value for value in values if self.runs % 2 or value != self.actual.get(cell)]
         return self.dice.choice(others or values)
+
+    def any_value(self, cell: Cell) -> int:
+        """A value of a cell: one that is tried in other runs, or a small integer."""
+        values = self.values.by_name[cell[0]]
+        small = cell[0] not in self.values.exhaustive and self.dice.random() < 0.5
+        return self.dice.randint(-SMALL, SMALL) if small else self.dice.choice(values)
 
     def watched(self, rows: Rows) -> Optional[Verdicts]:
         """What r2u2 says of the parts over such rows."""
