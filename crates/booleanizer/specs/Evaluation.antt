@@ -13,11 +13,11 @@ use Rattle.mltl_base.specs.Atoms.{Row, Atom, value, holds, in_column}
 use Rattle.mltl_base.specs.Programs.{Expression, whole, truth, expression_of, expressions, term_at}
 use Rattle.obs_verify.specs.Soundness.{AreWhole, IsWhole}
 
--- a truth as a number
+-- a Boolean as a number
 abbrev pub truth_number : Bool → ℤ
 truth_number b = if b then pos 1 else pos 0
 
--- the number of an instruction on a row: its whole number, or its truth as 1 or 0
+-- the number of an instruction on a row: its integer, or its Boolean as 1 or 0
 abbrev pub number_on : Row → Expression → ℤ
 number_on row (whole e) = value e row
 number_on row (truth a) = truth_number (holds a row)
@@ -26,19 +26,19 @@ number_on row (truth a) = truth_number (holds a row)
 abbrev pub numbers_on : Row → List BzOp → List ℤ
 numbers_on row ops = map (number_on row) (expressions ops)
 
--- The value is the truth of an atom on the row whose numbers these are, whichever instructions gave them: that of the
--- atom which instruction i has.
+-- the value is that of an atom on the row whose numbers these are, whichever instructions computed them: of the atom
+-- of instruction i
 abbrev pub IsTruthIn : List ℤ → ℕ → Bool → Type 0
 IsTruthIn numbers i v =
     (row : Row) (ops : List BzOp) (atom : Atom) → numbers ≡ numbers_on row ops
     → slice_get (expressions ops) i ≡ Some (truth atom) → v ≡ holds atom row
 
--- the value of the whole number at a place, over the expressions of the instructions before
+-- the value of the integer at an index, over the expressions of the instructions before
 abbrev pub value_at : Row → List Expression → ℕ → ℤ
 value_at row before a = value (term_at before a) row
 
--- What an instruction asks, so that it can be computed in 64 bits: its column is in the row, its operands are earlier
--- whole numbers, its divisor isn't 0, and its value has 64 bits.
+-- what an instruction requires so that it can be computed in 64 bits: its column is in the row, its operands are
+-- earlier integers, its divisor isn't 0, and its value has 64 bits
 abbrev pub CanCompute : Row → List Expression → BzOp → Type 0
 CanCompute row before (Column c) = c < length row
 CanCompute row before (IsTrue c) = c < length row

@@ -10,8 +10,8 @@ use obs_verify::Checked;
 use std::alloc::{AllocError, Global};
 use std::marker::Model;
 
-/// The numbers of a program's instructions on the last row, which contracts see as the list of them: whole numbers, and
-/// truths as 1 and 0.
+/// The numbers of a program's instructions on the last row, which contracts see as the list of them: integers, and
+/// Booleans as 1 and 0.
 #[derive(Drop)]
 pub struct Bz {
     numbers: Fixed<i64>,
@@ -35,7 +35,7 @@ impl Bz {
         })
     }
 
-    /// Computes all instructions on a row. It takes no memory.
+    /// Computes all instructions on a row. It does not allocate.
     pub fn row(&mut self, checked: &Checked, fields: &[i64])
         requires len { length self.old ≡ length checked.now.bz }
         requires fit { IsFit checked.now fields.now }

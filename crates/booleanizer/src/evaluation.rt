@@ -40,7 +40,7 @@ fn result_of(op: BzOp, row: &[i64], numbers: &[i64]) -> i64
     }
 }
 
-/// Computes the numbers of all instructions on a row: whole numbers, and truths as 1 and 0. It takes no memory.
+/// Computes the numbers of all instructions on a row: integers, and Booleans as 1 and 0. It does not allocate.
 pub fn evaluate(ops: &[BzOp], row: &[i64], numbers: &mut [i64])
     requires len { length numbers.old ≡ length ops.now }
     requires can { AllCompute row.now [] ops.now }

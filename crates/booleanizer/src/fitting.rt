@@ -8,8 +8,8 @@ ghost use Rattle.mltl_base.specs.Programs.{FitsRow, IsFit};
 use mltl_base::BzOp;
 use obs_verify::Checked;
 
-/// Whether the fields are a row of the program: as many as it is wide, and in each column that it reads a value of its
-/// kind, which is a number of 32 bits with a sign, or 0 or 1 for a truth.
+/// Whether the fields are a row of the program: as many as it is wide, and in each column that it reads a value of
+/// its kind, which is a number of 32 bits with a sign, or 0 or 1 for a Boolean.
 pub fn is_fit(checked: &Checked, fields: &[i64]) -> bool
     ensures { IsTrue result ↔ IsFit checked.now fields.now }
 {

@@ -1,4 +1,4 @@
-//! The Booleanizer: the whole numbers and the truths of a program's instructions on one row of a trace.
+//! The Booleanizer: the integers and the Booleans of a program's instructions on one row of a trace.
 #![tactic(auto)]
 
 mod bz;

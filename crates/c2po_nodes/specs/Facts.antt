@@ -1,5 +1,5 @@
--- What is known of nodes: ranges of whole numbers, faults and tenses of formulas.
--- It is the proof's own: `src/fact.rt` computes these facts, and contracts of other crates cite the formulas' own.
+-- What is known of nodes: ranges of integers, faults and tenses of formulas. `src/fact.rt` computes these facts;
+-- contracts of other crates cite those of formulas.
 
 use Rattle.std.specs.Prelude.{pos, Bool, true, false, ◌||◌, Option, Some, None, Result, Ok, Err, List, slice_get}
 use Rattle.std.specs.Option.{option_map}
@@ -23,17 +23,17 @@ pub data TreeFact : Type 0 where
   whole : Ranged → TreeFact
   truth : (fault : Option NoRange) (past future : Bool) → TreeFact
 
--- what is known of the whole number, or of the formula, that a node unfolds to
+-- what is known of the integer, or of the formula, that a node unfolds to
 abbrev pub tree_fact : Tree → TreeFact
 tree_fact (number a) = whole (range a)
 tree_fact (formula p) = truth (formula_fault p) (has_past p) (has_future p)
 
--- the range that an answer tells
+-- the range of a result
 abbrev pub told : Result Range answer.NoRange → Ranged
 told (Ok r) = Ok r
 told (Err why) = Err (reason why)
 
--- the fault that an answer tells
+-- the fault of a result
 abbrev pub told_fault : Option answer.NoRange → Option NoRange
 told_fault fault = option_map reason fault
 
@@ -48,7 +48,7 @@ range_in (Some (whole r)) = r
 range_in (Some (truth fault past future)) = Ok (range_from (pos 0) (pos 0))
 range_in None = Ok (range_from (pos 0) (pos 0))
 
--- the fault of an operand; a whole number, of which nothing is asked, has none
+-- the fault of an operand; an integer, which isn't expected here, has none
 abbrev pub fault_in : Option TreeFact → Option NoRange
 fault_in (Some (truth fault past future)) = fault
 fault_in (Some (whole r)) = None

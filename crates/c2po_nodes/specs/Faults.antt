@@ -1,5 +1,4 @@
--- The first whole number of a formula that has no range: operands first, from left to right.
--- A reader of the contracts needs this file.
+-- The first integer of a formula that has no range: operands first, from left to right. Contracts use this file.
 
 use Rattle.std.specs.Prelude.{◌≡◌, Option, Some, None, Ok, Err, All}
 use Rattle.mltl_base.specs.Atoms.{Term, Atom, is_true, equal, less, at_most, different, greater, at_least}
@@ -19,7 +18,7 @@ abbrev pub or_later : Option NoRange → Option NoRange → Option NoRange
 or_later (Some why) later = Some why
 or_later None later = later
 
--- why a whole number has no range, if it has none
+-- why an integer has no range, if it has none
 abbrev pub term_fault : Term → Option NoRange
 term_fault a = why_none (range a)
 
@@ -56,6 +55,6 @@ abbrev pub tree_fault : Tree → Option NoRange
 tree_fault (number a) = term_fault a
 tree_fault (formula p) = formula_fault p
 
--- each whole number of the output has a range, and each divisor is one number other than 0
+-- each integer of the output has a range, and each divisor is a single number other than 0
 abbrev pub HasRanges : Asked → Type 0
 HasRanges asked = All (λ p. formula_fault p ≡ None) (formulas_of asked.output)

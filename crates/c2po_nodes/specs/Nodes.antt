@@ -23,19 +23,19 @@ pub data Tree : Type 0 where
   number : Term → Tree
   formula : Formula → Tree
 
--- the whole number that a node unfolds to; a formula, of which nothing is asked here, counts as 0
+-- the integer that a node unfolds to; a formula, which isn't expected here, counts as 0
 abbrev pub term_in : Option Tree → Term
 term_in (Some (number a)) = a
 term_in (Some (formula p)) = constant (pos 0)
 term_in None = constant (pos 0)
 
--- the formula that a node unfolds to; a whole number, of which nothing is asked here, counts as false
+-- the formula that a node unfolds to; an integer, which isn't expected here, counts as false
 abbrev pub formula_in : Option Tree → Formula
 formula_in (Some (formula p)) = p
 formula_in (Some (number a)) = falsity
 formula_in None = falsity
 
--- the whole number of node n
+-- the integer of node n
 abbrev pub term_at : List Tree → ℕ → Term
 term_at earlier n = term_in (slice_get earlier n)
 
@@ -43,12 +43,12 @@ term_at earlier n = term_in (slice_get earlier n)
 abbrev pub formula_at : List Tree → ℕ → Formula
 formula_at earlier n = formula_in (slice_get earlier n)
 
--- the formula of a truth
+-- the formula of a Boolean
 abbrev pub constant_formula : Bool → Formula
 constant_formula true = truth
 constant_formula false = falsity
 
--- an operation on two whole numbers
+-- an operation on two integers
 abbrev pub arithmetic : arith.ArithOp → Term → Term → Term
 arithmetic arith.TheVariants.Add a b = plus a b
 arithmetic arith.TheVariants.Sub a b = minus a b
@@ -56,7 +56,7 @@ arithmetic arith.TheVariants.Mul a b = times a b
 arithmetic arith.TheVariants.Div a b = quotient a b
 arithmetic arith.TheVariants.Rem a b = remainder a b
 
--- a comparison of two whole numbers
+-- a comparison of two integers
 abbrev pub comparison : compare.CompareOp → Term → Term → Atom
 comparison compare.TheVariants.Eq a b = equal a b
 comparison compare.TheVariants.Ne a b = different a b
@@ -107,11 +107,11 @@ trees nodes = fold (λ earlier node. earlier ++ tree_of earlier node ∷ []) [] 
 pub record Has (nodes : List Plain) (n : ℕ) (tree : Tree) : Type 0 where
   pub found : slice_get (trees nodes) n ≡ Some tree
 
--- each node of the old list stands at its place in the new one, and unfolds to the same
+-- each node of the old list is at its index in the new one, and unfolds to the same
 pub record Grows (old new : List Plain) : Type 0 where
   pub kept : (n : ℕ) (tree : Tree) → Has old n tree → Has new n tree
 
--- there is a whole number
+-- there is an integer
 abbrev pub IsNumber : Option Tree → Type 0
 IsNumber (Some (number a)) = ⊤
 IsNumber (Some (formula p)) = ⊥

@@ -39,8 +39,8 @@ abbrev pub NamesFormulas : List Tree → PlainOut → Type 0
 NamesFormulas trees (Formula engine n name) = IsFormula (slice_get trees n)
 NamesFormulas trees (Contract engine n m name) = IsFormula (slice_get trees n) × IsFormula (slice_get trees m)
 
--- a specification over so many signals that can be shared and compiled: operands stand before their nodes, each operand
--- and each output is of the kind that its place asks for, and no output mixes tenses
+-- a specification over this many signals that can be shared and compiled: operands come before their nodes, each
+-- operand and each output is of the kind that its place requires, and no output mixes tenses
 pub record IsSound (expanded : Expanded) (signals : ℕ) : Type 0 where
   pub few_nodes : length expanded.nodes < 2 ^ 32
   pub few_outs : length expanded.outs < 2 ^ 32

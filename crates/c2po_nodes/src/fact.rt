@@ -57,14 +57,14 @@ impl Tenses {
     }
 }
 
-/// What is known of a node: the range of a whole number, or the first fault and the tenses of a formula.
+/// What is known of a node: the range of an integer, or the first fault and the tenses of a formula.
 #[derive(Clone, Copy)]
 pub enum Fact {
     Number(Result<Range, NoRange>),
     Formula(Option<NoRange>, Tenses),
 }
 
-/// The range of an operand; of one that is no whole number nothing is asked.
+/// Returns the range of an operand; any range where it isn't an integer.
 fn range_at(facts: &[Fact], n: u32) -> Result<Range, NoRange>
     ensures { told result ≡ range_in (slice_get (map fact_view facts.now) n) }
 {
@@ -74,7 +74,7 @@ fn range_at(facts: &[Fact], n: u32) -> Result<Range, NoRange>
     }
 }
 
-/// The first fault of an operand; of one that is no formula nothing is asked.
+/// Returns the first fault of an operand; none where it isn't a formula.
 fn fault_at(facts: &[Fact], n: u32) -> Option<NoRange>
     ensures { told_fault result ≡ fault_in (slice_get (map fact_view facts.now) n) }
 {
@@ -84,7 +84,7 @@ fn fault_at(facts: &[Fact], n: u32) -> Option<NoRange>
     }
 }
 
-/// The tenses of an operand; of one that is no formula nothing is asked.
+/// Returns the tenses of an operand; none where it isn't a formula.
 pub(crate) fn tenses_at(facts: &[Fact], n: u32) -> Tenses
     ensures past { result.past ≡ past_in (slice_get (map fact_view facts.now) n) }
     ensures future { result.future ≡ future_in (slice_get (map fact_view facts.now) n) }
@@ -102,7 +102,7 @@ fn negated_range(a: Result<Range, NoRange>) -> Result<Range, NoRange>
     range::negation(a?)
 }
 
-/// The range of two whole numbers under an operator, where they have one: the left one first.
+/// Returns the range of two integers under an operator, where they have one: the left one first.
 fn computed_range(
     op: ArithOp,
     a: Result<Range, NoRange>,
@@ -171,7 +171,7 @@ fn between(op: BetweenOp, facts: &[Fact], a: u32, b: u32) -> Fact
     }
 }
 
-/// What is known of a formula without whole numbers and temporal operators, and with this fault.
+/// What is known of a formula without integers and temporal operators, and with this fault.
 fn plain_formula(fault: Option<NoRange>) -> Fact
     ensures { fact_view result ≡ truth (told_fault fault) false false }
 {
@@ -203,7 +203,7 @@ pub(crate) fn fact_of(facts: &[Fact], node: &Plain) -> Fact
     }
 }
 
-/// The fault of a node, a whole number or a formula.
+/// The fault of a node, an integer or a formula.
 pub(crate) fn any_fault_at(facts: &[Fact], n: u32) -> Option<NoRange>
     ensures { told_fault result ≡ any_fault (slice_get (map fact_view facts.now) n) }
 {

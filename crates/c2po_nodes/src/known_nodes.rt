@@ -36,7 +36,7 @@ impl Model for Nodes {
 }
 
 impl Nodes {
-    /// No nodes. It takes no memory.
+    /// Makes an empty list of nodes. It does not allocate.
     pub fn new(alloc: Global) -> Nodes
         ensures { result ≡ [] }
     {
@@ -63,7 +63,7 @@ impl Nodes {
         }
     }
 
-    /// The first fault of node `n`: of a whole number or a formula, operands first and from the left.
+    /// Returns the first fault of node `n`, an integer or a formula: operands first and from the left.
     pub fn fault(&self, n: u32) -> Option<NoRange>
         ensures { (t : Tree) → Has self.now n t → told_fault result ≡ tree_fault t }
     {

@@ -17,7 +17,7 @@ pub fn nodes_grow()
         → IsFormed signals (trees nodes) node → AreSound signals (nodes ++ node ∷ []) }
 {}
 
-/// A node that unfolds to a whole number or to a formula serves as an operand of that kind, and stands for what it
+/// A node that unfolds to an integer or to a formula serves as an operand of that kind, and represents what it
 /// unfolds to.
 #[tactic(auto, using(crate::proofs::Pushing::number_at, crate::proofs::Pushing::is_number, crate::proofs::Pushing::formula_in_place, crate::proofs::Pushing::is_formula))]
 pub fn operands_unfold()

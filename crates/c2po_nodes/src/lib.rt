@@ -1,10 +1,10 @@
 //! Plain formulas as nodes that parents share.
 //!
-//! A specification that is unfolded is one list of nodes in which operands stand before the nodes that use them, so
-//! that a named value is kept once however often it is used. `trees` in `specs/Nodes.antt` is what the nodes unfold to,
-//! and `asked` in `specs/Outputs.antt` is what the outputs ask for.
+//! A specification that is unfolded is one list of nodes in which operands come before the nodes that use them, so
+//! that a named value is kept once however often it is used. `trees` in `specs/Nodes.antt` is what the nodes unfold
+//! to, and `asked` in `specs/Outputs.antt` is what the outputs require.
 //!
-//! `Nodes` knows of each node the range of a whole number, or the first fault and the tenses of a formula. They are found
+//! `Nodes` knows of each node the range of an integer, or the first fault and the tenses of a formula. They are found
 //! once, from those of its operands, however often the node is used.
 #![tactic(auto)]
 

@@ -25,7 +25,7 @@ impl Model for NodeList {
 }
 
 impl NodeList {
-    /// No nodes. It takes no memory.
+    /// Makes an empty list of nodes. It does not allocate.
     pub fn new(alloc: Global) -> NodeList
         ensures { result ≡ [] }
     {

@@ -2,15 +2,15 @@
 
 use mltl_base::{ArithOp, BetweenOp, CompareOp, Engine, Interval, List, LogicOp, Name, WindowOp};
 
-/// A node of a plain formula or of a whole number. Operands are the places of earlier nodes, signals are numbered in
-/// order of declaration.
+/// A node of a plain formula or of an integer expression. Operands are the indices of earlier nodes, signals are
+/// numbered in order of declaration.
 #[derive(Clone, Copy)]
 pub enum Plain {
     Truth(bool),
     /// The truth of a signal of kind bool.
     Flag(u32),
     Number(i64),
-    /// The whole number of a signal of kind int.
+    /// The integer of a signal of kind int.
     Signal(u32),
     Minus(u32),
     Arith(ArithOp, u32, u32),

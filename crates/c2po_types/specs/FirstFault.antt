@@ -24,7 +24,7 @@ use Rattle.c2po_unfold.specs.Environment.{Env, no_names, declare, fields, value,
 use Rattle.c2po_unfold.specs.Values.{Value, weight, formula_of}
 use Rattle.c2po_unfold.specs.Faults.{value_fault}
 
--- What is known after some items: what they declare, the names of outputs, what names stand for, and the weight of the
+-- What is known after some items: what they declare, the names of outputs, the values of names, and the weight of the
 -- outputs together.
 pub record State : Type 0 where
   pub declared : Declarations
@@ -40,12 +40,12 @@ start = record { declared = nothing; labels = []; values = no_names; total = 0 }
 abbrev pub not_wide : ℕ → ℕ → Checked State → Checked State
 not_wide line w rest = if nat_le w MAX_WEIGHT then rest else Err (fault.Wide line)
 
--- the fault of a line with a whole number that has no range
+-- the fault of a line with an integer that has no range
 abbrev pub range_fault : ℕ → NoRange → TypeFault
 range_fault line divisor = fault.Divisor line
 range_fault line wide = fault.Range line
 
--- whole numbers that have ranges
+-- integers that have ranges
 abbrev pub when_ranged : ℕ → Option NoRange → Checked State → Checked State
 when_ranged line None rest = rest
 when_ranged line (Some why) rest = Err (range_fault line why)
@@ -63,12 +63,12 @@ is_mixed engine p = other_tense engine (has_past p) (has_future p)
 abbrev pub one_tense : ℕ → Bool → Checked State → Checked State
 one_tense line mixed rest = if mixed then Err (fault.Tense line) else rest
 
--- signals stand for their numbers
+-- the values of signals are their numbers
 abbrev pub with_signals : ℕ → List Signal → Env → Env
 with_signals n [] env = env
 with_signals n (s ∷ ss) env = with_signals (suc n) ss (declare s.name (value (signal_value s.truth n)) env)
 
--- a definition stands for a value
+-- a definition has a value
 abbrev pub defined : ℕ → List ℕ → Declarations → Value → State → Checked State
 defined line x d v s = not_wide line (weight v) (when_ranged line (value_fault v)
     (Ok (record { declared = d; labels = s.labels; values = declare x (value v) s.values; total = s.total })))

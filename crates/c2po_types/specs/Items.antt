@@ -1,4 +1,4 @@
--- What items declare, and their faults of names and kinds. Faults of items stand at the item's line.
+-- What items declare, and their faults of names and kinds. Faults of items are at the item's line.
 
 use Rattle.std.specs.Prelude.{ℕ, nat_le, Bool, true, false, List, [], ◌∷◌, ◌++◌, length, codes, Option, Some, None, Ok}
 use Rattle.std.specs.Prelude.{Err, if◌then◌else◌, ⊤}
@@ -50,13 +50,13 @@ with_struct line x fs d = new line x d.names (in_turn (with_field line d) fs [] 
   signals = d.signals;
 }))
 
--- whether a signal of a kind is a truth; a signal is a truth or a whole number
+-- whether a signal of a kind is Boolean; a signal is a Boolean or an integer
 abbrev pub signal_truth : ℕ → Kind → Checked Bool
 signal_truth line k = if same_kind k truth then Ok true
     else if same_kind k whole then Ok false
     else Err (fault.Kind line)
 
--- the kind of a signal, a truth or a whole number
+-- the kind of a signal, Boolean or integer
 abbrev pub signal_kind : Bool → Kind
 signal_kind true = truth
 signal_kind false = whole
@@ -82,7 +82,7 @@ define_kind line x e d = kind_of e (outside d) >>= λ k. new line x d.names (Ok 
 abbrev pub with_value : List ℕ → Kind → Declarations → Declarations
 with_value x k d = record { names = d.names ++ (x, Value k) ∷ []; structs = d.structs; signals = d.signals }
 
--- The names of outputs, which have a space of their own.
+-- The names of outputs, which have a separate space.
 abbrev pub Labels : Type 0
 Labels = Table ⊤
 

@@ -12,15 +12,15 @@ use Rattle.c2po_types.specs.declared.fault.TypeFault.TheVariants as fault
 use Rattle.mltl_base.specs.Tables.{Table, entry_of}
 use Rattle.c2po_types.specs.Checking.{Checked, ◌>>=◌}
 
--- a kind that is no set
+-- a kind that isn't a set
 abbrev pub plain : Base → Kind
 plain b = record { sets = 0; base = b }
 
--- the kind of whole numbers
+-- the kind of integers
 abbrev pub whole : Kind
 whole = plain base.Int
 
--- the kind of truths, and so of formulas
+-- the kind of Booleans, and so of formulas
 abbrev pub truth : Kind
 truth = plain base.Bool
 
@@ -52,12 +52,12 @@ abbrev pub known : ℕ → Option Meaning → Checked Meaning
 known line None = Err (fault.Unknown line)
 known line (Some m) = Ok m
 
--- the kind of a name that stands for a value
+-- the kind of a name that has a value
 abbrev pub value_kind : ℕ → Meaning → Checked Kind
 value_kind line (Struct n) = Err (fault.Kind line)
 value_kind line (Value k) = Ok k
 
--- the kind of the value that a known name stands for
+-- the kind of the value of a known name
 abbrev pub known_value : ℕ → Option Meaning → Checked Kind
 known_value line m = known line m >>= value_kind line
 
@@ -78,7 +78,7 @@ built_from line n ps (Some fields) = if length ps == length fields
     then expected line (fit fields ps) (plain (base.Struct n))
     else Err (fault.Count line)
 
--- the kind of a call of what a name stands for: only a struct can be called
+-- the kind of a call of the meaning of a name: only a struct can be called
 abbrev pub built : ℕ → Declarations → List Placed → Meaning → Checked Kind
 built line d ps (Value k) = Err (fault.Kind line)
 built line d ps (Struct n) = built_from line n ps (slice_get d.structs n)
@@ -92,12 +92,12 @@ abbrev pub other_line : Kind → List Placed → Option ℕ
 other_line k [] = None
 other_line k (p ∷ ps) = if same_kind p.1 k then other_line k ps else Some p.0
 
--- the kind of a set of elements of a kind, unless one of another kind stands on a line
+-- the kind of a set of elements of a kind, unless there is one of another kind on a line
 abbrev pub set_unless : Kind → Option ℕ → Checked Kind
 set_unless k None = Ok (set_kind k)
 set_unless k (Some line) = Err (fault.Kind line)
 
--- a set of elements of one kind; the fault stands at the first element of another kind than the first one's
+-- a set of elements of one kind; the fault is at the first element of another kind than the first one's
 abbrev pub grouped : ℕ → List Placed → Checked Kind
 grouped line [] = Err (fault.Kind line)
 grouped line (p ∷ ps) = set_unless p.1 (other_line p.1 ps)
@@ -107,7 +107,7 @@ abbrev pub struct_base : Base → Option ℕ
 struct_base (base.Struct n) = Some n
 struct_base _ = None
 
--- the struct of a kind that is no set
+-- the struct of a kind that isn't a set
 abbrev pub struct_of : Kind → Option ℕ
 struct_of k = if k.sets == 0 then struct_base k.base else None
 

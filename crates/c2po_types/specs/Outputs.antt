@@ -1,4 +1,4 @@
--- What the outputs of a specification ask for: the plain formulas that their expressions stand for.
+-- The outputs of a specification: the plain formulas of their expressions.
 
 use Rattle.std.specs.Prelude.{ℕ, ◌+◌, Option, Some, None, List, [], ◌∷◌, ◌++◌, length, map, decimal}
 use Rattle.mltl_base.specs.Reports.{formula, contract}
@@ -11,7 +11,7 @@ use Rattle.c2po_unfold.specs.Environment.{Env, no_names, declare, fields, value,
 use Rattle.c2po_types.specs.FirstFault.{with_signals}
 use Rattle.c2po_types.specs.Signals.{body_signals}
 
--- What is known at a place between items: what names stand for, and the numbers of signals and of outputs before it.
+-- What is known between two items: the values of names, and the numbers of signals and of outputs before it.
 pub record Place : Type 0 where
   pub values : Env
   pub signals : ℕ
@@ -21,7 +21,7 @@ pub record Place : Type 0 where
 abbrev pub before : Place
 before = record { values = no_names; signals = 0; outputs = 0 }
 
--- a name stands for its definition's value, and signals are numbered in the order of declaration
+-- the value of a name is that of its definition, and signals are numbered in the order of declaration
 abbrev pub values_after : BodyShape → Place → Env
 values_after (item.structure x fs) p = declare x (fields (map (λ f. f.name) fs)) p.values
 values_after (item.input xs t) p = with_signals p.signals (body_signals (item.input xs t)) p.values

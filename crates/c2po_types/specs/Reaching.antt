@@ -12,7 +12,7 @@ use Rattle.c2po_unfold.specs.Holding.{StandsFor}
 use Rattle.c2po_types.specs.declared.progress.Progress.{Progress}
 use Rattle.c2po_types.specs.FirstFault.{State}
 
--- what is known, where the unfolding stands for what names stand for
+-- what is known, where the unfolding represents the values of names
 abbrev pub state_of : Progress → Env → State
 state_of p env = record { declared = p.declared; labels = p.labels; values = env; total = p.total }
 

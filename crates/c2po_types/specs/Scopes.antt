@@ -32,6 +32,6 @@ abbrev pub variable_or : Option Kind → Option Meaning → Option Meaning
 variable_or (Some k) declared = Some (Value k)
 variable_or None declared = declared
 
--- what a name stands for
+-- the meaning of a name
 abbrev pub meaning_of : List ℕ → Visible → Option Meaning
 meaning_of x seen = variable_or (entry_of x seen.variables) (entry_of x seen.declared.names)

@@ -6,7 +6,7 @@ use Rattle.std.specs.Str.{bytes_eq}
 use Rattle.c2po_ast.specs.ItemShape.{TypeShape, BodyShape, ItemShape, type_named, set_of, input}
 use Rattle.mltl_base.specs.declared.signal.Signal.{Signal}
 
--- whether a type is that of truths
+-- whether a type is Boolean
 abbrev pub is_bool : TypeShape → Bool
 is_bool (type_named x) = bytes_eq x (codes "bool")
 is_bool (set_of t) = false

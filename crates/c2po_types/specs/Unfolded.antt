@@ -18,7 +18,7 @@ pub record AskFor (nodes : List Plain) (outs : List PlainOut) (told : List Asked
   pub formulas : All (NamesFormulas (trees nodes)) outs
   pub asked : map (asked_by (trees nodes)) outs ≡ told
 
--- what is unfolded over so many signals stands for a place, and its outputs ask for these
+-- what is unfolded over this many signals represents what is known at a point, and its outputs are these
 pub record StandsAt (u : Unfolding) (signals : ℕ) (outs : List PlainOut) (place : Place)
     (told : List Asked) : Type 0 where
   pub values : StandsFor u place.values
@@ -31,13 +31,13 @@ pub record StandsAt (u : Unfolding) (signals : ℕ) (outs : List PlainOut) (plac
 abbrev pub HasUnfolded : Progress → Place → List Asked → Type 0
 HasUnfolded p place told = StandsAt p.values (length p.declared.signals) p.outs place told
 
--- where an item is put after what stands for a place, the result stands for what is known after the item, and its
+-- where an item is added to what is known at a point, the result represents what is known after the item, and its
 -- outputs are those of before and the item's
 abbrev pub Puts : BodyShape → Progress → Progress → Checked ⊤ → Type 0
 Puts body old new result = (place : Place) (told : List Asked) → HasUnfolded old place told
     → OnOk result (HasUnfolded new (place_after body place) (told ++ asked_at body place))
 
--- of all items, so many are left to be unfolded
+-- of all items, this many are left to be unfolded
 pub record Leaves (p : Progress) (left all : List ItemShape) : Type 0 where
   pub place : Place
   pub told : List Asked

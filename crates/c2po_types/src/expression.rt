@@ -82,7 +82,7 @@ fn built(
     build(line, scope.declared(), operands, scope.meaning(name))
 }
 
-/// The kind that an operator between whole numbers gives, from the kind at its left and its right operand.
+/// Returns the kind of an operator between integers, from the kinds of its left and its right operand.
 #[cycle(kinds)]
 fn numbers(
     alloc: Global,

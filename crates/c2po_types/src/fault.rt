@@ -26,7 +26,7 @@ pub enum TypeFault {
     Wide(u32),
     /// A divisor that isn't a number other than 0.
     Divisor(u32),
-    /// A whole number that may leave 64 bits.
+    /// An integer that may leave 64 bits.
     Range(u32),
     /// An output of both tenses, or of the other tense than its section.
     Tense(u32),

@@ -14,10 +14,10 @@ use mltl_base::limits::MAX_SIGNALS;
 use mltl_base::{List, Name};
 use std::alloc::Global;
 
-/// The name of the type of whole numbers.
+/// The name of the integer type.
 const INT: &[u8] = b"int";
 
-/// The name of the type of truths.
+/// The name of the Boolean type.
 const BOOL: &[u8] = b"bool";
 
 /// The kind that a type names.
@@ -82,7 +82,7 @@ fn fields_of(
     Ok(fields)
 }
 
-/// Whether a signal of a kind is a truth.
+/// Whether a signal of a kind is Boolean.
 fn is_truth(line: u32, kind: Kind) -> Result<bool, TypeFault>
     ensures { Gives result (signal_truth line kind) }
 {
@@ -96,7 +96,7 @@ fn is_truth(line: u32, kind: Kind) -> Result<bool, TypeFault>
 }
 
 impl Declarations {
-    /// What stands before the first item. It takes no memory.
+    /// Makes the declarations before the first item. It does not allocate.
     pub fn new(alloc: Global) -> Self
         ensures { result ≡ nothing }
     {
@@ -232,7 +232,7 @@ pub fn declare_label(
     Ok(())
 }
 
-/// Whether the formula of an output is a truth.
+/// Whether the formula of an output is Boolean.
 pub fn check_formula(
     alloc: Global,
     declared: &Declarations,

@@ -1,6 +1,6 @@
 //! The kinds of values.
 
-/// What stands within the sets of a kind.
+/// What the sets of a kind contain.
 #[derive(Clone, Copy, PartialEq, Eq)]
 pub enum Base {
     Int,
@@ -9,14 +9,14 @@ pub enum Base {
     Struct(u32),
 }
 
-/// The kind of a value: so many sets of sets around a base, none around a plain value.
+/// The kind of a value: a number of nested sets around a base, none around a plain value.
 #[derive(Clone, Copy, PartialEq, Eq)]
 pub struct Kind {
     pub sets: u64,
     pub base: Base,
 }
 
-/// What a name stands for.
+/// The meaning of a name.
 #[derive(Clone, Copy)]
 pub enum Meaning {
     /// A struct, by its number in the order of declaration.

@@ -8,8 +8,7 @@ ghost use Rattle.c2po_types.specs.FirstFault.{first_fault};
 ghost use Rattle.c2po_types.specs.Signals.{signals_of};
 ghost use Rattle.mltl_base.specs.Kinds.{HaveOwnNames};
 
-/// The signals of a specification without a fault have names of their own, and are no more than a specification may
-/// have.
+/// The signals of a specification without a fault have distinct names, and are no more than a specification may have.
 #[tactic(auto, using(crate::proofs::OwnNames::own_names, crate::proofs::OwnNames::few_signals))]
 pub fn signals_are_told_apart()
     ensures names { (items : Seq ItemShape) → first_fault items ≡ None

@@ -1,12 +1,12 @@
 //! The checker of the compiler: names, kinds, weights, ranges and tenses of a specification.
 //!
-//! A value is an integer, a truth, a struct or a set. The definitions in this crate's `specs/` give each expression its
-//! kind, or its first fault of names and kinds, and they say what items declare. A name is visible from the item after
-//! its declaration on.
+//! A value is an integer, a Boolean, a struct or a set. The definitions in this crate's `specs/` give each expression
+//! its kind, or its first fault of names and kinds, and they say what items declare. A name is visible from the item
+//! after its declaration on.
 //!
 //! The first fault of a specification is defined in this crate's `specs/`: items in the order of the text, within an
-//! item names and kinds first, operands before operators and from left to right; then the weight of what it unfolds to,
-//! divisors and ranges, and tenses. `check` answers it, or the tree as it stands where there is none.
+//! item names and kinds first, operands before operators and from left to right; then the weight of what it unfolds
+//! to, divisors and ranges, and tenses. `check` returns it, or the tree unchanged where there is none.
 //!
 //! ```text
 //! let tree = parse(alloc, &lex(alloc, b"INPUT p: bool; FTSPEC f: F[0,3] p;")?)?;

@@ -7,13 +7,13 @@ ghost use Rattle.c2po_types.specs.Kinds.{same_kind, set_kind, expected, member_k
 use crate::{Base, Declarations, Kind, Meaning, NameTable, TypeFault};
 use mltl_base::Name;
 
-/// The kind of whole numbers.
+/// The kind of integers.
 pub const WHOLE: Kind = Kind {
     sets: 0,
     base: Base::Int,
 };
 
-/// The kind of truths, and so of formulas.
+/// The kind of Booleans, and so of formulas.
 pub const TRUTH: Kind = Kind {
     sets: 0,
     base: Base::Bool,
@@ -66,7 +66,7 @@ pub fn member_of(line: u32, kind: Kind) -> Result<Kind, TypeFault>
     })
 }
 
-/// The kind of a name that stands for a value.
+/// Returns the kind of a name that has a value.
 pub fn value_of(line: u32, meaning: Option<Meaning>) -> Result<Kind, TypeFault>
     ensures { Gives result (known_value line meaning) }
 {
@@ -114,7 +114,7 @@ fn build_struct(
     expect(line, fits(fields, operands), given)
 }
 
-/// A struct's value from operands, for what the name in front of them stands for.
+/// Returns the kind of a struct's value from operands, by the meaning of the name in front of them.
 pub fn build(
     line: u32,
     declared: &Declarations,

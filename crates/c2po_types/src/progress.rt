@@ -16,9 +16,9 @@ use std::alloc::Global;
 #[derive(Drop)]
 pub struct Progress {
     pub declared: Declarations,
-    /// The names of outputs, which have a space of their own.
+    /// The names of outputs, which have a separate space.
     pub labels: NameTable<()>,
-    /// What names stand for, and the nodes.
+    /// The values of names, and the nodes.
     pub values: Unfolding,
     /// The weight of the outputs together.
     pub total: u32,
@@ -29,7 +29,7 @@ impl Progress {
     ghost use Rattle.c2po_types.specs.Reaching.{state_of};
     ghost use Rattle.c2po_types.specs.Unfolded.{HasUnfolded};
 
-    /// What is known before the first item. It takes no memory.
+    /// Makes what is known before the first item. It does not allocate.
     pub fn new(alloc: Global) -> Self
         ensures start { state_of result no_names ≡ start }
         ensures stands { StandsFor result.values no_names }

@@ -16,7 +16,7 @@ pub enum Scope<'a> {
 }
 
 impl<'a> Scope<'a> {
-    /// What a name stands for.
+    /// The meaning of a name.
     pub fn meaning(&self, name: &Name) -> Option<Meaning>
         ensures { result ≡ meaning_of name.now (visible self.now) }
     {

@@ -37,7 +37,7 @@ fn too_wide(line: u32, why: UnfoldFault) -> TypeFault
     }
 }
 
-/// The fault of an item with a whole number that has no range.
+/// Returns the fault of an item with an integer that has no range.
 fn no_range(line: u32, why: NoRange) -> TypeFault
     ensures { result ≡ range_fault line (reason why) }
 {
@@ -57,7 +57,7 @@ fn is_mixed(engine: Engine, tenses: Tenses) -> bool
     }
 }
 
-/// Signals from a number on stand for their numbers.
+/// Declares signals from a number on by their numbers.
 fn add_signals(
     alloc: Global,
     values: &mut Unfolding,

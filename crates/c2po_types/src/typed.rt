@@ -68,7 +68,7 @@ impl TypedSpec {
         &self.tree
     }
 
-    /// The signals in the order of declaration, which have names of their own.
+    /// Returns the signals in the order of declaration, which have distinct names.
     pub fn signals(&self) -> &List<Signal>
         ensures signals { result.now ≡ signals_of (spec_shape self.now) }
         ensures named { HaveOwnNames result.now }

@@ -1,4 +1,4 @@
--- What names stand for, and the values of expressions.
+-- The values of names and of expressions.
 
 use Rattle.std.specs.Prelude.{ℕ, Bool, true, false, List, [], map, if◌then◌else◌}
 use Rattle.std.specs.Str.{bytes_eq}
@@ -12,13 +12,13 @@ use Rattle.c2po_unfold.specs.Values.{Value, Values, leaf, none, more, number_val
 use Rattle.c2po_unfold.specs.Values.{inverted, computed, compared, connected_value, windowed_value, ranged_value, members}
 use Rattle.c2po_unfold.specs.Values.{picked, connected_all, counted}
 
--- what a name stands for: a struct with these fields, or a value
+-- the meaning of a name: a struct with these fields, or a value
 pub data Known : Type 0 where
   nothing : Known
   fields : List (List ℕ) → Known
   value : Value → Known
 
--- an environment: what each name stands for
+-- an environment: the meaning of each name
 abbrev pub Env : Type 0
 Env = List ℕ → Known
 
@@ -26,17 +26,17 @@ Env = List ℕ → Known
 abbrev pub no_names : Env
 no_names x = nothing
 
--- the name of a variable stands for a value
+-- the name of a variable has a value
 abbrev pub bind : List ℕ → Value → Env → Env
 bind x v env y = if bytes_eq y x then value v else env y
 
--- what a name stands for already; where it stands for nothing, something else
+-- the meaning of a name that has one already, else something else
 abbrev pub or_else : Known → Known → Known
 or_else nothing k = k
 or_else (fields xs) k = fields xs
 or_else (value v) k = value v
 
--- a name is declared: one that is known already keeps its meaning
+-- a name is declared: a known name keeps its meaning
 abbrev pub declare : List ℕ → Known → Env → Env
 declare x k env y = or_else (env y) (if bytes_eq y x then k else nothing)
 
@@ -45,20 +45,19 @@ abbrev pub signal_value : Bool → ℕ → Value
 signal_value true n = leaf (formula (atom (is_true n))) 1
 signal_value false n = leaf (number (column n)) 1
 
--- the value that a name stands for: of other names nothing is asked
+-- the value of a name: any value where it has none
 abbrev pub value_in : Known → Value
 value_in (value v) = v
 value_in (fields xs) = truth_value false
 value_in nothing = truth_value false
 
--- the fields of the struct that a name stands for: other names have none
+-- the fields of the struct of a name: other names have none
 abbrev pub fields_in : Known → List (List ℕ)
 fields_in (fields xs) = xs
 fields_in (value v) = []
 fields_in nothing = []
 
--- the value of an expression: a name stands for its value, a quantifier joins its bodies, one for each member of its
--- set
+-- the value of an expression: a name has its value, a quantifier joins its bodies, one for each member of its set
 abbrev mutual
   pub value_of : Shape → Env → Value
   value_of (tree.number line n) env = number_value n

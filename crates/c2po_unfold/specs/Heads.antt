@@ -20,7 +20,7 @@ Names u (named.Struct i) k = (xs : List (List ℕ)) × (slice_get u.structs i �
 Names u (named.Open scope e) k = (env : Env) × Fits u scope.now env × (k ≡ value (value_of (shape e.now) env))
 Names u (named.Held s) k = (v : Value) × Holds u s v × (k ≡ value v)
 
--- a number, a truth, an operator or a quantifier
+-- a number, a Boolean, an operator or a quantifier
 abbrev pub is_operator : Shape → Bool
 is_operator (tree.named line x) = false
 is_operator (tree.build line x es) = false

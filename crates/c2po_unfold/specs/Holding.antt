@@ -1,4 +1,4 @@
--- What an unfolding holds: which values, and the environment that it stands for.
+-- What an unfolding holds: which values, and the environment that it represents.
 
 use Rattle.std.specs.Prelude.{ℕ, ◌≡◌, Option, Some, None, List, [], ◌∷◌, slice_get}
 use Rattle.c2po_nodes.specs.declared.nodes.Plain.{Plain}
@@ -25,7 +25,7 @@ use Rattle.c2po_unfold.specs.Environment.{Env, Known, nothing, fields, value, va
 abbrev pub nodes_of : Unfolding → List Plain
 nodes_of u = u.nodes
 
--- a stored value, over nodes and parts, stands for a value
+-- a stored value, over nodes and parts, represents a value
 abbrev mutual
   pub Stores : List Plain → List Parts → Stored → Value → Type 0
   Stores nodes parts s (leaf t w) = (s.weight ≡ w)
@@ -48,28 +48,28 @@ abbrev mutual
 abbrev pub Holds : Unfolding → Stored → Value → Type 0
 Holds u s v = Stores u.nodes u.parts s v
 
--- within an unfolding, stored values stand for values in order
+-- within an unfolding, stored values represent values in order
 abbrev pub HoldAll : Unfolding → List Stored → Values → Type 0
 HoldAll u ss vs = StoreAll u.nodes u.parts ss vs
 
--- an entry of the table of names stands for what the name means
+-- an entry of the table of names represents the meaning of the name
 abbrev pub Means : Unfolding → Option Entry → Known → Type 0
 Means u None k = k ≡ nothing
 Means u (Some (entry.Struct i)) k = (xs : List (List ℕ)) × (slice_get u.structs i ≡ Some xs) × (k ≡ fields xs)
 Means u (Some (entry.Value s)) k = (v : Value) × Holds u s v × (k ≡ value v)
 
--- an unfolding stands for an environment: for what its names mean
+-- an unfolding represents an environment: the meanings of its names
 pub record StandsFor (u : Unfolding) (env : Env) : Type 0 where
   pub means : (x : List ℕ) → Means u (entry_of x u.names) (env x)
 
--- what is told of an unfolded formula is that of its value
+-- what is returned of an unfolded formula is that of its value
 pub record Unfolds (found : Unfolded) (v : Value) : Type 0 where
   pub weight : found.weight ≡ weight_of v
   pub fault : told_fault found.fault ≡ formula_fault (formula_of v)
   pub past : found.tenses.past ≡ has_past (formula_of v)
   pub future : found.tenses.future ≡ has_future (formula_of v)
 
--- variables within an unfolding stand for an environment
+-- variables within an unfolding represent an environment
 abbrev pub Fits : Unfolding → Scope → Env → Type 0
 Fits u Top env = StandsFor u env
 Fits u (Open' x e _ within _ outer) env =

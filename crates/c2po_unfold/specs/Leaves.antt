@@ -7,7 +7,7 @@ use Rattle.c2po_nodes.specs.declared.nodes.Plain.TheVariants as plain
 use Rattle.c2po_unfold.specs.declared.leaves.Sort.{Sort}
 use Rattle.c2po_unfold.specs.declared.leaves.Sort.TheVariants.{Number, Formula, Nothing}
 
--- the sort of what stands at a place
+-- the sort of the node at an index
 abbrev pub sort_of : Option Tree → Sort
 sort_of (Some (number a)) = Number
 sort_of (Some (formula p)) = Formula

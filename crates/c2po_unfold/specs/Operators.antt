@@ -26,7 +26,7 @@ binary_value (binary.Compare op) v w = compared op v w
 binary_value (binary.Logic op) v w = connected_value op v w
 binary_value (binary.Between op a b) v w = ranged_value op a b v w
 
--- the value of a quantifier's body where its variable stands for a value
+-- the value of a quantifier's body where its variable has a value
 abbrev pub body_value : Bodies → Env → Value → Value
 body_value q env v = value_of (shape q.body.now) (bind q.name.now v env)
 
@@ -34,11 +34,11 @@ body_value q env v = value_of (shape q.body.now) (bind q.name.now v env)
 abbrev pub bodies_over : Bodies → Env → Value → List Value
 bodies_over q env s = map (body_value q env) (members s)
 
--- the values of a quantifier's bodies, one for each member of its own set
+-- the values of a quantifier's bodies, one for each member of its set
 abbrev pub bodies_of : Bodies → Env → List Value
 bodies_of q env = bodies_over q env (value_of (shape q.set.now) env)
 
--- the value of a number, a truth, an operator or a quantifier
+-- the value of a number, a Boolean, an operator or a quantifier
 abbrev pub operation_value : Operation → Env → Value
 operation_value (operation.Number n) env = number_value n
 operation_value (operation.Truth b) env = truth_value b

@@ -17,7 +17,7 @@ use Rattle.count_sets.specs.Counting as counting
 use Rattle.c2po_nodes.specs.Nodes.{Tree, number, formula, term_in, formula_in, constant_formula, arithmetic}
 use Rattle.c2po_nodes.specs.Nodes.{comparison, connected, windowed, ranged}
 
--- a value: a whole number or a formula, the value of a struct with the struct's name, or a set, each with its weight
+-- a value: an integer or a formula, the value of a struct with the struct's name, or a set, each with its weight
 mutual
   pub data Value : Type 0 where
     leaf : (tree : Tree) (weight : ℕ) → Value
@@ -39,13 +39,13 @@ abbrev pub list_of : Values → List Value
 list_of none = []
 list_of (more v vs) = v ∷ list_of vs
 
--- the whole number or formula that a value is, if it is one
+-- the integer or formula that a value is, if it is one
 abbrev pub tree_in : Value → Option Tree
 tree_in (leaf t w) = Some t
 tree_in (structure x vs w) = None
 tree_in (set vs w) = None
 
--- the whole number of a value: of one of another kind nothing is asked
+-- the integer of a value: 0 where the value is of another kind
 abbrev pub term_of : Value → Term
 term_of v = term_in (tree_in v)
 
@@ -57,7 +57,7 @@ formula_of v = formula_in (tree_in v)
 abbrev pub number_value : ℤ → Value
 number_value n = leaf (number (constant n)) 1
 
--- the value of a truth, which is one token
+-- the value of a Boolean, which is one token
 abbrev pub truth_value : Bool → Value
 truth_value b = leaf (formula (constant_formula b)) 1
 
@@ -69,7 +69,7 @@ built x vs = structure x vs (1 + sum_by weight (list_of vs))
 abbrev pub grouped : Values → Value
 grouped vs = set vs (1 + sum_by weight (list_of vs))
 
--- the negative of a whole number: its weight is one more than its operand's
+-- the negative of an integer: its weight is one more than its operand's
 abbrev pub opposite : Value → Value
 opposite v = leaf (number (negative (term_of v))) (1 + weight v)
 
@@ -77,11 +77,11 @@ opposite v = leaf (number (negative (term_of v))) (1 + weight v)
 abbrev pub inverted : Value → Value
 inverted v = leaf (formula (negation (formula_of v))) (1 + weight v)
 
--- an arithmetic operator over two whole numbers: its weight is one more than that of its operands
+-- an arithmetic operator over two integers: its weight is one more than that of its operands
 abbrev pub computed : ArithOp → Value → Value → Value
 computed op v w = leaf (number (arithmetic op (term_of v) (term_of w))) (1 + weight v + weight w)
 
--- a comparison of two whole numbers: its weight is one more than that of its operands
+-- a comparison of two integers: its weight is one more than that of its operands
 abbrev pub compared : CompareOp → Value → Value → Value
 compared op v w = leaf (formula (atom (comparison op (term_of v) (term_of w)))) (1 + weight v + weight w)
 
@@ -136,7 +136,7 @@ counted_formula bodies (counting.both p q) = conjunction (counted_formula bodies
 counted_formula bodies (counting.either p q) = disjunction (counted_formula bodies p) (counted_formula bodies q)
 counted_formula bodies (counting.negation p) = negation (counted_formula bodies p)
 
--- the weight of a counting quantifier beside its bodies
+-- the weight of a counting quantifier without its bodies
 abbrev pub counting_weight : ℕ → ℕ → ℕ
 counting_weight n m = 2 * n * (min m n + 1) + 4
 

@@ -91,7 +91,7 @@ impl Unfolding {
         Ok((members, room - left))
     }
 
-    /// The value of a number, a truth, an operator or a quantifier.
+    /// Builds the value of a number, a Boolean, an operator or a quantifier.
     #[cycle(building)]
     fn operator(
         &mut self,
@@ -208,7 +208,7 @@ impl Unfolding {
         Ok(all)
     }
 
-    /// The body of a quantifier where its variable stands for member `i` of its set.
+    /// Builds the body of a quantifier where its variable is member `i` of its set.
     #[cycle(building)]
     fn body(
         &mut self,
@@ -268,7 +268,7 @@ impl Unfolding {
         })
     }
 
-    /// The formulas of a quantifier's bodies as nodes, with the room that is left beside them.
+    /// Builds the formulas of a quantifier's bodies as nodes, and returns the room that is left.
     #[cycle(building)]
     fn body_nodes(
         &mut self,

@@ -17,7 +17,7 @@ use count_sets::{Gate, network};
 use mltl_base::{CountOp, LogicOp};
 use std::alloc::{AllocError, Global};
 
-/// The weight of a counting quantifier over `n` bodies beside those.
+/// Returns the weight of a counting quantifier over `n` bodies without those.
 pub(crate) fn gates_weight(n: usize, number: u64, room: u32) -> Result<u32, UnfoldFault>
     ensures weight { IfOk result (λ w. w ≡ counting_weight n number) }
     ensures light { IfOk result (λ w. w ≤ room) }

@@ -30,7 +30,7 @@ impl From<AllocError> for UnfoldFault {
     }
 }
 
-/// The room that is left beside a weight.
+/// Returns the room that a weight leaves.
 pub(crate) fn less(room: u32, weight: u32) -> Result<u32, UnfoldFault>
     ensures left { IfOk result (λ left. left + weight ≡ room) }
     ensures heavy { IfErr result (λ why. room < weight) }

@@ -18,7 +18,7 @@ use c2po_ast::{Expr, Node};
 use mltl_base::Name;
 
 impl Unfolding {
-    /// What a declared name stands for.
+    /// The meaning of a declared name.
     fn declared<'a>(&self, visits: &mut Visits, name: &Name) -> Named<'a>
         ensures { (env : Env) → StandsFor self.now env → Names self.now result (env name.now) }
     {
@@ -30,7 +30,7 @@ impl Unfolding {
         }
     }
 
-    /// What a name stands for: the innermost variable of that name, else what is declared.
+    /// The meaning of a name: the innermost variable of that name, else what is declared.
     fn look<'a>(&self, visits: &mut Visits, scope: &'a Scope<'a>, name: &Name) -> Named<'a>
         ensures { (env : Env) → Fits self.now scope.now env → Names self.now result (env name.now) }
     {
@@ -202,7 +202,7 @@ impl Unfolding {
         }
     }
 
-    /// The scope in which a variable stands for member `i` of a set.
+    /// The scope in which a variable is member `i` of a set.
     pub(crate) fn member_scope<'a>(
         &self,
         scope: &'a Scope<'a>,

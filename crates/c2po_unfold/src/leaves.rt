@@ -1,4 +1,4 @@
-//! Nodes of whole numbers and of formulas.
+//! Nodes of integers and of formulas.
 
 ghost use Rattle.std.specs.Prelude.{◌≡◌, ◌+◌, ◌^◌, ◌<◌, ◌≤◌, ℕ, [], ◌∷◌, ◌++◌, length, slice_get, IfOk, IfErr, OnOk};
 ghost use Rattle.mltl_base.specs.declared.limits.TheConstants.{MAX_BOUND};
@@ -101,7 +101,7 @@ impl Unfolding {
         })
     }
 
-    /// A node with the whole number of a value; of a value of another kind nothing is asked.
+    /// Makes a node with the integer of a value; any integer where the value is of another kind.
     fn number(&mut self, stored: Stored) -> Result<u32, AllocError>
         ensures later { OnOk result (IsLater self.old self.new) }
         ensures is { IfOk result (λ n. IsNumber (slice_get (trees self.new.nodes) n)) }
@@ -131,7 +131,7 @@ impl Unfolding {
         self.place(Plain::Truth(false))
     }
 
-    /// A number or a truth, which weighs one.
+    /// Makes a number or a Boolean, which weighs one.
     pub(crate) fn token(&mut self, node: Plain, room: u32) -> Result<Stored, UnfoldFault>
         requires formed { (signals : ℕ) → IsFormed signals (trees self.old.nodes) node }
         ensures later { OnOk result (IsLater self.old self.new) }
@@ -205,7 +205,7 @@ impl Unfolding {
         }
     }
 
-    /// The negation of a whole number.
+    /// Makes the negation of an integer.
     fn opposite(&mut self, a: Stored) -> Result<Stored, AllocError>
         requires { a.weight + 1 < 2 ^ 32 }
         ensures later { OnOk result (IsLater self.old self.new) }
@@ -229,7 +229,7 @@ impl Unfolding {
         self.leaf(Plain::Not(n), a.weight + 1)
     }
 
-    /// Two whole numbers under an operator.
+    /// Makes an operation on two integers.
     fn computed(&mut self, op: ArithOp, a: Stored, b: Stored) -> Result<Stored, AllocError>
         requires { a.weight + b.weight + 1 < 2 ^ 32 }
         ensures later { OnOk result (IsLater self.old self.new) }
@@ -243,7 +243,7 @@ impl Unfolding {
         Ok(value)
     }
 
-    /// A comparison of two whole numbers.
+    /// Makes a comparison of two integers.
     fn compared(&mut self, op: CompareOp, a: Stored, b: Stored) -> Result<Stored, AllocError>
         requires { a.weight + b.weight + 1 < 2 ^ 32 }
         ensures later { OnOk result (IsLater self.old self.new) }

@@ -1,7 +1,7 @@
-//! Unfolding: from expressions whose names stand for values to plain nodes.
+//! Unfolding: from expressions whose names have values to plain nodes.
 //!
-//! [`Unfolding`] holds what the names of a specification stand for, and the nodes that their values unfold to. Nothing is
-//! unfolded that a value doesn't have: a part that a picked field leaves aside, or a member of a set that a body doesn't
+//! [`Unfolding`] holds the meanings of the names of a specification, and the nodes that their values unfold to. Only
+//! what a value has is unfolded: a part that a picked field leaves aside, or a member of a set that a body doesn't
 //! use, is never visited. Nodes and visits are limited.
 #![tactic(auto)]
 

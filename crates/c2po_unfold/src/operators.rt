@@ -28,7 +28,7 @@ pub enum BinaryOp {
     Between(BetweenOp, u64, u64),
 }
 
-/// The bodies of a quantifier: one for each member of a set, which a variable stands for.
+/// The bodies of a quantifier: one for each member of a set, which is the value of a variable.
 #[derive(Clone, Copy)]
 pub struct Bodies<'a> {
     pub name: &'a Name,
@@ -36,7 +36,7 @@ pub struct Bodies<'a> {
     pub body: &'a Expr,
 }
 
-/// A number, a truth, or an operator or a quantifier with what it is over.
+/// A number, a Boolean, or an operator or a quantifier with its operands.
 #[derive(Clone, Copy)]
 pub enum Operation<'a> {
     Number(i64),

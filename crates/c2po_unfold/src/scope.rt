@@ -1,4 +1,4 @@
-//! Variables of quantifiers, which stand for members of sets that aren't unfolded yet.
+//! Variables of quantifiers, which are members of sets that aren't unfolded yet.
 
 use crate::values::Stored;
 use c2po_ast::Expr;
@@ -9,14 +9,14 @@ use std::alloc::Global;
 #[derive(Clone, Copy)]
 pub enum Scope<'a> {
     Top,
-    /// The variable stands for an expression, which has a scope of its own.
+    /// The variable is an expression, which has a separate scope.
     Open {
         name: &'a Name,
         expr: &'a Expr,
         within: &'a Scope<'a>,
         outer: &'a Scope<'a>,
     },
-    /// The variable stands for a stored value.
+    /// The variable is a stored value.
     Held {
         name: &'a Name,
         stored: Stored,
@@ -32,7 +32,7 @@ pub struct Site<'a> {
     pub scope: &'a Scope<'a>,
 }
 
-/// What a name stands for.
+/// The meaning of a name.
 #[derive(Clone, Copy)]
 pub enum Named<'a> {
     Nothing,
@@ -49,7 +49,7 @@ pub enum Head<'a> {
     Nothing,
     Struct(&'a Scope<'a>, &'a Name, &'a [Expr]),
     Set(&'a Scope<'a>, &'a [Expr]),
-    /// A number, a truth, an operator or a quantifier.
+    /// A number, a Boolean, an operator or a quantifier.
     Leaf(&'a Scope<'a>, &'a Expr),
     Held(Stored),
 }

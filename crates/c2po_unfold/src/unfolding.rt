@@ -28,7 +28,7 @@ use std::alloc::{AllocError, Global};
 /// How deep an expression may be nested: deeper than any stack is.
 const DEPTH: u32 = u32::MAX;
 
-/// What the names of a specification stand for, and the nodes that their values unfold to.
+/// The meanings of the names of a specification, and the nodes that their values unfold to.
 #[derive(Drop)]
 pub struct Unfolding {
     pub(crate) names: NameTable<Entry>,
@@ -38,7 +38,7 @@ pub struct Unfolding {
     visits: Visits,
 }
 
-/// The formula of an expression: its node, its weight, the first fault of its whole numbers, and its tenses.
+/// The formula of an expression: its node, its weight, the first fault of its integers, and its tenses.
 #[derive(Clone, Copy)]
 pub struct Unfolded {
     pub node: u32,
@@ -48,7 +48,7 @@ pub struct Unfolded {
 }
 
 impl Unfolding {
-    /// No names. It takes no memory.
+    /// Makes an unfolding without names. It does not allocate.
     pub fn new(alloc: Global) -> Unfolding
         ensures stands { StandsFor result no_names }
         ensures sound { AreSound 0 (nodes_of result) }
@@ -107,9 +107,9 @@ impl Unfolding {
         Ok(())
     }
 
-    /// Declares a name for the value of an expression, which is unfolded here. A name that is known keeps its meaning. The
-    /// answer is the first fault of the value's whole numbers. `Heavy` is the answer exactly where the
-    /// value's weight is above the room.
+    /// Declares a name for the value of an expression, which is unfolded here. A known name keeps its meaning.
+    /// Returns the first fault of the value's integers, and `Heavy` exactly where the value's weight is above the
+    /// room.
     pub fn define(
         &mut self,
         alloc: Global,
@@ -143,7 +143,7 @@ impl Unfolding {
         Ok(stored.fault)
     }
 
-    /// The formula of an expression as a node. `Heavy` is the answer exactly where its weight is above the room.
+    /// Returns the formula of an expression as a node, and `Heavy` exactly where its weight is above the room.
     pub fn unfold(&mut self, alloc: Global, e: &Expr, room: u32) -> Result<Unfolded, UnfoldFault>
         requires { room ≤ MAX_WEIGHT }
         ensures stands { (env : Env) → StandsFor self.old env
@@ -245,7 +245,7 @@ fn signal_of(number: u32, truth: bool) -> Plain
     }
 }
 
-/// The place after so many others, as a number of 32 bits. At 2^32 it is out of memory.
+/// Returns the index after `count` others, as a number of 32 bits. At 2^32 it is out of memory.
 pub(crate) fn next_place(len: usize) -> Result<u32, AllocError>
     ensures { IfOk result (λ place. place ≡ len) }
 {

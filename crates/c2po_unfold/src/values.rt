@@ -9,7 +9,7 @@ pub enum Location {
     Parts(u32),
 }
 
-/// A stored value with its weight, and with the first of its whole numbers' faults.
+/// A stored value with its weight, and with the first fault of its integers.
 #[derive(Clone, Copy)]
 pub struct Stored {
     pub location: Location,
@@ -31,7 +31,7 @@ pub struct Parts {
     pub members: List<Stored>,
 }
 
-/// What a declared name stands for: a struct by its number, or a value.
+/// The meaning of a declared name: a struct by its number, or a value.
 #[derive(Clone, Copy)]
 pub enum Entry {
     Struct(u32),

@@ -35,8 +35,8 @@ impl Visits {
         self.left = self.left.saturating_sub(1);
     }
 
-    /// Seeks a name among so many in order. That counts for as much as it takes: for the binary digits of their number, once
-    /// more for each eight bytes of the name.
+    /// Seeks a name among `count` in order. That counts for as much as it takes: for the binary digits of their
+    /// number, once more for each eight bytes of the name.
     pub(crate) fn seek(&mut self, names: usize, name: &Name) {
         let steps = u64::from(usize::BITS.saturating_sub(names.leading_zeros()));
         let bytes = name.bytes().len() as u64;

@@ -26,7 +26,7 @@ counting Exactly n m = both (least m n) (negation (least (m + 1) n))
 counting AtLeast n m = least m n
 counting AtMost n m = negation (least (m + 1) n)
 
--- the truth of a formula, given the truth of each body
+-- whether a formula holds, given whether each body holds
 unfoldable pub truth_under : List Bool → Counted → Bool
 truth_under bodies (truth v) = v
 truth_under bodies (body i) = slice_index_or bodies i false

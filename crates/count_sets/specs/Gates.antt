@@ -1,4 +1,4 @@
--- Networks of gates: what each gate stands for, and what comes out of it.
+-- Networks of gates: what each gate represents, and what comes out of it.
 
 use Rattle.std.specs.Prelude.{◌≡◌, ℕ, ◌-◌, ◌<◌, Bool, false, not, ◌&&◌, ◌||◌, List, [], ◌∷◌, ◌++◌, length, slice_get}
 use Rattle.std.specs.Prelude.{slice_index_or, Option, Some, fold, ⊤}
@@ -10,7 +10,7 @@ use Rattle.count_sets.specs.Counting.{Counted, truth, body, both, either, negati
 abbrev pub formula_at : List Counted → ℕ → Counted
 formula_at formulas i = slice_index_or formulas i (truth false)
 
--- what a gate stands for, over the formulas of the gates before it
+-- what a gate represents, over the formulas of the gates before it
 abbrev pub formula_of : List Counted → Gate → Counted
 formula_of earlier (Truth v) = truth v
 formula_of earlier (Body i) = body i
@@ -22,11 +22,11 @@ formula_of earlier (Not a) = negation (formula_at earlier a)
 unfoldable pub formulas : List Gate → List Counted
 formulas gates = fold (λ earlier gate. earlier ++ formula_of earlier gate ∷ []) [] gates
 
--- the truth of body or gate i
+-- whether body or gate i holds
 abbrev pub truth_at : List Bool → ℕ → Bool
 truth_at truths i = slice_index_or truths i false
 
--- what comes out of a gate, given the truth of each body and of each gate before it
+-- what comes out of a gate, given whether each body and each gate before it holds
 abbrev pub gate_truth : List Bool → List Bool → Gate → Bool
 gate_truth bodies earlier (Truth v) = v
 gate_truth bodies earlier (Body i) = truth_at bodies i
@@ -42,7 +42,7 @@ truths bodies gates = fold (λ earlier gate. earlier ++ gate_truth bodies earlie
 abbrev pub last_formula : List Gate → Option Counted
 last_formula gates = slice_get (formulas gates) (length gates - 1)
 
--- the truth of the last gate
+-- whether the last gate holds
 abbrev pub last_truth : List Bool → List Gate → Option Bool
 last_truth bodies gates = slice_get (truths bodies gates) (length gates - 1)
 

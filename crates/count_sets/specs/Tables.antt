@@ -1,4 +1,4 @@
--- The table of `least`, a row at a time: what its cells stand for.
+-- The table of `least`, a row at a time: what its cells represent.
 
 use Rattle.std.specs.Prelude.{◌≡◌, ℕ, ◌+◌, ◌*◌, ◌^◌, ◌<◌, ◌≤◌, min, List, length, slice_get, slice_index, Some}
 use Rattle.count_sets.specs.declared.gate.Gate.{Gate}
@@ -29,7 +29,7 @@ pub record IsTable (plan : Plan) (k : ℕ) (gates : List Gate) (row : List ℕ) 
   pub size : length gates ≤ 2 + k * (1 + 2 * plan.highest)
   pub last : 0 < k → slice_index row (min k plan.highest) + 1 ≡ length gates
 
--- no gate of the table stands twice, since the cells of a row stand in order
+-- no gate of the table occurs twice, since the cells of a row are in order
 pub record IsRising (plan : Plan) (k : ℕ) (gates : List Gate) (row : List ℕ) : Type 0 where
   pub shared : IsShared gates
   pub bodies : (i b : ℕ) → slice_get gates i ≡ Some (Body b) → b < k

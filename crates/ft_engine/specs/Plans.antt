@@ -18,7 +18,7 @@ pub record Plan : Type 0 where
   pub worst : ℕ → ℕ
   pub widest : ℕ → ℕ
 
--- the delays of a program's instructions, and the widest one that their readers ask for
+-- the delays of a program's instructions, and the widest one that their readers require
 abbrev pub plan_of : List FtOp → List Out → Plan
 plan_of ops outs = record {
   best = λ i. slice_index (best_delays ops) i;

@@ -11,7 +11,7 @@ use Rattle.ft_engine.specs.declared.queue.Queue.{Queue}
 abbrev pub op_at : List FtOp → ℕ → FtOp
 op_at ops i = slice_index_or ops i True
 
--- what stands past the end of a list of queues
+-- the queue past the end of a list of queues
 abbrev pub no_queue : Queue
 no_queue = record { ring = no_ring; reads_at = 0; seat = no_seat }
 
@@ -47,7 +47,7 @@ operand_size size (Not g) = size g
 operand_size size (And l r) = max (size l) (size r)
 operand_size size (Until l r window) = max (size l) (size r)
 
--- the most steps that an instruction takes in one row, where its own queue has so many slots
+-- the most steps that an instruction takes in one row, where its own queue has this many slots
 abbrev pub work_of : (ℕ → ℕ) → FtOp → ℕ → ℕ
 work_of size op own = 4 * (operand_size size op + own + 2)
 

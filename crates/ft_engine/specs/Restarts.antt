@@ -7,7 +7,7 @@ use Rattle.scq_ring.specs.Runs.{Belongs, frontier_of, low_of}
 use Rattle.ft_engine.specs.declared.queue.Queue.{Queue}
 use Rattle.ft_engine.specs.Queues.{first_read_of}
 
--- the queue of an instruction has no verdicts, whatever stands in its slots
+-- the queue of an instruction has no verdicts, whatever its slots hold
 pub record IsEmptied (op : FtOp) (queue : Queue) : Type 0 where
   pub frontier : frontier_of queue.ring ≡ 0
   pub low : low_of queue.ring ≡ 0

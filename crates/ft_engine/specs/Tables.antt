@@ -22,7 +22,7 @@ use Rattle.ft_engine.specs.Plans.{Plan, IsPaced, IsReady}
 abbrev pub Table : Type 0
 Table = ℕ → List Bool
 
--- the truths of rows, by time and number
+-- the values of atoms by time and number
 abbrev pub Loads : Type 0
 Loads = ℕ → ℕ → Bool
 
@@ -30,7 +30,7 @@ Loads = ℕ → ℕ → Bool
 abbrev pub known_table : List Row → List Atom → List FtOp → Table
 known_table rows loaded ops i = verdicts rows (plain (core_at (formulas loaded ops) i))
 
--- the truths of the atoms that instructions load, by row
+-- the values of the atoms that instructions load, by row
 abbrev pub truth_at : List Row → List Atom → Loads
 truth_at rows loaded t k = holds (slice_index_or loaded k (is_true 0)) (slice_index_or rows t [])
 
@@ -95,7 +95,7 @@ pub record TakesRow (plan : Plan) (truth : Loads) (n : ℕ) (ops : List FtOp) (q
   pub extends : Extends old new
   pub verdicts : HaveVerdicts ops old queues slab
 
--- the truth that an instruction loads is what the numbers of the row have for it
+-- the value that an instruction loads is what the numbers of the row have for it
 abbrev pub Agrees : FtOp → (ℕ → Bool) → List ℤ → Type 0
 Agrees op truth numbers = (k : ℕ) (v : Bool) → op ≡ Load k → IsTruthIn numbers k v → truth k ≡ v
 

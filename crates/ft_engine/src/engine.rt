@@ -66,7 +66,7 @@ impl Ft {
         restart(program.ft.as_slice(), self.queues.as_mut_slice());
     }
 
-    /// Takes the row that the Booleanizer took last. It takes no memory.
+    /// Takes the row that the Booleanizer took last. It does not allocate.
     pub fn row<L: Ledger>(&mut self, checked: &Checked, bz: &Bz, steps: &mut Steps<L>)
         requires given { (row : Row) × (bz.now ≡ numbers_on row checked.now.bz) }
         requires stands { (rows : List Row) × Stands checked.now rows self.old
@@ -127,7 +127,7 @@ impl Ft {
         self.look::<Brand>(i, from, Blank::new(1))
     }
 
-    /// What `run_from` shows, on a count of its own.
+    /// What `run_from` shows, with a separate count.
     fn look<L: Ledger>(&self, i: u32, from: u64, blank: Blank) -> Seen
         requires exists { i < instruction_count self.now }
         requires kept { lowest_at self.now i ≤ from }

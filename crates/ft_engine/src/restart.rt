@@ -8,7 +8,7 @@ use crate::queue::{Queue, first_read};
 use mltl_base::FtOp;
 use scq_ring::Ring;
 
-/// Lets all verdicts of the queues of instructions go. Each queue keeps its part of the slab.
+/// Drops all verdicts of the queues of instructions. Each queue keeps its part of the slab.
 pub fn restart(ops: &[FtOp], queues: &mut [Queue])
     requires { length queues.old ≡ length ops.now }
     ensures seats { KeepsSeats queues.old queues.new }

@@ -38,10 +38,10 @@ enum Turn {
     Stop,
 }
 
-/// Decides an until of the operands from the own frontier on, as far as it is known, and answers its reading time.
+/// Decides an until of the operands from its frontier on, as far as it is known, and returns its reading time.
 ///
-/// The reading time is where it reads its operands next. From the lower end of its window up to there the left operand is
-/// true and the right one false, so what stands before the reading time is not read again.
+/// At the reading time it reads its operands next. From the lower end of its window up to there the left operand is
+/// true and the right one false, so nothing before the reading time is read again.
 pub fn until_row<L: Ledger>(
     own: &mut Ring,
     own_slots: &mut [Slot],

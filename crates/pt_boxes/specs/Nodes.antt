@@ -16,7 +16,7 @@ use Rattle.pt_boxes.specs.Spans.{AreApart}
 abbrev pub op_at : List PtOp → ℕ → PtOp
 op_at ops i = slice_index_or ops i True
 
--- a node without boxes, which stands past the end of a list of nodes
+-- a node without boxes: the node past the end of a list of nodes
 abbrev pub no_node : Node
 no_node = record { boxes = no_boxes; truth = false; seat = no_seat }
 

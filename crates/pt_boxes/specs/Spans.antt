@@ -16,8 +16,8 @@ covers s u = nat_le s.first u && nat_le u s.last
 abbrev pub in_some : List Span → ℕ → Bool
 in_some boxes u = list_any (λ s. covers s u) boxes
 
--- After n rows, p since q at time u, as far as these rows tell it where p stays true: some time m below n has q, u is
--- as far from it as the interval says, and p holds at each time after m and below n.
+-- After n rows, p since q at time u, as far as these rows decide it where p stays true: some time m below n has q, u
+-- is as far from it as the interval says, and p holds at each time after m and below n.
 abbrev pub since_after : Interval → (ℕ → Bool) → (ℕ → Bool) → ℕ → ℕ → Bool
 since_after i p q n u = some_below n (λ m. within i (u - m) && (q m && every_in (suc m) n p))
 

@@ -56,7 +56,7 @@ pub record Stands (program : Program) (rows : List Row) (pt : Pt) : Type 0 where
   pub few : (i : ℕ) → i < length program.pt → length (boxes_at pt i) ≤ boxes_of (op_at program.pt i)
   -- the room of all together is as much as the program states
   pub total : room_total pt ≡ sum program.sizes.pt
-  -- the boxes of a Since are long enough, lie apart, end from n - 1 to n - 1 + hi, and tell when it holds
+  -- the boxes of a Since are long enough, lie apart, end from n - 1 to n - 1 + hi, and say when it holds
   pub apart : (i l r : ℕ) (window : Interval) → i < length program.pt → op_at program.pt i ≡ Since l r window
       → AreApart window (length rows) 0 (boxes_at pt i)
   pub told : (i l r : ℕ) (window : Interval) → i < length program.pt → op_at program.pt i ≡ Since l r window

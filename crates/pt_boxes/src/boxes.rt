@@ -43,7 +43,7 @@ impl Boxes {
         }
     }
 
-    /// Lets all boxes go.
+    /// Drops all boxes.
     pub fn clear(&mut self)
         ensures belongs { (spans : List Span) → Belongs self.old spans → Belongs self.new spans }
         ensures none { (spans : List Span) → kept self.new spans ≡ [] }
@@ -51,7 +51,7 @@ impl Boxes {
         self.used = 0;
     }
 
-    /// Lets the oldest box go where it ended before this time.
+    /// Drops the oldest box where it ended before this time.
     pub fn let_ended_go(&mut self, spans: &[Span], now: u64)
         requires belongs { Belongs self.old spans.now }
         ensures belongs { Belongs self.new spans.now }

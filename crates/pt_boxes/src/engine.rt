@@ -65,7 +65,7 @@ impl Pt {
         self.rows = 0;
     }
 
-    /// Takes the row that the Booleanizer took last. It takes no memory.
+    /// Takes the row that the Booleanizer took last. It does not allocate.
     pub fn row<L: Ledger>(&mut self, checked: &Checked, bz: &Bz, steps: &mut Steps<L>)
         requires given { (row : Row) × (bz.now ≡ numbers_on row checked.now.bz) }
         requires stands { (rows : List Row) × Stands checked.now rows self.old

@@ -7,7 +7,7 @@ ghost use Rattle.pt_boxes.specs.Nodes.{node_at};
 use crate::boxes::Boxes;
 use crate::rows::Node;
 
-/// Lets all boxes of nodes go. Each node keeps its part of the slab.
+/// Drops all boxes of nodes. Each node keeps its part of the slab.
 pub fn restart(nodes: &mut [Node])
     ensures many { length nodes.new ≡ length nodes.old }
     ensures seats { (i : ℕ) → (node_at nodes.new i).seat ≡ (node_at nodes.old i).seat }

@@ -14,7 +14,7 @@ use mltl_base::limits::MAX_BOUND;
 use scq_ring::steps::Steps;
 use std::sync::ledger::Ledger;
 
-/// Lets go what ended before this time, and everything where the left operand is false then.
+/// Drops what ended before this time, and everything where the left operand is false then.
 fn age(boxes: &mut Boxes, spans: &[Span], now: u64, left: bool)
     requires belongs { Belongs boxes.old spans.now }
     ensures belongs { Belongs boxes.new spans.now }

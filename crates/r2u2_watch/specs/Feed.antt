@@ -11,14 +11,14 @@ use Rattle.trace_feed.specs.declared.trace_why.TraceWhy.{TraceWhy}
 use Rattle.trace_feed.specs.declared.trace_why.TraceWhy.TheVariants.{Width, NotWhole, OutOfRange}
 use Rattle.trace_feed.specs.declared.trace_why.TraceWhy.TheVariants.{LongLine, Stamp, Order}
 
--- how rows stand in the lines to come: each line is a row; or each is a time and the row that holds from then on, after
+-- how the lines to come hold rows: each line is a row; or each is a time and the row that holds from then on, after
 -- this last row and its time, if there was one
 pub data Feed : Type 0 where
   Plain : Feed
   Stamped : Option (ℕ × Row) → Feed
 
--- what a line after the header is: past the mission time, faulty, or rows, none where it is blank, and how rows stand
--- in the lines after it
+-- what a line after the header is: past the mission time, faulty, or rows, none where it is blank, and how the lines
+-- after it hold rows
 pub data Meaning : Type 0 where
   IsPast : Meaning
   IsFaulty : TraceWhy → Meaning
@@ -65,8 +65,8 @@ text_meaning program mission Plain text = fields_mean plain_row (Brings [] Plain
 text_meaning program mission (Stamped last) text =
     stamped_line program last text (stamp_meaning text (time_of last) mission)
 
--- A line that has so many lines after the header before it. One that meets several ends is past the mission time by its
--- number first, then too long, and its stamp and its fields come last.
+-- A line with this many lines after the header before it. A line that meets several ends is past the mission time by
+-- its number first, then too long, and its stamp and its fields come last.
 abbrev pub meaning : Program → ℕ → ℕ → Feed → List ℕ → Meaning
 meaning program mission before feed raw =
     if nat_lt before mission

@@ -1,4 +1,4 @@
--- What the loop over a trace tells of the rows that it takes.
+-- What the loop over a trace prints of the rows that it takes.
 
 use Rattle.std.specs.Prelude.{◌≡◌, ℕ, ◌+◌, Bool, true, false, List, [], ◌∷◌, ◌++◌, ⊤}
 use Rattle.std.specs.declared.ops.ControlFlow.{ControlFlow}
@@ -18,7 +18,7 @@ use Rattle.r2u2_monitor.specs.Monitoring.{program_of, taken_by, IsDrained, Stand
 use Rattle.r2u2_watch.specs.declared.status.Watched.{Watched}
 use Rattle.r2u2_watch.specs.Watch.{HasTold, WatchCause}
 
--- all of the text went out, or a front of it
+-- all of the text went out, or a prefix of it
 abbrev pub SendsText : Bool → List ℕ → List Event → Type 0
 SendsText true text events = Writes Out text events
 SendsText false text events = WritesFront Out text events
@@ -33,7 +33,7 @@ abbrev pub StepCause : {T : Type 0} → ControlFlow Watched T → (Place → ℕ
 StepCause (Continue value) before now = NoFault before now
 StepCause (Break answer) before now = WatchCause answer before now
 
--- a monitor that told all is drained
+-- a monitor that reported all is drained
 abbrev pub IsDrainedIf : Bool → State → Type 0
 IsDrainedIf true monitor = IsDrained monitor
 IsDrainedIf false monitor = ⊤
@@ -60,13 +60,13 @@ pub record TakesFront (program : Program) (style : Style) (rows more : List Row)
   pub told : IsFront (text_after program style rows before) sent
   pub untold : IsProperFront sent (text_after program style rows (before ++ last ∷ []))
 
--- it has taken a front of them, up to the row whose lines aren't all out
+-- it has taken a prefix of them, up to the row whose lines aren't all out
 pub record TellsFront (program : Program) (style : Style) (rows more : List Row) (monitor : State)
     (events : List Event) : Type 0 where
   pub sends : WritesFront Out (text_after program style rows more) events
   pub kept : TakesFront program style rows more monitor sends.sent
 
--- all of the further rows were taken and told, or a front of them
+-- all of the further rows were taken and printed, or a prefix of them
 abbrev pub TellsRows : Bool → Program → Style → List Row → List Row → State → List Event → Type 0
 TellsRows true program style rows more monitor events = TellsAll program style rows more monitor events
 TellsRows false program style rows more monitor events = TellsFront program style rows more monitor events
@@ -76,7 +76,7 @@ pub record WritesNone (program : Program) (rows : List Row) (monitor : State) (e
   pub none : events ≡ []
   pub told : HasTold program monitor rows
 
--- where all went out, the monitor has taken so many more rows, and has nothing to tell
+-- where all went out, the monitor has taken this many more rows, and has nothing to report
 abbrev pub HasHeld : Bool → ℕ → State → State → Type 0
 HasHeld true times before after = (taken_by after ≡ taken_by before + times) × IsDrained after
 HasHeld false times before after = ⊤

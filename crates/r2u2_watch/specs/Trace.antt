@@ -43,13 +43,13 @@ ends_by stop = record { rows = []; stop = stop }
 abbrev pub led_by : List Row → TraceRows → TraceRows
 led_by rows rest = record { rows = rows ++ rest.rows; stop = rest.stop }
 
--- a line of this number in front of others, whose rows go by how rows stand in the lines after it
+-- a line of this number before others, whose rows are read as the lines after it hold them
 abbrev pub put_in_front : Meaning → ℕ → (Feed → TraceRows) → TraceRows
 put_in_front (Brings rows next) number rest = led_by rows (rest next)
 put_in_front (IsFaulty why) number rest = ends_by (Bad number why)
 put_in_front IsPast number rest = ends_by Past
 
--- the rows of lines after the header up to the first line that ends them, where so many lines stand before them
+-- the rows of lines after the header up to the first line that ends them, where this many lines come before them
 abbrev pub rows_of : Program → ℕ → ℕ → Feed → List (ℕ × List ℕ) → TraceRows
 rows_of program mission before feed [] = ends_by Clean
 rows_of program mission before feed (line ∷ rest) =

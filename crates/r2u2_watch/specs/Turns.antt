@@ -34,18 +34,18 @@ abbrev pub IsLast : Option (ℕ × Row) → List Row → Type 0
 IsLast None rows = rows ≡ []
 IsLast (Some last) rows = (front : List Row) × (rows ≡ front ++ last.1 ∷ []) × (length rows ≡ last.0 + 1)
 
--- a reader that has taken these rows from so many lines stands where lines are read so
+-- a reader that has taken these rows from this many lines is where lines are read so
 abbrev pub StandsAt : Feed → reader.Reader → ℕ → List Row → Type 0
 StandsAt Plain reader.TheVariants.Plain lines rows = length rows ≤ lines
 StandsAt (Stamped last) (reader.TheVariants.Stamped time) lines rows = (time_of last ≡ time) × IsLast last rows
 StandsAt feed now lines rows = ⊥
 
--- how many times stand up to a last one
+-- how many times there are up to a last one
 abbrev pub times_until : Option ℕ → ℕ
 times_until None = 0
 times_until (Some last) = last + 1
 
--- so many rows may have been taken from so many lines
+-- this many rows may have been taken from this many lines
 abbrev pub IsCounted : reader.Reader → ℕ → ℕ → Type 0
 IsCounted reader.TheVariants.Plain lines taken = taken ≤ lines
 IsCounted (reader.TheVariants.Stamped last) lines taken = taken ≡ times_until last
@@ -71,7 +71,7 @@ abbrev pub IfRow : found.Found → (ℕ → Type 0) → Type 0
 IfRow (found.TheVariants.Row copies now) P = P copies
 IfRow result P = ⊤
 
--- so many copies of the last row, and then the row that was read, can be taken
+-- this many copies of the last row, and then the row that was read, can be taken
 pub record CanTake (copies : ℕ) (monitor : State) : Type 0 where
   pub fit : IsFit (program_of monitor) (read_of monitor)
   pub begun : 0 < copies → 0 < taken_by monitor
@@ -86,7 +86,7 @@ fault_of now too_few = Some Width
 fault_of now (not_whole column) = Some (NotWhole column)
 fault_of now (out_of_range column) = Some (OutOfRange column)
 
--- what fields were found to be: this row after so many copies, no row, or faulty
+-- what fields were found to be: this row after this many copies, no row, or faulty
 abbrev pub FindsFields : found.Found → ℕ → reader.Reader → LineMeaning → Row → Type 0
 FindsFields (found.TheVariants.Row times next) copies now what values =
     (times ≡ copies) × (next ≡ now) × (what ≡ row values)
@@ -94,7 +94,7 @@ FindsFields found.TheVariants.Blank copies now what values = (now ≡ reader.The
 FindsFields (found.TheVariants.Bad fault) copies now what values = fault_of now what ≡ Some fault
 FindsFields found.TheVariants.Past copies now what values = ⊥
 
--- so many copies of the last row, and then the row that was read
+-- this many copies of the last row, and then the row that was read
 abbrev pub rows_found : ℕ → State → State → List Row
 rows_found copies before after = replicate copies (last_of before) ++ read_of after ∷ []
 
@@ -105,7 +105,7 @@ pub record FindsRow (copies : ℕ) (now : reader.Reader) (what : Meaning) (lines
   pub brings : what ≡ Brings (rows_found copies before after) next
   pub stands : StandsAt next now (lines + 1) (rows ++ rows_found copies before after)
 
--- what a line was found to be, after these rows from so many lines
+-- what a line was found to be, after these rows from this many lines
 abbrev pub Finds : found.Found → Feed → Meaning → ℕ → List Row → State → State → Type 0
 Finds (found.TheVariants.Row copies now) feed what lines rows before after =
     FindsRow copies now what lines rows before after
@@ -121,13 +121,13 @@ text_of cut = line_text (cutting.row_of cut)
 abbrev pub line_of : Program → Course → Feed → Cutting → Meaning
 line_of program course feed cut = text_meaning program course.mission feed (text_of cut)
 
--- its rows were taken and told, and the reader stands after them
+-- its rows were taken and printed, and the reader is after them
 pub record TakesRows (more : List Row) (next : Feed) (program : Program) (before now : Course) (rows : List Row)
     (monitor : State) (events : List Event) : Type 0 where
   pub stands : StandsAt next now.reader (before.lines + 1) (rows ++ more)
   pub tells : TellsAll program before.style rows more monitor events
 
--- what a line of this number brought: its rows, or a front of them; else how the loop ends
+-- the effect of a line of this number: its rows, or a prefix of them; else how the loop ends
 abbrev pub Takes : ControlFlow watched.Watched ⊤ → Meaning → ℕ → Program → Course → Course → List Row → State
     → List Event → Type 0
 Takes (Continue u) (Brings more next) number program before now rows monitor events =

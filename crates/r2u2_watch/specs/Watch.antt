@@ -1,4 +1,4 @@
--- What the loop over a trace tells in its log, and how it leaves the monitor.
+-- What the loop over a trace logs, and how it leaves the monitor.
 
 use Rattle.std.specs.Prelude.{◌≡◌, ◌≤◌, ℕ, Bool, true, false, List, [], ◌∷◌, ◌++◌, ⊤}
 use Rattle.mltl_base.specs.declared.limits.TheConstants.{MAX_MISSION}
@@ -24,7 +24,7 @@ OnlyRun (Took Trace piece ∷ events) = OnlyRun events
 OnlyRun (Gave Out piece ∷ events) = OnlyRun events
 OnlyRun (event ∷ events) = ⊥
 
--- the monitor has the rows, and has told them
+-- the monitor has the rows, and has reported them
 pub record HasTold (program : Program) (monitor : State) (rows : List Row) : Type 0 where
   pub program_kept : program_of monitor ≡ program
   pub stands : Stands monitor rows
@@ -34,7 +34,7 @@ pub record HasTold (program : Program) (monitor : State) (rows : List Row) : Typ
 abbrev pub lines_by : Program → Style → List Row → List ℕ
 lines_by program style rows = lines style (output_names program) (outputs program) rows
 
--- it has the rows up to the one whose lines aren't all out: those of the rows before are, and a front of its own
+-- it has the rows up to the one whose lines aren't all out: those of the rows before are, and a prefix of that row's
 pub record HasFront (program : Program) (style : Style) (monitor : State) (rows : List Row)
     (out : List ℕ) : Type 0 where
   pub program_kept : program_of monitor ≡ program
@@ -51,7 +51,7 @@ pub record IsTold (program : Program) (style : Style) (rows_in : List (List ℕ)
   pub told : out ≡ due program style rows_in ended bytes
   pub kept : HasTold program monitor (rows_in (lines_of ended bytes)).rows
 
--- how the answer follows from the bytes that were taken, and what is out, by the rows of lines
+-- how the result follows from the bytes that were read, and what is out, by the rows of lines
 abbrev pub Outcome : watched.Watched → Program → Style → (List (List ℕ) → TraceRows) → Bool → List ℕ → List ℕ → State
     → Type 0
 Outcome watched.TheVariants.Done program style rows_in ended bytes out monitor =
@@ -69,8 +69,8 @@ Outcome watched.TheVariants.WriteFault program style rows_in ended bytes out mon
     IsProperFront out (due program style rows_in ended bytes)
     × HasFront program style monitor (rows_in (lines_of ended bytes)).rows out
 
--- a trace can be watched: the monitor has taken no rows and has nothing to tell, no more than one line was cut, and the
--- mission time is within its limit
+-- a trace can be watched: the monitor has taken no rows and has nothing to report, no more than one line was cut, and
+-- the mission time is within its limit
 pub record CanWatch (monitor : State) (cut : Cutting) (mission : ℕ) : Type 0 where
   pub no_rows : Stands monitor []
   pub drained : IsDrained monitor

@@ -15,7 +15,7 @@ use r2u2_monitor::Monitor;
 use sparse_feed::{Stamp, gap, stamp_of};
 use trace_feed::RowAnswer;
 
-/// How rows stand in the lines of a trace.
+/// How the lines of a trace hold rows.
 #[derive(Clone, Copy)]
 pub(crate) enum Reader {
     /// Each line is a row.
@@ -37,8 +37,8 @@ pub(crate) enum Found {
     Past,
 }
 
-/// Reads the fields of a row, which so many copies of the last one come before. Blanks are no row in a plain line, and
-/// too few fields after a stamp.
+/// Reads the fields of a row, before which come `copies` copies of the last one. Blanks aren't a row in a plain line,
+/// and too few fields after a stamp.
 #[inline(always)]
 pub(crate) fn read_fields(
     monitor: &mut Monitor,

@@ -47,7 +47,7 @@ impl LineFault {
     }
 }
 
-/// How the loop over a trace ended, as it stands within the loop.
+/// How the loop over a trace ended, within the loop.
 #[derive(Clone, Copy)]
 pub(crate) enum Ending {
     Done,

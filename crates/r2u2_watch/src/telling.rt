@@ -18,7 +18,7 @@ use scq_ring::steps::Steps;
 use std::sync::ledger::Ledger;
 use tool_io::{Host, Place, Put, put_all};
 
-/// Writes the lines of all reports that are still to be given. Answers whether all went out.
+/// Writes the lines of all open reports. Returns whether every line was written.
 fn tell<H: Host>(monitor: &mut Monitor, host: &mut H, style: Style) -> bool
     ensures cause { TellCause result (H.faults host.old) (H.faults host.new) }
     ensures log { (rows : List Row) → Stands monitor.old rows
@@ -42,7 +42,7 @@ fn tell<H: Host>(monitor: &mut Monitor, host: &mut H, style: Style) -> bool
     true
 }
 
-/// Takes the last row so many more times, and tells what each brings. Answers whether all lines went out.
+/// Takes the last row `copies` more times, and writes the lines of each. Returns whether every line was written.
 fn hold<H: Host, L: Ledger>(
     monitor: &mut Monitor,
     host: &mut H,
@@ -71,8 +71,8 @@ fn hold<H: Host, L: Ledger>(
     true
 }
 
-/// Takes the row that was read, after so many copies of the last one, and tells what each brings. Answers whether all
-/// lines went out.
+/// Takes the row that was read, after `copies` copies of the last one, and writes the lines of each. Returns whether
+/// every line was written.
 pub(crate) fn take_after<H: Host, L: Ledger>(
     monitor: &mut Monitor,
     host: &mut H,

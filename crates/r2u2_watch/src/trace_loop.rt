@@ -39,7 +39,7 @@ struct Course {
     style: Style,
     /// How many lines after the header were taken.
     lines: u64,
-    /// How rows stand in the next.
+    /// How the next line holds rows.
     reader: Reader,
 }
 
@@ -79,7 +79,7 @@ impl Course {
         }
     }
 
-    /// Takes the line of the last Row, and tells what it brings.
+    /// Takes the line of the last Row, and writes its lines.
     #[inline(always)]
     fn take<H: Host, L: Ledger>(
         &mut self,
@@ -178,7 +178,7 @@ impl Course {
     }
 }
 
-/// The loop, over a counter of its own.
+/// Runs the loop with a separate counter.
 fn turns<H: Host, L: Ledger>(
     monitor: &mut Monitor,
     cut: &mut LineCut,
@@ -206,13 +206,13 @@ fn turns<H: Host, L: Ledger>(
     }
 }
 
-/// Watches a trace: takes its lines one by one from the place `Trace`, and writes the verdict lines that each brings to
-/// the place `Out` before it reads on. A header is passed over, and a line past `mission` lines after it ends the
-/// loop. It takes no memory.
+/// Watches a trace: reads its lines one by one from the place `Trace`, and writes the verdict lines of each to the
+/// place `Out` before it reads on. A header is passed over, and a line past `mission` lines after it ends the loop.
+/// It does not allocate.
 ///
-/// Lines are counted from the first that the cut gives next, and numbered as the cut numbers them; the header is a
+/// Lines are counted from the first that the cut returns next, and numbered as the cut numbers them; the header is a
 /// line with the number 1 that begins with `#`. Where the loop ends by a fault, the lines of the rows before are out,
-/// or, after a failed write, a front of them.
+/// or, after a failed write, a prefix of them.
 pub fn watch<H: Host>(
     monitor: &mut Monitor,
     cut: &mut LineCut,

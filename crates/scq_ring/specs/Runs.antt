@@ -1,4 +1,4 @@
--- What a ring and its slots stand for: a frontier, a low time, and a verdict for each time from the low time to the
+-- What a ring and its slots represent: a frontier, a low time, and a verdict for each time from the low time to the
 -- frontier - 1.
 use Rattle.std.specs.Prelude.{◌≡◌, ◌≢◌, ℕ, ◌+◌, ◌-◌, ◌<◌, ◌≤◌, ◌⊎◌, Bool, false, List, [], ◌∷◌, ◌++◌, length}
 use Rattle.std.specs.Prelude.{slice_index_or, take, drop, if◌then◌else◌, nat_le, nat_lt, ⊤}
@@ -11,7 +11,7 @@ use Rattle.scq_ring.specs.declared.runs.Seen.TheVariants.{Run, Nothing}
 abbrev pub window : {X : Type 0} → ℕ → ℕ → List X → List X
 window k n xs = take n (drop k xs ++ take k xs)
 
--- the index of the member that stands k after index `oldest`, of n members in a ring
+-- the index of the member that comes k after index `oldest`, of n members in a ring
 abbrev pub ring_index_of : ℕ → ℕ → ℕ → ℕ
 ring_index_of oldest k n = if nat_lt k (n - oldest) then oldest + k else k - (n - oldest)
 
@@ -135,6 +135,6 @@ TakesRun ring slots from Nothing = ⊤
 unfoldable pub IsClear : Slot → Type 0
 IsClear slot = (slot.upto ≡ 0) × (slot.value ≡ false)
 
--- a ring without verdicts, which stands past the end of a list of rings
+-- a ring without verdicts: the ring past the end of a list of rings
 unfoldable pub no_ring : Ring
 no_ring = record { frontier = 0; low = 0; since = 0; oldest = 0; used = 0; value = false }

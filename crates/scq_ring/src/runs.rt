@@ -30,8 +30,8 @@ impl Slot {
 
 /// The verdicts of one operator by time, over slots that the caller lends to each call.
 ///
-/// It has verdicts for the times from its low time to its frontier - 1. The newest run stands in the ring itself, so that a
-/// write of the last verdict and a read of the newest run touch no slot. The slots hold the runs before it.
+/// It has verdicts for the times from its low time to its frontier - 1. The newest run is in the ring itself, so that
+/// a write of the last verdict and a read of the newest run touch no slot. The slots hold the runs before it.
 #[derive(Drop)]
 pub struct Ring {
     frontier: u64,
@@ -53,7 +53,7 @@ pub enum Seen {
     Nothing,
 }
 
-/// The index of the member that stands `k` after index `oldest` of a ring of `len` members.
+/// Returns the index of the member that comes `k` after index `oldest` of a ring of `len` members.
 pub fn ring_index(oldest: usize, k: usize, len: usize) -> usize
     requires oldest_in { oldest < len }
     requires k_in { k ≤ len }
@@ -221,7 +221,7 @@ impl Ring {
         self.used += 1;
     }
 
-    /// Lets the oldest run go.
+    /// Drops the oldest run.
     fn forget(&mut self, slots: &[Slot])
         requires belongs { Belongs self.old slots.now }
         requires some_run { 0 < self.old.used }
@@ -238,7 +238,7 @@ impl Ring {
         self.used -= 1;
     }
 
-    /// The run before the newest one that holds time `from`, found by halving the runs that may.
+    /// Returns the run before the newest one that holds time `from`, found by halving the candidates.
     fn run_at(&self, slots: &[Slot], from: u64, near: &mut usize) -> Slot
         requires belongs { Belongs self.now slots.now }
         requires kept { low_of self.now ≤ from }

@@ -21,7 +21,7 @@ impl<L: Ledger> Model for Steps<L> {
 }
 
 impl<L: Ledger> Steps<L> {
-    /// No steps so far, on a ledger that nothing stands for yet.
+    /// Starts a count at 0, on a ledger that holds nothing yet.
     pub fn start(blank: Blank) -> Steps<L>
         requires name { blank.name ≡ L.name }
         requires parts { blank.parts ≡ L.parts }

@@ -1,4 +1,4 @@
--- What the header of a trace says: which columns there are, and where signals stand.
+-- What the header of a trace says: which columns there are, and which signals have them.
 
 use Rattle.std.specs.Prelude.{ℕ, ◌≢◌, ◌<◌, ◌==◌, Bool, if◌then◌else◌, Option, Some, None, List, [], ◌∷◌, length, drop}
 use Rattle.std.specs.Prelude.{map, count_by, slice_index, slice_index_or, Result, Ok, Err}
@@ -39,7 +39,7 @@ times names name = count_by (bytes_eq name) names
 abbrev pub first_place : List (List ℕ) → List ℕ → ℕ
 first_place names name = position_or_len (bytes_eq name) names
 
--- a signal stands in the one column that has its name
+-- a signal has the one column with its name
 abbrev pub column_of : List (List ℕ) → List ℕ → Result ℕ HeaderFault
 column_of names signal =
     if times names signal == 0 then Err (Missing signal)

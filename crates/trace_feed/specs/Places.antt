@@ -1,4 +1,4 @@
--- Where names stand among columns, by two tables.
+-- The columns of names, by two tables.
 
 use Rattle.std.specs.Prelude.{ℕ, ◌≡◌, ◌==◌, ◌≤◌, nat_lt, if◌then◌else◌, Option, Some, None, List, length}
 use Rattle.mltl_base.specs.Tables.{entry_of, is_named}
@@ -9,7 +9,7 @@ use Rattle.trace_feed.specs.declared.names.Places.{Places}
 abbrev pub place_of : List (List ℕ) → List ℕ → Option ℕ
 place_of names name = if times names name == 0 then None else Some (first_place names name)
 
--- the tables know of each name of 1 to 64 bytes where it stands first, and whether it stands again
+-- the tables have for each name of 1 to 64 bytes its first column, and whether there is another
 pub record ArePlaces (names : List (List ℕ)) (places : Places) : Type 0 where
   pub first : (name : List ℕ) → 1 ≤ length name → length name ≤ 64 → entry_of name places.first ≡ place_of names name
   pub again : (name : List ℕ) → 1 ≤ length name → length name ≤ 64

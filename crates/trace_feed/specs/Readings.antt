@@ -21,7 +21,7 @@ readings_of program = map (reading_of program.bz) (range_with_len 0 program.widt
 abbrev pub AreReadings : (ℕ → Reading) → List Reading → Type 0
 AreReadings reading readings = (k : ℕ) (d : Reading) → k < length readings → slice_index_or readings k d ≡ reading k
 
--- the stronger of two readings: a truth, then a whole number
+-- the stronger of two readings: a Boolean, then an integer
 abbrev pub stronger : Reading → Reading → Reading
 stronger Truth second = Truth
 stronger Whole Truth = Truth

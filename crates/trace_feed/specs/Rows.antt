@@ -21,7 +21,7 @@ use Rattle.trace_feed.specs.declared.rows.RowAnswer as answer
 abbrev pub is_comma : ℕ → Bool
 is_comma byte = byte == 44
 
--- the fields of a line stand between its commas
+-- the fields of a line are between its commas
 abbrev pub fields_of : List ℕ → List (List ℕ)
 fields_of line = slice_split is_comma line
 
@@ -29,16 +29,16 @@ fields_of line = slice_split is_comma line
 abbrev pub fields_from : List ℕ → ℕ → List (List ℕ)
 fields_from line at = if nat_lt (length line) at then [] else fields_of (drop at line)
 
--- a whole number is one or more decimal digits, which one sign may lead
+-- an integer is one or more decimal digits, with an optional sign
 abbrev pub is_numeral : List ℕ → Bool
 is_numeral field =
     nat_lt 0 (length (without_leading_sign field)) && list_all is_ascii_digit (without_leading_sign field)
 
--- a whole number of 32 bits with its sign
+-- an integer of 32 bits with its sign
 abbrev pub has_32_bits : ℤ → Bool
 has_32_bits n = int_le (neg_ℤ (pos 2147483648)) n && int_le n (pos 2147483647)
 
--- a truth
+-- a Boolean
 abbrev pub is_bit : ℤ → Bool
 is_bit n = int_eq n (pos 0) || int_eq n (pos 1)
 
@@ -56,17 +56,17 @@ value_of Unread field = Ok (pos 0)
 value_of Whole field = number_in has_32_bits (trimmed field)
 value_of Truth field = number_in is_bit (trimmed field)
 
--- the instruction reads the column as a truth
+-- the instruction reads the column as a Boolean
 abbrev pub reads_truth : ℕ → bz.BzOp → Bool
 reads_truth c (bz.TheVariants.IsTrue d) = d == c
 reads_truth c op = false
 
--- the instruction reads the column as a whole number
+-- the instruction reads the column as an integer
 abbrev pub reads_whole : ℕ → bz.BzOp → Bool
 reads_whole c (bz.TheVariants.Column d) = d == c
 reads_whole c op = false
 
--- how instructions read a column: as a truth where one does so
+-- how instructions read a column: as a Boolean where one of them does
 abbrev pub reading_of : List bz.BzOp → ℕ → Reading
 reading_of ops c =
     if list_any (reads_truth c) ops then Truth
@@ -74,7 +74,7 @@ reading_of ops c =
     else Unread
 
 -- a row with a number for each column; a blank line, which is none; a line with fewer fields than columns; the first
--- column whose field isn't a whole number, or isn't one of its range
+-- column whose field isn't an integer, or isn't in its range
 pub data LineMeaning : Type 0 where
   row : Row → LineMeaning
   blank : LineMeaning
@@ -108,7 +108,7 @@ line_meaning program line =
     else if nat_lt (length (fields_of line)) program.width then too_few
     else row_from (reading_of program.bz) 0 (take program.width (fields_of line))
 
--- an answer, with the numbers that came with it, tells what a line says
+-- a result, with the numbers that came with it, is what a line says
 abbrev pub Tells : answer.RowAnswer → Row → LineMeaning → Type 0
 Tells answer.TheVariants.Good values meaning = meaning ≡ row values
 Tells answer.TheVariants.Blank values meaning = meaning ≡ blank

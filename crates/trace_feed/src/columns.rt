@@ -18,7 +18,7 @@ use mltl_base::{Columns, List, Signal, StoredSignal};
 use obs_verify::{Checked, rebind};
 use std::alloc::{AllocError, Global};
 
-/// The number of columns, and where names stand among them.
+/// The number of columns, and the columns of names.
 #[derive(Drop)]
 struct NamedColumns {
     width: u32,
@@ -119,11 +119,11 @@ fn columns_of_stored(
     })
 }
 
-/// The columns of signals by the names of a header, which stand after `#` as one record of CSV. Spaces and tabs around a
-/// name don't count.
+/// Returns the columns of signals by the names of a header, which follow `#` as one record of CSV. Spaces and tabs
+/// around a name don't count.
 ///
-/// Errors: `NoHeader` where the line doesn't begin with `#`; of the first signal whose name doesn't stand exactly once
-/// `Missing` where it stands nowhere, `Twice` where it stands more than once; `Memory` when out of memory.
+/// Errors: `NoHeader` where the line doesn't begin with `#`; of the first signal whose name doesn't occur exactly
+/// once `Missing` where it doesn't occur, `Twice` where it occurs more than once; `Memory` when out of memory.
 pub fn header(alloc: Global, line: &[u8], signals: &List<Signal>) -> Result<Columns, HeaderFault>
     requires { length line.now < MAX_LINE_BYTES }
     ensures columns { IfOk result (λ columns.
@@ -174,7 +174,7 @@ pub fn bind_to_header(alloc: Global, checked: Checked, line: &[u8]) -> Result<Ch
     Ok(rebind(checked, &columns))
 }
 
-/// The columns without a header: signal k stands in column k.
+/// Returns the columns without a header: signal k has column k.
 pub fn in_order(alloc: Global, signals: &List<Signal>) -> Result<Columns, AllocError>
     requires { length signals.now < 2 ^ 32 }
     ensures { IfOk result (λ columns. columns ≡ columns_in_order (length signals.now)) }

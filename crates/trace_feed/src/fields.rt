@@ -14,9 +14,9 @@ use std::str;
 /// Why a field has no value.
 #[derive(Clone, Copy)]
 pub enum FieldFault {
-    /// It isn't a whole number.
+    /// It isn't an integer.
     NotWhole,
-    /// It is one that its column can't hold.
+    /// It is an integer that its column can't hold.
     OutOfRange,
 }
 
@@ -76,7 +76,7 @@ fn whole_number(field: &[u8]) -> Result<i64, FieldFault>
     }
 }
 
-/// The number, if it is a truth, 0 or 1.
+/// The number, if it is 0 or 1.
 fn truth(number: i64) -> Result<i64, FieldFault>
     ensures { result ≡ in_range is_bit number }
 {
@@ -130,7 +130,7 @@ fn value_at(reading: Reading, number: i64) -> Result<i64, FieldFault>
 /// How many digits are gathered at most, so that their number stays small.
 const MOST_DIGITS: usize = 18;
 
-/// Digits at the front of bytes: the number that they write, and how many they are.
+/// Returns the number of the digits at the start of bytes, and how many they are.
 #[derive(Clone, Copy)]
 struct Digits {
     number: u64,
@@ -156,7 +156,7 @@ fn leading_digits(bytes: &[u8]) -> Digits
     Digits { number, size: most }
 }
 
-/// A whole number at the front of a line, and how many bytes write it.
+/// An integer at the start of a line, and how many bytes write it.
 #[derive(Clone, Copy)]
 struct Numeral {
     number: i64,
@@ -172,7 +172,7 @@ fn signed(minus: bool, number: u64) -> i64
     if minus { -number } else { number }
 }
 
-/// The whole number that a line begins with, one sign or none and up to 18 digits.
+/// Returns the integer with which a line begins, with an optional sign and up to 18 digits.
 fn leading_numeral(line: &[u8]) -> Option<Numeral>
     ensures within { IfSome result (λ n. n.size ≤ length line.now) }
     ensures numeral { IfSome result (λ n. IsTrue (writes_number (take n.size line.now))) }
@@ -190,7 +190,7 @@ fn leading_numeral(line: &[u8]) -> Option<Numeral>
     })
 }
 
-/// Whether the first field may end there: a comma stands there, or no byte does.
+/// Whether the first field may end there: at a comma, or at the end.
 fn may_end(line: &[u8], size: usize) -> bool
     requires { size ≤ length line.now }
     ensures { IsTrue result → size < length line.now
@@ -199,7 +199,7 @@ fn may_end(line: &[u8], size: usize) -> bool
     size == line.len() || line[size] == b','
 }
 
-/// The whole number that is the first field of a line, where no blank stands around it.
+/// Returns the integer that is the first field of a line, where no blank surrounds it.
 fn plain_field(line: &[u8]) -> Option<Numeral>
     ensures size { IfSome result (λ n. n.size ≡ position_or_len is_comma line.now) }
     ensures within { IfSome result (λ n. n.size ≤ length line.now) }
@@ -214,7 +214,7 @@ fn plain_field(line: &[u8]) -> Option<Numeral>
     }
 }
 
-/// How many bytes stand before the first comma.
+/// How many bytes there are before the first comma.
 fn field_size(line: &[u8]) -> usize
     ensures first { result ≡ position_or_len is_comma line.now }
     ensures within { result ≤ length line.now }
@@ -222,7 +222,7 @@ fn field_size(line: &[u8]) -> usize
     line.iter().take_while(|byte| **byte != b',').count()
 }
 
-/// A field at the front of a line: its value, and how many bytes it has.
+/// A field at the start of a line: its value, and how many bytes it has.
 #[derive(Clone, Copy)]
 pub struct Field {
     pub value: Result<i64, FieldFault>,

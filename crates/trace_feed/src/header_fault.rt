@@ -12,15 +12,15 @@ use std::{fmt, str};
 pub enum HeaderFault {
     /// The line doesn't begin with `#`.
     NoHeader,
-    /// The first signal that doesn't stand exactly once stands nowhere.
+    /// The first signal that doesn't occur exactly once doesn't occur.
     Missing(Name),
-    /// The first signal that doesn't stand exactly once stands more than once.
+    /// The first signal that doesn't occur exactly once occurs more than once.
     Twice(Name),
     /// Out of memory.
     Memory,
 }
 
-/// A name that is no text isn't shown: that is an error.
+/// Prints the fault; a name that isn't a text is an error.
 impl fmt::Display for HeaderFault {
     ghost use Rattle.std.specs.Prelude.{Some};
     ghost use Rattle.trace_feed.specs.HeaderTexts.{header_fault_text};

@@ -12,7 +12,7 @@ use csv::ByteRecord;
 use mltl_base::{Name, NameTable};
 use std::alloc::{AllocError, Global};
 
-/// Where names stand among the columns of a header.
+/// The columns of the names of a header.
 #[derive(Drop)]
 pub struct Places {
     /// The first column of each name.

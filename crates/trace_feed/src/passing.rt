@@ -36,7 +36,7 @@ fn unread_from(readings: &[Reading], c: usize) -> usize
     count
 }
 
-/// Puts 0 into so many columns.
+/// Puts 0 into `count` columns.
 fn clear(fields: &mut [i64], from: usize, count: usize)
     requires { from + count ≤ length fields.old }
     ensures wide { length fields.new ≡ length fields.old }
@@ -60,7 +60,7 @@ fn commas_in(block: &[u8]) -> u8
     count
 }
 
-/// The place after so many fields from a place on, and one past the end where there are fewer.
+/// Returns the index after `count` fields from an index on, and one past the end where there are fewer.
 fn after_fields(line: &[u8], from: usize, count: usize) -> usize
     requires within { from ≤ length line.now + 1 }
     ensures within { result ≤ length line.now + 1 }

@@ -29,7 +29,7 @@ impl Model for Readings {
     ghost view = { λ readings. readings.columns };
 }
 
-/// The stronger of two readings: a truth, then a whole number.
+/// Returns the stronger of two readings: a Boolean, then an integer.
 fn stronger(first: Reading, second: Reading) -> Reading
     ensures { result ≡ stronger_of first second }
 {
@@ -76,7 +76,7 @@ fn note_all(readings: &mut [Reading], ops: &[BzOp])
 }
 
 impl Readings {
-    /// The readings of a program. All memory is taken here.
+    /// Makes the readings of a program; the only allocation.
     pub fn of(alloc: Global, checked: &Checked) -> Result<Readings, AllocError>
         ensures readings { IfOk result (λ readings. readings ≡ readings_of checked.now) }
         ensures wide { IfOk result (λ readings. length readings ≡ checked.now.width) }

@@ -24,7 +24,7 @@ pub enum RowAnswer {
     Blank,
     /// It has fewer fields than a row has columns.
     Width,
-    /// The first field with a fault isn't a whole number.
+    /// The first field with a fault isn't an integer.
     NotWhole(u32),
     /// The first field with a fault is a number that its column can't hold.
     OutOfRange(u32),
@@ -41,7 +41,7 @@ fn commas(line: &[u8]) -> usize
     count
 }
 
-/// What a fault of the field at column c makes of a line, where this field and those after it should be so many.
+/// What a fault of the field at column c makes of a line, which should have this many fields from here on.
 fn fault_at(c: u32, fault: FieldFault, rest: &[u8], left: u32) -> RowAnswer
     requires some { 0 < left }
     ensures { (reading : ℕ → Way) (values : Row) →
@@ -86,7 +86,7 @@ fn read_fields(line: &[u8], width: u32, readings: &[Reading], fields: &mut [i64]
     RowAnswer::Good
 }
 
-/// Whether some instruction reads this column as a truth.
+/// Whether some instruction reads this column as a Boolean.
 fn is_truth(ops: &[BzOp], c: u32) -> bool
     ensures { result ≡ list_any (reads_truth c) ops.now }
 {
@@ -94,7 +94,7 @@ fn is_truth(ops: &[BzOp], c: u32) -> bool
         .any(|op| matches!(*op, BzOp::IsTrue(d) if d == c))
 }
 
-/// Whether some instruction reads this column as a whole number.
+/// Whether some instruction reads this column as an integer.
 fn is_whole(ops: &[BzOp], c: u32) -> bool
     ensures { result ≡ list_any (reads_whole c) ops.now }
 {
@@ -137,15 +137,15 @@ fn search_fields(line: &[u8], width: u32, ops: &[BzOp], fields: &mut [i64]) -> R
     RowAnswer::Good
 }
 
-/// Reads a line into a number for each column: the columns that the program's instructions read, and 0 for the others.
-/// It takes no memory. Where the answer isn't `Good`, the numbers have no meaning.
+/// Reads a line into a number for each column: the columns that the program's instructions read, and 0 for the
+/// others. It does not allocate. Where the result isn't `Good`, the numbers have no meaning.
 ///
-/// A line is cut at each comma; spaces and tabs around a field don't count, and neither do fields past the width. A field
-/// that is read is one or more decimal digits, which one sign may lead: 0 or 1 where some instruction reads its column as
-/// a truth, else from -2,147,483,648 to 2,147,483,647. Of several faults the first is told: too few fields, then the
-/// columns from left to right.
+/// A line is cut at each comma; spaces and tabs around a field don't count, and neither do fields past the width. A
+/// field that is read is one or more decimal digits, with an optional sign: 0 or 1 where some instruction reads its
+/// column as a Boolean, else from -2,147,483,648 to 2,147,483,647. Of several faults the first is returned: too few
+/// fields, then the columns from left to right.
 ///
-/// Each column is looked for among the instructions. Who reads many lines keeps `Readings`, and calls `row_fields_by`.
+/// Each column is looked for among the instructions. To read many lines, keep `Readings` and call `row_fields_by`.
 pub fn row_fields(line: &[u8], checked: &Checked, fields: &mut [i64]) -> RowAnswer
     requires wide { length fields.old ≡ checked.now.width }
     ensures told { Tells result fields.new (line_meaning checked.now line.now) }

@@ -7,9 +7,9 @@ use mltl_base::Name;
 pub enum TraceWhy {
     /// Too few fields.
     Width,
-    /// A field that is no whole number.
+    /// A field that isn't an integer.
     NotWhole(u32),
-    /// A whole number outside the range of its column.
+    /// An integer outside the range of its column.
     OutOfRange(u32),
     /// The first 65,536 bytes hold no newline.
     LongLine,
