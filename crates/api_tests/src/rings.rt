@@ -2,7 +2,7 @@
 
 ghost use Rattle.std.specs.Prelude.{◌≡◌, ◌<◌, length};
 
-use scq_ring::steps::Steps;
+use mltl_base::steps::Steps;
 use scq_ring::{Ring, Seen, Slot};
 use std::marker::Brand;
 use std::process::Abort;

@@ -7,8 +7,8 @@ use Rattle.mltl_base.specs.Programs.{atoms}
 use Rattle.obs_verify.specs.Running.{RunsFuture}
 use Rattle.scq_ring.specs.declared.Slot.{Slot}
 use Rattle.scq_ring.specs.Runs.{Belongs, frontier_of, low_of}
-use Rattle.scq_ring.specs.Seats.{AreSeated, part}
-use Rattle.scq_ring.proofs.Seats.{each_more, length-part, seated_more}
+use Rattle.mltl_base.specs.Seats.{AreSeated, part}
+use Rattle.mltl_base.proofs.Seats.{each_more, length-part, seated_more}
 use Rattle.ft_engine.specs.declared.engine.Ft.{Ft}
 use Rattle.ft_engine.specs.declared.queue.Queue.{Queue}
 use Rattle.ft_engine.specs.Plans.{IsPaced, IsPlaced, IsPlannedFor, IsSeated, Plan, plan_of}

@@ -8,7 +8,7 @@ use Rattle.mltl_base.specs.declared.program.Program.{Program}
 use Rattle.mltl_base.specs.Atoms.{Row}
 use Rattle.obs_verify.specs.Running.{RunsFuture}
 use Rattle.scq_ring.specs.declared.Slot.{Slot}
-use Rattle.scq_ring.specs.declared.seat.Seat.{Seat}
+use Rattle.mltl_base.specs.declared.seat.Seat.{Seat}
 use Rattle.ft_engine.specs.declared.engine.Ft.{Ft}
 use Rattle.ft_engine.specs.declared.queue.Queue.{Queue}
 use Rattle.ft_engine.specs.Queues.{AreSound, KeepsSeats, no_queue, op_at, queue_at}

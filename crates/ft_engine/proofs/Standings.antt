@@ -17,8 +17,8 @@ use Rattle.scq_ring.specs.declared.Seen.{Seen}
 use Rattle.scq_ring.specs.declared.Seen.TheVariants.{Run, Nothing}
 use Rattle.scq_ring.specs.declared.Slot.{Slot}
 use Rattle.scq_ring.specs.Runs.{Shows, frontier_of}
-use Rattle.scq_ring.specs.Seats.{part}
-use Rattle.scq_ring.proofs.Seats.{length-part}
+use Rattle.mltl_base.specs.Seats.{part}
+use Rattle.mltl_base.proofs.Seats.{length-part}
 use Rattle.ft_engine.specs.declared.engine.Ft.{Ft}
 use Rattle.ft_engine.specs.declared.queue.Queue.{Queue}
 use Rattle.ft_engine.specs.Plans.{IsPaced, IsPlannedFor, IsSeated, Plan, plan_of}

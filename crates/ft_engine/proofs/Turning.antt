@@ -3,11 +3,11 @@ use Rattle.std.proofs.Common.{◌≡◌, ℕ, ◌+◌, ◌<◌, ◌≤◌, ◌^�
 use Rattle.std.proofs.lemmas.Bool.{cases_eq}
 use Rattle.mltl_base.specs.declared.operators.FtOp.{FtOp}
 use Rattle.mltl_base.specs.declared.operators.FtOp.TheVariants.{True, Load, Not, And, Until}
-use Rattle.scq_ring.specs.declared.Seat.{Seat}
+use Rattle.mltl_base.specs.declared.seat.Seat.{Seat}
 use Rattle.scq_ring.specs.declared.Slot.{Slot}
 use Rattle.scq_ring.specs.Runs.{frontier_of}
-use Rattle.scq_ring.specs.Seats.{part}
-use Rattle.scq_ring.proofs.Seats.{Stepped, before_kept, each_kept, each_on, here_kept, node_before, other_kept, own_long, part_in_front, seat_stays, seated_on, sizes_are}
+use Rattle.mltl_base.specs.Seats.{part}
+use Rattle.mltl_base.proofs.Seats.{Stepped, before_kept, each_kept, each_on, here_kept, node_before, other_kept, own_long, part_in_front, seat_stays, seated_on, sizes_are}
 use Rattle.ft_engine.specs.declared.queue.Queue.{Queue}
 use Rattle.ft_engine.specs.Plans.{IsPlaced, IsPlanned, IsReady, IsSeated, Paced, Plan}
 use Rattle.ft_engine.specs.Queues.{AreLaid, IsAhead, KeepsSeats, no_queue, op_at, queue_at, reads_from, size_in, work_of}

@@ -7,7 +7,7 @@ use Rattle.mltl_base.specs.declared.program.Out.{Out}
 use Rattle.mltl_base.specs.Queues.{best_delays, worst_delays, readers, widest as widest_of}
 use Rattle.scq_ring.specs.declared.Slot.{Slot}
 use Rattle.scq_ring.specs.Runs.{Belongs, frontier_of, low_of}
-use Rattle.scq_ring.specs.Seats.{part}
+use Rattle.mltl_base.specs.Seats.{part}
 use Rattle.ft_engine.specs.declared.queue.Queue.{Queue}
 use Rattle.ft_engine.specs.Queues.{AreLaid, IsAhead, op_at, queue_at}
 

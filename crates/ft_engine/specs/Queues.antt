@@ -4,7 +4,7 @@ use Rattle.mltl_base.specs.declared.operators.FtOp.{FtOp}
 use Rattle.mltl_base.specs.declared.operators.FtOp.TheVariants.{True, Load, Not, And, Until}
 use Rattle.scq_ring.specs.declared.Slot.{Slot}
 use Rattle.scq_ring.specs.Runs.{Belongs, frontier_of, no_ring}
-use Rattle.scq_ring.specs.Seats.{AreSeated, no_seat, part}
+use Rattle.mltl_base.specs.Seats.{AreSeated, no_seat, part}
 use Rattle.ft_engine.specs.declared.queue.Queue.{Queue}
 
 -- instruction i, True past the last one

@@ -12,7 +12,7 @@ use Rattle.mltl_base.specs.Verdicts.{verdicts}
 use Rattle.scq_ring.specs.declared.Seen.{Seen}
 use Rattle.scq_ring.specs.declared.Seen.TheVariants.{Run, Nothing}
 use Rattle.scq_ring.specs.Runs.{IsLongestRun, frontier_of, low_of, verdict_at}
-use Rattle.scq_ring.specs.Seats.{part}
+use Rattle.mltl_base.specs.Seats.{part}
 use Rattle.ft_engine.specs.declared.engine.Ft.{Ft}
 use Rattle.ft_engine.specs.Plans.{IsPaced, plan_of}
 use Rattle.ft_engine.specs.Queues.{ReadsAhead, op_at, queue_at, reads_from}

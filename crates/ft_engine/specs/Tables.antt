@@ -12,7 +12,7 @@ use Rattle.booleanizer.specs.Evaluation.{IsTruthIn}
 use Rattle.scq_ring.specs.declared.Ring.{Ring}
 use Rattle.scq_ring.specs.declared.Slot.{Slot}
 use Rattle.scq_ring.specs.Runs.{frontier_of, low_of, verdict_at}
-use Rattle.scq_ring.specs.Seats.{part}
+use Rattle.mltl_base.specs.Seats.{part}
 use Rattle.ft_engine.specs.declared.queue.Queue.{Queue}
 use Rattle.ft_engine.specs.Queues.{op_at, queue_at}
 use Rattle.ft_engine.specs.Scans.{Scan}

@@ -7,7 +7,7 @@ ghost use Rattle.scq_ring.specs.Runs.{Belongs, frontier_of};
 ghost use Rattle.ft_engine.specs.Decisions.{Decides, GoesAsFar, GoesOn, IsReadable, IsStoppedAfter, IsStretch, IsWithin, ShownBy, TakesOne, operand_runs};
 
 use crate::operand::{Near, Operand};
-use scq_ring::steps::Steps;
+use mltl_base::steps::Steps;
 use scq_ring::{Ring, Seen, Slot};
 use std::sync::ledger::Ledger;
 

@@ -1,12 +1,12 @@
 //! The queue of an instruction, over its part of the slab.
 
 ghost use Rattle.std.specs.Prelude.{◌≡◌, ◌+◌, ◌<◌, ◌≤◌, length};
-ghost use Rattle.scq_ring.specs.Seats.{part};
+ghost use Rattle.mltl_base.specs.Seats.{part};
 ghost use Rattle.ft_engine.specs.Queues.{first_read_of, queue_at};
 
 use crate::operand::Operand;
-use mltl_base::FtOp;
-use scq_ring::{Ring, Seat, Slot};
+use mltl_base::{FtOp, Seat};
+use scq_ring::{Ring, Slot};
 
 /// The queue of an instruction: its ring, where it reads next if it is an until, and its part of the slab.
 #[derive(Drop)]

@@ -13,8 +13,8 @@ use crate::queue::{Queue, operand};
 use crate::until::{Until, until_row};
 use booleanizer::Bz;
 use mltl_base::FtOp;
+use mltl_base::steps::Steps;
 use scq_ring::Slot;
-use scq_ring::steps::Steps;
 use std::sync::ledger::Ledger;
 
 /// Takes the row for one instruction, after those before it: they are `before`, with their slots in `earlier`.

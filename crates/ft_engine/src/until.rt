@@ -7,7 +7,7 @@ ghost use Rattle.ft_engine.specs.Scans.{CanScan, DecidesFrom, HasEnough, IsNextR
 
 use crate::operand::{Near, Operand};
 use mltl_base::Interval;
-use scq_ring::steps::Steps;
+use mltl_base::steps::Steps;
 use scq_ring::{Ring, Seen, Slot};
 use std::sync::ledger::Ledger;
 

@@ -5,6 +5,7 @@
 //! `specs/`, and contracts of all crates cite them.
 #![tactic(auto)]
 
+pub mod blanks;
 pub mod interval;
 pub mod laws;
 pub mod limits;
@@ -14,7 +15,9 @@ pub mod operators;
 pub mod program;
 pub mod range;
 pub mod report;
+mod seat;
 pub mod signal;
+pub mod steps;
 mod table;
 pub mod text;
 
@@ -25,5 +28,6 @@ pub use operators::{ArithOp, BetweenOp, BzOp, CompareOp, CountOp, FtOp, LogicOp,
 pub use program::{Columns, Graph, Out, Program, Sizes, StoredSignal};
 pub use range::{NoRange, Range};
 pub use report::{Report, Style, Word};
+pub use seat::Seat;
 pub use signal::Signal;
 pub use table::NameTable;

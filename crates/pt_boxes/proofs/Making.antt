@@ -6,8 +6,8 @@ use Rattle.mltl_base.specs.declared.operators.PtOp.TheVariants.{True, Load, Not,
 use Rattle.mltl_base.specs.declared.program.Program.{Program}
 use Rattle.mltl_base.specs.Kleene.{some_below}
 use Rattle.mltl_base.specs.Queues.{boxes_of}
-use Rattle.scq_ring.specs.Seats.{AreSeated, part}
-use Rattle.scq_ring.proofs.Seats.{each_more, length-part, none_seated, seated_more}
+use Rattle.mltl_base.specs.Seats.{AreSeated, part}
+use Rattle.mltl_base.proofs.Seats.{each_more, length-part, none_seated, seated_more}
 use Rattle.pt_boxes.specs.declared.boxes.Boxes.{Boxes}
 use Rattle.pt_boxes.specs.declared.boxes.Span.{Span}
 use Rattle.pt_boxes.specs.declared.engine.Pt.{Pt}

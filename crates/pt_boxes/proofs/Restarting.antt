@@ -5,8 +5,8 @@ use Rattle.std.proofs.lemmas.Bool.{cases_eq}
 use Rattle.std.proofs.lemmas.List.{get_or-set_other, get_or-set_same}
 use Rattle.mltl_base.specs.declared.program.Program.{Program}
 use Rattle.mltl_base.specs.Atoms.{Row}
-use Rattle.scq_ring.specs.declared.seat.Seat.{Seat}
-use Rattle.scq_ring.specs.Seats.{part}
+use Rattle.mltl_base.specs.declared.seat.Seat.{Seat}
+use Rattle.mltl_base.specs.Seats.{part}
 use Rattle.pt_boxes.specs.declared.boxes.Boxes.{Boxes}
 use Rattle.pt_boxes.specs.declared.boxes.Span.{Span}
 use Rattle.pt_boxes.specs.declared.engine.Pt.{Pt}

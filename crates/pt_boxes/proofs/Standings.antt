@@ -5,8 +5,8 @@ use Rattle.mltl_base.specs.declared.operators.PtOp.{PtOp}
 use Rattle.mltl_base.specs.declared.operators.PtOp.TheVariants.{True, Load, Not, And, Since}
 use Rattle.mltl_base.specs.declared.program.Program.{Program}
 use Rattle.mltl_base.specs.Atoms.{Row}
-use Rattle.scq_ring.specs.Seats.{part}
-use Rattle.scq_ring.proofs.Seats.{length-part}
+use Rattle.mltl_base.specs.Seats.{part}
+use Rattle.mltl_base.proofs.Seats.{length-part}
 use Rattle.pt_boxes.specs.declared.boxes.Span.{Span}
 use Rattle.pt_boxes.specs.declared.engine.Pt.{Pt}
 use Rattle.pt_boxes.specs.Nodes.{AreKept, HasBoxes, boxes_in, node_at, op_at}

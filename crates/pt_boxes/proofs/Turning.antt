@@ -1,8 +1,8 @@
 -- The middle of a row: the instructions before one index have taken it, those from there on have not.
 use Rattle.std.proofs.Common.{◌≡◌, ◌≢◌, ℕ, ◌+◌, ◌-◌, ◌<◌, ◌≤◌, ℤ, List, ◌++◌, length, take, arith, sym, ap, ◌∙◌}
 use Rattle.mltl_base.specs.declared.operators.PtOp.{PtOp}
-use Rattle.scq_ring.specs.Seats.{part}
-use Rattle.scq_ring.proofs.Seats.{Stepped, each_kept, each_on, here_kept, node_before, other_kept, seated_on, sizes_are}
+use Rattle.mltl_base.specs.Seats.{part}
+use Rattle.mltl_base.proofs.Seats.{Stepped, each_kept, each_on, here_kept, node_before, other_kept, seated_on, sizes_are}
 use Rattle.pt_boxes.specs.declared.boxes.Span.{Span}
 use Rattle.pt_boxes.specs.declared.rows.Node.{Node}
 use Rattle.pt_boxes.specs.Boxes.{kept}

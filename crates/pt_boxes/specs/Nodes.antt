@@ -5,7 +5,7 @@ use Rattle.mltl_base.specs.declared.interval.Interval.{Interval}
 use Rattle.mltl_base.specs.declared.operators.PtOp.{PtOp}
 use Rattle.mltl_base.specs.declared.operators.PtOp.TheVariants.{True, Since}
 use Rattle.mltl_base.specs.Queues.{boxes as box_count, boxes_of}
-use Rattle.scq_ring.specs.Seats.{AreSeated, no_seat, part}
+use Rattle.mltl_base.specs.Seats.{AreSeated, no_seat, part}
 use Rattle.pt_boxes.specs.declared.boxes.Boxes.{Boxes}
 use Rattle.pt_boxes.specs.declared.boxes.Span.{Span}
 use Rattle.pt_boxes.specs.declared.rows.Node.{Node}

@@ -8,10 +8,9 @@ use crate::restart::restart;
 use crate::rows::{Node, row_of};
 use booleanizer::Bz;
 use fixed_list::Fixed;
-use mltl_base::Program;
+use mltl_base::steps::Steps;
+use mltl_base::{Program, Seat};
 use obs_verify::Checked;
-use scq_ring::Seat;
-use scq_ring::steps::Steps;
 use std::alloc::{AllocError, Global};
 use std::sync::ledger::Ledger;
 

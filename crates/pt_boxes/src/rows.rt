@@ -12,10 +12,9 @@ ghost use Rattle.pt_boxes.specs.Tables.{AgreeOnLoads, HasTable, IsTable, IsTurn,
 use crate::boxes::{Boxes, Span};
 use crate::since::since_row;
 use booleanizer::Bz;
-use mltl_base::PtOp;
 use mltl_base::limits::MAX_BOUND;
-use scq_ring::Seat;
-use scq_ring::steps::Steps;
+use mltl_base::steps::Steps;
+use mltl_base::{PtOp, Seat};
 use std::sync::ledger::Ledger;
 
 /// An instruction: its boxes, whether it holds at the last row, and its part of the slab.

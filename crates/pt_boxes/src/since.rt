@@ -11,7 +11,7 @@ use crate::boxes::{Boxes, Span};
 use delay_sizes::few_boxes;
 use mltl_base::Interval;
 use mltl_base::limits::MAX_BOUND;
-use scq_ring::steps::Steps;
+use mltl_base::steps::Steps;
 use std::sync::ledger::Ledger;
 
 /// Drops what ended before this time, and everything where the left operand is false then.

@@ -17,10 +17,10 @@ mod unfit;
 
 pub use bursts::most_reports;
 pub use bytes::monitor_bytes;
+pub use mltl_base::steps::Steps;
 pub use mltl_base::{Report, Style, Word};
 pub use monitor::Monitor;
 pub use obs_verify::Checked;
 pub use queries::{delay_of, row_steps};
 pub use row_fault::RowFault;
-pub use scq_ring::steps::Steps;
 pub use trace_feed::{HeaderFault, RowAnswer, bind_to_header};

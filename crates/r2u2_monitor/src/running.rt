@@ -7,10 +7,10 @@ ghost use Rattle.contract_status.specs.Standing.{StandFor};
 use booleanizer::Bz;
 use contract_status::{Cursor, Outs};
 use ft_engine::Ft;
+use mltl_base::steps::Steps;
 use mltl_base::{Report, Style};
 use obs_verify::Checked;
 use pt_boxes::Pt;
-use scq_ring::steps::Steps;
 use std::alloc::{AllocError, Global};
 use std::sync::ledger::Ledger;
 

@@ -13,8 +13,8 @@ ghost use Rattle.r2u2_watch.specs.Turns.{CanTake, rows_found};
 use arrayvec::ArrayVec;
 use contract_status::put_line;
 use mltl_base::Style;
+use mltl_base::steps::Steps;
 use r2u2_monitor::Monitor;
-use scq_ring::steps::Steps;
 use std::sync::ledger::Ledger;
 use tool_io::{Host, Place, Put, put_all};
 

@@ -1,4 +1,2 @@
-pub mod Pieces
 pub mod RunLemmas
-pub mod Seats
 pub mod Windows

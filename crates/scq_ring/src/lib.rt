@@ -7,8 +7,5 @@
 
 pub mod laws;
 mod runs;
-mod seat;
-pub mod steps;
 
 pub use runs::{Ring, Seen, Slot, ring_index};
-pub use seat::Seat;

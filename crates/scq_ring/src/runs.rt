@@ -5,7 +5,7 @@ ghost use Rattle.mltl_base.specs.declared.limits.TheConstants.{TIME_END};
 ghost use Rattle.scq_ring.specs.Runs.{Belongs, IsAround, IsClear, IsClosed, IsTurned, KeepsNewest, Shows, TakesRun, frontier_of, low_of, ring_index_of, runs_of, runs_to, upto_at, verdict_at};
 ghost use Rattle.scq_ring.specs.declared.runs.Slot.{Slot};
 
-use crate::steps::Steps;
+use mltl_base::steps::Steps;
 use std::sync::ledger::Ledger;
 
 /// One slot of a ring: the end of a run of times that have one verdict, and the verdict.

@@ -7,6 +7,7 @@ ghost use Rattle.std.specs.Str.Parse.{digits_value};
 ghost use Rattle.mltl_base.specs.Blanks.{is_blank, is_blank_line as is_all_blank};
 ghost use Rattle.sparse_feed.specs.Stamps.{IfAt, has_stamp, in_64_bits, may_follow as may_come_after, stamp_digits as digits_of, stamp_meaning, timed as timed_as, times_between};
 
+use mltl_base::blanks::is_blank_line;
 use std::str;
 
 /// What a line says of its time.
@@ -22,12 +23,6 @@ pub enum Stamp {
     Order,
     /// The time is at least the mission time.
     Late,
-}
-
-fn is_blank_line(line: &[u8]) -> bool
-    ensures { result ≡ is_all_blank line.now }
-{
-    line.iter().all(|byte| *byte == b' ' || *byte == b'\t')
 }
 
 /// How many digits there are at the start.

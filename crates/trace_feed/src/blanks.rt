@@ -2,31 +2,20 @@
 
 ghost use Rattle.std.specs.Prelude.{◌≡◌, ◌≤◌, length};
 ghost use Rattle.std.specs.List.{prefix_len, suffix_len};
-ghost use Rattle.mltl_base.specs.Blanks.{is_blank, is_blank_line as is_all_blank};
+ghost use Rattle.mltl_base.specs.Blanks.{is_blank as is_space_or_tab};
 ghost use Rattle.trace_feed.specs.Blanks.{trimmed as without_blanks};
 
-fn is_blank(byte: u8) -> bool
-    ensures { result ≡ is_blank byte }
-{
-    byte == b' ' || byte == b'\t'
-}
-
-/// Whether a line has nothing but blanks.
-pub fn is_blank_line(line: &[u8]) -> bool
-    ensures { result ≡ is_all_blank line.now }
-{
-    line.iter().all(|byte| is_blank(*byte))
-}
+use mltl_base::blanks::is_blank;
 
 fn blanks_at_front(bytes: &[u8]) -> usize
-    ensures longest { result ≡ prefix_len is_blank bytes.now }
+    ensures longest { result ≡ prefix_len is_space_or_tab bytes.now }
     ensures inside { result ≤ length bytes.now }
 {
     bytes.iter().take_while(|byte| is_blank(**byte)).count()
 }
 
 fn blanks_at_end(bytes: &[u8]) -> usize
-    ensures longest { result ≡ suffix_len is_blank bytes.now }
+    ensures longest { result ≡ suffix_len is_space_or_tab bytes.now }
     ensures inside { result ≤ length bytes.now }
 {
     bytes

@@ -8,11 +8,11 @@ ghost use Rattle.trace_feed.specs.declared.fields.Reading.{Reading as Way};
 ghost use Rattle.trace_feed.specs.Readings.{AreReadings, fields_meaning, readings_of};
 ghost use Rattle.trace_feed.specs.Rows.{Tells, fields_of, is_comma, line_meaning, reading_of, reads_truth, reads_whole, value_of};
 
-use crate::blanks::is_blank_line;
 use crate::fields::{FieldFault, Reading, first_field};
 use crate::passing::{Spot, pass_unread};
 use crate::readings::Readings;
 use mltl_base::BzOp;
+use mltl_base::blanks::is_blank_line;
 use obs_verify::Checked;
 
 /// What a line is to a program. Columns count from 0.

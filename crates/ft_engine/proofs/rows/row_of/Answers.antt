@@ -5,8 +5,8 @@ use Rattle.ft_engine.specs.declared.queue.Queue.{Queue}
 use Rattle.ft_engine.specs.Queues.{IsAhead, no_queue, op_at, queue_at, size_in, work_before, work_of}
 use Rattle.ft_engine.specs.Plans.{IsOnPlan, IsPaced, IsPlaced, IsReady, IsSeated, Plan}
 use Rattle.ft_engine.specs.Tables.{IsScanned, IsTold, IsUpToDate}
-use Rattle.scq_ring.proofs.Pieces.{first_after}
-use Rattle.scq_ring.proofs.Seats.{Stepped, stepped}
+use Rattle.mltl_base.proofs.Pieces.{first_after}
+use Rattle.mltl_base.proofs.Seats.{Stepped, stepped}
 use Rattle.ft_engine.proofs.Turning.{Turned, ready_here, turned_on, seats_on, told_here, Retold, retold_on, work_same, first_size, first_sizes, ahead_same, frontiers_before}
 use Rattle.ft_engine.proofs.rows.row_of.Goals as goal
 

@@ -6,7 +6,7 @@ use Rattle.scq_ring.specs.declared.Ring.{Ring}
 use Rattle.scq_ring.specs.Runs.{frontier_of}
 use Rattle.ft_engine.specs.Decisions.{Shown}
 use Rattle.ft_engine.specs.Scans.{DecidesUntil}
-use Rattle.scq_ring.specs.Seats.{part}
+use Rattle.mltl_base.specs.Seats.{part}
 use Rattle.ft_engine.specs.Queues.{queue_at}
 use Rattle.ft_engine.specs.Tables.{IsScanned, IsTold, value_of}
 use Rattle.ft_engine.proofs.Going.{Written}

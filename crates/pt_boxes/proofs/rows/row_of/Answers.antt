@@ -1,8 +1,8 @@
 use Rattle.std.proofs.Common.{◌≡◌, ℕ, ◌+◌, ◌<◌, List, ◌++◌, length, get_or, take, drop, set, arith, refl, subst, sym, ap, ◌∙◌}
 use Rattle.std.proofs.lemmas.Grind.{common_steps}
 use Rattle.mltl_base.specs.declared.operators.PtOp.{PtOp}
-use Rattle.scq_ring.proofs.Pieces.{first_after}
-use Rattle.scq_ring.proofs.Seats.{Stepped, stepped}
+use Rattle.mltl_base.proofs.Pieces.{first_after}
+use Rattle.mltl_base.proofs.Seats.{Stepped, stepped}
 use Rattle.pt_boxes.specs.declared.boxes.Span.{Span}
 use Rattle.pt_boxes.specs.declared.rows.Node.{Node}
 use Rattle.pt_boxes.specs.Boxes.{kept}

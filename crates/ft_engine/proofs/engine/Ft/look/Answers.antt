@@ -2,7 +2,7 @@ use Rattle.std.proofs.Common.{◌≡◌, ◌+◌, ◌≤◌, List, length, arith
 use Rattle.scq_ring.specs.declared.Ring.{Ring}
 use Rattle.scq_ring.specs.declared.Slot.{Slot}
 use Rattle.scq_ring.specs.Runs.{Belongs, Shows, low_of}
-use Rattle.scq_ring.specs.Seats.{part}
+use Rattle.mltl_base.specs.Seats.{part}
 use Rattle.ft_engine.specs.declared.queue.Queue.{Queue}
 use Rattle.ft_engine.specs.Queues.{queue_at}
 use Rattle.ft_engine.specs.Standing.{instruction_count, lowest_at}

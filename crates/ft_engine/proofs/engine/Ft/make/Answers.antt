@@ -3,7 +3,7 @@ use Rattle.std.proofs.lemmas.Grind.{common_steps}
 use Rattle.std.proofs.lemmas.List.{length-replicate, take_all}
 use Rattle.mltl_base.specs.declared.operators.FtOp.{FtOp}
 use Rattle.mltl_base.specs.declared.program.Program.{Program}
-use Rattle.scq_ring.proofs.Seats.{none_seated}
+use Rattle.mltl_base.proofs.Seats.{none_seated}
 use Rattle.scq_ring.specs.declared.Slot.{Slot}
 use Rattle.ft_engine.specs.declared.queue.Queue.{Queue}
 use Rattle.ft_engine.specs.Queues.{no_queue}

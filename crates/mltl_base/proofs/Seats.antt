@@ -2,9 +2,9 @@
 use Rattle.std.proofs.Common.{◌≡◌, ◌≢◌, ℕ, ◌+◌, ◌-◌, ◌<◌, ◌≤◌, List, [], ◌∷◌, ◌++◌, length, get_or, take, drop, set, inl, inr, length-set, length-drop, arith, subst, sym, ap, ◌∙◌, refl}
 use Rattle.std.proofs.lemmas.Bool.{cases_lt, cases_eq}
 use Rattle.std.proofs.lemmas.List.{get_or_append_left, get_or_push, length-append, drop_at, length-take-le, take-append-drop}
-use Rattle.scq_ring.specs.declared.seat.Seat.{Seat}
-use Rattle.scq_ring.specs.Seats.{AreSeated, part}
-use Rattle.scq_ring.proofs.Pieces.{other_member, this_member, part_before, part_here, part_after}
+use Rattle.mltl_base.specs.declared.seat.Seat.{Seat}
+use Rattle.mltl_base.specs.Seats.{AreSeated, part}
+use Rattle.mltl_base.proofs.Pieces.{other_member, this_member, part_before, part_here, part_after}
 
 -- a part within the slab is as long as its seat says
 pub length-part : {S : Type 0} → (slab : List S) (seat : Seat) → seat.start + seat.size ≤ length slab → length (part slab seat) ≡ seat.size

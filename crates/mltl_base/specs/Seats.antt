@@ -1,6 +1,6 @@
 -- Members of a list that have parts of one slab, whatever else members and slab are.
 use Rattle.std.specs.Prelude.{ℕ, ◌+◌, ◌≤◌, ◌<◌, List, slice_index_or, take, drop}
-use Rattle.scq_ring.specs.declared.seat.Seat.{Seat}
+use Rattle.mltl_base.specs.declared.seat.Seat.{Seat}
 
 -- the part of the slab at a seat
 abbrev pub part : {S : Type 0} → List S → Seat → List S
