@@ -297,18 +297,21 @@ impl Monitor {
     }
 
     /// Returns how many numbers a row has.
+    #[must_use]
     pub fn width(&self) -> u32 {
         // SAFETY: the struct is that of an open monitor, here and below.
         unsafe { r2u2_width(&raw const self.it) }
     }
 
     /// Returns how many outputs there are.
+    #[must_use]
     pub fn outputs(&self) -> u32 {
         // SAFETY: as above.
         unsafe { r2u2_outputs(&raw const self.it) }
     }
 
     /// Returns how many rows were taken.
+    #[must_use]
     pub fn rows(&self) -> u64 {
         // SAFETY: as above.
         unsafe { r2u2_rows(&raw const self.it) }
