@@ -73,6 +73,8 @@ static const char HEADER[] = "# request,grant";
 /* Of the first example: the delay of its output, and the most steps of a row, four for each slot of an instruction and of
  * its larger operand and for two more: the queues of its seven instructions have 4, 1, 1, 4, 4, 4 and 4 slots. */
 enum { GRANT_DELAY = 3, GRANT_STEPS = 4 * (6 + 3 + 3 + 7 + 10 + 10 + 10) };
+/* Its best delay is that of the request, 0 rows, so one row brings at most four reports. */
+enum { GRANT_REPORTS = 4 };
 static const int64_t ROWS[6][2] = {{1, 0}, {0, 1}, {1, 0}, {0, 0}, {0, 0}, {0, 0}};
 
 static uint32_t open_grant(struct r2u2 *it) {
@@ -111,6 +113,7 @@ static void closed_ones_answer(struct r2u2 *it) {
     uint32_t column = 3, kind = 4;
     CHECK(r2u2_width(it) == 0 && r2u2_outputs(it) == 0 && r2u2_rows(it) == 0);
     CHECK(r2u2_delay(it, 0) == 0 && r2u2_steps(it) == 0 && r2u2_signals(it) == 0);
+    CHECK(r2u2_most_reports(it) == 0 && r2u2_output_kind(it, 0) == 0);
     CHECK(r2u2_name(it, 0, name, sizeof name) == 0 && name[0] == 'x');
     CHECK(r2u2_signal(it, 0, &column, &kind, name, sizeof name) == 0 && name[0] == 'x' && column == 3 && kind == 4);
 }
@@ -228,7 +231,8 @@ static void queries(void) {
     CHECK(r2u2_signal(&it, 1, &column, &kind, name, 9) == 5 && memcmp(name, "grant\0t.", 9) == 0);
     CHECK(column == 0 && kind == R2U2_TRUTH);
     CHECK(r2u2_delay(&it, 0) == GRANT_DELAY && r2u2_delay(&it, 1) == 0 && r2u2_delay(&it, UINT32_MAX) == 0);
-    CHECK(r2u2_steps(&it) == GRANT_STEPS);
+    CHECK(r2u2_steps(&it) == GRANT_STEPS && r2u2_most_reports(&it) == GRANT_REPORTS);
+    CHECK(r2u2_output_kind(&it, 0) == R2U2_FORMULA && r2u2_output_kind(&it, 1) == 0);
     CHECK(r2u2_rows(&it) == 0 && take(&it, (int64_t[]){1, 9, 0}, 3) == R2U2_DONE && r2u2_rows(&it) == 1);
     CHECK(asked == before);
     r2u2_close(&it);
@@ -398,8 +402,10 @@ static void wrappers(void) {
     CHECK(r2u2_checked_name(&it, 0, NULL, 9) == 0 && r2u2_checked_name(&it, 0, name, 7) == 0 && name[0] == '.');
     CHECK(r2u2_checked_name(&it, 0, name, sizeof name) == 7 && memcmp(name, "granted", 8) == 0);
     CHECK(r2u2_checked_width(NULL) == 0 && r2u2_checked_outputs(NULL) == 0 && r2u2_checked_rows(NULL) == 0);
+    CHECK(r2u2_checked_most_reports(NULL) == 0 && r2u2_checked_output_kind(NULL, 0) == 0);
     CHECK(r2u2_checked_delay(NULL, 0) == 0 && r2u2_checked_steps(NULL) == 0 && r2u2_checked_signals(NULL) == 0);
     CHECK(r2u2_checked_width(&it) == 2 && r2u2_checked_outputs(&it) == 1 && r2u2_checked_rows(&it) == 1);
+    CHECK(r2u2_checked_most_reports(&it) == GRANT_REPORTS && r2u2_checked_output_kind(&it, 0) == R2U2_FORMULA);
     CHECK(r2u2_checked_delay(&it, 0) == GRANT_DELAY && r2u2_checked_steps(&it) == GRANT_STEPS);
     uint32_t column = 7, kind = 7;
     CHECK(r2u2_checked_signals(&it) == 2 && r2u2_checked_signal(&it, 1, NULL, NULL, name, sizeof name) == 5);

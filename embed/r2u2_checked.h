@@ -72,11 +72,11 @@ static inline uint32_t r2u2_checked_bytes(const uint8_t *program, size_t count, 
     return code;
 }
 
-static inline uint32_t r2u2_checked_width(struct r2u2 *it) { return r2u2_is_struct(it) ? r2u2_width(it) : 0; }
+static inline uint32_t r2u2_checked_width(const struct r2u2 *it) { return r2u2_is_struct(it) ? r2u2_width(it) : 0; }
 
-static inline uint32_t r2u2_checked_outputs(struct r2u2 *it) { return r2u2_is_struct(it) ? r2u2_outputs(it) : 0; }
+static inline uint32_t r2u2_checked_outputs(const struct r2u2 *it) { return r2u2_is_struct(it) ? r2u2_outputs(it) : 0; }
 
-static inline uint64_t r2u2_checked_rows(struct r2u2 *it) { return r2u2_is_struct(it) ? r2u2_rows(it) : 0; }
+static inline uint64_t r2u2_checked_rows(const struct r2u2 *it) { return r2u2_is_struct(it) ? r2u2_rows(it) : 0; }
 
 static inline uint32_t r2u2_checked_delay(struct r2u2 *it, uint32_t k) {
     return r2u2_is_struct(it) ? r2u2_delay(it, k) : 0;
@@ -84,7 +84,15 @@ static inline uint32_t r2u2_checked_delay(struct r2u2 *it, uint32_t k) {
 
 static inline uint64_t r2u2_checked_steps(struct r2u2 *it) { return r2u2_is_struct(it) ? r2u2_steps(it) : 0; }
 
-static inline uint32_t r2u2_checked_signals(struct r2u2 *it) { return r2u2_is_struct(it) ? r2u2_signals(it) : 0; }
+static inline uint64_t r2u2_checked_most_reports(struct r2u2 *it) {
+    return r2u2_is_struct(it) ? r2u2_most_reports(it) : 0;
+}
+
+static inline uint32_t r2u2_checked_output_kind(struct r2u2 *it, uint32_t k) {
+    return r2u2_is_struct(it) ? r2u2_output_kind(it, k) : 0;
+}
+
+static inline uint32_t r2u2_checked_signals(const struct r2u2 *it) { return r2u2_is_struct(it) ? r2u2_signals(it) : 0; }
 
 /* The length of the name, without the zero byte after it; 0 also where `count` leaves no room for that byte. */
 static inline uint32_t r2u2_checked_name(struct r2u2 *it, uint32_t k, char *buffer, size_t count) {

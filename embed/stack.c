@@ -38,6 +38,8 @@ static void names(void) { code = r2u2_name(&it, 0, name, sizeof name); }
 static void rows(void) { number = r2u2_rows(&it); }
 static void delays(void) { code = r2u2_delay(&it, 0); }
 static void steps(void) { number = r2u2_steps(&it); }
+static void most_reports(void) { number = r2u2_most_reports(&it); }
+static void output_kind(void) { code = r2u2_output_kind(&it, 0); }
 static void signals(void) { code = r2u2_signals(&it); }
 static void one_signal(void) { code = r2u2_signal(&it, 0, &column, &kind, name, sizeof name); }
 static void version(void) { code = r2u2_version(); }
@@ -68,11 +70,12 @@ static size_t stack_of(void (*call)(void)) {
 }
 
 enum {
-    OPEN, OPEN_UNDER, BYTES, WIDTH, OUTPUTS, ROWS, NAME, DELAY, STEPS, SIGNALS, SIGNAL, VERSION, ROW, NEXT, RESET, CLOSE, CALLS
+    OPEN, OPEN_UNDER, BYTES, WIDTH, OUTPUTS, ROWS, NAME, DELAY, STEPS, MOST_REPORTS, OUTPUT_KIND, SIGNALS, SIGNAL, VERSION, ROW, NEXT, RESET, CLOSE, CALLS
 };
 static const char *const NAMES[CALLS] = {
     "r2u2_open",  "r2u2_open_under", "r2u2_bytes",  "r2u2_width",   "r2u2_outputs", "r2u2_rows", "r2u2_name",  "r2u2_delay",
-    "r2u2_steps", "r2u2_signals",    "r2u2_signal", "r2u2_version", "r2u2_row",     "r2u2_next", "r2u2_reset", "r2u2_close"};
+    "r2u2_steps", "r2u2_most_reports", "r2u2_output_kind", "r2u2_signals", "r2u2_signal", "r2u2_version", "r2u2_row",
+    "r2u2_next",  "r2u2_reset", "r2u2_close"};
 static size_t first[CALLS], most[CALLS], base;
 static const char *path, *deepest[CALLS];
 
@@ -107,6 +110,8 @@ static void watch(void) {
     measure(NAME, names);
     measure(DELAY, delays);
     measure(STEPS, steps);
+    measure(MOST_REPORTS, most_reports);
+    measure(OUTPUT_KIND, output_kind);
     measure(SIGNALS, signals);
     measure(SIGNAL, one_signal);
     measure(VERSION, version);

@@ -41,9 +41,11 @@ extern "C" {
 #define R2U2_VERSION 900u
 #define R2U2_VERSION_TEXT "0.9.0"
 
-/* A monitor, or none where all is zero. The address is the library's own: don't follow it. */
+/* A monitor, or none where all is zero. The members are the library's: only its calls read and write them. */
 struct r2u2 {
     void *at;
+    uint64_t rows;
+    uint32_t width, outputs, signals;
 };
 
 /* What the calls answer. */
@@ -144,13 +146,18 @@ uint32_t r2u2_open_under(struct r2u2 *it, const uint8_t *program, size_t count, 
  * R2U2_DONE: `bytes` has it. R2U2_REFUSED: `fault` tells the first fault of the program. R2U2_NO_MEMORY. */
 uint32_t r2u2_bytes(const uint8_t *program, size_t count, uint64_t *bytes, struct r2u2_fault *fault);
 
-/* What may be asked of a monitor that is open. These calls change nothing, but they write to the struct while they run: it
- * isn't const, and no other call uses it meanwhile. Where none is open each answers 0. */
+/* What may be asked of a monitor that is open. Where none is open each answers 0. */
 
-/* How many numbers a row has, how many outputs there are, and how many rows were taken. */
-uint32_t r2u2_width(struct r2u2 *it);
-uint32_t r2u2_outputs(struct r2u2 *it);
-uint64_t r2u2_rows(struct r2u2 *it);
+/* How many numbers a row has, how many outputs there are, how many signals the program stores (one of version 1 stores none),
+ * and how many rows were taken. These four only read: several threads may make them at once, while no other call uses the
+ * struct. */
+uint32_t r2u2_width(const struct r2u2 *it);
+uint32_t r2u2_outputs(const struct r2u2 *it);
+uint32_t r2u2_signals(const struct r2u2 *it);
+uint64_t r2u2_rows(const struct r2u2 *it);
+
+/* The calls from here to r2u2_signal change nothing, but they write to the struct while they run: it isn't const, and no
+ * other call uses it meanwhile. Make them once, after opening, and keep what they answer. */
 
 /* Writes the name of output `k`, counted from 0, to the front of `buffer`, and a zero byte after it where there is room,
  * and answers the name's length, 1 to 64; the rest of the buffer stays. 0, and nothing is written, where none is open, `k`
@@ -164,11 +171,19 @@ uint32_t r2u2_delay(struct r2u2 *it, uint32_t k);
 /* The most steps of one row, which are reads and writes of queues and boxes. */
 uint64_t r2u2_steps(struct r2u2 *it);
 
+/* The most reports that one row brings, of all outputs together: between two rows r2u2_next gives no more, in either style.
+ * Size the telemetry of a row by it. */
+uint64_t r2u2_most_reports(struct r2u2 *it);
+
+/* What an output is; 0 is neither. */
+enum r2u2_output_kind { R2U2_FORMULA = 1, R2U2_CONTRACT = 2 };
+
+/* The kind of output `k`, an r2u2_output_kind; 0 also where `k` is no output. A formula is reported as false or true, a
+ * contract as inactive, invalid or verified. */
+uint32_t r2u2_output_kind(struct r2u2 *it, uint32_t k);
+
 /* What a signal's column holds. */
 enum r2u2_signal_kind { R2U2_WHOLE = 0, R2U2_TRUTH = 1 };
-
-/* How many signals the program stores; one of version 1 stores none. */
-uint32_t r2u2_signals(struct r2u2 *it);
 
 /* Tells the column and the kind, an r2u2_signal_kind, of signal `k`, counted from 0 in order of declaration, and writes its
  * name as r2u2_name does. 0, and nothing is written, where none is open, `k` is no signal, or `count` is less than the

@@ -24,6 +24,7 @@ def main():
         assert (monitor.width, monitor.names) == (2, ["granted"])
         assert monitor.signals == [Signal("request", 0, True), Signal("grant", 1, True)]
         assert monitor.rows == 0 and monitor.delays[0] > 0 and monitor.steps > 0 and version() > 0
+        assert (monitor.most_reports, monitor.contracts) == (4, [False])
         assert bytes_of(program) > 0
         assert refused(lambda: monitor.row([0, 2]), NOT_A_ROW).column == 1
         monitor.row(ROWS[1])

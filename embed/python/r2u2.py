@@ -17,13 +17,15 @@ from collections.abc import Iterable, Iterator, Sequence
 from typing import Any, NamedTuple, Optional, Union
 
 WORDS = ("F", "T", "inactive", "invalid", "verified")
+FORMULA, CONTRACT = 1, 2
 DONE, NOT_OPEN, ALREADY_OPEN, REFUSED, NO_MEMORY, REPORTS_LEFT, NOT_A_ROW, TOO_MANY_ROWS, NO_REPORT = range(9)
 CODES = ("done", "not open", "already open", "refused", "out of memory", "reports left", "not a row", "too many rows",
          "no report")
 
 
 class _Struct(ctypes.Structure):
-    _fields_ = [("at", ctypes.c_void_p)]
+    _fields_ = [("at", ctypes.c_void_p), ("rows", ctypes.c_uint64), ("width", ctypes.c_uint32),
+                ("outputs", ctypes.c_uint32), ("signals", ctypes.c_uint32)]
 
 
 class _Fault(ctypes.Structure):
@@ -142,6 +144,8 @@ def _loaded(path: str) -> Any:
         "rows": (ctypes.c_uint64, [it]),
         "delay": (number, [it, number]),
         "steps": (ctypes.c_uint64, [it]),
+        "most_reports": (ctypes.c_uint64, [it]),
+        "output_kind": (number, [it, number]),
         "signals": (number, [it]),
         "signal": (number, [it, number, ctypes.POINTER(number), ctypes.POINTER(number), chars, size]),
         "version": (number, []),
@@ -182,6 +186,8 @@ class Monitor:
         self.names = [self._name(k) for k in outputs]
         self.delays = [self._call.r2u2_delay(self._it, k) for k in outputs]
         self.steps = self._call.r2u2_steps(self._it)
+        self.most_reports = self._call.r2u2_most_reports(self._it)
+        self.contracts = [self._call.r2u2_output_kind(self._it, k) == CONTRACT for k in outputs]
         self.signals = [self._signal(k) for k in range(self._call.r2u2_signals(self._it))]
 
     def _name(self, k: int) -> str:

@@ -1,4 +1,4 @@
--- The machine values of an `R2u2`, and what it owns. Assumes `Logic`.
+-- The machine values of a `Handle`, and what it owns. Assumes `Logic`.
 use Rattle.std.proofs.Common.{◌≡◌, ℕ, List, [], ◌∷◌, ◌++◌, refl, subst}
 use seplogic.Ra.Ura.{Ura}
 use mir.Raw.{raw as bare}
@@ -29,7 +29,7 @@ use Rattle.std.specs.declared.option.Option.TheVariants.{None, Some}
 use Rattle.std_alloc.specs.Box.Ownership.{box_owns}
 use Rattle.r2u2_c.specs.Handles.{heap, handle_owns}
 use Rattle.r2u2_monitor.specs.contracts.monitor.Monitor.{the_row as R}
-use Rattle.r2u2_c.specs.contracts.handle.R2u2 as handle
+use Rattle.r2u2_c.specs.contracts.handle.Handle as handle
 
 abbrev pub Hr : RattleType
 Hr = handle.the_row

@@ -6,6 +6,7 @@ use Rattle.mltl_base.specs.declared.report.Report.{Report}
 use Rattle.mltl_base.specs.declared.report.Style.{Style}
 use Rattle.mltl_base.specs.Atoms.{Row}
 use Rattle.r2u2_monitor.specs.declared.state.State.{State}
+use Rattle.r2u2_monitor.specs.Bursts.{OpensFew}
 use Rattle.r2u2_monitor.specs.Monitoring.{HasGiven, Stands, TakesRow, open_of, program_of}
 use Rattle.r2u2_monitor.specs.declared.row_fault.RowFault.{RowFault}
 use Rattle.r2u2_monitor.specs.declared.row_fault.RowFault.TheVariants.{ReportsLeft, NotARow, TooManyRows}
@@ -41,6 +42,12 @@ abbrev pub Takes : Row → Option State → Option State → Type 0
 Takes row (Some before) (Some after) = TakesRow row before after
 Takes row (Some before) None = ⊥
 Takes row None after = ⊥
+
+-- after the row was taken, at most as many reports are open as the program says
+abbrev pub BringsFew : Row → Option State → Option State → Type 0
+BringsFew row (Some before) (Some after) = OpensFew row before after
+BringsFew row (Some before) None = ⊥
+BringsFew row None after = ⊥
 
 -- the monitor that is open doesn't take the row, by this cause
 abbrev pub HoldsBack : RowFault → Row → Option State → Type 0

@@ -2,6 +2,7 @@
 
 use Rattle.std.specs.Prelude.{ℕ, ◌≡◌, ◌+◌, Result, Ok, Err, Bool, true, false, Option, Some, None, List, [], ◌∷◌, ◌++◌}
 use Rattle.std.specs.Prelude.{drop, length, map}
+use Rattle.mltl_base.specs.declared.program.Out as out
 use Rattle.mltl_base.specs.declared.program.Program.{Program}
 use Rattle.mltl_base.specs.declared.program.StoredSignal.{StoredSignal}
 use Rattle.mltl_base.specs.Programs.{output_names, outputs}
@@ -9,6 +10,7 @@ use Rattle.mltl_base.specs.Reports.{delay}
 use Rattle.r2u2_monitor.specs.declared.state.State.{State}
 use Rattle.r2u2_monitor.specs.Monitoring.{program_of, taken_by}
 use Rattle.r2u2_monitor.specs.Running.{row_work}
+use Rattle.r2u2_monitor.specs.Bursts.{most_reports}
 use Rattle.r2u2_monitor.specs.Bytes.{monitor_bytes}
 use Rattle.r2u2_c.specs.declared.bytes.TheConstants.{MONITOR_BYTES}
 use Rattle.r2u2_c.specs.declared.opening.OpeningFault.{OpeningFault}
@@ -28,20 +30,43 @@ abbrev pub steps_of : Option State → ℕ
 steps_of (Some monitor) = row_work (program_of monitor)
 steps_of None = 0
 
+-- the most reports that one row brings
+abbrev pub most_of : Option State → ℕ
+most_of (Some monitor) = most_reports (program_of monitor)
+most_of None = 0
+
 -- the names of the outputs
 abbrev pub names_of : Option State → List (List ℕ)
 names_of (Some monitor) = output_names (program_of monitor)
 names_of None = []
+
+-- the signals that the program stores
+abbrev pub signals_of : Option State → List StoredSignal
+signals_of (Some monitor) = (program_of monitor).signals
+signals_of None = []
+
+-- what may be read of a monitor without it: how many rows it has taken, and how many columns, outputs and signals its
+-- program has; 0 where none is open
+pub record AreTold (monitor : Option State) (taken columns outs stored : ℕ) : Type 0 where
+  pub rows : taken ≡ rows_of monitor
+  pub width : columns ≡ width_of monitor
+  pub outputs : outs ≡ length (names_of monitor)
+  pub signals : stored ≡ length (signals_of monitor)
 
 -- the worst-case delays of the outputs
 abbrev pub delays_of : Option State → List ℕ
 delays_of (Some monitor) = map delay (outputs (program_of monitor))
 delays_of None = []
 
--- the signals that the program stores
-abbrev pub signals_of : Option State → List StoredSignal
-signals_of (Some monitor) = (program_of monitor).signals
-signals_of None = []
+-- each kind of output has a number of its own
+abbrev pub output_number : out.Out → ℕ
+output_number (out.TheVariants.Formula engine i name) = 1
+output_number (out.TheVariants.Contract engine i j name) = 2
+
+-- the kinds of the outputs
+abbrev pub output_kinds_of : Option State → List ℕ
+output_kinds_of (Some monitor) = map output_number (program_of monitor).outs
+output_kinds_of None = []
 
 -- each kind of signal has a number of its own
 abbrev pub kind_number : Bool → ℕ

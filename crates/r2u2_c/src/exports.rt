@@ -4,7 +4,7 @@ ghost use Rattle.std.specs.Prelude.{◌≡◌, ◌≢◌, ◌↔◌, ◌<◌, []
 ghost use Rattle.r2u2_monitor.specs.Monitoring.{IsDrained};
 ghost use Rattle.r2u2_c.specs.declared.opening.OpeningFault.TheVariants.{Memory};
 ghost use Rattle.r2u2_monitor.specs.declared.row_fault.RowFault.TheVariants.{NotARow, ReportsLeft, TooManyRows};
-ghost use Rattle.r2u2_c.specs.Exports.{BeginsAgain, HoldsBack, Opens, Refuses, Takes, Tells, TellsWhy, why_of};
+ghost use Rattle.r2u2_c.specs.Exports.{BeginsAgain, BringsFew, HoldsBack, Opens, Refuses, Takes, Tells, TellsWhy, why_of};
 ghost use Rattle.r2u2_c.specs.Faults.{fault_of};
 ghost use Rattle.r2u2_c.specs.Opening.{program_by, program_under};
 ghost use Rattle.r2u2_c.specs.Reports.{style_of};
@@ -14,7 +14,7 @@ use crate::codes::{
     TOO_MANY_ROWS,
 };
 use crate::fault::Fault;
-use crate::handle::R2u2;
+use crate::keeping::R2u2;
 use crate::opening::{OpeningFault, open_monitor, open_under};
 use crate::report::{Told, next_of};
 use crate::row_why::RowWhy;
@@ -24,10 +24,10 @@ use std::alloc::Global;
 /// Opens the program that these bytes spell. Rows have the columns that it was compiled for.
 #[unsafe(no_mangle)]
 pub extern "C" fn r2u2_open(it: &mut R2u2, alloc: Global, bytes: &[u8], fault: &mut Fault) -> u32
-    ensures opens { result ≡ DONE → Opens (program_by bytes.now) it.old.value it.new.value }
-    ensures already { (result ≡ ALREADY_OPEN) ↔ IsSome it.old.value }
+    ensures opens { result ≡ DONE → Opens (program_by bytes.now) it.old.handle.value it.new.handle.value }
+    ensures already { (result ≡ ALREADY_OPEN) ↔ IsSome it.old.handle.value }
     ensures refused { result ≡ REFUSED → Refuses (program_by bytes.now) fault.new }
-    ensures kept { 0 < result → it.new.value ≡ it.old.value }
+    ensures kept { 0 < result → it.new.handle.value ≡ it.old.handle.value }
     ensures untold { result ≢ REFUSED → fault.new ≡ fault.old }
     ensures codes { Contains (DONE ∷ ALREADY_OPEN ∷ REFUSED ∷ NO_MEMORY ∷ []) result }
 {
@@ -53,10 +53,10 @@ pub extern "C" fn r2u2_open_under(
     fault: &mut Fault,
 ) -> u32
     ensures opens { result ≡ DONE
-        → Opens (program_under header.now bytes.now) it.old.value it.new.value }
-    ensures already { (result ≡ ALREADY_OPEN) ↔ IsSome it.old.value }
+        → Opens (program_under header.now bytes.now) it.old.handle.value it.new.handle.value }
+    ensures already { (result ≡ ALREADY_OPEN) ↔ IsSome it.old.handle.value }
     ensures refused { result ≡ REFUSED → Refuses (program_under header.now bytes.now) fault.new }
-    ensures kept { 0 < result → it.new.value ≡ it.old.value }
+    ensures kept { 0 < result → it.new.handle.value ≡ it.old.handle.value }
     ensures untold { result ≢ REFUSED → fault.new ≡ fault.old }
     ensures codes { Contains (DONE ∷ ALREADY_OPEN ∷ REFUSED ∷ NO_MEMORY ∷ []) result }
 {
@@ -89,13 +89,14 @@ pub(crate) fn refuse(why: OpeningFault, fault: &mut Fault) -> u32
 /// Takes the next row, of one number for each column, or tells why it isn't taken.
 #[unsafe(no_mangle)]
 pub extern "C" fn r2u2_row(it: &mut R2u2, alloc: Global, fields: &[i64], why: &mut RowWhy) -> u32
-    ensures takes { result ≡ DONE → Takes fields.now it.old.value it.new.value }
-    ensures not_open { (result ≡ NOT_OPEN) ↔ (it.old.value ≡ None) }
-    ensures left { result ≡ REPORTS_LEFT → HoldsBack ReportsLeft fields.now it.old.value }
+    ensures takes { result ≡ DONE → Takes fields.now it.old.handle.value it.new.handle.value }
+    ensures few { result ≡ DONE → BringsFew fields.now it.old.handle.value it.new.handle.value }
+    ensures not_open { (result ≡ NOT_OPEN) ↔ (it.old.handle.value ≡ None) }
+    ensures left { result ≡ REPORTS_LEFT → HoldsBack ReportsLeft fields.now it.old.handle.value }
     ensures unfit { result ≡ NOT_A_ROW
-        → HoldsBack (NotARow why.new.column) fields.now it.old.value }
-    ensures late { result ≡ TOO_MANY_ROWS → HoldsBack TooManyRows fields.now it.old.value }
-    ensures kept { 0 < result → it.new.value ≡ it.old.value }
+        → HoldsBack (NotARow why.new.column) fields.now it.old.handle.value }
+    ensures late { result ≡ TOO_MANY_ROWS → HoldsBack TooManyRows fields.now it.old.handle.value }
+    ensures kept { 0 < result → it.new.handle.value ≡ it.old.handle.value }
     ensures told { TellsWhy result why.old why.new }
     ensures codes { Contains
         (DONE ∷ NOT_OPEN ∷ REPORTS_LEFT ∷ NOT_A_ROW ∷ TOO_MANY_ROWS ∷ []) result }
@@ -127,10 +128,10 @@ fn tell_taken(taken: Result<(), RowFault>, why: &mut RowWhy) -> u32
 /// Gives the next report of the rows so far: of each time where `runs` is 0, else of each longest stretch of one word.
 #[unsafe(no_mangle)]
 pub extern "C" fn r2u2_next(it: &mut R2u2, alloc: Global, runs: u32, report: &mut Told) -> u32
-    ensures tells { result ≡ DONE → Tells (style_of runs) report.new it.old.value it.new.value }
-    ensures not_open { (result ≡ NOT_OPEN) ↔ (it.old.value ≡ None) }
-    ensures drained { (result ≡ NO_REPORT) ↔ IsSomeAnd it.old.value IsDrained }
-    ensures kept { 0 < result → it.new.value ≡ it.old.value }
+    ensures tells { result ≡ DONE → Tells (style_of runs) report.new it.old.handle.value it.new.handle.value }
+    ensures not_open { (result ≡ NOT_OPEN) ↔ (it.old.handle.value ≡ None) }
+    ensures drained { (result ≡ NO_REPORT) ↔ IsSomeAnd it.old.handle.value IsDrained }
+    ensures kept { 0 < result → it.new.handle.value ≡ it.old.handle.value }
     ensures untold { 0 < result → report.new ≡ report.old }
     ensures codes { Contains (DONE ∷ NOT_OPEN ∷ NO_REPORT ∷ []) result }
 {
@@ -153,9 +154,9 @@ pub extern "C" fn r2u2_next(it: &mut R2u2, alloc: Global, runs: u32, report: &mu
 /// Lets the monitor that is open stand for no rows again, in the memory that it has.
 #[unsafe(no_mangle)]
 pub extern "C" fn r2u2_reset(it: &mut R2u2, alloc: Global) -> u32
-    ensures begins { result ≡ DONE → BeginsAgain it.old.value it.new.value }
-    ensures not_open { (result ≡ NOT_OPEN) ↔ (it.old.value ≡ None) }
-    ensures kept { 0 < result → it.new.value ≡ it.old.value }
+    ensures begins { result ≡ DONE → BeginsAgain it.old.handle.value it.new.handle.value }
+    ensures not_open { (result ≡ NOT_OPEN) ↔ (it.old.handle.value ≡ None) }
+    ensures kept { 0 < result → it.new.handle.value ≡ it.old.handle.value }
     ensures codes { Contains (DONE ∷ NOT_OPEN ∷ []) result }
 {
     match it.take(alloc) {
@@ -171,7 +172,7 @@ pub extern "C" fn r2u2_reset(it: &mut R2u2, alloc: Global) -> u32
 /// Frees the monitor, if one is open.
 #[unsafe(no_mangle)]
 pub extern "C" fn r2u2_close(it: &mut R2u2, alloc: Global)
-    ensures closed { it.new.value ≡ None }
+    ensures closed { it.new.handle.value ≡ None }
 {
     it.close(alloc);
 }

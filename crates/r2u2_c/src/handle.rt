@@ -1,6 +1,6 @@
-//! What C keeps of a monitor.
+//! The address of a monitor.
 
-ghost use Rattle.std.specs.Prelude.{◌≡◌, ◌↔◌, None, Some, IsSome, IsTrue, MatchOption, Option as Maybe};
+ghost use Rattle.std.specs.Prelude.{◌≡◌, None, Some, MatchOption, Option as Maybe};
 ghost use Rattle.std.specs.Coded.{coded_option};
 ghost use Rattle.r2u2_monitor.specs.declared.state.State.{State};
 ghost use Rattle.r2u2_monitor.specs.contracts.monitor.Monitor.{the_row};
@@ -10,42 +10,40 @@ use crate::boxes::Loose;
 use r2u2_monitor::Monitor;
 use std::alloc::Global;
 use std::marker::Model;
-use std::mem;
 use std::ptr::null_mut;
 
-/// What C keeps: the address of a monitor, or null where none is open. It owns the monitor, whose state contracts see as
-/// `value`.
+/// The address of a monitor, or null where none is open. It owns the monitor, whose state contracts see as `value`.
 #[repr(C)]
-pub struct R2u2 {
+pub struct Handle {
     at: *mut u8,
     pub ghost value: { Maybe State } by { coded_option the_row.coded },
 }
 
-impl Model for R2u2 {
+impl Model for Handle {
     ghost also_owns = { λ it. handle_owns it.at it.value };
 }
 
 // What it owns says the same to every thread, so one thread may open it and another take rows.
-unsafe impl Send for R2u2 {}
+unsafe impl Send for Handle {}
 
-impl R2u2 {
-    fn empty() -> R2u2
+impl Handle {
+    pub(crate) fn empty() -> Handle
         ensures { result.value ≡ None }
     {
-        R2u2 { at: null_mut() }
+        Handle { at: null_mut() }
     }
 
-    fn of(loose: Loose<Monitor, Global>) -> R2u2
+    fn of(loose: Loose<Monitor, Global>) -> Handle
         ensures { result.value ≡ Some loose.value }
     {
         let Loose { at, alloc: _ } = loose;
-        R2u2 { at: at as *mut u8 }
+        Handle { at: at as *mut u8 }
     }
 
     fn into_loose(self, alloc: Global) -> Option<Loose<Monitor, Global>>
         ensures { MatchOption result (self.value ≡ None) (λ l. self.value ≡ Some l.value) }
     {
-        let R2u2 { at } = self;
+        let Handle { at } = self;
         if at.is_null() {
             None
         } else {
@@ -56,7 +54,7 @@ impl R2u2 {
         }
     }
 
-    fn into_box(self, alloc: Global) -> Option<Box<Monitor>>
+    pub(crate) fn into_box(self, alloc: Global) -> Option<Box<Monitor>>
         ensures { MatchOption result (self.value ≡ None) (λ b. self.value ≡ Some b.value) }
     {
         match self.into_loose(alloc) {
@@ -65,42 +63,10 @@ impl R2u2 {
         }
     }
 
-    /// Takes the monitor out, if one is open.
-    pub(crate) fn take(&mut self, alloc: Global) -> Option<Box<Monitor>>
-        ensures taken { MatchOption result
-            (self.old.value ≡ None) (λ b. self.old.value ≡ Some b.value) }
-        ensures emptied { self.new.value ≡ None }
+    /// A monitor, which it owns from now on.
+    pub(crate) fn with(monitor: Box<Monitor>) -> Handle
+        ensures { result.value ≡ Some monitor.value }
     {
-        mem::replace(self, R2u2::empty()).into_box(alloc)
-    }
-
-    /// Puts a monitor in, and frees one that was open.
-    pub(crate) fn put(&mut self, monitor: Box<Monitor>)
-        ensures { self.new.value ≡ Some monitor.value }
-    {
-        let alloc = *Box::allocator(&monitor);
-        let old = mem::replace(self, R2u2::of(Loose::of(monitor)));
-        drop(old.into_box(alloc));
-    }
-
-    /// Whether a monitor is open.
-    pub(crate) fn is_open(&mut self, alloc: Global) -> bool
-        ensures open { IsTrue result ↔ IsSome self.old.value }
-        ensures kept { self.new.value ≡ self.old.value }
-    {
-        match self.take(alloc) {
-            None => false,
-            Some(monitor) => {
-                self.put(monitor);
-                true
-            }
-        }
-    }
-
-    /// Frees the monitor, if one is open.
-    pub(crate) fn close(&mut self, alloc: Global)
-        ensures { self.new.value ≡ None }
-    {
-        drop(self.take(alloc));
+        Handle::of(Loose::of(monitor))
     }
 }

@@ -12,6 +12,7 @@ mod exports;
 mod fault;
 mod fault_text;
 mod handle;
+mod keeping;
 mod names;
 mod opening;
 mod queries;
@@ -22,11 +23,11 @@ pub mod version;
 pub use bytes::r2u2_bytes;
 pub use exports::{r2u2_close, r2u2_next, r2u2_open, r2u2_open_under, r2u2_reset, r2u2_row};
 pub use fault::Fault;
-pub use handle::R2u2;
+pub use keeping::R2u2;
 pub use opening::OpeningFault;
 pub use queries::{
-    r2u2_delay, r2u2_name, r2u2_outputs, r2u2_rows, r2u2_signal, r2u2_signals, r2u2_steps,
-    r2u2_version, r2u2_width,
+    r2u2_delay, r2u2_most_reports, r2u2_name, r2u2_output_kind, r2u2_outputs, r2u2_rows,
+    r2u2_signal, r2u2_signals, r2u2_steps, r2u2_version, r2u2_width,
 };
 pub use report::Told;
 pub use row_why::RowWhy;

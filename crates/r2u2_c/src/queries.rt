@@ -1,13 +1,13 @@
 //! What C may ask of a monitor. None of these calls changes it.
 
 ghost use Rattle.std.specs.Prelude.{◌≡◌, ◌<◌, ◌≤◌, IsSomeAnd, Some, length, slice_get, slice_index};
-ghost use Rattle.r2u2_c.specs.Queries.{TellsSignal, WritesName, delays_of, names_of, rows_of, signals_of, steps_of, width_of};
+ghost use Rattle.r2u2_c.specs.Queries.{TellsSignal, WritesName, delays_of, most_of, names_of, output_kinds_of, output_number, rows_of, signals_of, steps_of, width_of};
 
-use crate::handle::R2u2;
+use crate::keeping::R2u2;
 use crate::names::write_name;
 use crate::version::VERSION;
-use mltl_base::StoredSignal;
-use r2u2_monitor::{Monitor, delay_of, row_steps};
+use mltl_base::{Out, StoredSignal};
+use r2u2_monitor::{Monitor, delay_of, most_reports, row_steps};
 use std::alloc::Global;
 
 /// The version of the library.
@@ -20,45 +20,29 @@ pub extern "C" fn r2u2_version() -> u32
 
 /// The number of columns of a row; 0 where none is open.
 #[unsafe(no_mangle)]
-pub extern "C" fn r2u2_width(it: &mut R2u2, alloc: Global) -> u32
-    ensures width { result ≡ width_of it.old.value }
-    ensures kept { it.new.value ≡ it.old.value }
+pub extern "C" fn r2u2_width(it: &R2u2) -> u32
+    ensures { result ≡ width_of it.now.handle.value }
 {
-    match it.take(alloc) {
-        None => 0,
-        Some(monitor) => {
-            let width = monitor.checked().program().width;
-            it.put(monitor);
-            width
-        }
-    }
+    it.width()
 }
 
 /// The number of outputs; 0 where none is open.
 #[unsafe(no_mangle)]
-pub extern "C" fn r2u2_outputs(it: &mut R2u2, alloc: Global) -> u32
-    ensures outputs { result ≡ length (names_of it.old.value) }
-    ensures kept { it.new.value ≡ it.old.value }
+pub extern "C" fn r2u2_outputs(it: &R2u2) -> u32
+    ensures { result ≡ length (names_of it.now.handle.value) }
 {
-    match it.take(alloc) {
-        None => 0,
-        Some(monitor) => {
-            let count = count_of(&monitor);
-            it.put(monitor);
-            count
-        }
-    }
+    it.outputs()
 }
 
 /// Writes the name of output `k`, counted from 0, to the front of a buffer, and answers its length.
 #[unsafe(no_mangle)]
 pub extern "C" fn r2u2_name(it: &mut R2u2, alloc: Global, k: u32, buffer: &mut [u8]) -> u32
-    ensures named { 0 < result → IsSomeAnd (slice_get (names_of it.old.value) k)
+    ensures named { 0 < result → IsSomeAnd (slice_get (names_of it.old.handle.value) k)
         (λ name. WritesName name result buffer.old buffer.new) }
     ensures untold { result ≡ 0 → buffer.new ≡ buffer.old }
-    ensures enough { k < length (names_of it.old.value) → 64 ≤ length buffer.old
+    ensures enough { k < length (names_of it.old.handle.value) → 64 ≤ length buffer.old
         → 0 < result }
-    ensures kept { it.new.value ≡ it.old.value }
+    ensures kept { it.new.handle.value ≡ it.old.handle.value }
 {
     match it.take(alloc) {
         None => 0,
@@ -72,25 +56,17 @@ pub extern "C" fn r2u2_name(it: &mut R2u2, alloc: Global, k: u32, buffer: &mut [
 
 /// The number of rows that were taken; 0 where none is open.
 #[unsafe(no_mangle)]
-pub extern "C" fn r2u2_rows(it: &mut R2u2, alloc: Global) -> u64
-    ensures rows { result ≡ rows_of it.old.value }
-    ensures kept { it.new.value ≡ it.old.value }
+pub extern "C" fn r2u2_rows(it: &R2u2) -> u64
+    ensures { result ≡ rows_of it.now.handle.value }
 {
-    match it.take(alloc) {
-        None => 0,
-        Some(monitor) => {
-            let rows = monitor.rows_taken();
-            it.put(monitor);
-            rows
-        }
-    }
+    it.rows()
 }
 
 /// The worst-case delay of output `k`, in rows; 0 where none is open or there is no such output.
 #[unsafe(no_mangle)]
 pub extern "C" fn r2u2_delay(it: &mut R2u2, alloc: Global, k: u32) -> u32
-    ensures delay { result ≡ slice_index (delays_of it.old.value) k }
-    ensures kept { it.new.value ≡ it.old.value }
+    ensures delay { result ≡ slice_index (delays_of it.old.handle.value) k }
+    ensures kept { it.new.handle.value ≡ it.old.handle.value }
 {
     match it.take(alloc) {
         None => 0,
@@ -105,8 +81,8 @@ pub extern "C" fn r2u2_delay(it: &mut R2u2, alloc: Global, k: u32) -> u32
 /// The most steps of one row, which are reads and writes of queues and boxes; 0 where none is open.
 #[unsafe(no_mangle)]
 pub extern "C" fn r2u2_steps(it: &mut R2u2, alloc: Global) -> u64
-    ensures steps { result ≡ steps_of it.old.value }
-    ensures kept { it.new.value ≡ it.old.value }
+    ensures steps { result ≡ steps_of it.old.handle.value }
+    ensures kept { it.new.handle.value ≡ it.old.handle.value }
 {
     match it.take(alloc) {
         None => 0,
@@ -118,20 +94,44 @@ pub extern "C" fn r2u2_steps(it: &mut R2u2, alloc: Global) -> u64
     }
 }
 
-/// The number of signals that the program stores; 0 where none is open.
+/// The most reports that one row brings, in either style; 0 where none is open.
 #[unsafe(no_mangle)]
-pub extern "C" fn r2u2_signals(it: &mut R2u2, alloc: Global) -> u32
-    ensures signals { result ≡ length (signals_of it.old.value) }
-    ensures kept { it.new.value ≡ it.old.value }
+pub extern "C" fn r2u2_most_reports(it: &mut R2u2, alloc: Global) -> u64
+    ensures most { result ≡ most_of it.old.handle.value }
+    ensures kept { it.new.handle.value ≡ it.old.handle.value }
 {
     match it.take(alloc) {
         None => 0,
         Some(monitor) => {
-            let count = signal_count_of(&monitor);
+            let most = most_reports(monitor.checked());
             it.put(monitor);
-            count
+            most
         }
     }
+}
+
+/// The kind of output `k`: 1 a formula, 2 an assume-guarantee contract; 0 where none is open or there is no such output.
+#[unsafe(no_mangle)]
+pub extern "C" fn r2u2_output_kind(it: &mut R2u2, alloc: Global, k: u32) -> u32
+    ensures kind { result ≡ slice_index (output_kinds_of it.old.handle.value) k }
+    ensures kept { it.new.handle.value ≡ it.old.handle.value }
+{
+    match it.take(alloc) {
+        None => 0,
+        Some(monitor) => {
+            let kind = output_kind_in(&monitor, k);
+            it.put(monitor);
+            kind
+        }
+    }
+}
+
+/// The number of signals that the program stores; 0 where none is open.
+#[unsafe(no_mangle)]
+pub extern "C" fn r2u2_signals(it: &R2u2) -> u32
+    ensures { result ≡ length (signals_of it.now.handle.value) }
+{
+    it.signals()
 }
 
 /// Tells the column and the kind of signal `k`, counted from 0, writes its name to the front of a buffer, and answers the
@@ -145,15 +145,15 @@ pub extern "C" fn r2u2_signal(
     kind: &mut u32,
     buffer: &mut [u8],
 ) -> u32
-    ensures tells { 0 < result → IsSomeAnd (slice_get (signals_of it.old.value) k)
+    ensures tells { 0 < result → IsSomeAnd (slice_get (signals_of it.old.handle.value) k)
         (λ signal. TellsSignal signal column.new kind.new) }
-    ensures named { 0 < result → IsSomeAnd (slice_get (signals_of it.old.value) k)
+    ensures named { 0 < result → IsSomeAnd (slice_get (signals_of it.old.handle.value) k)
         (λ signal. WritesName signal.name result buffer.old buffer.new) }
     ensures untold { result ≡ 0 → (column.new ≡ column.old)
         × (kind.new ≡ kind.old) × (buffer.new ≡ buffer.old) }
-    ensures enough { k < length (signals_of it.old.value) → 64 ≤ length buffer.old
+    ensures enough { k < length (signals_of it.old.handle.value) → 64 ≤ length buffer.old
         → 0 < result }
-    ensures kept { it.new.value ≡ it.old.value }
+    ensures kept { it.new.handle.value ≡ it.old.handle.value }
 {
     match it.take(alloc) {
         None => 0,
@@ -163,12 +163,6 @@ pub extern "C" fn r2u2_signal(
             length
         }
     }
-}
-
-fn count_of(monitor: &Monitor) -> u32
-    ensures { result ≡ length (names_of (Some monitor.now)) }
-{
-    monitor.checked().program().outs.len() as u32
 }
 
 /// Writes the name of an output to the front of a buffer that has room for it, and answers its length.
@@ -185,10 +179,22 @@ fn name_in(monitor: &Monitor, k: u32, buffer: &mut [u8]) -> u32
     }
 }
 
-fn signal_count_of(monitor: &Monitor) -> u32
-    ensures { result ≡ length (signals_of (Some monitor.now)) }
+fn output_kind_in(monitor: &Monitor, k: u32) -> u32
+    ensures { result ≡ slice_index (output_kinds_of (Some monitor.now)) k }
 {
-    monitor.checked().program().signals.len() as u32
+    match monitor.checked().program().outs.as_slice().get(k as usize) {
+        None => 0,
+        Some(out) => output_number(out),
+    }
+}
+
+fn output_number(out: &Out) -> u32
+    ensures { result ≡ output_number out.now }
+{
+    match out {
+        Out::Formula(_, _, _) => 1,
+        Out::Contract(_, _, _, _) => 2,
+    }
 }
 
 fn signal_in(monitor: &Monitor, k: u32, column: &mut u32, kind: &mut u32, buffer: &mut [u8]) -> u32

@@ -1,6 +1,6 @@
 -- One row brings few reports.
 
-use Rattle.std.proofs.Common.{◌≡◌, ℕ, suc, ◌+◌, ◌-◌, ◌≤◌, zero, Bool, true, false, Option, Some, None, List, [], ◌∷◌, ◌++◌, All, if◌then◌else◌, length, drop, map, slice_get, sum_by, refl, sym, subst, ap, ◌∙◌, arith, length-append, length-drop, le_trans}
+use Rattle.std.proofs.Common.{◌≡◌, ℕ, suc, ◌+◌, ◌-◌, ◌≤◌, zero, Bool, true, false, Option, None, List, [], ◌∷◌, ◌++◌, if◌then◌else◌, length, drop, map, slice_get, sum_by, sym, subst, ap, arith, length-append, length-drop}
 use Rattle.std.specs.List.{AllByRecursion}
 use Rattle.std.proofs.lemmas.List.{length-map}
 use Rattle.std.proofs.lemmas.List.Elements.{recursion_from_All}
@@ -17,7 +17,7 @@ use Rattle.mltl_base.specs.declared.report.Style.{Style}
 use Rattle.mltl_base.specs.declared.report.Style.TheVariants.{Each, Runs}
 use Rattle.mltl_base.specs.declared.report.Word.{Word}
 use Rattle.mltl_base.specs.Atoms.{Atom, Row}
-use Rattle.mltl_base.specs.Formula.{Core, Formula, bpd, core_wpd, plain}
+use Rattle.mltl_base.specs.Formula.{Core, Formula, bpd, plain}
 use Rattle.mltl_base.specs.Programs.{atoms, core_at, formula_at, formula_of, formulas_after, output_of, outputs}
 use Rattle.mltl_base.specs.Queues.{HasBounds}
 use Rattle.mltl_base.specs.Reports.{Output, contract, delay, formula, goes_on, known_status, of_row, of_words, status, words}
@@ -32,7 +32,7 @@ use Rattle.obs_verify.proofs.RunLaws.{runs_future}
 use Rattle.contract_status.proofs.Knowing.{formula_past}
 use Rattle.r2u2_monitor.specs.declared.state.State.{State}
 use Rattle.r2u2_monitor.specs.Bursts.{OpensFew, most_of, most_reports}
-use Rattle.r2u2_monitor.specs.Monitoring.{Stands, open_of, program_of}
+use Rattle.r2u2_monitor.specs.Monitoring.{program_of}
 use Rattle.r2u2_monitor.specs.Monitoring as monitoring
 use Rattle.r2u2_monitor.specs.Running.{TakesRow}
 

@@ -22,6 +22,10 @@ use core::fmt;
 #[repr(C)]
 struct Struct {
     at: *mut c_void,
+    rows: u64,
+    width: u32,
+    outputs: u32,
+    signals: u32,
 }
 
 #[repr(C)]
@@ -78,12 +82,14 @@ extern "C" {
         fault: *mut RawFault,
     ) -> u32;
     fn r2u2_bytes(program: *const u8, count: usize, bytes: *mut u64, fault: *mut RawFault) -> u32;
-    fn r2u2_width(it: *mut Struct) -> u32;
-    fn r2u2_outputs(it: *mut Struct) -> u32;
-    fn r2u2_rows(it: *mut Struct) -> u64;
+    fn r2u2_width(it: *const Struct) -> u32;
+    fn r2u2_outputs(it: *const Struct) -> u32;
+    fn r2u2_rows(it: *const Struct) -> u64;
     fn r2u2_delay(it: *mut Struct, k: u32) -> u32;
     fn r2u2_steps(it: *mut Struct) -> u64;
-    fn r2u2_signals(it: *mut Struct) -> u32;
+    fn r2u2_most_reports(it: *mut Struct) -> u64;
+    fn r2u2_output_kind(it: *mut Struct, k: u32) -> u32;
+    fn r2u2_signals(it: *const Struct) -> u32;
     fn r2u2_signal(it: *mut Struct, k: u32, column: *mut u32, kind: *mut u32, name: *mut u8, count: usize) -> u32;
     fn r2u2_version() -> u32;
     fn r2u2_name(it: *mut Struct, k: u32, buffer: *mut u8, count: usize) -> u32;
@@ -272,7 +278,7 @@ impl Monitor {
     }
 
     fn by(call: impl FnOnce(*mut Struct, *mut RawFault) -> u32) -> Result<Monitor, Error> {
-        let mut monitor = Monitor { it: Struct { at: core::ptr::null_mut() } };
+        let mut monitor = Monitor { it: Struct { at: core::ptr::null_mut(), rows: 0, width: 0, outputs: 0, signals: 0 } };
         let mut fault = RawFault::none();
         let code = call(&raw mut monitor.it, &raw mut fault);
         fault.unless_done(code).map(|()| monitor)
@@ -291,21 +297,24 @@ impl Monitor {
     }
 
     /// Returns how many numbers a row has.
-    pub fn width(&mut self) -> u32 {
+    #[must_use]
+    pub fn width(&self) -> u32 {
         // SAFETY: the struct is that of an open monitor, here and below.
-        unsafe { r2u2_width(&raw mut self.it) }
+        unsafe { r2u2_width(&raw const self.it) }
     }
 
     /// Returns how many outputs there are.
-    pub fn outputs(&mut self) -> u32 {
+    #[must_use]
+    pub fn outputs(&self) -> u32 {
         // SAFETY: as above.
-        unsafe { r2u2_outputs(&raw mut self.it) }
+        unsafe { r2u2_outputs(&raw const self.it) }
     }
 
     /// Returns how many rows were taken.
-    pub fn rows(&mut self) -> u64 {
+    #[must_use]
+    pub fn rows(&self) -> u64 {
         // SAFETY: as above.
-        unsafe { r2u2_rows(&raw mut self.it) }
+        unsafe { r2u2_rows(&raw const self.it) }
     }
 
     /// Returns the worst-case delay of an output in rows; 0 where there is no such output.
@@ -320,10 +329,22 @@ impl Monitor {
         unsafe { r2u2_steps(&raw mut self.it) }
     }
 
+    /// Returns the most reports that one row brings, in either style.
+    pub fn most_reports(&mut self) -> u64 {
+        // SAFETY: as above.
+        unsafe { r2u2_most_reports(&raw mut self.it) }
+    }
+
+    /// Returns whether an output is an assume-guarantee contract; else it is a formula, or there is no such output.
+    pub fn is_contract(&mut self, output: u32) -> bool {
+        // SAFETY: as above.
+        unsafe { r2u2_output_kind(&raw mut self.it, output) == 2 }
+    }
+
     /// Returns the signals that the program stores, in order of declaration.
     pub fn signals(&mut self) -> impl Iterator<Item = Signal> + '_ {
         // SAFETY: as above.
-        let count = unsafe { r2u2_signals(&raw mut self.it) };
+        let count = unsafe { r2u2_signals(&raw const self.it) };
         (0..count).filter_map(move |k| self.signal(k))
     }
 

@@ -14,6 +14,7 @@ fn main() -> Result<(), Box<dyn std::error::Error>> {
     assert_eq!((&*signal.name, signal.column, signal.truth), ("grant", 1, true));
     assert!(Monitor::bytes(&program)? > 0);
     assert!(monitor.rows() == 0 && monitor.delay(0) > 0 && monitor.steps() > 0 && r2u2::version() > 0);
+    assert!(monitor.most_reports() == 4 && !monitor.is_contract(0));
     assert_eq!(monitor.row(&[0, 2]).err(), Some(Error::NotARow { column: 1 }));
     monitor.row(&ROWS[1])?;
     monitor.reset();

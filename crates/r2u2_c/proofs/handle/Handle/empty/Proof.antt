@@ -15,10 +15,10 @@ use denote.Triple.Walked.{Stays, walk_of}
 use Rattle.std.proofs.raw_atomic.Walks.{proved_at, leaves}
 use Rattle.std.specs.declared.option.Option.TheVariants.{None}
 use Rattle.r2u2_c.proofs.Held.{Hr, lone_at, handle_good, handle_in}
-use Rattle.r2u2_c.specs.contracts.handle.R2u2.empty.{ended, clauses}
-use Rattle.r2u2_c.specs.contracts.handle.R2u2.empty.Key.{name as #self}
-use Rattle.r2u2_c.proofs.handle.R2u2.empty.Statement.{statement}
-use Rattle.r2u2_c.proofs.handle.R2u2.empty.Code as code
+use Rattle.r2u2_c.specs.contracts.handle.Handle.empty.{ended, clauses}
+use Rattle.r2u2_c.specs.contracts.handle.Handle.empty.Key.{name as #self}
+use Rattle.r2u2_c.proofs.handle.Handle.empty.Statement.{statement}
+use Rattle.r2u2_c.proofs.handle.Handle.empty.Code as code
 
 pub empty_spec : {M : Type 1} → statement M
 empty_spec 𝓤 𝓛 𝓜 𝓡 wired =

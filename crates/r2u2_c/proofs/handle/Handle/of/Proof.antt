@@ -24,10 +24,10 @@ use Rattle.std.specs.declared.option.Option.TheVariants.{Some}
 use Rattle.r2u2_monitor.specs.contracts.monitor.Monitor.{the_row as R}
 use Rattle.r2u2_c.proofs.Values.{Loose, loose_good, loose_out}
 use Rattle.r2u2_c.proofs.Held.{Hr, lone_at, handle_good, handle_in}
-use Rattle.r2u2_c.specs.contracts.handle.R2u2.of.{ended, clauses}
-use Rattle.r2u2_c.specs.contracts.handle.R2u2.of.Key.{name as #self}
-use Rattle.r2u2_c.proofs.handle.R2u2.of.Statement.{statement}
-use Rattle.r2u2_c.proofs.handle.R2u2.of.Code as code
+use Rattle.r2u2_c.specs.contracts.handle.Handle.of.{ended, clauses}
+use Rattle.r2u2_c.specs.contracts.handle.Handle.of.Key.{name as #self}
+use Rattle.r2u2_c.proofs.handle.Handle.of.Statement.{statement}
+use Rattle.r2u2_c.proofs.handle.Handle.of.Code as code
 
 pub of_spec : {M : Type 1} → statement M
 of_spec 𝓤 𝓛 𝓜 𝓡 wired =

@@ -31,10 +31,10 @@ use Rattle.std_alloc.proofs.ResultValues.{and_tt}
 use Rattle.r2u2_monitor.specs.contracts.monitor.Monitor.{the_row as R}
 use Rattle.r2u2_c.proofs.Values.{both, Loose, loose_good, loose_in}
 use Rattle.r2u2_c.proofs.Held.{Hr, al, lone_at, handle_good, handle_out, either_held}
-use Rattle.r2u2_c.specs.contracts.handle.R2u2.into_loose.{ended, clauses}
-use Rattle.r2u2_c.specs.contracts.handle.R2u2.into_loose.Key.{name as #self}
-use Rattle.r2u2_c.proofs.handle.R2u2.into_loose.Statement.{statement}
-use Rattle.r2u2_c.proofs.handle.R2u2.into_loose.Code as code
+use Rattle.r2u2_c.specs.contracts.handle.Handle.into_loose.{ended, clauses}
+use Rattle.r2u2_c.specs.contracts.handle.Handle.into_loose.Key.{name as #self}
+use Rattle.r2u2_c.proofs.handle.Handle.into_loose.Statement.{statement}
+use Rattle.r2u2_c.proofs.handle.Handle.into_loose.Code as code
 
 pub into_loose_spec : {M : Type 1} → statement M
 into_loose_spec 𝓤 𝓛 𝓜 𝓡 wired =

@@ -11,7 +11,7 @@ use Rattle.r2u2_monitor.specs.declared.state.State.{State}
 use Rattle.r2u2_monitor.specs.contracts.monitor.Monitor.{the_row as R}
 use Rattle.r2u2_monitor.proofs.monitor.Monitor.TheSendSync.{the_send as monitor}
 use Rattle.r2u2_c.specs.Handles.{heap, handle_owns}
-use Rattle.r2u2_c.specs.contracts.handle.R2u2.{the_row, the_type}
+use Rattle.r2u2_c.specs.contracts.handle.Handle.{the_row, the_type}
 
 held_keyless : (p : Ptr) (value : Option State) → Keyless (handle_owns p value)
 held_keyless null_ptr None = tt
