@@ -162,7 +162,13 @@ impl Stage {
     }
 
     /// Makes a run with each limit of its reads, and those that show when its lines are out.
-    fn run(&mut self, rt: &impl Print, runner: &impl Run, asked: &Asked, length: Option<usize>) -> Result<()> {
+    fn run(
+        &mut self,
+        rt: &impl Print,
+        runner: &impl Run,
+        asked: &Asked,
+        length: Option<usize>,
+    ) -> Result<()> {
         let blocks = self.scenes.blocks()?;
         for block in &blocks {
             let setting = Setting {
@@ -179,7 +185,13 @@ impl Stage {
     }
 
     /// Makes a run under a setting.
-    fn run_under(&mut self, rt: &impl Print, runner: &impl Run, asked: &Asked, setting: Setting) -> Result<()> {
+    fn run_under(
+        &mut self,
+        rt: &impl Print,
+        runner: &impl Run,
+        asked: &Asked,
+        setting: Setting,
+    ) -> Result<()> {
         let found = runner.outcome(self.alloc, &self.scenes, asked.words.as_str(), setting)?;
         let parts = Parts::of(&found, &asked.wanted);
         self.tally.count_run(parts == asked.meant);

@@ -15,7 +15,7 @@ use Rattle.contract_status.specs.declared.engines.Stretch.{Stretch}
 use Rattle.contract_status.specs.Open.{AreKnown}
 use Rattle.contract_status.specs.Stretches.{AreTold, HaveTaken, IsFirstOpen, known_words}
 
--- all outputs before the cursor's were told, and the stretch that it keeps is the first that is open
+-- all outputs before the cursor's were reported, and the run that it keeps is the first that is open
 pub record IsCursor (program : Program) (rows : List Row) (next_times : List ℕ) (cursor : Cursor) : Type 0 where
   pub told : AreTold program rows next_times cursor.out
   pub kept : (stretch : Stretch) → cursor.stretch ≡ Some stretch
@@ -41,7 +41,7 @@ pub record MovesPast (n : ℕ) (report : Report) (before after : Cursor) : Type 
   pub keeps : (stretch : Stretch) → before.stretch ≡ Some stretch → report.time < stretch.last → report.time + 1 < n
       → after.stretch ≡ Some stretch
 
--- where the word that a report told is known at the next time of its output too, the cursor has a stretch
+-- where the word of a report is known at the next time of its output too, the cursor has a run
 abbrev pub KeepsStretch : Program → List Row → Report → Cursor → Type 0
 KeepsStretch program rows report after =
     (output : Out) → slice_get program.outs report.out ≡ Some output

@@ -41,7 +41,7 @@ pub record ArePlaced (program : Program) (rows : List Row) (next_times : List �
   pub recent : (before : List Row) (row : Row) → rows ≡ before ++ row ∷ [] → (k : ℕ) → k < length program.outs
       → slice_index (known_counts_of program before) k ≤ slice_index next_times k
 
--- the answer is the first of the reports that were open, and the others still are; nothing where none was open
+-- the result is the first of the reports that were open, and the others still are; nothing where none was open
 abbrev pub GivesFirst : Style → Program → List Row → List ℕ → List ℕ → Option Report → Type 0
 GivesFirst style program rows before after None = open_of style program rows before ≡ []
 GivesFirst style program rows before after (Some report) =

@@ -61,12 +61,12 @@ contract_words program rows engine i j =
 abbrev pub known_words : Program → List Row → out.Out → List Word
 known_words program rows out = words rows (output_of program out)
 
--- the value stands at each time from one up to another
+-- the value holds at each time from one up to another
 pub record Lasts {X : Type 0} (values : List X) (from last : ℕ) (value : X) : Type 0 where
   pub upward : from ≤ last
   pub alike : (t : ℕ) → from ≤ t → t ≤ last → slice_get values t ≡ Some value
 
--- the value stands at each time from one up to another, and not at the time after that
+-- the value holds at each time from one up to another, and not at the time after that
 pub record IsLongestStretch {X : Type 0} (values : List X) (from last : ℕ) (value : X) : Type 0 where
   pub lasts : Lasts values from last value
   pub ends : slice_get values (last + 1) ≢ Some value

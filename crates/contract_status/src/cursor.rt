@@ -2,8 +2,8 @@
 
 use crate::engines::Stretch;
 
-/// The outputs before `out` were all told, and `stretch`, where there is one, is what is known of this output from its
-/// next time on.
+/// The outputs before `out` were all reported, and `stretch`, where there is one, is what is known of this output
+/// from its next time on.
 #[derive(Clone, Copy)]
 pub struct Cursor {
     pub out: usize,
@@ -28,8 +28,8 @@ impl Cursor {
         }
     }
 
-    /// The search goes on after a report of an output up to `time`, after so many rows: at the next output where no
-    /// further time can be known, else at this one, with what is left of the stretch.
+    /// Continues the search after a report of an output up to `time`, after `rows` rows: at the next output where no
+    /// further time can be known, else at this one, with what is left of the run.
     pub fn move_after(&mut self, out: usize, time: u64, stretch: Stretch, rows: u64)
         requires within { out + 1 < 2 ^ 64 }
         requires early { time < rows }

@@ -20,7 +20,7 @@ pub fn styles_end_together()
         (left_open each rows k outs next_times ≡ []) ↔ (left_open runs rows k outs next_times ≡ []) }
 {}
 
-/// Where all known words were told before a row, what is open after it are the reports that the row brings.
+/// Where all known words were reported before a row, what is open after it are the reports of the row.
 #[tactic(auto, using(crate::proofs::Opening::open_after_row))]
 pub fn row_opens_its_reports()
     ensures { (style : Form) (k : ℕ) (outs : List Output) (rows : List Row) (row : Row) →

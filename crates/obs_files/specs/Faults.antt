@@ -12,7 +12,7 @@ use Rattle.obs_files.specs.declared.fault.ProgramFault.TheVariants as program
 use Rattle.obs_files.specs.declared.fault.FileFault.{FileFault}
 use Rattle.obs_files.specs.declared.fault.FileFault.TheVariants as file
 
--- a fault of reading, told as one of the file
+-- a fault of reading as a fault of the file
 abbrev pub of_reading : ReadFault → FileFault
 of_reading read.Short = file.Program program.Short
 of_reading read.Magic = file.Program program.Magic
@@ -24,7 +24,7 @@ of_reading (read.NameBytes k) = file.Program (program.NameBytes k)
 of_reading (read.SignalBytes k) = file.Program (program.SignalBytes k)
 of_reading read.Memory = file.Memory
 
--- a fault of verifying, told as one of the file
+-- a fault of verifying as a fault of the file
 abbrev pub of_verifying : VerifyFault → FileFault
 of_verifying verify.Width = file.Program program.Width
 of_verifying (verify.Signal k) = file.Program (program.Signal k)
@@ -52,7 +52,7 @@ verified (Err fault) = Err (of_reading fault)
 abbrev pub opened : List ℕ → Result Program FileFault
 opened bytes = verified (program_at bytes)
 
--- a call answers what was found, unless out of memory
+-- a call returns what was found, unless out of memory
 abbrev pub Tells : Result Program FileFault → Result Program FileFault → Type 0
 Tells (Ok program) found = found ≡ Ok program
 Tells (Err file.Memory) found = ⊤

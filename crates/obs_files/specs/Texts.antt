@@ -6,7 +6,7 @@ use Rattle.obs_verify.specs.FaultTexts.{numbered, verify_fault_text}
 use Rattle.obs_files.specs.declared.fault.FileFault as file
 use Rattle.obs_files.specs.declared.fault.ProgramFault as fault
 
--- what is wrong with a program file; of a program that is read, as the verifier tells it
+-- what is wrong with a program file; of a program that is read, as the verifier says it
 abbrev pub fault_text : fault.ProgramFault → List ℕ
 fault_text fault.TheVariants.Short = codes "short"
 fault_text fault.TheVariants.Magic = codes "magic"

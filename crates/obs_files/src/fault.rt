@@ -20,7 +20,7 @@ pub enum ProgramFault {
     Version,
     /// The byte at this offset must be 0 and isn't, or names no engine or no kind.
     Reserved(u64),
-    /// The byte at this offset is no opcode of its part.
+    /// The byte at this offset isn't an opcode of its part.
     Opcode(u64),
     /// The bytes are more than the header says.
     Trailing,
@@ -44,7 +44,7 @@ pub enum ProgramFault {
     TooLate(u32),
     /// An output reports an instruction that isn't there.
     Output(u32),
-    /// A stored size isn't the one that the instruction needs.
+    /// A stored size isn't the size that the instruction needs.
     Size(Part, u32),
     /// The instructions need too many slots and boxes.
     TooManySlots,

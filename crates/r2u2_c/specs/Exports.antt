@@ -1,4 +1,4 @@
--- What the calls of C tell, over what C keeps: the state of a monitor, if one is open.
+-- What the calls of C return, over what C keeps: the state of a monitor, if one is open.
 
 use Rattle.std.specs.Prelude.{ℕ, ◌≡◌, ◌≢◌, ◌<◌, ◌≤◌, Option, Some, None, Result, Ok, Err, List, ◌∷◌}
 use Rattle.mltl_base.specs.declared.program.Program.{Program}
@@ -26,7 +26,7 @@ Opens found None (Some monitor) = Starts found monitor
 Opens found None None = ⊥
 Opens found (Some before) after = ⊥
 
--- there is no program, and the fault tells why
+-- there is no program, and the fault says why
 abbrev pub Refuses : Result Program OpeningFault → Fault → Type 0
 Refuses (Err why) fault = fault ≡ fault_of why
 Refuses (Ok program) fault = ⊥
@@ -60,7 +60,7 @@ why_of ReportsLeft = record { why = REPORTS_LEFT; column = 0 }
 why_of (NotARow column) = record { why = NOT_A_ROW; column = column }
 why_of TooManyRows = record { why = TOO_MANY_ROWS; column = 0 }
 
--- why a row isn't taken is told with its code, and with a column where it isn't a row; else nothing is told
+-- why a row isn't taken is returned with its code, and with a column where it isn't a row; else nothing is returned
 pub record TellsWhy (code : ℕ) (before after : RowWhy) : Type 0 where
   pub untold : code ≤ NOT_OPEN → after ≡ before
   pub why : NOT_OPEN < code → after.why ≡ code
@@ -74,7 +74,7 @@ pub record TellsFirst (style : Style) (read : Told) (before after : State) : Typ
   pub stands : (rows : List Row) → Stands before rows → Stands after rows
   pub gives : HasGiven report before after
 
--- the monitor that is open has told it
+-- the open monitor has returned it
 abbrev pub Tells : Style → Told → Option State → Option State → Type 0
 Tells style read (Some before) (Some after) = TellsFirst style read before after
 Tells style read (Some before) None = ⊥

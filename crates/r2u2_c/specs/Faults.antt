@@ -21,7 +21,7 @@ text_of (Missing name) = header_fault_text (header.Missing name)
 text_of (Twice name) = header_fault_text (header.Twice name)
 text_of Memory = header_fault_text header.Memory
 
--- each kind of fault of a program has a number of its own
+-- each kind of fault of a program has a distinct number
 abbrev pub fault_kind : fault.ProgramFault → ℕ
 fault_kind fault.TheVariants.Short = 1
 fault_kind fault.TheVariants.Magic = 2
@@ -91,7 +91,7 @@ abbrev pub place_of : OpeningFault → ℕ
 place_of (Program f) = fault_place f
 place_of why = 0
 
--- a text at the front of 96 bytes, with zeros after it
+-- a text at the start of 96 bytes, with zeros after it
 abbrev pub padded : List ℕ → List ℕ
 padded text = text ++ drop (length text) (replicate 96 0)
 

@@ -28,7 +28,7 @@ of_header (header.Missing name) = opening.Missing name
 of_header (header.Twice name) = opening.Twice name
 of_header header.Memory = opening.Memory
 
--- what was found, with the fault of an opening in place of its own
+-- what was found, with the fault of an opening in its place
 abbrev pub with_fault : {E : Type 0} → (E → OpeningFault) → Result Program E → Result Program OpeningFault
 with_fault opening_of (Ok program) = Ok program
 with_fault opening_of (Err fault) = Err (opening_of fault)

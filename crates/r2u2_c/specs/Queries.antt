@@ -68,12 +68,12 @@ abbrev pub output_kinds_of : Option State → List ℕ
 output_kinds_of (Some monitor) = map output_number (program_of monitor).outs
 output_kinds_of None = []
 
--- each kind of signal has a number of its own
+-- each kind of signal has a distinct number
 abbrev pub kind_number : Bool → ℕ
 kind_number false = 0
 kind_number true = 1
 
--- a signal's column and kind were told
+-- a signal's column and kind were returned
 pub record TellsSignal (signal : StoredSignal) (column kind : ℕ) : Type 0 where
   pub stands_in : column ≡ signal.column
   pub is_kind : kind ≡ kind_number signal.truth
@@ -83,13 +83,13 @@ abbrev pub ended : List ℕ → List ℕ
 ended [] = []
 ended (byte ∷ more) = 0 ∷ more
 
--- the answer is the name's length, and the name stands at the front of the buffer, before a zero byte where there is
--- room for one; what follows stays
+-- the result is the name's length, and the name is at the start of the buffer, before a zero byte where it fits; what
+-- follows stays
 pub record WritesName (name : List ℕ) (answer : ℕ) (before after : List ℕ) : Type 0 where
   pub long : answer ≡ length name
   pub written : after ≡ name ++ ended (drop (length name) before)
 
--- the bytes of a monitor of the program that was found: of its own block, and of its lists
+-- the bytes of a monitor of the program that was found: of its block, and of its lists
 abbrev pub TellsBytes : Result Program OpeningFault → ℕ → Type 0
 TellsBytes (Ok program) told = told ≡ MONITOR_BYTES + monitor_bytes program
 TellsBytes (Err why) told = ⊥

@@ -8,7 +8,7 @@ use Rattle.mltl_base.specs.declared.report.Word.{Word}
 use Rattle.mltl_base.specs.declared.report.Word.TheVariants.{T, F, Inactive, Invalid, Verified}
 use Rattle.r2u2_c.specs.declared.report.Told.{Told}
 
--- each word has a number of its own
+-- each word has a distinct number
 abbrev pub word_number : Word → ℕ
 word_number F = 0
 word_number T = 1

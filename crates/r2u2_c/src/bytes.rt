@@ -14,7 +14,7 @@ use r2u2_monitor::{Monitor, monitor_bytes};
 use std::alloc::Global;
 use std::mem::size_of;
 
-/// The bytes of the block of a monitor, beside those of its lists.
+/// The bytes of the block of a monitor, without those of its lists.
 pub const MONITOR_BYTES: usize = 512;
 
 const _: () = prove!(size_of::<Monitor>() == MONITOR_BYTES);

@@ -86,7 +86,7 @@ pub(crate) fn refuse(why: OpeningFault, fault: &mut Fault) -> u32
     }
 }
 
-/// Takes the next row, of one number for each column, or tells why it isn't taken.
+/// Takes the next row, with one number for each column, or returns why it isn't taken.
 #[unsafe(no_mangle)]
 pub extern "C" fn r2u2_row(it: &mut R2u2, alloc: Global, fields: &[i64], why: &mut RowWhy) -> u32
     ensures takes { result ≡ DONE → Takes fields.now it.old.handle.value it.new.handle.value }
@@ -151,7 +151,7 @@ pub extern "C" fn r2u2_next(it: &mut R2u2, alloc: Global, runs: u32, report: &mu
     }
 }
 
-/// Lets the monitor that is open stand for no rows again, in the memory that it has.
+/// Resets the open monitor to its state before the first row, in the memory that it has.
 #[unsafe(no_mangle)]
 pub extern "C" fn r2u2_reset(it: &mut R2u2, alloc: Global) -> u32
     ensures begins { result ≡ DONE → BeginsAgain it.old.handle.value it.new.handle.value }

@@ -39,7 +39,7 @@ impl Fault {
     }
 }
 
-/// Puts a piece at the front of a slice.
+/// Copies a piece to the start of a slice.
 pub(crate) fn fill_front(into: &mut [u8], piece: &[u8])
     requires { length piece.now ≤ length into.old }
     ensures { into.new ≡ piece.now ++ drop (length piece.now) into.old }

@@ -1,8 +1,8 @@
 //! The monitor as a library for C: `include/r2u2.h` declares its calls, and says what a caller in C owes.
 //!
-//! C keeps a struct [`R2u2`], all zero at first, and passes its address to each call; for an allocator, which takes no
-//! bytes, it passes nothing. At every code of [`codes`] above 0 the monitor is as it was, and nothing but a fault is
-//! written. All memory is taken when a program is opened.
+//! C keeps a struct [`R2u2`], all zero at first, and passes its address to each call; for an allocator, which has no
+//! bytes, it passes nothing. At every code of [`codes`] above 0 the monitor is unchanged, and nothing but a fault is
+//! written. All memory is allocated when a program is opened.
 #![tactic(auto)]
 
 mod boxes;

@@ -6,8 +6,8 @@ ghost use Rattle.r2u2_c.specs.Queries.{WritesName, ended};
 use crate::fault::fill_front;
 use mltl_base::Name;
 
-/// Writes a name to the front of a buffer, and a zero byte after it where there is room. Answers its length, or 0 where
-/// the buffer is too short.
+/// Writes a name to the start of a buffer, and a zero byte after it where it fits. Returns its length, or 0 where the
+/// buffer is too short.
 pub(crate) fn write_name(name: &Name, buffer: &mut [u8]) -> u32
     ensures named { 0 < result → WritesName name.now result buffer.old buffer.new }
     ensures untold { result ≡ 0 → buffer.new ≡ buffer.old }

@@ -24,9 +24,9 @@ pub enum OpeningFault {
     LongHeader,
     /// The header doesn't begin with `#`.
     NoHeader,
-    /// The first signal that doesn't stand exactly once in the header stands nowhere.
+    /// The first signal that doesn't occur exactly once in the header doesn't occur there.
     Missing(Name),
-    /// The first signal that doesn't stand exactly once in the header stands more than once.
+    /// The first signal that doesn't occur exactly once in the header occurs more than once.
     Twice(Name),
     /// Out of memory.
     Memory,
@@ -125,7 +125,7 @@ fn takes_header(program: &Program, header: &[u8]) -> Result<(), OpeningFault>
     Ok(())
 }
 
-/// A monitor in memory of its own.
+/// Makes a monitor in separate memory.
 fn load(alloc: Global, checked: Checked) -> Result<Box<Monitor>, OpeningFault>
     ensures starts { IfOk result (λ b. Starts (Ok checked) b.value) }
     ensures memory { IfErr result (λ why. why ≡ OpeningFault.Memory) }

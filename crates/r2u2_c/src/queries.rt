@@ -34,7 +34,7 @@ pub extern "C" fn r2u2_outputs(it: &R2u2) -> u32
     it.outputs()
 }
 
-/// Writes the name of output `k`, counted from 0, to the front of a buffer, and answers its length.
+/// Writes the name of output `k`, counted from 0, to the start of a buffer, and returns its length.
 #[unsafe(no_mangle)]
 pub extern "C" fn r2u2_name(it: &mut R2u2, alloc: Global, k: u32, buffer: &mut [u8]) -> u32
     ensures named { 0 < result → IsSomeAnd (slice_get (names_of it.old.handle.value) k)
@@ -62,7 +62,7 @@ pub extern "C" fn r2u2_rows(it: &R2u2) -> u64
     it.rows()
 }
 
-/// The worst-case delay of output `k`, in rows; 0 where none is open or there is no such output.
+/// Returns the worst-case delay of output `k`, in rows; 0 where none is open or there is no such output.
 #[unsafe(no_mangle)]
 pub extern "C" fn r2u2_delay(it: &mut R2u2, alloc: Global, k: u32) -> u32
     ensures delay { result ≡ slice_index (delays_of it.old.handle.value) k }
@@ -134,8 +134,8 @@ pub extern "C" fn r2u2_signals(it: &R2u2) -> u32
     it.signals()
 }
 
-/// Tells the column and the kind of signal `k`, counted from 0, writes its name to the front of a buffer, and answers the
-/// name's length.
+/// Returns the column and the kind of signal `k`, counted from 0, writes its name to the start of a buffer, and
+/// returns the name's length.
 #[unsafe(no_mangle)]
 pub extern "C" fn r2u2_signal(
     it: &mut R2u2,
@@ -165,7 +165,7 @@ pub extern "C" fn r2u2_signal(
     }
 }
 
-/// Writes the name of an output to the front of a buffer that has room for it, and answers its length.
+/// Writes the name of an output to the start of a buffer that has room for it, and returns its length.
 fn name_in(monitor: &Monitor, k: u32, buffer: &mut [u8]) -> u32
     ensures named { 0 < result → IsSomeAnd (slice_get (names_of (Some monitor.now)) k)
         (λ name. WritesName name result buffer.old buffer.new) }

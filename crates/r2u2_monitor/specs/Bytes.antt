@@ -1,7 +1,6 @@
--- How many bytes a monitor takes, by its program alone, and how many it holds.
--- A list of a program has room for `room` of its members; each list that runs has just its members in its block. Where
--- a list has no member, there is no block. The monitor itself, some hundred bytes that lie where its caller puts it,
--- isn't among them.
+-- How many bytes a monitor allocates, by its program alone, and how many it holds. A list of a program has room for
+-- `room` of its members; each list that runs has just its members in its block. A list without members has no block.
+-- The monitor itself, some hundred bytes wherever its caller puts it, isn't counted.
 
 use Rattle.std.specs.Prelude.{ℕ, ◌+◌, ◌*◌, length, sum}
 use Rattle.mltl_base.specs.declared.program.Program.{Program}
@@ -21,7 +20,7 @@ use Rattle.r2u2_monitor.specs.Monitoring.{last_of, places_of, program_of, read_o
 
 -- ---- how many it takes
 
--- the seven lists of a program; names stand in the outputs and the signals themselves
+-- the seven lists of a program; names are in the outputs and the signals themselves
 abbrev pub program_bytes : Program → ℕ
 program_bytes program =
     BZ_OP_BYTES * room (length program.bz)

@@ -1,4 +1,4 @@
--- What a monitor stands for.
+-- What a monitor represents.
 
 use Rattle.std.specs.Prelude.{◌≡◌, ◌↔◌, ℕ, ◌+◌, ◌<◌, ◌≤◌, Option, List, [], ◌∷◌, ◌++◌, length, map, IfNone, IfSome}
 use Rattle.std.specs.Prelude.{IsNone}
@@ -52,7 +52,7 @@ pub record Stands (monitor : State) (rows : List Row) : Type 0 where
   pub taken : running.HasTaken monitor.running rows
   pub last : (before : List Row) (row : Row) → rows ≡ before ++ row ∷ [] → last_of monitor ≡ row
 
--- the reports that a monitor which stands for these rows has still to give
+-- the reports that a monitor of these rows has still to return
 abbrev pub open_of : Style → State → List Row → List Report
 open_of style monitor rows = running.open_of style monitor.running rows
 
@@ -60,11 +60,11 @@ open_of style monitor rows = running.open_of style monitor.running rows
 abbrev pub IsDrained : State → Type 0
 IsDrained monitor = running.IsDrained monitor.running
 
--- the times of outputs that are left to tell, at most
+-- the most times of outputs that are left to report
 abbrev pub left_to_tell : State → ℕ
 left_to_tell monitor = running.left_to_tell monitor.running
 
--- the answer is the first of the reports that were still to be given, and the others still are
+-- the result is the first of the reports that were open, and the others still are
 abbrev pub GivesFirst : Style → Option Report → State → State → List Row → Type 0
 GivesFirst style result before after rows = running.GivesFirst style result before.running after.running rows
 
@@ -74,8 +74,8 @@ pub record HasGiven (report : Report) (before after : State) : Type 0 where
   pub last : last_of after ≡ last_of before
   pub read : read_of after ≡ read_of before
 
--- A report was given: it is of an output that there is, at a time that was taken, one of the first 2 ^ 40. Nothing else
--- changed, and fewer times are left to tell.
+-- A report was returned: it is of an existing output, at a time that was taken, among the first 2 ^ 40. Nothing else
+-- changed, and fewer times are left to report.
 pub record IsGiven (report : Report) (before after : State) : Type 0 where
   pub moved : HasGiven report before after
   pub exists : report.out < length (program_of before).outs
@@ -83,8 +83,8 @@ pub record IsGiven (report : Report) (before after : State) : Type 0 where
   pub early : report.time < MAX_MISSION
   pub fewer : left_to_tell after < left_to_tell before
 
--- The first report that was still to be given in a style was given, and the others still are; where there was none,
--- nothing changed. The monitor stands for the same rows.
+-- The first report that was open in a style was returned, and the others are still open; where there was none,
+-- nothing changed. The monitor represents the same rows.
 pub record GivesNext (style : Style) (result : Option Report) (before after : State) : Type 0 where
   pub first : (rows : List Row) → Stands before rows → GivesFirst style result before after rows
   pub stands : (rows : List Row) → Stands before rows → Stands after rows
@@ -95,7 +95,7 @@ pub record GivesNext (style : Style) (result : Option Report) (before after : St
   pub program : program_of after ≡ program_of before
   pub as_many : taken_by after ≡ taken_by before
 
--- nothing changed of what the monitor stands for
+-- nothing changed of what the monitor represents
 pub record IsSame (before after : State) : Type 0 where
   pub running : after.running ≡ before.running
   pub last : last_of after ≡ last_of before
@@ -109,7 +109,7 @@ pub record TakesRow (row : Row) (before after : State) : Type 0 where
   pub opens : (style : Style) (rows : List Row) → Stands before rows
       → open_of style after (rows ++ row ∷ []) ≡ of_row style 0 (outputs (program_of before)) rows row
 
--- what holds of each monitor: it stands for some rows, at most 2 ^ 40 of them, and has room for a row
+-- what holds of each monitor: it represents some rows, at most 2 ^ 40 of them, and has room for a row
 pub record IsSound (monitor : State) : Type 0 where
   pub some : (rows : List Row) × Stands monitor rows
   pub early : taken_by monitor ≤ MAX_MISSION

@@ -44,7 +44,7 @@ pub record IsReady (monitor : State) (row : Row) : Type 0 where
   pub fit : IsFit (program_of monitor) row
   pub early : taken_by monitor < MAX_MISSION
 
--- the first that stands against the row: reports that are left, then the row itself, then the number of rows
+-- the first obstacle of the row: reports that are left, then the row itself, then the number of rows
 abbrev pub IsRowCause : RowFault → State → Row → Type 0
 IsRowCause ReportsLeft monitor row = ¬ IsDrained monitor
 IsRowCause (NotARow column) monitor row = IsDrained monitor × IsUnfitAt (program_of monitor) row column

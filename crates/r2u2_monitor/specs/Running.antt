@@ -17,7 +17,7 @@ use Rattle.contract_status.specs.Open as status
 use Rattle.contract_status.specs.Standing.{StandFor}
 use Rattle.r2u2_monitor.specs.declared.running.Running.{Running}
 
--- these rows were taken, each of which fits the well-formed program: both engines stand for them, and each output has
+-- these rows were taken, each of which fits the well-formed program: both engines represent them, and each output has
 -- its next time
 pub record HasTaken (running : Running) (rows : List Row) : Type 0 where
   pub layout : HasLayout running.checked
@@ -53,7 +53,7 @@ pub record IsGiven (report : Report) (before after : Running) : Type 0 where
 abbrev pub Fits : Running → Cursor → Type 0
 Fits running cursor = FitsCursor running.checked running.taken running.ft running.pt running.outs cursor
 
--- the answer is the first of the reports that were open, and the others still are
+-- the result is the first of the reports that were open, and the others still are
 abbrev pub GivesFirst : Style → Option Report → Running → Running → List Row → Type 0
 GivesFirst style None before after rows = open_of style before rows ≡ []
 GivesFirst style (Some report) before after rows = open_of style before rows ≡ report ∷ open_of style after rows

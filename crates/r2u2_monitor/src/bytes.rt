@@ -57,7 +57,7 @@ const _: () = prove!(size_of::<u64>() == TIME_BYTES);
 
 const _: () = prove!(size_of::<Reading>() == READING_BYTES);
 
-/// The bytes of the block of a list with so many members.
+/// Returns the bytes of the block of a list with `count` members.
 fn list_bytes(size: usize, len: usize) -> u64
     requires small { size < 2 ^ 8 }
     requires few { len < 2 ^ 32 }

@@ -48,7 +48,8 @@ pub fn monitors_keep_their_bytes()
         → bytes_of monitor ≡ monitor_bytes (program_of monitor) }
 {}
 
-/// A monitor has no report to give exactly where nothing is open after rows that it stands for, in either style.
+/// A monitor has no report to return exactly where nothing is open after the rows that it represents, in either
+/// style.
 pub fn drained_is_nothing_open()
     ensures { (style : Form) (monitor : Shown) (rows : List Row) → Stands monitor rows
         → IsDrained monitor ↔ (open_of style monitor rows ≡ []) }
@@ -86,7 +87,7 @@ pub fn reports_are_settled()
         → IsSettled rows o t report.word }
 {}
 
-/// Where all reports were given, each time below n less the delay of an output was told of it.
+/// Where all reports were returned, each time below n less the delay of an output was reported.
 #[tactic(auto, using(crate::proofs::Keeping::told_in_time))]
 pub fn reports_come_in_time()
     ensures told { (monitor : Shown) (rows : List Row) (k : ℕ) (o : Output) →

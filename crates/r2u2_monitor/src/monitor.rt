@@ -17,8 +17,8 @@ use std::mem;
 use std::sync::ledger::{Blank, Ledger};
 use trace_feed::{Readings, RowAnswer, row_fields_by};
 
-/// A monitor of a checked program. It takes rows one by one, and gives the reports that each row brings before it takes
-/// the next. All its memory is taken by `load`. Contracts see its state.
+/// A monitor of a checked program. It takes rows one by one, and returns the reports of each row before it takes the
+/// next. `load` allocates all its memory. Contracts see its state.
 #[derive(Drop)]
 pub struct Monitor {
     state: State,
@@ -64,7 +64,8 @@ impl Monitor {
     ghost use Rattle.r2u2_monitor.specs.Monitoring.{GivesNext, IsDrained, IsSame, Stands, TakesRow, last_of, open_of, program_of, read_of, taken_by};
     ghost use Rattle.r2u2_monitor.specs.RowFaults.{IsReady, IsRowCause, IsUnfitAt};
 
-    /// A monitor that has taken no rows. All its memory is taken here, in blocks of as many bytes as its program says.
+    /// Makes a monitor that has taken no rows. It allocates all memory here, in blocks of as many bytes as its
+    /// program says.
     pub fn load(alloc: Global, checked: Checked) -> Result<Monitor, AllocError>
         ensures program { IfOk result (λ monitor. program_of monitor ≡ checked) }
         ensures taken { IfOk result (λ monitor. taken_by monitor ≡ 0) }
@@ -89,7 +90,8 @@ impl Monitor {
         })
     }
 
-    /// The monitor stands for no rows again, and can take up to 2 ^ 40 more. No memory is asked for or given back.
+    /// Resets the monitor to its state before the first row; it can take up to 2 ^ 40 more. It neither allocates nor
+    /// frees.
     pub fn reset(&mut self)
         ensures program { program_of self.new ≡ program_of self.old }
         ensures taken { taken_by self.new ≡ 0 }
@@ -115,8 +117,8 @@ impl Monitor {
         self.state.running.taken
     }
 
-    /// Takes the next row, of one number for each column, if it is one and the monitor is ready for it. Otherwise nothing
-    /// changes, and the first cause is told. It takes no memory.
+    /// Takes the next row, with one number for each column, if it is valid and the monitor is ready for it. Otherwise
+    /// nothing changes, and the first cause is returned. It does not allocate.
     #[tactic(auto, using(crate::proofs::Fitting::unready))]
     pub fn take(&mut self, row: &[i64]) -> Result<(), RowFault>
         ensures takes { OnOk result (TakesRow row.now self.old self.new) }
@@ -146,7 +148,7 @@ impl Monitor {
         unfit_column(&self.state.running.checked, &self.readings, row)
     }
 
-    /// Takes a row over a counter of its own.
+    /// Takes a row with a separate counter.
     fn take_fit<L: Ledger>(&mut self, row: &[i64], blank: Blank)
         requires name { blank.name ≡ L.name }
         requires parts { blank.parts ≡ L.parts }

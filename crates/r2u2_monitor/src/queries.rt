@@ -1,4 +1,4 @@
-//! What a monitor of a program takes and when it tells, as known from the program alone.
+//! What a monitor of a program takes and when it reports, as known from the program alone.
 
 ghost use Rattle.std.specs.Prelude.{◌≡◌, ◌+◌, ◌*◌, ◌^◌, ◌<◌, ◌≤◌, All, length, option_map, slice_get, slice_index, sum, sum_by};
 ghost use Rattle.mltl_base.specs.declared.interval.Engine.TheVariants.{Ft as Future};
@@ -14,8 +14,8 @@ ghost use Rattle.r2u2_monitor.specs.Running.{row_work};
 use mltl_base::{Engine, FtOp, Out, Program};
 use obs_verify::Checked;
 
-/// The worst-case delay of output `k`, counted from 0, in rows: the row at time `t + delay` tells its time `t` at the
-/// latest. `None` where there is no such output.
+/// Returns the worst-case delay of output `k`, counted from 0, in rows: the row at time `t + delay` reports its time
+/// `t` at the latest. `None` where there is no such output.
 pub fn delay_of(checked: &Checked, k: u32) -> Option<u32>
     ensures { result ≡ option_map delay (slice_get (outputs checked.now) k) }
 {

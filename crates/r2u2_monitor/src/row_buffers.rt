@@ -8,7 +8,7 @@ use obs_verify::Checked;
 use std::alloc::{AllocError, Global};
 use trace_feed::Readings;
 
-/// Room for the row that was taken last and for one that was read, and how the program reads their columns.
+/// Room for the last row and for a row that is being read, and how the program reads their columns.
 #[derive(Drop)]
 pub struct RowBuffers {
     pub last: Fixed<i64>,
@@ -17,7 +17,7 @@ pub struct RowBuffers {
 }
 
 impl RowBuffers {
-    /// Those of a program. All memory is taken here.
+    /// Makes the buffers of a program; the only allocation.
     pub fn of(alloc: Global, checked: &Checked) -> Result<RowBuffers, AllocError>
         ensures last { IfOk result (λ buffers. length buffers.last ≡ checked.now.width) }
         ensures read { IfOk result (λ buffers. length buffers.read ≡ checked.now.width) }

@@ -8,8 +8,9 @@ use std::fmt;
 pub enum RowFault {
     /// Reports of the last row are still to be asked for.
     ReportsLeft,
-    /// The numbers are no row of the program, from this column on, counted from 0: the first that can't hold its number;
-    /// where the numbers are too few the first that has none, and where they are too many the first past the width.
+    /// The numbers aren't a row of the program, from this column on, counted from 0: the first that can't hold its
+    /// number; where there are too few numbers the first without one, and where there are too many the first past the
+    /// width.
     NotARow(u32),
     /// 2 ^ 40 rows were taken.
     TooManyRows,

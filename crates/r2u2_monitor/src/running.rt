@@ -56,7 +56,7 @@ impl Running {
     ghost use Rattle.mltl_base.specs.Programs.{IsFit};
     ghost use Rattle.r2u2_monitor.specs.Running.{Fits, GivesFirst, HasTaken, IsDrained, IsGiven, TakesRow, open_of, row_work};
 
-    /// The engines of a program, before the first row. All memory is taken here.
+    /// Makes the engines of a program, before the first row; the only allocation.
     pub fn load(alloc: Global, checked: Checked) -> Result<Running, AllocError>
         ensures program { IfOk result (λ running. running.checked ≡ checked) }
         ensures taken { IfOk result (λ running. running.taken ≡ 0) }
@@ -90,7 +90,7 @@ impl Running {
         self.taken = 0;
     }
 
-    /// Takes a row. Its steps are the reads and writes of queues and boxes. It takes no memory.
+    /// Takes a row. Its steps are the reads and writes of queues and boxes. It does not allocate.
     pub fn take<L: Ledger>(&mut self, fields: &[i64], steps: &mut Steps<L>)
         requires some { (rows : List Row) × HasTaken self.old rows }
         requires drained { IsDrained self.old }

@@ -103,11 +103,7 @@ fn read_from(stream: &Stream, rt: HostRuntime, into: &mut [u8]) -> io::Result<us
 }
 
 /// One read of a place, whose file is closed where the read meets its end.
-fn read_place(
-    place: &mut Option<Stream>,
-    rt: HostRuntime,
-    into: &mut [u8],
-) -> io::Result<usize>
+fn read_place(place: &mut Option<Stream>, rt: HostRuntime, into: &mut [u8]) -> io::Result<usize>
     ensures reads { ReadsAtMost result into.new }
     ensures attached { is_some place.new ≡ is_some place.old }
     ensures unattached { place.old ≡ None → IsErr result }
