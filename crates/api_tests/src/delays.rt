@@ -13,7 +13,7 @@ fn add_numbers(bytes: &mut Vec<u8>, numbers: &[u32]) -> Result<(), AllocError> {
     Ok(())
 }
 
-/// The file of a program: one signal, and so many untils, each over the one before on both sides. All have the
+/// The file of a program: one signal, and `count` untils, each over the one before on both sides. All have the
 /// interval [1048576,1048576].
 fn untils(alloc: Global, count: u8) -> Result<Vec<u8>, AllocError> {
     let count = u32::from(count);
@@ -30,7 +30,7 @@ fn untils(alloc: Global, count: u8) -> Result<Vec<u8>, AllocError> {
     Ok(bytes)
 }
 
-/// The worst-case delay of the last of so many untils.
+/// The worst-case delay of the last of `count` untils.
 fn delay_over(alloc: Global, count: u8) -> Result<Option<u32>, FileFault> {
     let bytes = match untils(alloc, count) {
         Ok(bytes) => bytes,
