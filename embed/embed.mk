@@ -95,7 +95,7 @@ check-symbols: | $(TRIES)
 
 # What flies keeps the required rules of MISRA C:2012, where there is cppcheck.
 check-misra:
-	embed/misra embed/arena.c embed/memory.c embed/heap.c
+	embed/misra embed/arena.c embed/memory.c embed/heap.c embed/r2u2_checked.h
 
 check-misuse: | $(TRIES)
 	$(TARGET_CC) $(WARNED) -O1 $(STRICT) -o $(TRIES)/misuse embed/misuse.c $(EMBED)/libr2u2.a -lpthread

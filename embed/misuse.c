@@ -389,12 +389,17 @@ static void wrappers(void) {
     CHECK(r2u2_checked_open(&it, NULL, 1, NULL) == R2U2_BAD_ARGUMENT);
     CHECK(r2u2_checked_open(&it, grant.bytes, SIZE_MAX, NULL) == R2U2_BAD_ARGUMENT);
     CHECK(r2u2_checked_open(&it, NULL, 0, NULL) == R2U2_REFUSED);
+    CHECK(r2u2_checked_open(&it, grant.bytes, grant.count, (struct r2u2_fault *)(void *)&it) == R2U2_BAD_ARGUMENT);
+    CHECK(r2u2_checked_open(&it, grant.bytes, grant.count, (struct r2u2_fault *)(void *)grant.bytes) == R2U2_BAD_ARGUMENT);
+    CHECK(it.at == NULL);
     CHECK(r2u2_checked_open_under(&it, grant.bytes, grant.count, NULL, 1, NULL) == R2U2_BAD_ARGUMENT);
     CHECK(r2u2_checked_open_under(&it, grant.bytes, grant.count, HEADER, strlen(HEADER), NULL) == R2U2_DONE);
     CHECK(r2u2_checked_row(NULL, ROWS[0], 2, NULL) == R2U2_BAD_ARGUMENT);
     CHECK(r2u2_checked_row(&it, NULL, 2, NULL) == R2U2_BAD_ARGUMENT);
     CHECK(r2u2_checked_row(&it, (const int64_t *)(const void *)((const char *)ROWS + 1), 1, NULL) == R2U2_BAD_ARGUMENT);
     CHECK(r2u2_checked_row(&it, NULL, 0, &fault) == R2U2_NOT_A_ROW && fault.column == 0);
+    CHECK(r2u2_checked_row(&it, ROWS[1], 2, (struct r2u2_row_fault *)(void *)&it) == R2U2_BAD_ARGUMENT && it.at != NULL);
+    CHECK(r2u2_checked_row(&it, ROWS[1], 2, (struct r2u2_row_fault *)(void *)(uintptr_t)ROWS[1]) == R2U2_BAD_ARGUMENT);
     CHECK(r2u2_checked_row(&it, ROWS[1], 2, NULL) == R2U2_DONE);
     CHECK(r2u2_checked_next(&it, 2, &report) == R2U2_BAD_ARGUMENT);
     CHECK(r2u2_checked_next(&it, R2U2_EACH, NULL) == R2U2_BAD_ARGUMENT);

@@ -1,16 +1,18 @@
 /* r2u2_checked.h: the calls of r2u2.h behind tests of their arguments.
  *
- * Each r2u2_checked_NAME answers R2U2_BAD_ARGUMENT, or 0 where it answers no code, where a pointer is null or isn't
- * aligned, a count is past what an object can have, a style is no r2u2_style, or arguments overlap; nothing is called or
- * written then. A null pointer with count 0 is an empty one, and a fault may be null where it isn't asked for. What
- * `fault`, `report` and `buffer` hold before doesn't matter, and names end with a zero byte, for which there is room.
+ * Each r2u2_checked_NAME returns R2U2_BAD_ARGUMENT, or 0 where it returns no code, where a pointer is null or isn't
+ * aligned, a count is past what an object can have, a style isn't an r2u2_style, or arguments overlap; nothing is
+ * called or written then. A null pointer with count 0 is an empty one, and a fault may be null where it isn't wanted.
+ * What `fault`, `report` and `buffer` hold before doesn't matter, and names end with a zero byte, for which there has
+ * to be room.
  *
- * Not tested, since C can't: that a struct was all zero at first, that it isn't used as two, that a pointer leads to what
- * its count says, and that one thread uses it.
+ * Not tested, since C can't: that a struct was all zero at first, that it isn't used as two, that a pointer leads to
+ * what its count says, and that one thread uses it.
  */
 #ifndef R2U2_CHECKED_H
 #define R2U2_CHECKED_H
 
+#include <stdbool.h>
 #include <string.h>
 
 #include "r2u2.h"
@@ -18,129 +20,218 @@
 /* The code of a call that wasn't made. */
 #define R2U2_BAD_ARGUMENT 100u
 
+/* Bytes that hold each name with its zero byte. */
+#define R2U2_NAME_BYTES 65u
+
+/* Where bytes begin and how many they are; none at a null pointer. */
+struct r2u2_span {
+    const uint8_t *at;
+    size_t count;
+};
+
+/* `count` elements of `size` bytes; no bytes at a null pointer. */
+static inline struct r2u2_span r2u2_span(const void *at, size_t count, size_t size) {
+    struct r2u2_span span = {(const uint8_t *)at, 0};
+    if (at != NULL) {
+        span.count = count * size;
+    }
+    return span;
+}
+
 /* Whether `count` elements of `size` bytes can be at `at`. */
-static inline int r2u2_is_there(const void *at, size_t count, size_t size) {
-    if (count == 0) return 1;
-    return at != NULL && (uintptr_t)at % size == 0 && count <= SIZE_MAX / 2 / size &&
-           (uintptr_t)at <= UINTPTR_MAX - count * size;
+static inline bool r2u2_is_there(const void *at, size_t count, size_t size) {
+    const uint8_t *bytes = (const uint8_t *)at;
+    return (count == 0u) ||
+           ((bytes != NULL) && (((uintptr_t)bytes % size) == 0u) && (count <= ((SIZE_MAX / 2u) / size)) &&
+            ((uintptr_t)bytes <= (UINTPTR_MAX - (count * size))));
 }
 
-/* Whether two stretches of bytes have one in common. */
-static inline int r2u2_overlap(const void *left, size_t left_count, const void *right, size_t right_count) {
-    uintptr_t a = (uintptr_t)left, b = (uintptr_t)right;
-    return left_count && right_count && (a < b ? b - a < left_count : a - b < right_count);
+/* Whether an object that may be left out is null or aligned. */
+static inline bool r2u2_may_be_there(const void *at, size_t size, size_t align) {
+    const uint8_t *bytes = (const uint8_t *)at;
+    return (bytes == NULL) || ((((uintptr_t)bytes % align) == 0u) && ((uintptr_t)bytes <= (UINTPTR_MAX - size)));
 }
 
-static inline int r2u2_is_struct(const struct r2u2 *it) {
-    return it != NULL && (uintptr_t)it % sizeof(void *) == 0;
+/* Whether two spans have a byte in common. */
+static inline bool r2u2_overlap(struct r2u2_span left, struct r2u2_span right) {
+    uintptr_t a = (uintptr_t)left.at;
+    uintptr_t b = (uintptr_t)right.at;
+    bool meets = (a < b) ? ((b - a) < left.count) : ((a - b) < right.count);
+    return (left.count != 0u) && (right.count != 0u) && meets;
+}
+
+/* Whether two of three spans have a byte in common. */
+static inline bool r2u2_any_overlap(struct r2u2_span a, struct r2u2_span b, struct r2u2_span c) {
+    return r2u2_overlap(a, b) || r2u2_overlap(b, c) || r2u2_overlap(a, c);
+}
+
+static inline bool r2u2_is_struct(const struct r2u2 *it) {
+    return (it != NULL) && r2u2_may_be_there(it, sizeof *it, sizeof(void *));
+}
+
+/* Copies a fault out, where it is wanted and came with the code. */
+static inline void r2u2_put_fault(struct r2u2_fault *fault, const struct r2u2_fault *found, uint32_t code) {
+    if ((fault != NULL) && (code == (uint32_t)R2U2_REFUSED)) {
+        (void)memcpy(fault, found, sizeof *found);
+    }
 }
 
 static inline uint32_t r2u2_checked_open(struct r2u2 *it, const uint8_t *program, size_t count,
                                          struct r2u2_fault *fault) {
     static const uint8_t none[1] = {0};
-    struct r2u2_fault told = {0, 0, 0, {0}};
-    if (!r2u2_is_struct(it) || !r2u2_is_there(program, count, 1)) return R2U2_BAD_ARGUMENT;
-    if (r2u2_overlap(it, sizeof *it, program, count)) return R2U2_BAD_ARGUMENT;
-    uint32_t code = r2u2_open(it, count ? program : none, count, &told);
-    if (fault != NULL && code == R2U2_REFUSED) memcpy(fault, &told, sizeof told);
+    struct r2u2_fault found = {0, 0, 0, {0}};
+    uint32_t code = R2U2_BAD_ARGUMENT;
+    if (r2u2_is_struct(it) && r2u2_is_there(program, count, 1u) &&
+        r2u2_may_be_there(fault, sizeof *fault, sizeof(uint64_t)) &&
+        !r2u2_any_overlap(r2u2_span(it, 1u, sizeof *it), r2u2_span(program, count, 1u),
+                          r2u2_span(fault, 1u, sizeof *fault))) {
+        code = r2u2_open(it, (count != 0u) ? program : none, count, &found);
+        r2u2_put_fault(fault, &found, code);
+    }
     return code;
 }
 
 static inline uint32_t r2u2_checked_open_under(struct r2u2 *it, const uint8_t *program, size_t count,
                                                const char *header, size_t header_count, struct r2u2_fault *fault) {
     static const uint8_t none[1] = {0};
-    struct r2u2_fault told = {0, 0, 0, {0}};
-    if (!r2u2_is_struct(it) || !r2u2_is_there(program, count, 1)) return R2U2_BAD_ARGUMENT;
-    if (!r2u2_is_there(header, header_count, 1)) return R2U2_BAD_ARGUMENT;
-    if (r2u2_overlap(it, sizeof *it, program, count)) return R2U2_BAD_ARGUMENT;
-    if (r2u2_overlap(it, sizeof *it, header, header_count)) return R2U2_BAD_ARGUMENT;
-    uint32_t code = r2u2_open_under(it, count ? program : none, count, header_count ? header : (const char *)none,
-                                    header_count, &told);
-    if (fault != NULL && code == R2U2_REFUSED) memcpy(fault, &told, sizeof told);
+    static const char no_header[1] = {'\0'};
+    struct r2u2_fault found = {0, 0, 0, {0}};
+    uint32_t code = R2U2_BAD_ARGUMENT;
+    if (r2u2_is_struct(it) && r2u2_is_there(program, count, 1u) && r2u2_is_there(header, header_count, 1u) &&
+        r2u2_may_be_there(fault, sizeof *fault, sizeof(uint64_t)) &&
+        !r2u2_any_overlap(r2u2_span(it, 1u, sizeof *it), r2u2_span(program, count, 1u),
+                          r2u2_span(fault, 1u, sizeof *fault)) &&
+        !r2u2_any_overlap(r2u2_span(it, 1u, sizeof *it), r2u2_span(header, header_count, 1u),
+                          r2u2_span(fault, 1u, sizeof *fault))) {
+        code = r2u2_open_under(it, (count != 0u) ? program : none, count, (header_count != 0u) ? header : no_header,
+                               header_count, &found);
+        r2u2_put_fault(fault, &found, code);
+    }
     return code;
 }
 
-static inline uint32_t r2u2_checked_bytes(const uint8_t *program, size_t count, uint64_t *bytes, struct r2u2_fault *fault) {
+static inline uint32_t r2u2_checked_bytes(const uint8_t *program, size_t count, uint64_t *bytes,
+                                          struct r2u2_fault *fault) {
     static const uint8_t none[1] = {0};
-    struct r2u2_fault told = {0, 0, 0, {0}};
-    uint64_t found = 0;
-    if (bytes == NULL || !r2u2_is_there(bytes, 1, sizeof *bytes) || !r2u2_is_there(program, count, 1)) return R2U2_BAD_ARGUMENT;
-    if (r2u2_overlap(bytes, sizeof *bytes, program, count)) return R2U2_BAD_ARGUMENT;
-    uint32_t code = r2u2_bytes(count ? program : none, count, &found, &told);
-    if (code == R2U2_DONE) *bytes = found;
-    if (fault != NULL && code == R2U2_REFUSED) memcpy(fault, &told, sizeof told);
+    struct r2u2_fault found = {0, 0, 0, {0}};
+    uint64_t number = 0;
+    uint32_t code = R2U2_BAD_ARGUMENT;
+    if ((bytes != NULL) && r2u2_is_there(bytes, 1u, sizeof *bytes) && r2u2_is_there(program, count, 1u) &&
+        r2u2_may_be_there(fault, sizeof *fault, sizeof(uint64_t)) &&
+        !r2u2_any_overlap(r2u2_span(bytes, 1u, sizeof *bytes), r2u2_span(program, count, 1u),
+                          r2u2_span(fault, 1u, sizeof *fault))) {
+        code = r2u2_bytes((count != 0u) ? program : none, count, &number, &found);
+        if (code == (uint32_t)R2U2_DONE) {
+            *bytes = number;
+        }
+        r2u2_put_fault(fault, &found, code);
+    }
     return code;
 }
 
-static inline uint32_t r2u2_checked_width(const struct r2u2 *it) { return r2u2_is_struct(it) ? r2u2_width(it) : 0; }
+static inline uint32_t r2u2_checked_width(const struct r2u2 *it) { return r2u2_is_struct(it) ? r2u2_width(it) : 0u; }
 
-static inline uint32_t r2u2_checked_outputs(const struct r2u2 *it) { return r2u2_is_struct(it) ? r2u2_outputs(it) : 0; }
+static inline uint32_t r2u2_checked_outputs(const struct r2u2 *it) {
+    return r2u2_is_struct(it) ? r2u2_outputs(it) : 0u;
+}
 
-static inline uint64_t r2u2_checked_rows(const struct r2u2 *it) { return r2u2_is_struct(it) ? r2u2_rows(it) : 0; }
+static inline uint64_t r2u2_checked_rows(const struct r2u2 *it) { return r2u2_is_struct(it) ? r2u2_rows(it) : 0u; }
+
+static inline uint32_t r2u2_checked_signals(const struct r2u2 *it) {
+    return r2u2_is_struct(it) ? r2u2_signals(it) : 0u;
+}
 
 static inline uint32_t r2u2_checked_delay(struct r2u2 *it, uint32_t k) {
-    return r2u2_is_struct(it) ? r2u2_delay(it, k) : 0;
+    return r2u2_is_struct(it) ? r2u2_delay(it, k) : 0u;
 }
 
-static inline uint64_t r2u2_checked_steps(struct r2u2 *it) { return r2u2_is_struct(it) ? r2u2_steps(it) : 0; }
+static inline uint64_t r2u2_checked_steps(struct r2u2 *it) { return r2u2_is_struct(it) ? r2u2_steps(it) : 0u; }
 
 static inline uint64_t r2u2_checked_most_reports(struct r2u2 *it) {
-    return r2u2_is_struct(it) ? r2u2_most_reports(it) : 0;
+    return r2u2_is_struct(it) ? r2u2_most_reports(it) : 0u;
 }
 
 static inline uint32_t r2u2_checked_output_kind(struct r2u2 *it, uint32_t k) {
-    return r2u2_is_struct(it) ? r2u2_output_kind(it, k) : 0;
+    return r2u2_is_struct(it) ? r2u2_output_kind(it, k) : 0u;
 }
 
-static inline uint32_t r2u2_checked_signals(const struct r2u2 *it) { return r2u2_is_struct(it) ? r2u2_signals(it) : 0; }
+/* Copies a name with its zero byte out, and returns its length; 0 where it doesn't fit. */
+static inline uint32_t r2u2_put_name(const char *name, uint32_t length, char *buffer, size_t count) {
+    uint32_t put = 0u;
+    if ((length != 0u) && (length < count)) {
+        (void)memcpy(buffer, name, (size_t)length + 1u);
+        put = length;
+    }
+    return put;
+}
 
 /* The length of the name, without the zero byte after it; 0 also where `count` leaves no room for that byte. */
 static inline uint32_t r2u2_checked_name(struct r2u2 *it, uint32_t k, char *buffer, size_t count) {
-    char name[65] = {0};
-    if (!r2u2_is_struct(it) || buffer == NULL || !r2u2_is_there(buffer, count, 1)) return 0;
-    if (r2u2_overlap(it, sizeof *it, buffer, count)) return 0;
-    uint32_t length = r2u2_name(it, k, name, sizeof name);
-    if (length == 0 || length >= count) return 0;
-    memcpy(buffer, name, length + 1);
+    char name[R2U2_NAME_BYTES] = {0};
+    uint32_t length = 0u;
+    if (r2u2_is_struct(it) && (buffer != NULL) && r2u2_is_there(buffer, count, 1u) &&
+        !r2u2_overlap(r2u2_span(it, 1u, sizeof *it), r2u2_span(buffer, count, 1u))) {
+        length = r2u2_put_name(name, r2u2_name(it, k, name, sizeof name), buffer, count);
+    }
     return length;
 }
 
-/* The same of a signal. `column` and `kind` may be null where they aren't asked for. */
+/* The same of a signal. `column` and `kind` may be null where they aren't wanted. */
 static inline uint32_t r2u2_checked_signal(struct r2u2 *it, uint32_t k, uint32_t *column, uint32_t *kind, char *buffer,
                                            size_t count) {
-    char name[65] = {0};
-    uint32_t told_column = 0, told_kind = 0;
-    if (!r2u2_is_struct(it) || buffer == NULL || !r2u2_is_there(buffer, count, 1)) return 0;
-    if (column != NULL && !r2u2_is_there(column, 1, sizeof *column)) return 0;
-    if (kind != NULL && !r2u2_is_there(kind, 1, sizeof *kind)) return 0;
-    if (r2u2_overlap(it, sizeof *it, buffer, count) || (column != NULL && column == kind)) return 0;
-    if (r2u2_overlap(it, sizeof *it, column, sizeof *column) || r2u2_overlap(it, sizeof *it, kind, sizeof *kind)) return 0;
-    if (r2u2_overlap(buffer, count, column, sizeof *column) || r2u2_overlap(buffer, count, kind, sizeof *kind)) return 0;
-    uint32_t length = r2u2_signal(it, k, &told_column, &told_kind, name, sizeof name);
-    if (length == 0 || length >= count) return 0;
-    memcpy(buffer, name, length + 1);
-    if (column != NULL) *column = told_column;
-    if (kind != NULL) *kind = told_kind;
+    char name[R2U2_NAME_BYTES] = {0};
+    uint32_t found_column = 0u;
+    uint32_t found_kind = 0u;
+    uint32_t length = 0u;
+    if (r2u2_is_struct(it) && (buffer != NULL) && r2u2_is_there(buffer, count, 1u) &&
+        r2u2_may_be_there(column, sizeof *column, sizeof *column) &&
+        r2u2_may_be_there(kind, sizeof *kind, sizeof *kind) &&
+        !r2u2_any_overlap(r2u2_span(it, 1u, sizeof *it), r2u2_span(buffer, count, 1u),
+                          r2u2_span(column, 1u, sizeof *column)) &&
+        !r2u2_any_overlap(r2u2_span(it, 1u, sizeof *it), r2u2_span(buffer, count, 1u),
+                          r2u2_span(kind, 1u, sizeof *kind)) &&
+        !r2u2_overlap(r2u2_span(column, 1u, sizeof *column), r2u2_span(kind, 1u, sizeof *kind))) {
+        length = r2u2_signal(it, k, &found_column, &found_kind, name, sizeof name);
+        length = r2u2_put_name(name, length, buffer, count);
+    }
+    if ((length != 0u) && (column != NULL)) {
+        *column = found_column;
+    }
+    if ((length != 0u) && (kind != NULL)) {
+        *kind = found_kind;
+    }
     return length;
 }
 
 static inline uint32_t r2u2_checked_row(struct r2u2 *it, const int64_t *numbers, size_t count,
                                         struct r2u2_row_fault *fault) {
     static const int64_t none[1] = {0};
-    struct r2u2_row_fault told = {0, 0};
-    if (!r2u2_is_struct(it) || !r2u2_is_there(numbers, count, sizeof *numbers)) return R2U2_BAD_ARGUMENT;
-    if (r2u2_overlap(it, sizeof *it, numbers, count * sizeof *numbers)) return R2U2_BAD_ARGUMENT;
-    uint32_t code = r2u2_row(it, count ? numbers : none, count, &told);
-    if (fault != NULL && code >= R2U2_REPORTS_LEFT) memcpy(fault, &told, sizeof told);
+    struct r2u2_row_fault found = {0, 0};
+    uint32_t code = R2U2_BAD_ARGUMENT;
+    if (r2u2_is_struct(it) && r2u2_is_there(numbers, count, sizeof *numbers) &&
+        r2u2_may_be_there(fault, sizeof *fault, sizeof(uint32_t))) {
+        if (!r2u2_any_overlap(r2u2_span(it, 1u, sizeof *it), r2u2_span(numbers, count, sizeof *numbers),
+                              r2u2_span(fault, 1u, sizeof *fault))) {
+            code = r2u2_row(it, (count != 0u) ? numbers : none, count, &found);
+        }
+        if ((fault != NULL) && (code >= (uint32_t)R2U2_REPORTS_LEFT) && (code != R2U2_BAD_ARGUMENT)) {
+            (void)memcpy(fault, &found, sizeof found);
+        }
+    }
     return code;
 }
 
 static inline uint32_t r2u2_checked_next(struct r2u2 *it, uint32_t style, struct r2u2_report *report) {
-    struct r2u2_report told = {0, 0, 0};
-    if (!r2u2_is_struct(it) || report == NULL || style > R2U2_RUNS) return R2U2_BAD_ARGUMENT;
-    if (r2u2_overlap(it, sizeof *it, report, sizeof *report)) return R2U2_BAD_ARGUMENT;
-    uint32_t code = r2u2_next(it, style, &told);
-    if (code == R2U2_DONE) memcpy(report, &told, sizeof told);
+    struct r2u2_report found = {0, 0, 0};
+    uint32_t code = R2U2_BAD_ARGUMENT;
+    if (r2u2_is_struct(it) && (report != NULL) && r2u2_may_be_there(report, sizeof *report, sizeof(uint64_t)) &&
+        (style <= (uint32_t)R2U2_RUNS) &&
+        !r2u2_overlap(r2u2_span(it, 1u, sizeof *it), r2u2_span(report, 1u, sizeof *report))) {
+        code = r2u2_next(it, style, &found);
+        if (code == (uint32_t)R2U2_DONE) {
+            (void)memcpy(report, &found, sizeof found);
+        }
+    }
     return code;
 }
 
@@ -149,7 +240,9 @@ static inline uint32_t r2u2_checked_reset(struct r2u2 *it) {
 }
 
 static inline void r2u2_checked_close(struct r2u2 *it) {
-    if (r2u2_is_struct(it)) r2u2_close(it);
+    if (r2u2_is_struct(it)) {
+        r2u2_close(it);
+    }
 }
 
 #endif
