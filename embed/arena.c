@@ -9,102 +9,133 @@
 #include "r2u2_alloc.h"
 
 /* The head of each block. Blocks, used and free ones, follow each other without a gap; the last one is used. */
-struct block {
-    struct block *before; /* the block before it, or null */
+struct r2u2_block {
+    struct r2u2_block *before; /* the block before it, or null */
     size_t size;          /* its bytes, a multiple of UNIT, and one more where it is free */
 };
 
 #define UNIT ((size_t)8)
 #define FREE ((size_t)1)
 
-static struct {
-    uint8_t *memory;
-    size_t count;
-    struct block *first; /* or null */
-    struct block *last;  /* or null */
-    size_t used;
-    size_t most;
-} arena;
+static struct r2u2_pool program_pool; /* of r2u2_arena */
+static struct r2u2_pool *pools;       /* those that were made, the last one first */
+static struct r2u2_pool *arena;       /* the one in use, or null */
 
-void r2u2_arena(void *memory, size_t count) {
-    arena.memory = memory;
-    arena.count = count;
-    arena.first = NULL;
-    arena.last = NULL;
-    arena.used = 0;
-    arena.most = 0;
+static bool is_made(const struct r2u2_pool *pool) {
+    bool found = false;
+    for (const struct r2u2_pool *made = pools; made != NULL; made = made->next) {
+        found = found || (made == pool);
+    }
+    return found;
 }
 
-size_t r2u2_arena_used(void) { return arena.used; }
+void r2u2_pool_make(struct r2u2_pool *pool, void *memory, size_t count) {
+    if (!is_made(pool)) {
+        pool->next = pools;
+        pools = pool;
+    }
+    pool->memory = memory;
+    pool->count = count;
+    pool->first = NULL;
+    pool->last = NULL;
+    pool->used = 0;
+    pool->most = 0;
+}
 
-size_t r2u2_arena_most(void) { return arena.most; }
+void r2u2_pool_use(struct r2u2_pool *pool) { arena = pool; }
 
-static struct found no_block(void) { return (struct found){false, &arena}; }
+size_t r2u2_pool_used(const struct r2u2_pool *pool) { return pool->used; }
 
-static bool is_free(const struct block *block) { return (block->size & FREE) != 0U; }
+size_t r2u2_pool_most(const struct r2u2_pool *pool) { return pool->most; }
 
-static size_t size_of(const struct block *block) { return block->size & ~FREE; }
+void r2u2_arena(void *memory, size_t count) {
+    r2u2_pool_make(&program_pool, memory, count);
+    r2u2_pool_use(&program_pool);
+}
 
-static void *bytes_of(struct block *block) { return &block[1]; }
+size_t r2u2_arena_used(void) { return program_pool.used; }
 
-static struct block *block_of(void *at) { return &((struct block *)at)[-1]; }
+size_t r2u2_arena_most(void) { return program_pool.most; }
 
-static uint8_t *end_of(struct block *block) { return &((uint8_t *)bytes_of(block))[size_of(block)]; }
+/* Returns the pool that a block belongs to; the one in use, where it belongs to none. */
+static struct r2u2_pool *pool_of(const void *at) {
+    uintptr_t place = (uintptr_t)(const uint8_t *)at;
+    struct r2u2_pool *found = arena;
+    for (struct r2u2_pool *pool = pools; pool != NULL; pool = pool->next) {
+        uintptr_t start = (uintptr_t)pool->memory;
+        if ((place >= start) && ((place - start) < pool->count)) {
+            found = pool;
+        }
+    }
+    return found;
+}
 
-static struct block *after(struct block *block) {
-    return (block == arena.last) ? NULL : (struct block *)(void *)end_of(block);
+static struct found no_block(void) { return (struct found){false, &program_pool}; }
+
+static bool is_free(const struct r2u2_block *block) { return (block->size & FREE) != 0U; }
+
+static size_t size_of(const struct r2u2_block *block) { return block->size & ~FREE; }
+
+static void *bytes_of(struct r2u2_block *block) { return &block[1]; }
+
+static struct r2u2_block *block_of(void *at) { return &((struct r2u2_block *)at)[-1]; }
+
+static uint8_t *end_of(struct r2u2_block *block) { return &((uint8_t *)bytes_of(block))[size_of(block)]; }
+
+static struct r2u2_block *after(const struct r2u2_pool *pool, struct r2u2_block *block) {
+    return (block == pool->last) ? NULL : (struct r2u2_block *)(void *)end_of(block);
 }
 
 static size_t rounded(size_t size) { return ((size + UNIT - 1U) / UNIT) * UNIT; }
 
-static void use_up_to(size_t end) {
-    arena.used = end;
-    if (end > arena.most) {
-        arena.most = end;
+static void use_up_to(struct r2u2_pool *pool, size_t end) {
+    pool->used = end;
+    if (end > pool->most) {
+        pool->most = end;
     }
 }
 
 /* Resizes the last block, if the array has room for it. */
-static bool resize_last(size_t size) {
-    ptrdiff_t from = (uint8_t *)bytes_of(arena.last) - arena.memory;
+static bool resize_last(struct r2u2_pool *pool, size_t size) {
+    ptrdiff_t from = (uint8_t *)bytes_of(pool->last) - pool->memory;
     size_t start = (size_t)from;
-    bool fits = size <= (arena.count - start);
+    bool fits = size <= (pool->count - start);
     if (fits) {
-        arena.last->size = size;
-        use_up_to(start + size);
+        pool->last->size = size;
+        use_up_to(pool, start + size);
     }
     return fits;
 }
 
 /* Joins two neighbours to one block, which is used or free as the first one. */
-static void join(struct block *block, struct block *next) {
-    struct block *further = after(next);
+static void join(struct r2u2_pool *pool, struct r2u2_block *block, struct r2u2_block *next) {
+    struct r2u2_block *further = after(pool, next);
     block->size += sizeof *next + size_of(next);
     if (further != NULL) {
         further->before = block;
     } else {
-        arena.last = block;
+        pool->last = block;
     }
 }
 
 /* Cuts a used block to this size, where a free block fits behind it. */
-static void cut(struct block *block, size_t size) {
-    struct block *further = after(block);
+static void cut(struct r2u2_pool *pool, struct r2u2_block *block, size_t size) {
+    struct r2u2_block *further = after(pool, block);
     if ((further != NULL) && ((size_of(block) - size) >= (sizeof *block + UNIT))) {
-        struct block *rest = (struct block *)(void *)&((uint8_t *)bytes_of(block))[size];
-        *rest = (struct block){block, (size_of(block) - size - sizeof *block) | FREE};
+        struct r2u2_block *rest = (struct r2u2_block *)(void *)&((uint8_t *)bytes_of(block))[size];
+        *rest = (struct r2u2_block){block, (size_of(block) - size - sizeof *block) | FREE};
         further->before = rest;
         block->size = size;
         if (is_free(further)) {
-            join(rest, further);
+            join(pool, rest, further);
         }
     }
 }
 
 /* Returns the smallest free block that serves, or null. */
-static struct block *free_block(size_t size, size_t align) {
-    struct block *best = NULL;
-    for (struct block *block = arena.first; block != NULL; block = after(block)) {
+static struct r2u2_block *free_block(const struct r2u2_pool *pool, size_t size, size_t align) {
+    struct r2u2_block *best = NULL;
+    for (struct r2u2_block *block = pool->first; block != NULL; block = after(pool, block)) {
         bool serves = is_free(block) && (size_of(block) >= size) && (((uintptr_t)bytes_of(block) % align) == 0U);
         if (serves && ((best == NULL) || (size_of(block) < size_of(best)))) {
             best = block;
@@ -114,66 +145,69 @@ static struct block *free_block(size_t size, size_t align) {
 }
 
 /* Makes a block after the last one. */
-static struct found new_block(size_t size, size_t align) {
-    size_t room = arena.count - arena.used;
-    uintptr_t end = (uintptr_t)arena.memory + arena.used + sizeof(struct block);
+static struct found new_block(struct r2u2_pool *pool, size_t size, size_t align) {
+    size_t room = pool->count - pool->used;
+    uintptr_t end = (uintptr_t)pool->memory + pool->used + sizeof(struct r2u2_block);
     size_t gap = (align - (end % align)) % align;
     struct found found = no_block();
-    if ((room >= sizeof(struct block)) && ((room - sizeof(struct block)) >= gap) &&
-        ((room - sizeof(struct block) - gap) >= size)) {
-        struct block *block = (struct block *)(void *)&arena.memory[arena.used + gap];
-        if (arena.last != NULL) {
-            arena.last->size += gap;
+    if ((room >= sizeof(struct r2u2_block)) && ((room - sizeof(struct r2u2_block)) >= gap) &&
+        ((room - sizeof(struct r2u2_block) - gap) >= size)) {
+        struct r2u2_block *block = (struct r2u2_block *)(void *)&pool->memory[pool->used + gap];
+        if (pool->last != NULL) {
+            pool->last->size += gap;
         } else {
-            arena.first = block;
+            pool->first = block;
         }
-        *block = (struct block){arena.last, size};
-        arena.last = block;
-        use_up_to(arena.used + gap + sizeof *block + size);
+        *block = (struct r2u2_block){pool->last, size};
+        pool->last = block;
+        use_up_to(pool, pool->used + gap + sizeof *block + size);
         found = (struct found){true, bytes_of(block)};
     }
     return found;
 }
 
-struct found rattle_alloc(size_t size, size_t align) {
+static struct found alloc_in(struct r2u2_pool *pool, size_t size, size_t align) {
     struct found found = no_block();
-    if (size <= (SIZE_MAX - UNIT)) {
+    if ((pool != NULL) && (size <= (SIZE_MAX - UNIT))) {
         size_t whole = rounded(size);
         size_t aligned = (align < UNIT) ? UNIT : align;
-        struct block *block = free_block(whole, aligned);
+        struct r2u2_block *block = free_block(pool, whole, aligned);
         if (block == NULL) {
-            found = new_block(whole, aligned);
+            found = new_block(pool, whole, aligned);
         } else {
             block->size = size_of(block);
-            cut(block, whole);
+            cut(pool, block, whole);
             found = (struct found){true, bytes_of(block)};
         }
     }
     return found;
 }
 
+struct found rattle_alloc(size_t size, size_t align) { return alloc_in(arena, size, align); }
+
 /* Grows a block in place, into the free block behind it, or shrinks it; says whether it has this size then. */
-static bool resize_in_place(struct block *block, size_t size) {
-    struct block *next = after(block);
+static bool resize_in_place(struct r2u2_pool *pool, struct r2u2_block *block, size_t size) {
+    struct r2u2_block *next = after(pool, block);
     if ((size > size_of(block)) && is_free(next) && ((size - size_of(block)) <= (sizeof *next + size_of(next)))) {
-        join(block, next);
+        join(pool, block, next);
     }
     bool fits = size <= size_of(block);
     if (fits) {
-        cut(block, size);
+        cut(pool, block, size);
     }
     return fits;
 }
 
 struct found rattle_realloc(void *old, size_t kept, size_t size, size_t align) {
-    struct block *block = block_of(old);
+    struct r2u2_pool *pool = pool_of(old);
+    struct r2u2_block *block = block_of(old);
     struct found found = no_block();
     if (size <= (SIZE_MAX - UNIT)) {
-        bool is_last = block == arena.last;
-        if (is_last ? resize_last(rounded(size)) : resize_in_place(block, rounded(size))) {
+        bool is_last = block == pool->last;
+        if (is_last ? resize_last(pool, rounded(size)) : resize_in_place(pool, block, rounded(size))) {
             found = (struct found){true, old};
         } else if (!is_last) {
-            found = rattle_alloc(size, align);
+            found = alloc_in(pool, size, align);
             if (found.ok) {
                 (void)memcpy(found.at, old, kept);
                 rattle_dealloc(old);
@@ -186,24 +220,25 @@ struct found rattle_realloc(void *old, size_t kept, size_t size, size_t align) {
 }
 
 void rattle_dealloc(void *old) {
-    struct block *block = block_of(old);
-    struct block *next = after(block);
+    struct r2u2_pool *pool = pool_of(old);
+    struct r2u2_block *block = block_of(old);
+    struct r2u2_block *next = after(pool, block);
     block->size |= FREE;
     if ((next != NULL) && is_free(next)) {
-        join(block, next);
+        join(pool, block, next);
     }
     if ((block->before != NULL) && is_free(block->before)) {
         block = block->before;
-        join(block, after(block));
+        join(pool, block, after(pool, block));
     }
-    if (block == arena.last) {
-        arena.last = block->before;
+    if (block == pool->last) {
+        pool->last = block->before;
     }
-    if (arena.last == NULL) {
-        arena.first = NULL;
-        arena.used = 0;
+    if (pool->last == NULL) {
+        pool->first = NULL;
+        pool->used = 0;
     } else {
-        ptrdiff_t end = end_of(arena.last) - arena.memory;
-        arena.used = (size_t)end;
+        ptrdiff_t end = end_of(pool->last) - pool->memory;
+        pool->used = (size_t)end;
     }
 }

@@ -145,6 +145,30 @@ static void least_array(const uint8_t *program, size_t count, const char *header
     printf("bytes of an arena%s: %zu\n", header ? " under a header" : "", most);
 }
 
+/* Two monitors with a pool each: a full pool leaves the other one alone, and blocks are freed where they came from. */
+static void two_pools(const uint8_t *program, size_t count) {
+    static struct r2u2_pool first, second;
+    struct r2u2 one = {0}, other = {0};
+    struct r2u2_fault fault = {0};
+    r2u2_arena(memory, 0);
+    r2u2_pool_make(&first, memory, 8192);
+    r2u2_pool_make(&second, memory + 8192, 512);
+    r2u2_pool_use(&second);
+    CHECK(r2u2_open(&other, program, count, &fault) == R2U2_NO_MEMORY && r2u2_pool_used(&second) == 0);
+    CHECK(r2u2_pool_used(&first) == 0 && r2u2_pool_most(&first) == 0);
+    r2u2_pool_use(&first);
+    CHECK(r2u2_open(&one, program, count, &fault) == R2U2_DONE && r2u2_pool_used(&second) == 0);
+    r2u2_pool_make(&second, memory + 8192, 8192);
+    r2u2_pool_use(&second);
+    CHECK(r2u2_open(&other, program, count, &fault) == R2U2_DONE);
+    CHECK(r2u2_pool_used(&first) == r2u2_pool_used(&second) && r2u2_pool_used(&first) > 0);
+    r2u2_close(&one);
+    CHECK(r2u2_pool_used(&first) == 0 && r2u2_pool_used(&second) > 0);
+    r2u2_pool_use(&first);
+    r2u2_close(&other);
+    CHECK(r2u2_pool_used(&second) == 0 && r2u2_pool_most(&first) == r2u2_pool_most(&second));
+}
+
 int main(int count, char **words) {
     static uint8_t program[4096];
     FILE *file = count == 2 ? fopen(words[1], "rb") : NULL;
@@ -157,6 +181,7 @@ int main(int count, char **words) {
     any_blocks();
     least_array(program, size, NULL);
     least_array(program, size, "#request,grant");
+    two_pools(program, size);
     printf("%d checks, %d failed\n", checks, failed);
     return failed != 0;
 }

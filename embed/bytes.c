@@ -67,7 +67,7 @@ static struct sum sum_of_held(void) {
         if (!held[k].at) continue;
         sum.blocks++;
         sum.bytes += held[k].size;
-        sum.whole += sizeof(struct block) + (held[k].size + UNIT - 1) / UNIT * UNIT;
+        sum.whole += sizeof(struct r2u2_block) + (held[k].size + UNIT - 1) / UNIT * UNIT;
     }
     return sum;
 }
@@ -88,11 +88,11 @@ static bool is_told(const char *name) {
     uint64_t told = 0;
     size_t count = read_program(name);
     r2u2_arena(memory, sizeof memory);
-    if (r2u2_bytes(program, count, &told, &fault) != R2U2_DONE || sum_of_held().blocks || arena.used) return false;
+    if (r2u2_bytes(program, count, &told, &fault) != R2U2_DONE || sum_of_held().blocks || program_pool.used) return false;
     r2u2_arena(memory, sizeof memory);
     if (r2u2_open(&it, program, count, &fault) != R2U2_DONE) return false;
     struct sum opened = sum_of_held();
-    size_t most = arena.most, before = calls;
+    size_t most = program_pool.most, before = calls;
     for (int row = 0; row < 100; row++) {
         if (r2u2_row(&it, zeros, r2u2_width(&it), &why) != R2U2_DONE) return false;
         while (r2u2_next(&it, R2U2_EACH, &report) == R2U2_DONE) continue;
@@ -101,7 +101,7 @@ static bool is_told(const char *name) {
     r2u2_close(&it);
     printf("%s: %zu bytes in %zu blocks, %zu in the arena, which needs %zu\n", name, opened.bytes, opened.blocks,
            opened.whole, most);
-    return is_so && sum_of_held().blocks == 0 && arena.used == 0;
+    return is_so && sum_of_held().blocks == 0 && program_pool.used == 0;
 }
 
 int main(int count, char **names) {
