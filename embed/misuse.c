@@ -9,6 +9,7 @@
 #include "faulty.h"
 #include "r2u2_alloc.h"
 #include "r2u2_checked.h"
+#include "r2u2_text.h"
 
 /* The heap, which counts, and refuses the block that it is asked to refuse. */
 static atomic_long asked, held, held_bytes, refused = -1;
@@ -260,6 +261,15 @@ static void each_kind_of_fault(void) {
     }
 }
 
+/* Each number of r2u2.h has a text, and others have none. */
+static void texts(void) {
+    CHECK(strcmp(r2u2_code_text(R2U2_NO_REPORT), "no report") == 0 && strcmp(r2u2_code_text(9), "unknown") == 0);
+    CHECK(strcmp(r2u2_word_text(R2U2_VERIFIED), "verified") == 0 && strcmp(r2u2_word_text(5), "unknown") == 0);
+    CHECK(strcmp(r2u2_fault_kind_text(R2U2_FAULT_TWICE), "name twice") == 0);
+    CHECK(strcmp(r2u2_fault_kind_text(R2U2_FAULT_TWICE + 1), "unknown") == 0);
+    for (uint32_t kind = R2U2_FAULT_SHORT; kind <= R2U2_FAULT_TWICE; kind++) CHECK(r2u2_fault_kind_text(kind)[0] != 0);
+}
+
 /* Each program that differs from the first example in one byte, and each that is cut, is opened or refused. */
 static void any_byte(void) {
     static const uint8_t others[] = {1, 0x80, 0xff};
@@ -419,8 +429,13 @@ static void wrappers(void) {
     CHECK(r2u2_checked_signal(&it, 0, &column, &kind, NULL, 8) == 0 && r2u2_checked_signal(NULL, 0, &column, &kind, name, 8) == 0);
     CHECK(r2u2_checked_signal(&it, 0, &column, &kind, name, 8) == 7 && memcmp(name, "request", 8) == 0);
     CHECK(column == 0 && kind == R2U2_TRUTH);
+    CHECK(r2u2_checked_signal_named(&it, "grant", &column, NULL) == 2 && column == 1);
+    CHECK(r2u2_checked_signal_named(&it, "gran", &column, NULL) == 0 && r2u2_checked_signal_named(&it, NULL, NULL, NULL) == 0);
+    CHECK(r2u2_checked_signal_named(&it, "request", NULL, &kind) == 1 && kind == R2U2_TRUTH);
     CHECK(r2u2_checked_reset(NULL) == R2U2_BAD_ARGUMENT && r2u2_checked_rows(&it) == 1);
     CHECK(r2u2_checked_reset(&it) == R2U2_DONE && r2u2_checked_rows(&it) == 0);
+    r2u2_checked_close(&it);
+    CHECK(r2u2_checked_open_under(&it, grant.bytes, grant.count, HEADER, sizeof HEADER, NULL) == R2U2_DONE);
     r2u2_checked_close(&it);
     r2u2_checked_close(NULL);
     CHECK(held == 0);
@@ -438,6 +453,7 @@ int main(int count, char **words) {
     names();
     queries();
     each_kind_of_fault();
+    texts();
     any_byte();
     each_block_refused(false);
     each_block_refused(true);

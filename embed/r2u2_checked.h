@@ -91,6 +91,7 @@ static inline uint32_t r2u2_checked_open(struct r2u2 *it, const uint8_t *program
     return code;
 }
 
+/* A zero byte at the end of the header doesn't count, so its length may be `sizeof` a literal. */
 static inline uint32_t r2u2_checked_open_under(struct r2u2 *it, const uint8_t *program, size_t count,
                                                const char *header, size_t header_count, struct r2u2_fault *fault) {
     static const uint8_t none[1] = {0};
@@ -103,8 +104,12 @@ static inline uint32_t r2u2_checked_open_under(struct r2u2 *it, const uint8_t *p
                           r2u2_span(fault, 1u, sizeof *fault)) &&
         !r2u2_any_overlap(r2u2_span(it, 1u, sizeof *it), r2u2_span(header, header_count, 1u),
                           r2u2_span(fault, 1u, sizeof *fault))) {
-        code = r2u2_open_under(it, (count != 0u) ? program : none, count, (header_count != 0u) ? header : no_header,
-                               header_count, &found);
+        size_t length = header_count;
+        if ((length != 0u) && (header[length - 1u] == '\0')) {
+            length--;
+        }
+        code = r2u2_open_under(it, (count != 0u) ? program : none, count, (length != 0u) ? header : no_header, length,
+                               &found);
         r2u2_put_fault(fault, &found, code);
     }
     return code;
@@ -201,6 +206,21 @@ static inline uint32_t r2u2_checked_signal(struct r2u2 *it, uint32_t k, uint32_t
         *kind = found_kind;
     }
     return length;
+}
+
+/* Finds the signal with this name, which ends with a zero byte, and returns its number and one more; 0 where there is none.
+ * `column` and `kind` may be null where they aren't wanted. It asks for the signals one after another. */
+static inline uint32_t r2u2_checked_signal_named(struct r2u2 *it, const char *name, uint32_t *column, uint32_t *kind) {
+    uint32_t found = 0u;
+    uint32_t count = (name != NULL) ? r2u2_checked_signals(it) : 0u;
+    for (uint32_t k = 0u; (k < count) && (found == 0u); k++) {
+        char buffer[R2U2_NAME_BYTES] = {0};
+        uint32_t length = r2u2_checked_signal(it, k, NULL, NULL, buffer, sizeof buffer);
+        if ((length != 0u) && (strncmp(buffer, name, sizeof buffer) == 0)) {
+            found = r2u2_checked_signal(it, k, column, kind, buffer, sizeof buffer) != 0u ? (k + 1u) : 0u;
+        }
+    }
+    return found;
 }
 
 static inline uint32_t r2u2_checked_row(struct r2u2 *it, const int64_t *numbers, size_t count,
