@@ -62,6 +62,13 @@ class Blocks(unittest.TestCase):
         self.assertEqual(self.faults(text), [])
         self.assertIn("is a file of the repository", self.faults(block("a\n", "text", ' title="../it"'))[0])
 
+    def test_listed_files(self):
+        (self.root / "embed/it.c").write_text("int a;\n")
+        self.assertEqual(self.faults(block("int a;\n", "c", ' file="embed/it.c"')), [])
+        self.assertEqual(self.faults(block("int b;\n", "c", ' file="embed/it.c"'), write=True), ["page.md:3: differs from embed/it.c"])
+        self.assertIn("int a;", self.page.read_text(encoding="utf-8"))
+        self.assertEqual(self.faults(block("a\n", "c", ' file="embed/no.c"')), ["page.md:3: no file embed/no.c"])
+
     def test_kinds(self):
         self.assertEqual(self.faults(block("a\n", "")), ["page.md:3: nothing says what this block is"])
         self.assertEqual(self.faults(block("a\n", "pearl")), ["page.md:3: pearl says what this block is"])
