@@ -14,7 +14,8 @@ The word after the three backticks says what a block is:
   yaml, json, groovy, text   anything else
 
 `title="NAME"` makes a file of the block, in a folder that all blocks of a page
-share. `needs="NAME"` skips a block where no program has the name; the name
+share. `file="PATH"` says that the block is a file of the repository, which other
+tests compile. `needs="NAME"` skips a block where no program has the name; the name
 `library` is build/x86_64/libr2u2.a, `libr2u2.so` the shared object of build/.
 """
 
@@ -210,6 +211,9 @@ class Session:
 
     def faults(self, block: Block) -> Iterator[str]:
         """What is wrong with a block, each as a text."""
+        if "file" in block.marks:
+            yield from same_as_file(block, self.place.root / block.marks["file"])
+            return
         need = next((it for it in block.marks.get("needs", "").split() if not self.place.has(it)), None)
         programs = all(self.place.programs.values())
         if need or (not programs and block.kind in ("console", "c2po", "csv")):
@@ -257,6 +261,16 @@ def runnable(block: Block) -> Iterator[str]:
         word = line.split()[0] if line.split() else "#"
         if not word.startswith("#") and not any(it in line for it in UNTRIED):
             yield f"belongs into a block of console: {line}"
+
+
+def same_as_file(block: Block, file: Path) -> Iterator[str]:
+    """Whether a block is a file of the repository; the block gets the file's text."""
+    if not file.is_file():
+        yield f"no file {block.marks['file']}"
+        return
+    block.shown = file.read_text(encoding="utf-8")
+    if block.shown != block.text:
+        yield f"differs from {block.marks['file']}"
 
 
 def strange(block: Block) -> Iterator[str]:

@@ -38,7 +38,7 @@ class Man(Case):
             self.assertEqual(shell('groff -Tutf8 -mdoc -ww "$PAGE" >/dev/null', PAGE=page), (0, "", ""), name)
 
     def test_see_also(self):
-        """A page that another one refers to refers back."""
+        """A page that another one refers to refers back; the four of the programs and formats do as they like."""
         seen = {}
         for page in sorted((ROOT / "docs/man").glob("*.[1-9]")):
             also = page.read_text(encoding="utf-8").partition(".Sh SEE ALSO")[2]
@@ -46,5 +46,5 @@ class Man(Case):
         for page, others in seen.items():
             self.assertTrue(others, page)
             for other in others & set(seen):
-                if not (page.startswith("r2u2-") and other in ("r2u2.1", "c2po.1")):
+                if not (page.startswith("r2u2-") and other in ("r2u2.1", "c2po.1", "r2u2.3", "c2po.5")):
                     self.assertIn(page, seen[other], f"{other} doesn't refer to {page}")
