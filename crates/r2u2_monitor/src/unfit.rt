@@ -6,15 +6,21 @@ ghost use Rattle.trace_feed.specs.declared.fields.Reading.{Reading as Way};
 ghost use Rattle.trace_feed.specs.Readings.{AreReadings, readings_of};
 ghost use Rattle.r2u2_monitor.specs.RowFaults.{CanHold, FitsColumn, IsFirstUnfit, IsUnfitAt};
 
+use booleanizer::is_fit;
 use obs_verify::Checked;
 use trace_feed::{Reading, Readings};
 
-/// The first column from which the numbers aren't a row of the program. None where they are one.
+/// Returns the first column from which the numbers aren't a row of the program, or `None` where they are one.
+///
+/// A row that fits is found by the instructions alone, which read few of many columns.
 pub(crate) fn unfit_column(checked: &Checked, readings: &Readings, row: &[i64]) -> Option<u32>
     requires { readings.now ≡ readings_of checked.now }
     ensures { MatchOption result
         (IsFit checked.now row.now) (λ column. IsUnfitAt checked.now row.now column) }
 {
+    if is_fit(checked, row) {
+        return None;
+    }
     let width = checked.program().width;
     if row.len() < (width as usize) {
         Some(row.len() as u32)
