@@ -108,6 +108,12 @@ class C2po(Converted):
         self.assertEqual(self.run_it("from-c2po", text, status=1)[1], [
             "line 2: atomic checkers: compare in the formula", "line 3: enumerations: define a number for each name"])
 
+    def test_numbers_that_change(self):
+        text = "INPUT a: bool; FTSPEC a;\nF[0,3] G a;\nb: a;\nG[0,2] a;\n"
+        told = self.run_it("from-c2po", text, status=1)[1]
+        self.assertEqual(told, ["convert: from line 4 on, formulas without a label go by lower numbers, since one before isn't taken",
+                                "line 2: G over the mission time: --mission N gives it a number"])
+
     def test_mission_time(self):
         text = "INPUT a: bool; FTSPEC f: G[0,M] a; g: F a; PTSPEC h: H a;\n"
         out = self.run_it("from-c2po", text, "--mission", "99")[0]
