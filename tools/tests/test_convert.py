@@ -7,8 +7,9 @@ import json
 import random
 import shutil
 import subprocess
+import sys
 
-from support import ROOT, Case, program, shell, tool
+from support import ROOT, TOOLS, Case, program, shell, tool
 
 ARBITER = """-- an arbiter
 STRUCT Request: { state: int; };
@@ -287,8 +288,14 @@ class Verdicts(Case):
         self.assertEqual(self.made("to-csv", "--spec", spec, give="shut:0,T\n"), "time,filling,shut\n0,,T\n")
 
     def test_rows_come_as_soon_as_they_are_complete(self):
-        line = '(printf "shut:0,T\\nfilling:0,T\\n"; sleep 5) | "$TOOLS/convert" to-csv --spec "$SPEC" | (read -t 4 head; read -t 4 row; echo "$row")'
-        self.assertEqual(shell(line, SPEC=ROOT / "examples/valves.c2po")[1], "0,T,T\n")
+        words = [sys.executable, str(TOOLS / "convert"), "to-csv", "--spec", str(ROOT / "examples/valves.c2po")]
+        child = subprocess.Popen(words, stdin=subprocess.PIPE, stdout=subprocess.PIPE, encoding="utf-8")
+        self.addCleanup(child.stdout.close)
+        child.stdin.write("shut:0,T\nfilling:0,T\n")
+        child.stdin.flush()
+        self.assertEqual([child.stdout.readline(), child.stdout.readline()], ["time,filling,shut\n", "0,T,T\n"])
+        child.stdin.close()
+        self.assertEqual(child.wait(), 0)
 
     def test_json(self):
         told = [json.loads(line) for line in self.made("to-json", "--rate", "10").splitlines()]
