@@ -7,8 +7,9 @@ import json
 import random
 import shutil
 import subprocess
+import sys
 
-from support import ROOT, Case, program, shell, tool
+from support import ROOT, TOOLS, Case, program, shell, tool
 
 ARBITER = """-- an arbiter
 STRUCT Request: { state: int; };
@@ -107,6 +108,12 @@ class C2po(Converted):
         text = "INPUT a: bool;\nATOMIC a0 := rate(a) < 3;\nENUM Mode: { ON, OFF };\nFTSPEC f: a;\n"
         self.assertEqual(self.run_it("from-c2po", text, status=1)[1], [
             "line 2: atomic checkers: compare in the formula", "line 3: enumerations: define a number for each name"])
+
+    def test_numbers_that_change(self):
+        text = "INPUT a: bool; FTSPEC a;\nF[0,3] G a;\nb: a;\nG[0,2] a;\n"
+        told = self.run_it("from-c2po", text, status=1)[1]
+        self.assertEqual(told, ["convert: from line 4 on, formulas without a label go by lower numbers, since one before isn't taken",
+                                "line 2: G over the mission time: --mission N gives it a number"])
 
     def test_mission_time(self):
         text = "INPUT a: bool; FTSPEC f: G[0,M] a; g: F a; PTSPEC h: H a;\n"
@@ -281,8 +288,14 @@ class Verdicts(Case):
         self.assertEqual(self.made("to-csv", "--spec", spec, give="shut:0,T\n"), "time,filling,shut\n0,,T\n")
 
     def test_rows_come_as_soon_as_they_are_complete(self):
-        line = '(printf "shut:0,T\\nfilling:0,T\\n"; sleep 5) | "$TOOLS/convert" to-csv --spec "$SPEC" | (read -t 4 head; read -t 4 row; echo "$row")'
-        self.assertEqual(shell(line, SPEC=ROOT / "examples/valves.c2po")[1], "0,T,T\n")
+        words = [sys.executable, str(TOOLS / "convert"), "to-csv", "--spec", str(ROOT / "examples/valves.c2po")]
+        child = subprocess.Popen(words, stdin=subprocess.PIPE, stdout=subprocess.PIPE, encoding="utf-8")
+        self.addCleanup(child.stdout.close)
+        child.stdin.write("shut:0,T\nfilling:0,T\n")
+        child.stdin.flush()
+        self.assertEqual([child.stdout.readline(), child.stdout.readline()], ["time,filling,shut\n", "0,T,T\n"])
+        child.stdin.close()
+        self.assertEqual(child.wait(), 0)
 
     def test_json(self):
         told = [json.loads(line) for line in self.made("to-json", "--rate", "10").splitlines()]

@@ -494,9 +494,9 @@ class Real(Pictures):
     def test_the_recipe_of_the_examples(self):
         """The command that the page of examples gives makes the picture that it shows."""
         text = (ROOT / "examples/README.md").read_text(encoding="utf-8")
-        recipes = re.findall(r"^tools/timeline .*-o (\S+\.svg) .*$", text, re.M)
+        recipes = re.findall(r"^\$ (tools/timeline .*-o \S+\.svg .*)$", text, re.M)
         self.assertTrue(recipes)
-        for line in re.findall(r"^tools/timeline .*\.svg .*$", text, re.M):
+        for line in recipes:
             name = re.search(r"-o (\S+)", line)[1]
             line = line.replace(f"-o {name}", '-o "$OUT"').replace("build/r2u2", '"$R2U2"')
             names = {"OUT": self.folder / name, "R2U2": program("r2u2")}

@@ -358,6 +358,18 @@ class Importer:
         return [(item.line, item.why) for item in self.items if item.why]
 
 
+    def renumbered(self) -> int:
+        """Returns the line of the first formula that goes by its number and has another one now, or 0."""
+        lost = False
+        for item in self.items:
+            if item.tokens and item.section in ("FTSPEC", "PTSPEC"):
+                labelled = len(item.tokens) > 1 and item.tokens[1].text == ":"
+                if lost and not item.why and not labelled:
+                    return item.line
+                lost |= bool(item.why)
+        return 0
+
+
 def refusal_of(text: str) -> tuple[int, str]:
     """Returns the line and the reason for which c2po refuses a text; no reason where it doesn't."""
     with tempfile.TemporaryDirectory() as folder:

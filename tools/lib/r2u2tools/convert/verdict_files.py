@@ -7,10 +7,11 @@ import json
 from collections import deque
 from dataclasses import dataclass, field
 from fractions import Fraction
-from typing import BinaryIO, Iterator, Optional, TextIO
+from typing import BinaryIO, Iterator, Optional
 
 from r2u2tools.common.cli import Trouble
 from r2u2tools.common.verdict_lines import Reader
+from r2u2tools.telemetry.output import Output
 
 # Of each word the value of a wire, and the text that a viewer shows beside it.
 WIRES = {"T": "1", "verified": "1", "F": "0", "invalid": "0", "inactive": "z", None: "x"}
@@ -52,7 +53,7 @@ def code(number: int) -> str:
             return text
 
 
-def to_vcd(file: BinaryIO, out: TextIO, names: list[str], rate: Optional[Fraction]) -> None:
+def to_vcd(file: BinaryIO, out: Output, names: list[str], rate: Optional[Fraction]) -> None:
     """Writes a dump: a wire for each output, 1 where it is true or verified, z where inactive, x where undecided."""
     outputs, found, after = changes(file, names)
     step = Fraction(NANOSECONDS) / rate if rate else Fraction(1)
@@ -70,7 +71,7 @@ def to_vcd(file: BinaryIO, out: TextIO, names: list[str], rate: Optional[Fractio
     out.write(f"#{round(after * step)}\n")
 
 
-def to_csv(file: BinaryIO, out: TextIO, names: list[str], rate: Optional[Fraction]) -> None:
+def to_csv(file: BinaryIO, out: Output, names: list[str], rate: Optional[Fraction]) -> None:
     """Writes a line for each row with the words of all outputs, empty where undecided; a row is written once all have it."""
     table = Table(names)
     writer = csv.writer(out, lineterminator="\n")
@@ -117,14 +118,13 @@ class Table:
         return it.stretches[0][1] if it.stretches else ""
 
 
-def to_json(file: BinaryIO, out: TextIO, _names: list[str], rate: Optional[Fraction]) -> None:
+def to_json(file: BinaryIO, out: Output, _names: list[str], rate: Optional[Fraction]) -> None:
     """Writes an object for each stretch of times with one word, as the lines come."""
     for name, first, last, word in Reader().stretches(file):
         kept: dict[str, object] = {"output": name, "from": first, "to": last, "word": word}
         if rate is not None:
             kept |= {"seconds": float(first / rate)}
-        out.write(json.dumps(kept) + "\n")
-        out.flush()
+        out.line(json.dumps(kept))
 
 
 WRITERS = {"vcd": to_vcd, "csv": to_csv, "json": to_json}

@@ -34,10 +34,14 @@ class Output:
             raise told_os(self.path, "write", fault) from None
         return self
 
-    def line(self, text: str) -> None:
-        self.file.write(text + "\n")
+    def write(self, text: str) -> None:
+        """Writes a text, at once where the input comes from a pipe."""
+        self.file.write(text)
         if self.live:
             self.file.flush()
+
+    def line(self, text: str) -> None:
+        self.write(text + "\n")
 
     def keep(self) -> None:
         """The trace is whole."""

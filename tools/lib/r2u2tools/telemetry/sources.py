@@ -120,7 +120,7 @@ class Sources:
             raise
 
     def source(self, path: str) -> Any:
-        file: BinaryIO = opened(path)
+        file: Any = opened(path)
         self.files.append(file)
         self.stack.enter_context(file)
         try:

@@ -52,7 +52,7 @@ def packed(runs, first, last):
 
 
 def packed_told(lane, first, last):
-    """The rows that told: how often a step is repeated, how many times it tells, and how far after the last of them."""
+    """The deciding rows: how often a step is repeated, how many times it decides, and how far after the last of them."""
     out, step, count = bytearray(), None, 0
     for begin, end, row in lane.told.between(first, last):
         now = (end - begin + 1, row - end)

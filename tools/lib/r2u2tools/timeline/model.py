@@ -1,7 +1,11 @@
-"""What a timeline shows: columns of a trace, and outputs with their words and with the rows that told them."""
+"""What a timeline shows: columns of a trace, and outputs with their verdicts and with the rows that decided them."""
+
+from __future__ import annotations
 
 import re
 from bisect import bisect_left
+from dataclasses import dataclass, field
+from typing import Any, Optional
 
 from r2u2tools.common.cli import Trouble, opened
 from r2u2tools.common.progress import Progress
@@ -14,11 +18,11 @@ COMMENT = re.compile(r"--[^\n]*")
 class Watched:
     """A file that shows on a terminal how far it was read."""
 
-    def __init__(self, file, what):
+    def __init__(self, file: Any, what: str) -> None:
         self.file, self.what, self.bytes, self.progress = file, what, 0, Progress()
 
-    def read1(self, size):
-        block = getattr(self.file, "read1", self.file.read)(size)
+    def read1(self, size: int) -> bytes:
+        block: bytes = getattr(self.file, "read1", self.file.read)(size)
         self.bytes += len(block)
         if block:
             self.progress.tell(f"{self.what}: {self.bytes / 1e6:,.1f} MB")
@@ -29,63 +33,75 @@ class Watched:
     read = read1
 
 
+@dataclass
 class Lane:
-    """One output: its words by time, and of each time the row with which its word was told."""
+    """One output: its words by time, and of each time the row with which the word was printed."""
 
-    def __init__(self, name):
-        self.name, self.words, self.told, self.text = name, Runs(), Runs(whole=True), ""
+    name: str
+    words: Any = field(default_factory=Runs)
+    told: Any = field(default_factory=lambda: Runs(whole=True))
+    text: str = ""
 
-    def delay(self, first, last):
-        """The least and the greatest number of rows from a time in a stretch to the row that told it."""
+    def delay(self, first: int, last: int) -> Optional[tuple[int, int]]:
+        """Returns the least and the greatest number of rows from a time in a stretch to the row that decided it."""
         found = [(row - end, row - begin) for begin, end, row in self.told.between(first, last)]
         return (min(low for low, _ in found), max(high for _, high in found)) if found else None
 
 
 class Column:
-    """One column of the trace: a truth or whole numbers or a text, as runs of fields."""
+    """One column of the trace, of Booleans, integers or texts, as runs of fields."""
 
-    def __init__(self, name, runs, kind):
+    def __init__(self, name: str, runs: Any, kind: Optional[str]) -> None:
         self.name, self.runs = name, runs
         self.kind = kind or ("bool" if set(runs.values) <= {"0", "1"} else "int")
 
 
+@dataclass
 class Model:
-    def __init__(self):
-        self.columns, self.lanes, self.stamps = [], {}, None
-        self.first, self.last, self.title = 0, -1, ""
-        # Units of columns by name, rows of a second, and the command that explains a verdict, all where they are known.
-        self.units, self.rate, self.why = {}, None, None
+    """All that a picture or a page has, and the times that it shows."""
 
-    def take_spec(self, spec):
-        """The outputs of a specification in their order, with the texts of their requirements."""
+    columns: list[Column] = field(default_factory=list)
+    lanes: dict[str, Lane] = field(default_factory=dict)
+    stamps: Any = None
+    first: int = 0
+    last: int = -1
+    title: str = ""
+    # Units of columns by name, rows of a second, and the command that explains a verdict, where they are known.
+    units: dict[str, str] = field(default_factory=dict)
+    rate: Optional[float] = None
+    why: Optional[str] = None
+
+    def take_spec(self, spec: Any) -> None:
+        """Adds the outputs of a specification in their order, with the texts of their requirements."""
         for output in spec.outputs:
             lane = self.lane(output.name)
             if output.body and not spec.is_program():
-                lane.text = " ".join(COMMENT.sub(" ", spec.text[output.body[0].start : output.body[-1].end]).split())
+                text = spec.text[output.body[0].start : output.body[-1].end]
+                lane.text = " ".join(COMMENT.sub(" ", text).split())
 
-    def lane(self, name):
+    def lane(self, name: str) -> Lane:
         if name not in self.lanes:
             self.lanes[name] = Lane(name)
         return self.lanes[name]
 
-    def times(self):
+    def times(self) -> int:
         return self.last - self.first + 1
 
-    def axis(self):
-        """What the axis counts."""
+    def axis(self) -> str:
+        """Returns what the axis counts."""
         return "row" if self.stamps is None else "time"
 
 
-def kind_of(signals, name, k):
-    """The name and the kind of a column, as a specification gives them."""
+def kind_of(signals: Optional[list[Any]], name: str, k: int) -> tuple[str, Optional[str]]:
+    """Returns the name and the kind of a column, as a specification gives them."""
     for signal in signals or []:
         if signal.name == name or name == f"column {k}" and signal.column == k:
             return signal.name, signal.kind
     return name, None
 
 
-def watched_trace(path, signals):
-    """The columns of a trace, all of them, or those of signals in their order."""
+def watched_trace(path: str, signals: Optional[list[Any]]) -> Any:
+    """Returns the columns of a trace, all of them, or those of signals in their order."""
     wanted = None if signals is None else [signal.name for signal in signals]
     columns = None if signals is None else [signal.column for signal in signals]
     try:
@@ -96,8 +112,8 @@ def watched_trace(path, signals):
         raise Trouble(text if text.startswith("cannot") else f"{path}: {text}") from None
 
 
-def take_trace(model, path, signals, every):
-    """The columns: those of the signals of a specification, or with `every` all that the trace has."""
+def take_trace(model: Model, path: str, signals: Optional[list[Any]], every: bool) -> None:
+    """Adds the columns: those of the signals of a specification, or with `every` all that the trace has."""
     trace = watched_trace(path, None if every else signals)
     for k, (name, runs) in enumerate(zip(trace.names, trace.columns)):
         known, kind = kind_of(signals, name, k)
@@ -106,12 +122,12 @@ def take_trace(model, path, signals, every):
     model.last = max(model.last, trace.times - 1)
 
 
-def take_lines(model, file, what="", ticks=None):
-    """The words of all lines. Where an output `ticks` is told with each row, it shows with which row the others were."""
-    waiting = []
-    for name, first, last, word in Reader(what).stretches(Watched(file, "reading verdicts")):
+def take_lines(model: Model, file: Any, what: str = "", ticks: Optional[str] = None) -> None:
+    """Adds the words of all lines. Where an output `ticks` has a line with each row, it shows which row decided the others."""
+    waiting: list[tuple[Lane, int]] = []
+    for name, _, last, word in Reader(what).stretches(Watched(file, "reading verdicts")):
         if name == ticks:
-            row = told_with(model, last)
+            row = decided_by(model, last)
             for lane, end in waiting:
                 lane.told.add(end, row)
             waiting.clear()
@@ -124,15 +140,15 @@ def take_lines(model, file, what="", ticks=None):
             model.last = last
 
 
-def told_with(model, row):
-    """The time of the line of the trace that brings a row: in a gap between stamps it is the next stamp."""
+def decided_by(model: Model, row: int) -> int:
+    """Returns the time of the line of the trace that brings a row: in a gap between stamps it is the next stamp."""
     if model.stamps is None:
         return row
     k = bisect_left(model.stamps, row)
-    return model.stamps[k] if k < len(model.stamps) else row
+    return int(model.stamps[k]) if k < len(model.stamps) else row
 
 
-def cut_to(model, first, last):
+def cut_to(model: Model, first: Optional[int], last: Optional[int]) -> None:
     """Shows a stretch of times alone."""
     model.first = max(model.first, first or 0)
     if last is not None:

@@ -1,4 +1,4 @@
-"""A run of r2u2 for a timeline: over the same trace, with one output more that is told with every row."""
+"""A run of r2u2 for a timeline: over the same trace, with one output more, which has a line with every row."""
 
 import shlex
 import sys

@@ -21,7 +21,7 @@ MEANINGS = {
     "verified": "verified",
     None: "undecided",
 }
-# Which word a dot shows that stands for several: the last of these.
+# The word that a dot with several shows: the last of these.
 GRAVEST = {word: rank for rank, word in enumerate(("inactive", "T", "verified", None, "F", "invalid"))}
 SQUARE, LANE, GAP, EDGE, MARK = 26, 24, 8, 12, 14
 LETTER = 7.8
@@ -35,7 +35,7 @@ def plain(number):
 
 
 def step_of(times, dots, apart=64):
-    """The distance of labels on an axis: 1, 2 or 5 with zeros, so that they stand apart."""
+    """The distance of labels on an axis: 1, 2 or 5 with zeros, so that they don't touch."""
     step = 1
     while step * dots / max(times, 1) < apart:
         step = step * 2 if str(step)[0] in "15" else step * 5 // 2
@@ -88,7 +88,7 @@ class Sheet:
         self.top += GAP
 
     def dots(self, runs, rank):
-        """Of each dot the values of the highest and of the lowest rank that it stands for, as runs of dots."""
+        """Of each dot the values of the highest and of the lowest rank in it, as runs of dots."""
         first, last, cell = self.model.first, self.model.last, self.cell
         ranks = {}
         most, least = [None] * WIDE, [None] * WIDE
@@ -133,7 +133,7 @@ def widest(model):
 
 
 def draw_level(sheet, column):
-    """A column of truths, as a line that is high where it is 1."""
+    """A column of Booleans, as a line that is high where it is 1."""
     sheet.name(column.name)
     high, low = sheet.top + 5, sheet.top + LANE - 5
     if not sheet.squares:
@@ -149,7 +149,7 @@ def draw_level(sheet, column):
 
 
 def draw_dense_level(sheet, column, high, low):
-    """The same of a long trace: a dot that stands for both truths is filled."""
+    """The same of a long trace: a dot with both values is filled."""
     path = []
     for begin, end, (most, least) in sheet.dots(column.runs, lambda value: value == "1"):
         if most is None:
@@ -232,7 +232,7 @@ def draw_lane(sheet, lane):
 
 
 def draw_bar(sheet, begin, end, most, least):
-    """Dots of one word; or of several, of which the gravest stands above the least grave."""
+    """Dots of one word; or of several, of which the gravest is above the least grave."""
     text, fill, ink = LOOKS[most]
     x, wide = sheet.left + begin, end - begin
     dash = ' stroke="#8a96a3" stroke-dasharray="3 2"' if most is None else ""
@@ -244,7 +244,7 @@ def draw_bar(sheet, begin, end, most, least):
 
 
 def draw_marks(sheet, lane):
-    """A dot at each row that told a word, and a line to it from the time of the word."""
+    """A dot at each row that decided a word, and a line to it from the time of the word."""
     if not len(lane.told):
         return
     model = sheet.model
