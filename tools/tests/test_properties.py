@@ -1,6 +1,6 @@
 """Properties over what hypothesis makes, under an interpreter that has it.
 
-R2U2_QUESTIONS is how many questions `why` is asked, by default 50.
+R2U2_QUESTIONS is how many questions `why` is asked, by default 40.
 """
 
 import os

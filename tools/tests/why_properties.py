@@ -16,7 +16,7 @@ from r2u2tools.why.part_verdicts import FALSE, TRUE
 from r2u2tools.why.sentences import Sentences
 from r2u2tools.why.trace_window import Cells
 
-QUESTIONS = int(os.environ.get("R2U2_QUESTIONS", "50"))
+QUESTIONS = int(os.environ.get("R2U2_QUESTIONS", "40"))
 CHANGES, AHEAD = 3, 25
 NAMES = list(specs.SIGNALS)
 # Of numbers that are compared otherwise than with constants it may stay open whether a cell is needed: as that of y is in

@@ -110,7 +110,9 @@ def with_outputs(given: Spec, asked: dict[str, str], folder: FilePath) -> Option
         if not told or not 0 <= int(told[1]) - first < len(left):
             return None
         formula = list(left)[int(told[1]) - first]
-        if told[2] == "mixed tense" and formula not in turned:
+        if told[2] == "expansion too large":
+            left = dict(list(left.items())[: int(told[1]) - first])
+        elif told[2] == "mixed tense" and formula not in turned:
             turned.add(formula)
             left[formula] = "PTSPEC" if left[formula] == "FTSPEC" else "FTSPEC"
         else:

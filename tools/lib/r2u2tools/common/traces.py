@@ -4,12 +4,17 @@ A trace of a million rows is kept in little memory where its fields stay the
 same for long, and a gap of millions of stamps takes no time.
 """
 
+from __future__ import annotations
+
 import csv
 from array import array
 from bisect import bisect_left
+from pathlib import Path
+from typing import IO, Any, Iterator, Optional, Sequence, Union
 
-from r2u2tools.common.streams import lines_of
 from r2u2tools.common.cli import Trouble, opened
+from r2u2tools.common.specs import Signal
+from r2u2tools.common.streams import lines_of
 
 LONGEST = 65536
 LATEST = 1 << 40
@@ -19,10 +24,11 @@ MOST_KNOWN = 1 << 16
 class Runs:
     """Values over the times from `first` on: each holds up to its own last time."""
 
-    def __init__(self, first=0, whole=False):
-        self.first, self.lasts, self.values = first, array("Q"), array("Q") if whole else []
+    def __init__(self, first: int = 0, whole: bool = False) -> None:
+        self.first, self.lasts = first, array("Q")
+        self.values: Any = array("Q") if whole else []
 
-    def add(self, last, value):
+    def add(self, last: int, value: Any) -> None:
         """The value of all times after those told before, up to `last`; an equal one goes on."""
         if self.values and self.values[-1] == value:
             self.lasts[-1] = last
@@ -30,21 +36,21 @@ class Runs:
             self.lasts.append(last)
             self.values.append(value)
 
-    def end(self):
+    def end(self) -> int:
         """The first time that has no value."""
         return self.lasts[-1] + 1 if self.lasts else self.first
 
-    def __len__(self):
+    def __len__(self) -> int:
         return len(self.lasts)
 
-    def __iter__(self):
+    def __iter__(self) -> Iterator[tuple[int, int, Any]]:
         """First time, last time and value of each run."""
         first = self.first
         for last, value in zip(self.lasts, self.values):
             yield first, last, value
             first = last + 1
 
-    def between(self, first, last):
+    def between(self, first: int, last: int) -> Iterator[tuple[int, int, Any]]:
         """The runs that meet a stretch of times, cut to it."""
         for k in range(bisect_left(self.lasts, first), len(self.lasts)):
             begin = self.lasts[k - 1] + 1 if k else self.first
@@ -52,7 +58,7 @@ class Runs:
                 return
             yield max(begin, first), min(self.lasts[k], last), self.values[k]
 
-    def at(self, time):
+    def at(self, time: int) -> Any:
         """The value at a time, or None."""
         k = bisect_left(self.lasts, time)
         return self.values[k] if k < len(self.lasts) and time >= self.first else None
@@ -61,17 +67,20 @@ class Runs:
 class Trace:
     """The columns of a trace by name, how many times it has, and its stamps where it has some."""
 
-    def __init__(self):
-        self.names, self.columns, self.times, self.stamps = [], [], 0, None
+    def __init__(self) -> None:
+        self.names: list[str] = []
+        self.columns: list[Runs] = []
+        self.times = 0
+        self.stamps: Optional[array[int]] = None
 
 
-def header_of(line):
+def header_of(line: bytes) -> list[str]:
     """The names of a header, which is one record of CSV after its sign."""
     text = line[1:].decode("utf-8", "replace").rstrip("\r\n")
     return [name.strip(" \t") for name in next(csv.reader([text]), [""])]
 
 
-def stamp_of(line, number):
+def stamp_of(line: bytes, number: int) -> tuple[int, bytes]:
     """The time of a stamped row, and its rest."""
     stamp, _, rest = line.partition(b",")
     if not stamp[1:].isdigit() or int(stamp[1:]) >= LATEST:
@@ -82,20 +91,23 @@ def stamp_of(line, number):
 class Filler:
     """Takes rows, and ends the runs of those columns that change."""
 
-    def __init__(self, places):
+    def __init__(self, places: Sequence[int]) -> None:
         self.places = places
         self.columns = [Runs() for _ in places]
-        self.row, self.fields, self.time, self.stamps = None, None, -1, None
+        self.row: Optional[bytes] = None
+        self.fields: Optional[list[str]] = None
+        self.time = -1
+        self.stamps: Optional[array[int]] = None
         # Equal fields as one text, so that a long trace takes little memory.
-        self.known = {}
+        self.known: dict[bytes, str] = {}
 
-    def close(self, last):
+    def close(self, last: int) -> None:
         """The fields of the row before hold up to this time."""
         if self.fields is not None:
             for column, field in zip(self.columns, self.fields):
                 column.add(last, field)
 
-    def take(self, number, line):
+    def take(self, number: int, line: bytes) -> None:
         if line[:1] == b"@":
             self.stamps = array("Q") if self.stamps is None else self.stamps
             time, line = stamp_of(line, number)
@@ -109,14 +121,14 @@ class Filler:
             self.row, self.fields = line, self.chosen(number, line)
         self.time = time
 
-    def chosen(self, number, line):
+    def chosen(self, number: int, line: bytes) -> list[str]:
         fields = line.split(b",")
         try:
             return [self.known.get(fields[place]) or self.text(fields[place]) for place in self.places]
         except IndexError:
             raise Trouble(f"line {number}: too few fields") from None
 
-    def text(self, raw):
+    def text(self, raw: bytes) -> str:
         """A field as a text, without blanks around it."""
         text = raw.decode("utf-8", "replace").strip(" \t\r")
         if len(self.known) < MOST_KNOWN:
@@ -124,7 +136,7 @@ class Filler:
         return text
 
 
-def places_of(names, wanted):
+def places_of(names: list[str], wanted: Optional[Sequence[str]]) -> list[int]:
     """Where the wanted columns stand; all, where none are named."""
     if wanted is None:
         return list(range(len(names)))
@@ -134,9 +146,10 @@ def places_of(names, wanted):
     return [names.index(name) for name in wanted]
 
 
-def filled(file, wanted, columns):
+def filled(file: IO[bytes], wanted: Optional[list[str]], columns: Optional[list[int]]) -> Trace:
     """The trace of a file. `wanted` are names of columns; without a header they stand at `columns`."""
-    trace, filler = Trace(), None
+    trace = Trace()
+    filler: Optional[Filler] = None
     for number, line in lines_of(file, LONGEST):
         if number == 1 and line[:1] == b"#":
             names = header_of(line)
@@ -146,7 +159,7 @@ def filled(file, wanted, columns):
             if filler is None:
                 width = line.count(b",") + 1 - (line[:1] == b"@")
                 trace.names = wanted if wanted is not None else [f"column {k}" for k in range(width)]
-                filler = Filler(columns if wanted is not None else list(range(width)))
+                filler = Filler(columns if columns is not None else list(range(width)))
             filler.take(number, line)
     if filler is not None:
         filler.close(filler.time)
@@ -154,7 +167,7 @@ def filled(file, wanted, columns):
     return trace
 
 
-def read_trace(path, signals=None):
+def read_trace(path: Union[str, Path], signals: Optional[Sequence[Signal]] = None) -> Trace:
     """The columns of a trace, all of them, or those of the signals of a specification in their order."""
     wanted = None if signals is None else [signal.name for signal in signals]
     columns = None if signals is None else [signal.column for signal in signals]

@@ -7,12 +7,12 @@ from dataclasses import dataclass
 from r2u2tools.budget.costs import PARTS, Costs
 from r2u2tools.compare.differences import Version
 
-KINDS = (*PARTS, "slots", "boxes", "delay", "steps")
+KINDS = (*PARTS, "slots", "boxes", "delay", "steps", "reports")
 
 
 @dataclass(frozen=True)
 class CostChange:
-    """A figure of the whole of both versions: instructions, slots, boxes, rows of delay, steps of a row."""
+    """A figure of the whole of both versions: instructions, slots, boxes, rows of delay, steps and reports of a row."""
 
     kind: str
     old: int
@@ -21,10 +21,11 @@ class CostChange:
 
 def figures(version: Version) -> dict[str, int]:
     costs = Costs(version.made, version.folder)
-    places = set(costs.all)
+    places, names = set(costs.all), list(costs.cones)
     found = {part: costs.count(places, part) for part in PARTS}
     found["slots"], found["boxes"] = costs.sizes(places, "ft"), costs.sizes(places, "pt")
-    found["delay"], found["steps"] = costs.delay(), costs.steps(places)
+    found["delay"], found["steps"] = max(map(costs.delay, names), default=0), costs.steps(places)
+    found["reports"] = sum(map(costs.reports, names))
     return found
 
 

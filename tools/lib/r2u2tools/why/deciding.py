@@ -15,8 +15,8 @@ from r2u2tools.common.program_text import Node
 from r2u2tools.why.part_verdicts import FALSE, TRUE, UNKNOWN, Part, Verdicts
 
 NEVER = float("inf")
-# Cells are left out one by one where that many steps are enough.
-MOST_WORK = 2_000_000
+# Derivations are tried again, and without single cells, while that many steps are enough for all together.
+MOST_WORK = 1_500_000
 Cell = tuple[str, int]
 # A choice: the time that a window picks, or which operand of a conjunction; None where there is none.
 Pick = Optional[int]
@@ -289,7 +289,7 @@ def derivation(verdicts: Verdicts, roots: Sequence[tuple[str, int]], rounds: int
     """A derivation of few cells: what many ways share becomes cheap, until there are no fewer; then none can be left out."""
     best = Derivation(verdicts, CellCosts())
     cells = best.choose(roots)
-    for _ in range(rounds):
+    for _ in range(min(rounds, MOST_WORK // best.size())):
         other = Derivation(verdicts, CellCosts(NEVER, {cell: 1.0 / ways for cell, ways in best.uses().items()}))
         fewer = other.choose(roots)
         if len(fewer) >= len(cells):
