@@ -26,12 +26,13 @@ import json
 import os
 import re
 import shutil
+import signal
 import subprocess
 import tempfile
 from pathlib import Path
 from typing import Dict, Iterator, List, Optional
 
-SECONDS = 120
+SECONDS = 240
 FENCE = re.compile(r"^( *)```(\w*)([^\n`]*)\n(.*?)^\1```[ \t]*$", re.S | re.M)
 KNOWN = {"console", "c2po", "csv", "c", "cpp", "python", "sh", "rattle", "antt", "yaml", "json", "groovy", "text"}
 # Commands that a test of two minutes can't run: they prove, build, install, or need other machines.
@@ -118,11 +119,16 @@ def run_commands(commands: List[List[str]], folder: Path, place: Place) -> List[
     environment.update({name.upper(): path for name, path in place.programs.items() if path})
     environment["PATH"] = f"{folder / '.bin'}:{environment.get('PATH', '')}"
     environment.update(LC_ALL="C.UTF-8", PYTHONDONTWRITEBYTECODE="1", COLUMNS="80")
-    ran = subprocess.run(
+    with subprocess.Popen(
         ["bash", "-c", "exec 2>&1\n" + script], cwd=folder, env=environment, stdin=subprocess.DEVNULL,
-        stdout=subprocess.PIPE, stderr=subprocess.STDOUT, encoding="utf-8", errors="replace", timeout=SECONDS,
-    )
-    parts = re.split(rf"\n{re.escape(MARK)}\d+\n", ran.stdout)[1:]
+        stdout=subprocess.PIPE, encoding="utf-8", errors="replace", start_new_session=True,
+    ) as ran:
+        try:
+            output = ran.communicate(timeout=SECONDS)[0]
+        except subprocess.TimeoutExpired:
+            os.killpg(ran.pid, signal.SIGKILL)
+            raise
+    parts = re.split(rf"\n{re.escape(MARK)}\d+\n", output)[1:]
     given = [part.rstrip("\n").split("\n") if part.strip("\n") else [] for part in parts]
     return given + [["(the shell ended before)"]] * (len(commands) - len(given))
 

@@ -13,6 +13,7 @@ sys.path.insert(0, str(DEV / "lib"))
 
 import blocks
 import drawings
+from r2u2tools.timeline import svg
 
 SPEC = "INPUT p: bool;\nFTSPEC f: p;\n"
 
@@ -106,6 +107,16 @@ class Drawings(unittest.TestCase):
                 self.assertGreaterEqual(contrast(colour(scheme, ".small", "fill"), colour(scheme, kind, "fill")), 4.5, kind)
             for kind in (".box", ".main", ".true", ".false", ".line"):
                 self.assertGreaterEqual(contrast(colour(scheme, kind, "stroke"), ground), 3, kind)
+
+
+class Timelines(unittest.TestCase):
+    def test_contrast(self):
+        """The same of the pictures of tools/timeline."""
+        for text, fill, ink in svg.LOOKS.values():
+            self.assertGreaterEqual(contrast(ink[1:], fill[1:]), 4.5, text)
+        for ground, faint, ink in (("ffffff", svg.FAINT[1:], svg.INK[1:]), ("0d1117", "a9b4c0", "e6edf3")):
+            self.assertGreaterEqual(contrast(ground, faint), 4.5)
+            self.assertGreaterEqual(contrast(ground, ink), 4.5)
 
 
 def colour(scheme, kind, name):

@@ -48,7 +48,7 @@ class Squares(Pictures):
         self.assertEqual(
             texts,
             ["granted: request -> F[0,3] grant", "request", "grant", "granted", *"TTFTTT", "row", *"012345"]
-            + ["T", "true", "F", "false", "told with this row"],
+            + ["T", "true", "F", "false", "printed with this row"],
         )
 
     def test_marks(self):
@@ -91,7 +91,7 @@ class Squares(Pictures):
         trace = self.file("trace", "# p\n@0,1\n@3,0\n@5,1\n")
         texts = self.texts("--trace", trace, "--ticks", "tick", give="tick:0,T\ntick:1,T\np:1,T\ntick:2,T\ntick:3,T\n")
         self.assertIn("time", texts)
-        self.assertIn("told with this time", texts)
+        self.assertIn("printed with this time", texts)
         model = Model()
         take_trace(model, trace, None, True)
         with self.file("lines", "tick:0,T\np:0,T\np:1,T\ntick:1,T\np:4,F\ntick:4,T\n").open("rb") as lines:
@@ -110,7 +110,7 @@ class Bars(Pictures):
         out = self.made("--trace", trace, lines)
         self.assertLess(len(out), 300000)
         self.assertIn("200,000"[:3], out)
-        red = [rect for rect in ElementTree.fromstring(out).iter(f"{SVG}rect") if rect.get("fill") == "#d1495b"]
+        red = [rect for rect in ElementTree.fromstring(out).iter(f"{SVG}rect") if rect.get("fill") == "#c93a4e"]
         self.assertEqual(len(red), 4 + 1)
 
     def test_numbers_where_there_is_room(self):
@@ -120,7 +120,7 @@ class Bars(Pictures):
     def test_every_f_is_seen(self):
         _, lines = self.long(1000)
         root = ElementTree.fromstring(self.made(self.file("lines", "f:499,T\nf:500,F\nf:99999,T\n")))
-        self.assertEqual(len([rect for rect in root.iter(f"{SVG}rect") if rect.get("fill") == "#d1495b"]), 1 + 1)
+        self.assertEqual(len([rect for rect in root.iter(f"{SVG}rect") if rect.get("fill") == "#c93a4e"]), 1 + 1)
         del lines
 
 

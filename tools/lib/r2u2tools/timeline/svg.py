@@ -7,11 +7,11 @@ from r2u2tools.common.cli import plain as printable
 # How a word is drawn: its short text, the colour of its square and of the text.
 LOOKS = {
     "T": ("T", "#2f74c0", "#ffffff"),
-    "F": ("F", "#d1495b", "#ffffff"),
-    "inactive": ("", "#c9d3de", "#3b4754"),
-    "invalid": ("✗", "#d1495b", "#ffffff"),
+    "F": ("F", "#c93a4e", "#ffffff"),
+    "inactive": ("–", "#c9d3de", "#3b4754"),
+    "invalid": ("✗", "#c93a4e", "#ffffff"),
     "verified": ("✓", "#2f74c0", "#ffffff"),
-    None: ("?", "#ffffff", "#8a96a3"),
+    None: ("?", "#ffffff", "#5f6b78"),
 }
 MEANINGS = {
     "T": "true",
@@ -27,6 +27,18 @@ SQUARE, LANE, GAP, EDGE, MARK = 26, 24, 8, 12, 14
 LETTER = 7.8
 SQUARES, WIDE, NARROWEST, LONGEST = 60, 1100, 8, 24
 INK, FAINT, GRID, PALE = "#1f2933", "#6b7785", "#d9dfe6", "#e8edf2"
+# The colours of a dark screen in place of those above, by element and attribute. Squares of words keep theirs.
+DARK = [
+    ('rect[fill="#ffffff"]', "fill:#0d1117"),
+    ('[fill="#1f2933"]', "fill:#e6edf3"),
+    ('[stroke="#1f2933"]', "stroke:#e6edf3"),
+    ('[fill="#6b7785"], text[fill="#5f6b78"]', "fill:#a9b4c0"),
+    ('[stroke="#6b7785"]', "stroke:#a9b4c0"),
+    ('[stroke="#d9dfe6"]', "stroke:#5b6b7c"),
+    ('[fill="#e8edf2"]', "fill:#2a3542"),
+    ('path[fill="#8593a3"]', "fill:#5b6b7c;stroke:#5b6b7c"),
+]
+STYLE = "<style>@media (prefers-color-scheme: dark){" + "".join(f"{what}{{{how}}}" for what, how in DARK) + "}</style>"
 
 
 def plain(number):
@@ -52,6 +64,8 @@ class Sheet:
         self.squares = model.times() <= SQUARES
         self.cell = max(SQUARE, widest(model)) if self.squares else WIDE / model.times()
         self.top, self.wide = EDGE, 0
+        # Whether a line goes to a row that isn't shown.
+        self.leaves = False
 
     def add(self, text):
         self.parts.append(text)
@@ -113,7 +127,7 @@ class Sheet:
             f'viewBox="0 0 {width:.0f} {height:.0f}" font-family="DejaVu Sans, Verdana, sans-serif">'
         )
         back = f'<rect width="{width:.0f}" height="{height:.0f}" rx="6" fill="#ffffff"/>'
-        return "\n".join([head, back, *self.parts, "</svg>", ""])
+        return "\n".join([head, STYLE, back, *self.parts, "</svg>", ""])
 
 
 def joined(found):
@@ -204,7 +218,7 @@ def draw_curve(sheet, column):
             lower.append(f"{right} {plain(y(values[kept[1]]))}H{left}")
     if upper:
         path = "M" + "L".join(upper + lower[::-1]) + "Z"
-        sheet.add(f'<path d="{path}" fill="#b9c4d0" stroke="#b9c4d0" stroke-width="1"/>')
+        sheet.add(f'<path d="{path}" fill="#8593a3" stroke="#8593a3" stroke-width="1"/>')
     for text, place in ((f"{most:g}", high + 7), (f"{least:g}", low)):
         sheet.text(sheet.right() + 4, place, text, FAINT, 9)
         sheet.wide = max(sheet.wide, sheet.right() + 4 + len(text) * 6)
@@ -212,7 +226,7 @@ def draw_curve(sheet, column):
 
 def draw_square(sheet, x, y, word, wide):
     text, fill, ink = LOOKS[word]
-    dash = ' stroke="#8a96a3" stroke-dasharray="3 2"' if word is None else ""
+    dash = ' stroke="#7b8794" stroke-dasharray="3 2"' if word is None else ""
     sheet.rect(x + 1, y, wide - 2, LANE, fill, f' rx="3"{dash}')
     if text:
         sheet.text(x + wide / 2, y + LANE / 2 + 4, text, ink, anchor="middle", weight=600)
@@ -235,7 +249,7 @@ def draw_bar(sheet, begin, end, most, least):
     """Dots of one word; or of several, of which the gravest is above the least grave."""
     text, fill, ink = LOOKS[most]
     x, wide = sheet.left + begin, end - begin
-    dash = ' stroke="#8a96a3" stroke-dasharray="3 2"' if most is None else ""
+    dash = ' stroke="#7b8794" stroke-dasharray="3 2"' if most is None else ""
     sheet.rect(x, sheet.top, wide, LANE, fill, dash)
     if most != least:
         sheet.rect(x, sheet.top + LANE / 2, wide, LANE / 2, LOOKS[least][1])
@@ -259,11 +273,12 @@ def draw_marks(sheet, lane):
     path, rows = [], set()
     for begin, end, row in lane.told.between(model.first, model.last):
         for time in range(begin, end + 1):
+            sheet.leaves = sheet.leaves or row > model.last
             foot = sheet.x(min(row, model.last + 0.5) + 0.5)
             path.append(f"M{plain(sheet.x(time + 0.5))} {plain(high)}L{plain(foot)} {plain(low)}")
         if row <= model.last:
             rows.add(row)
-    sheet.line("".join(path), "#8a96a3", 0.8)
+    sheet.line("".join(path), "#7b8794", 0.8)
     for row in sorted(rows):
         sheet.add(f'<circle cx="{plain(sheet.x(row + 0.5))}" cy="{plain(low)}" r="2.5" fill="{INK}"/>')
     sheet.top += MARK
@@ -303,10 +318,12 @@ def draw_legend(sheet):
     notes = []
     if marks and sheet.cell >= NARROWEST:
         sheet.add(f'<circle cx="{plain(x + 8)}" cy="{plain(sheet.top + LANE / 2)}" r="2.5" fill="{INK}"/>')
-        sheet.text(x + 16, sheet.top + LANE / 2 + 4, f"told with this {model.axis()}", FAINT)
-        x += 24 + 19 * 7
+        sheet.text(x + 16, sheet.top + LANE / 2 + 4, f"printed with this {model.axis()}", FAINT)
+        x += 24 + 22 * 7
     elif marks:
-        notes.append("+: rows until a word was told")
+        notes.append("+: rows until a verdict was printed")
+    if sheet.leaves:
+        notes.append("a line to the edge: printed later")
     if sheet.cell < 1:
         notes.append(f"a dot is {1 / sheet.cell:,.0f} rows: where their words differ, the gravest is above")
     text = "; ".join(notes)
