@@ -14,7 +14,7 @@ import urllib.request
 from pathlib import Path
 
 NAMES = ("chromium", "chromium-browser", "google-chrome")
-SECONDS = 30
+SECONDS = 60
 MIDDLE = """(() => {
   const it = document.querySelector(%s);
   it.scrollIntoView({block: "center", inline: "center"});

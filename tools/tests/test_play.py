@@ -142,8 +142,8 @@ class Server(Served):
 
 class Bounds(Case):
     def test_seconds(self):
-        before, runs.SECONDS = runs.SECONDS, 1
-        self.addCleanup(setattr, runs, "SECONDS", before)
+        before, runs.CLOCK = runs.CLOCK, 1
+        self.addCleanup(setattr, runs, "CLOCK", before)
         with self.assertRaisesRegex(Trouble, "more than 1 seconds"):
             runs.bounded(["sleep", "30"])
 

@@ -15,7 +15,8 @@ from r2u2tools.common.specs import MAGIC, read_spec
 from r2u2tools.common.verdict_lines import LONGEST, WORDS
 
 TOOLS = Path(__file__).resolve().parents[3]
-SECONDS, KILOBYTES = 10, 2_000_000
+# The seconds of the processor and of the clock, and the memory, of one run.
+SECONDS, CLOCK, KILOBYTES = 10, 30, 2_000_000
 MOST_OUTPUT = 8 << 20
 # How many runs go side by side.
 PLACES = threading.BoundedSemaphore(4)
@@ -39,11 +40,11 @@ def bounded(words: List[str], give: bytes = b"") -> Ran:
         given.seek(0)
         with subprocess.Popen(limited, stdin=given, stdout=out, stderr=errors) as child:
             try:
-                status = child.wait(SECONDS)
+                status = child.wait(CLOCK)
             except subprocess.TimeoutExpired:
                 child.kill()
                 child.wait()
-                raise Trouble(f"it took more than {SECONDS} seconds") from None
+                raise Trouble(f"it took more than {CLOCK} seconds") from None
         out.seek(0)
         errors.seek(0)
         lines = errors.read(1 << 16).decode("utf-8", "replace").strip().splitlines()
