@@ -7,6 +7,7 @@
 #                 make uninstall removes them
 # make docs       makes the pages into a site with search, build/site/index.html, where mkdocs and mkdocs-material are there
 # make dist       a tarball of all that `make install` installs, with the pages and checksums
+# make vscode     packs the extension for VS Code into build/
 # embed/embed.mk has the goals of the library for other languages: embed, check-embed, python, deb
 
 PREFIX ?= /usr/local
@@ -16,7 +17,7 @@ VERSION = $(shell cat VERSION)
 
 PROGRAMS = r2u2 c2po
 BUILT = $(PROGRAMS:%=build/%)
-TOOLS = budget compare convert probe timeline trace verdicts why
+TOOLS = budget check compare convert play probe timeline trace verdicts watch why
 NAMES = $(PROGRAMS) $(TOOLS:%=r2u2-%)
 
 INTO = $(DESTDIR)$(PREFIX)
@@ -24,12 +25,14 @@ BASH = $(INTO)/share/bash-completion/completions
 ZSH = $(INTO)/share/zsh/site-functions
 FISH = $(INTO)/share/fish/vendor_completions.d
 VIM = $(INTO)/share/vim/vimfiles
+EMACS = $(INTO)/share/emacs/site-lisp
 SHARED = $(INTO)/share/r2u2
+VIM_FOLDERS = autoload compiler ftdetect ftplugin syntax
 
 # All lines of a script but those of cases whose names end in (long); an empty line ends a case.
 SHORT_CASES = /^case .*\(long\)$$/ { long = 1 } !long; /^$$/ { long = 0 }
 
-.PHONY: all try test check docs dist install uninstall built built-programs clean $(PROGRAMS)
+.PHONY: all try test check docs dist install uninstall built built-programs clean vscode $(PROGRAMS)
 .NOTPARALLEL:
 
 # As many proofs side by side as there are processors.
@@ -87,7 +90,7 @@ dist:
 	@echo build/$(DIST).tar.gz
 
 install: built
-	install -d $(INTO)/bin $(INTO)/share/man/man1 $(INTO)/share/man/man5 $(SHARED)/tools/lib $(SHARED)/vscode $(BASH) $(ZSH) $(FISH) $(VIM)/syntax $(VIM)/ftdetect
+	install -d $(INTO)/bin $(INTO)/share/man/man1 $(INTO)/share/man/man5 $(SHARED)/tools/lib $(SHARED)/vscode $(BASH) $(ZSH) $(FISH) $(VIM_FOLDERS:%=$(VIM)/%) $(EMACS)
 	install -m 755 $(BUILT) $(INTO)/bin
 	install -m 755 $(TOOLS:%=tools/%) $(SHARED)/tools
 	cd tools && find lib -name '*.*' -type f ! -name '*.pyc' -exec install -D -m 644 '{}' '$(abspath $(SHARED))/tools/{}' ';'
@@ -99,15 +102,20 @@ install: built
 	install -m 644 completions/_r2u2 $(ZSH)
 	install -m 644 completions/r2u2.fish $(FISH)
 	for name in $(filter-out r2u2,$(NAMES)); do ln -sf r2u2.fish $(FISH)/$$name.fish; done
-	install -m 644 editors/vim/syntax/c2po.vim $(VIM)/syntax
-	install -m 644 editors/vim/ftdetect/c2po.vim $(VIM)/ftdetect
+	for part in $(VIM_FOLDERS); do install -m 644 editors/vim/$$part/c2po.vim $(VIM)/$$part; done
+	install -m 644 editors/emacs/c2po-mode.el $(EMACS)
+	install -D -m 644 docs/reference/messages.md $(SHARED)/docs/reference/messages.md
+	cd examples && find . '(' -name '*.c2po' -o -name '*.csv' ')' -type f -exec install -D -m 644 '{}' '$(abspath $(SHARED))/examples/{}' ';'
 	cp -R editors/vscode/. $(SHARED)/vscode
 	sed "s/\"version\": \"0.0.0\"/\"version\": \"$(VERSION)\"/" editors/vscode/package.json > $(SHARED)/vscode/package.json
 
 uninstall:
 	rm -f $(NAMES:%=$(INTO)/bin/%) $(NAMES:%=$(INTO)/share/man/man1/%.1) $(INTO)/share/man/man5/c2po.5 $(NAMES:%=$(BASH)/%) $(NAMES:%=$(FISH)/%.fish)
-	rm -f $(ZSH)/_r2u2 $(VIM)/syntax/c2po.vim $(VIM)/ftdetect/c2po.vim
+	rm -f $(ZSH)/_r2u2 $(VIM_FOLDERS:%=$(VIM)/%/c2po.vim) $(EMACS)/c2po-mode.el
 	rm -rf $(SHARED)
+
+vscode:
+	dev/vscode
 
 clean:
 	rm -rf build

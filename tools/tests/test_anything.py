@@ -72,6 +72,17 @@ class Anything(Case):
         self.tried("timeline", 6, (ROOT / "examples/requests.c2po").read_bytes(), lines, "--spec")
         self.tried("timeline", 7, b"MLTL\x02\x00\x00\x00" + bytes(range(60)), lines, "--spec")
 
+    def test_check(self):
+        text = (ROOT / "examples/arbiter.c2po").read_bytes()
+        self.tried("check", 8, text)
+        self.tried("check", 9, text, "--sarif")
+        self.tried("check", 10, text, "--format", "--diff")
+
+    def test_watch(self):
+        rows = (ROOT / "examples/stamped.csv").read_bytes()
+        self.tried("watch", 11, rows, "--timed", "--on-false", "true", ROOT / "examples/requests.c2po")
+        self.tried("watch", 12, (ROOT / "examples/grant.c2po").read_bytes())
+
     def test_texts_that_are_no_xml(self):
         trace = self.file("trace", "# a\x1b[1m,b\x00\n1,0\n")
         out = tool("timeline", "--trace", trace, give="f:0,T\n")[1]
