@@ -1,4 +1,4 @@
-/* Stands before the C library of a program, counts its allocations, and refuses some: the one that the variable REFUSE
+/* Comes before the C library of a program, counts its allocations, and refuses some: that which the variable REFUSE
    numbers, from 1, and with REFUSE_AFTER all after it. At the end of the program it writes to the descriptor REFUSE_TOLD
    how many were asked for and how many blocks are still held. */
 #include <errno.h>

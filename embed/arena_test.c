@@ -1,4 +1,4 @@
-/* Tests the arena: by blocks, and by monitors over arrays of every size up to the one that is enough. */
+/* Tests the arena: by blocks, and by monitors over arrays of every size up to the size that is enough. */
 #include <stdbool.h>
 #include <stdint.h>
 #include <stdio.h>
@@ -21,7 +21,7 @@ static void check(bool holds, const char *claim, int line) {
 
 static _Alignas(64) uint8_t memory[1 << 16];
 
-/* Blocks are aligned, stand in the array, and don't meet. */
+/* Blocks are aligned, are in the array, and don't meet. */
 static void aligned_blocks(size_t from) {
     r2u2_arena(memory + from, 4096);
     uint8_t *end = memory + from;

@@ -1,4 +1,4 @@
-/* bytes PROGRAM..: checks of each program that r2u2_bytes tells to the byte what its monitor holds, and tells what the
+/* bytes PROGRAM..: checks of each program that r2u2_bytes returns to the byte what its monitor holds, and prints what the
  * arena needs for it: for its blocks, and with what opening left free between them. */
 #include <stdio.h>
 
@@ -79,7 +79,7 @@ static size_t read_program(const char *name) {
     return count;
 }
 
-/* Whether the number that is told for a program is what its monitor holds from its opening to its closing. */
+/* Whether the number that r2u2_bytes returns for a program is what its monitor holds from its opening to its closing. */
 static bool is_told(const char *name) {
     struct r2u2 it = {0};
     struct r2u2_fault fault = {0};

@@ -14,7 +14,7 @@
 /* The heap, which counts, and refuses the block that it is asked to refuse. */
 static atomic_long asked, held, held_bytes, refused = -1;
 
-/* What stands before each block. */
+/* The head of each block. */
 union size {
     size_t bytes;
     max_align_t aligned;
@@ -25,7 +25,7 @@ static struct found found(void *at) {
     return at ? (struct found){true, at} : (struct found){false, &nothing};
 }
 
-/* Counts a block of so many bytes, if there is one. */
+/* Counts a block of `size` bytes, if there is one. */
 static struct found counted(union size *block, size_t size) {
     if (!block) return found(NULL);
     block->bytes = size;
@@ -179,7 +179,7 @@ static void reports_left(void) {
     CHECK(held == 0);
 }
 
-/* A monitor begins again at any time, also with reports left, and asks for no memory; then it is as if just opened. */
+/* A monitor is reset at any time, also with reports left, and doesn't allocate; then it is as if just opened. */
 static void begun_again(void) {
     struct r2u2 it = {0};
     struct r2u2_report report = {0};
@@ -215,7 +215,7 @@ static void names(void) {
     r2u2_close(&it);
 }
 
-/* What may be asked: signals in order of declaration, where they stand, rows, the worst-case delay and the steps. */
+/* Queries: signals in order of declaration, their columns, rows, the worst-case delay and the steps. */
 static void queries(void) {
     struct r2u2 it = {0};
     struct r2u2_fault fault = {0};
@@ -308,7 +308,7 @@ static void each_block_refused(bool is_under) {
     printf("blocks asked for%s: %ld\n", is_under ? " under a header" : "", k - 1);
 }
 
-/* The same of r2u2_bytes, which tells nothing then. */
+/* The same of r2u2_bytes, which returns nothing then. */
 static void each_block_refused_to_bytes(void) {
     struct r2u2_fault fault = {0};
     uint64_t bytes = 7;
@@ -353,7 +353,7 @@ static void two_threads(void) {
     CHECK(held == 0);
 }
 
-/* An open monitor holds the bytes that were told, in at most so many blocks, from its opening on. */
+/* An open monitor holds the bytes that r2u2_bytes returned, in at most R2U2_BLOCKS blocks, from its opening on. */
 static void bytes_that_are_told(void) {
     struct r2u2 it = {0};
     struct r2u2_fault fault = {0};

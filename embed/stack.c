@@ -1,5 +1,5 @@
-/* Measures the stack of each call: runs it on an array of its own, and counts the bytes that it wrote, in words of 8.
- * stack PROGRAM.. tells it of the first of these programs, and the most over all of them with the program that took it; a
+/* Measures the stack of each call: runs it on a separate array, and counts the bytes that it wrote, in words of 8.
+ * stack PROGRAM.. prints it of the first of these programs, and the most over all of them with the program that took it; a
  * program of version 2 is opened under a header too. */
 #include <stdio.h>
 #include <stdlib.h>

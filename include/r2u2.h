@@ -21,11 +21,11 @@
  * that goes away while it is open leaks its monitor. The calls keep no pointer that they are given: program, header, rows
  * and buffers stay the caller's.
  *
- * MEMORY. r2u2_open and r2u2_open_under take all of it, and r2u2_bytes takes some and frees it again. No other call takes
- * any, and so none can run out of it.
+ * MEMORY. r2u2_open and r2u2_open_under allocate all of it, and r2u2_bytes allocates and frees again. No other call
+ * allocates, and so none can run out of memory.
  *
- * ANSWERS. A call that answers a code was done where it answers R2U2_DONE, 0. At every other code the monitor is as it
- * was before the call, and nothing was written but the fault that tells why.
+ * RESULTS. A call that returns a code has succeeded where it returns R2U2_DONE, 0. At every other code the monitor is as it
+ * was before the call, and nothing was written but the fault that says why.
  */
 #ifndef R2U2_H
 #define R2U2_H
@@ -37,7 +37,7 @@
 extern "C" {
 #endif
 
-/* The version of this header: 10,000, 100 and 1 times its three numbers. r2u2_version answers that of the library. */
+/* The version of this header: 10,000, 100 and 1 times its three numbers. r2u2_version returns that of the library. */
 #define R2U2_VERSION 900u
 #define R2U2_VERSION_TEXT "0.9.0"
 
@@ -119,17 +119,17 @@ struct r2u2_report {
     uint32_t word;   /* an r2u2_word */
 };
 
-/* How r2u2_next tells times: one by one, or one report for each longest stretch of newly known times with one word, with
- * its last time. */
+/* How r2u2_next reports times: one by one, or one report for each longest run of newly known times with one word, with its
+ * last time. */
 enum r2u2_style { R2U2_EACH = 0, R2U2_RUNS = 1 };
 
 /* Opens the observer program of `count` bytes at `program`. Its rows have the columns that it was compiled for.
  *
- * R2U2_DONE: the monitor has taken no rows, and has no report to give. R2U2_ALREADY_OPEN. R2U2_REFUSED: `fault` tells the
- * first fault of the program. R2U2_NO_MEMORY: all that was taken is freed again. */
+ * R2U2_DONE: the monitor has taken no rows, and has no report. R2U2_ALREADY_OPEN. R2U2_REFUSED: `fault` has the first fault
+ * of the program. R2U2_NO_MEMORY: everything that was allocated is free again. */
 uint32_t r2u2_open(struct r2u2 *it, const uint8_t *program, size_t count, struct r2u2_fault *fault);
 
-/* The same under a header: the signals that the program stores, of version 2, stand in the columns that have their names.
+/* Opens a program under a header: the signals that it stores, in version 2, are in the columns that have their names.
  * The header is one record of CSV after '#', as "#request,grant", without the end of its line. Rows are as wide as the
  * header. R2U2_REFUSED also where the header doesn't name each signal exactly once. */
 uint32_t r2u2_open_under(struct r2u2 *it, const uint8_t *program, size_t count, const char *header, size_t header_count,
@@ -138,15 +138,15 @@ uint32_t r2u2_open_under(struct r2u2 *it, const uint8_t *program, size_t count, 
 /* The most blocks that an open monitor holds. */
 #define R2U2_BLOCKS 20u
 
-/* Tells how many bytes a monitor of this program holds from its opening on, in all its blocks together: the sum of the
- * sizes that it asked for. An allocator's own bytes come on top, for each of at most R2U2_BLOCKS blocks; arena.c adds 16 to
- * a block, and what makes its size a multiple of 8. Opening holds other blocks for a while, and so does this call; arena.h
- * tells how many bytes were enough. Each column that a header has beyond those of the program takes 17 bytes more.
+/* Returns in `bytes` how many bytes a monitor of this program holds from its opening on, in all its blocks together: the sum
+ * of the sizes that it allocated. An allocator adds bytes to each of at most R2U2_BLOCKS blocks; arena.c adds 16 to a
+ * block, and what makes its size a multiple of 8. Opening holds other blocks for a while, and so does this call; arena.h
+ * says how many bytes were enough. Each column that a header has beyond those of the program takes 17 bytes more.
  *
- * R2U2_DONE: `bytes` has it. R2U2_REFUSED: `fault` tells the first fault of the program. R2U2_NO_MEMORY. */
+ * R2U2_DONE: `bytes` has it. R2U2_REFUSED: `fault` has the first fault of the program. R2U2_NO_MEMORY. */
 uint32_t r2u2_bytes(const uint8_t *program, size_t count, uint64_t *bytes, struct r2u2_fault *fault);
 
-/* What may be asked of a monitor that is open. Where none is open each answers 0. */
+/* Queries of an open monitor. Each returns 0 where none is open. */
 
 /* How many numbers a row has, how many outputs there are, how many signals the program stores (one of version 1 stores none),
  * and how many rows were taken. These four only read: several threads may make them at once, while no other call uses the
@@ -157,18 +157,18 @@ uint32_t r2u2_signals(const struct r2u2 *it);
 uint64_t r2u2_rows(const struct r2u2 *it);
 
 /* The calls from here to r2u2_signal change nothing, but they write to the struct while they run: it isn't const, and no
- * other call uses it meanwhile. Make them once, after opening, and keep what they answer. */
+ * other call uses it meanwhile. Make them once, after opening, and keep their results. */
 
-/* Writes the name of output `k`, counted from 0, to the front of `buffer`, and a zero byte after it where there is room,
- * and answers the name's length, 1 to 64; the rest of the buffer stays. 0, and nothing is written, where none is open, `k`
- * is no output, or `count` is less than the name's length. 65 bytes hold each name with its zero byte. */
+/* Writes the name of output `k`, counted from 0, to the start of `buffer`, and a zero byte after it where it fits, and
+ * returns the name's length, 1 to 64; the rest of the buffer stays. Returns 0, and writes nothing, where none is open, there
+ * isn't such an output, or `count` is less than the name's length. 65 bytes hold each name with its zero byte. */
 uint32_t r2u2_name(struct r2u2 *it, uint32_t k, char *buffer, size_t count);
 
-/* The worst-case delay of output `k` in rows: the row at time t + delay tells its time t at the latest. 0 also where `k` is
- * no output. */
+/* Returns the worst-case delay of output `k` in rows: the row at time t + delay reports its time t at the latest. 0 also
+ * where there isn't such an output. */
 uint32_t r2u2_delay(struct r2u2 *it, uint32_t k);
 
-/* The most steps of one row, which are reads and writes of queues and boxes. */
+/* Returns the most steps of one row, which are reads and writes of queues and boxes. */
 uint64_t r2u2_steps(struct r2u2 *it);
 
 /* The most reports that one row brings, of all outputs together: between two rows r2u2_next gives no more, in either style.
@@ -178,37 +178,37 @@ uint64_t r2u2_most_reports(struct r2u2 *it);
 /* What an output is; 0 is neither. */
 enum r2u2_output_kind { R2U2_FORMULA = 1, R2U2_CONTRACT = 2 };
 
-/* The kind of output `k`, an r2u2_output_kind; 0 also where `k` is no output. A formula is reported as false or true, a
+/* Returns the kind of output `k`, an r2u2_output_kind; 0 also where there isn't such an output. A formula is reported as false or true, a
  * contract as inactive, invalid or verified. */
 uint32_t r2u2_output_kind(struct r2u2 *it, uint32_t k);
 
 /* What a signal's column holds. */
 enum r2u2_signal_kind { R2U2_WHOLE = 0, R2U2_TRUTH = 1 };
 
-/* Tells the column and the kind, an r2u2_signal_kind, of signal `k`, counted from 0 in order of declaration, and writes its
- * name as r2u2_name does. 0, and nothing is written, where none is open, `k` is no signal, or `count` is less than the
- * name's length. */
+/* Returns the column and the kind, an r2u2_signal_kind, of signal `k`, counted from 0 in order of declaration, and writes
+ * its name as r2u2_name does. Returns 0, and writes nothing, where none is open, there isn't such a signal, or `count` is
+ * less than the name's length. */
 uint32_t r2u2_signal(struct r2u2 *it, uint32_t k, uint32_t *column, uint32_t *kind, char *name, size_t count);
 
-/* The version of the library, as R2U2_VERSION. */
+/* Returns the version of the library, as R2U2_VERSION. */
 uint32_t r2u2_version(void);
 
-/* Takes the next row: one number for each column. A truth is 0 or 1, a whole number has 32 bits with its sign; columns
- * that the program doesn't read may hold anything. Ask for all its reports before the next row.
+/* Takes the next row: one number for each column. A Boolean is 0 or 1, an integer has 32 bits with its sign; columns that
+ * the program doesn't read may hold anything. Ask for all its reports before the next row.
  *
  * R2U2_DONE, R2U2_NOT_OPEN, R2U2_REPORTS_LEFT, R2U2_NOT_A_ROW, R2U2_TOO_MANY_ROWS: the first of these that holds. At the
- * last three `fault` tells why. */
+ * last three `fault` says why. */
 uint32_t r2u2_row(struct r2u2 *it, const int64_t *numbers, size_t count, struct r2u2_row_fault *fault);
 
-/* Gives the next report of the rows so far: outputs in order, and the times of each in order. Each time of an output is
+/* Returns the next report of the rows so far: outputs in order, and the times of each in order. Each time of an output is
  * reported once, as soon as it and all earlier ones are decided, and no later than its worst-case delay. Where `style` is
  * R2U2_EACH there is a report for each time, and at any other number one for each run.
  *
  * R2U2_DONE: `report` has it. R2U2_NOT_OPEN. R2U2_NO_REPORT: none is left. */
 uint32_t r2u2_next(struct r2u2 *it, uint32_t style, struct r2u2_report *report);
 
-/* Begins again: the monitor has taken no rows, and has no report to give, as after it was opened. It keeps its program and
- * its memory; reports that were left are let go.
+/* Resets the monitor to its state before the first row, as after it was opened. It keeps its program and its memory;
+ * reports that were left are dropped.
  *
  * R2U2_DONE. R2U2_NOT_OPEN. */
 uint32_t r2u2_reset(struct r2u2 *it);
