@@ -18,7 +18,7 @@ class Figures(unittest.TestCase):
         status, lines = self.told()
         self.assertEqual(status, 0, lines)
         for line in lines:
-            self.assertRegex(line, r"^[\w/]+\.md:\d+  \d{4}-\d\d-\d\d  \S")
+            self.assertRegex(line, r"^[\w/-]+\.md:\d+  \d{4}-\d\d-\d\d  \S")
 
     def test_stale_figures_are_some_of_them(self):
         all_lines, stale = self.told()[1], self.told("--stale")[1]
