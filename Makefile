@@ -1,5 +1,5 @@
 # make try        runs r2u2, unproved, over SPEC and TRACE, by default those of the first example, within about a minute
-# make test       plays the cases, but those named (long), and the tests of the tools, unproved, within three minutes
+# make test       plays the cases, but those named (long), and the tests of the tools, unproved, in some minutes
 # make            proves and builds both programs into build/
 # make check      passes the whole gate: proofs, edits that must fail, cases; the programs and the library come into build/,
 #                 and the programs are tried on real files, pipes and terminals
