@@ -10,7 +10,7 @@ _r2u2_options() {
         r2u2-convert) echo --mission --rate --spec -o --help ;;
         r2u2-check) echo --json --sarif --format --diff --write --server --help ;;
         r2u2-play) echo --port --no-browser --timed --help ;;
-        r2u2-timeline) echo --html --trace --spec --all-columns --from --to --unit --rate --ticks --title -o --help ;;
+        r2u2-timeline) echo --html --trace --spec --all-columns --changing --from --to --unit --rate --ticks --title -o --help ;;
         r2u2-trace) echo --spec --columns --names --rename --scale --map --round --hex --missing --within --time --rate \
             --time-unit --start --snap --stamps --hold --delimiter --decimal-comma --skip --comment --format --long -o --help ;;
         r2u2-verdicts) echo --json --junit --ignore --spec --log --exercised --fail-untried --fail-undecided --diff --merge --help ;;

@@ -201,8 +201,8 @@ uint32_t r2u2_version(void);
 uint32_t r2u2_row(struct r2u2 *it, const int64_t *numbers, size_t count, struct r2u2_row_fault *fault);
 
 /* Returns the next report of the rows so far: outputs in order, and the times of each in order. Each time of an output is
- * reported once, as soon as it and all earlier ones are decided, and no later than its worst-case delay. Where `style` is
- * R2U2_EACH there is a report for each time, and at any other number one for each run.
+ * reported once, after all earlier ones and no later than its worst-case delay. Where `style` is R2U2_EACH there is a report
+ * for each time, and at any other number one for each run.
  *
  * R2U2_DONE: `report` has it. R2U2_NOT_OPEN. R2U2_NO_REPORT: none is left. */
 uint32_t r2u2_next(struct r2u2 *it, uint32_t style, struct r2u2_report *report);

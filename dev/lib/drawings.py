@@ -1,7 +1,12 @@
 """Drawings that explain: each function returns one as the text of an SVG, light or dark as the reader's system is."""
 
+import re
+from pathlib import Path
+from textwrap import wrap
 from typing import Callable, Dict, List
 from xml.sax.saxutils import escape
+
+ROOT = Path(__file__).resolve().parent.parent.parent
 
 STYLE = """
     text { font: 14px system-ui, sans-serif; fill: #1f2328; }
@@ -140,45 +145,51 @@ def boxes() -> Drawing:
     return it
 
 
-FLOORS = [
-    ("programs", ["c2po"], ["mltl_tools"], ["r2u2"]),
-    ("6", ["c2po_cli"], ["tool_words"], ["r2u2_cli"]),
-    ("5", ["show_roundtrip"], [], ["r2u2_monitor  r2u2_watch  r2u2_c"]),
-    ("4", ["set_expand  c2po_compile"], [], ["ft_engine  pt_boxes  contract_status"]),
-    ("3", ["c2po_types"], [], ["booleanizer  obs_files  obs_show  trace_feed"]),
-    ("2", ["c2po_parse  c2po_unfold", "core_graph  mltl_simplify"], [], ["obs_verify"]),
-    ("1", ["c2po_lexer  c2po_ast", "c2po_nodes  count_sets"], [], ["delay_sizes  scq_ring  obs_binary", "tool_io  sparse_feed"]),
-    ("0", [], ["mltl_base  fixed_list"], []),
-]
+def floors() -> Dict[int, Dict[str, List[str]]]:
+    """The crates of crates.txt by floor and tower."""
+    found: Dict[int, Dict[str, List[str]]] = {}
+    names: List[str] = []
+    for line in (ROOT / "crates.txt").read_text(encoding="utf-8").splitlines():
+        head = re.match(r"# floor (\d+), (\w+)$", line)
+        if head:
+            names = found.setdefault(int(head[1]), {}).setdefault(head[2], [])
+        elif line and not line.startswith("#"):
+            names.append(line.partition(":")[0].split()[0])
+    return found
+
+
+# Of each column of the picture of towers: its left edge, its width, and how many letters fit on a line.
+TOWERS = {"compiler": (60, 280, 33), "common": (350, 180, 21), "monitor": (540, 310, 37)}
 
 
 def towers() -> Drawing:
-    it = Drawing(860, 500, "Two towers on one ground: the compiler on the left, the monitor on the right")
-    it.text(220, 22, "compiler")
-    it.text(660, 22, "monitor")
-    for number, (floor, left, middle, right) in enumerate(FLOORS):
-        y = 36 + 56 * number
-        it.text(10, y + 29, floor, "small", "start")
-        for lines, x, width, kind in ((left, 80, 280, "box"), (right, 500, 350, "box"), (middle, 370, 120, "main")):
-            if lines and floor == "0":
-                x, width = 80, 770
-            if lines:
-                it.box(x, y, width, 48, ["`" + line for line in lines], kind)
-    it.arrow(360, 228, 430, 228, 430, 340, 500, 340)
-    it.text(432, 222, "Checked", "code")
-    it.text(430, 490, "An edge goes down, or stays within its tower. The towers meet in a checked program.", "small")
+    rows = []
+    for floor, parts in sorted(floors().items(), reverse=True):
+        lines = {tower: wrap("  ".join(names), TOWERS[tower][2]) for tower, names in parts.items()}
+        rows.append((floor, lines, 24 + 18 * max(map(len, lines.values()))))
+    it = Drawing(860, 66 + sum(high + 8 for _, _, high in rows), "The compiler on the left, the monitor on the right, common crates between them")
+    for tower, (x, width, _) in TOWERS.items():
+        it.text(x + width / 2, 22, tower)
+    top = 34
+    for floor, lines, high in rows:
+        it.text(14, top + high / 2 + 5, f"{floor}", "small", "start")
+        for tower, texts in lines.items():
+            x, width, _ = TOWERS[tower]
+            it.box(x, top, width, high, ["`" + text for text in texts], "main" if tower == "common" else "box")
+        top += high + 8
+    it.text(430, top + 14, "An edge goes down, or stays within its tower. The towers meet in obs_verify's checked program, and in bridges.", "small")
     return it
 
 
 def flight() -> Drawing:
-    it = Drawing(910, 250, "The library in a flight program: sensors give a row, the monitor reports, the program sends events")
+    it = Drawing(900, 250, "The library in a flight program: sensors give a row, the monitor reports, the program sends events")
     it.rect(150, 14, 620, 226, "frame", 8)
     it.text(164, 34, "your program, one task: no heap, no file, no system call in the monitor", "small", "start")
     it.box(10, 90, 110, 60, ["sensors"])
     it.box(170, 90, 120, 60, ["row", "`int64_t[2]"])
     it.box(380, 70, 140, 100, ["monitor", "`struct r2u2"], "main")
     it.box(610, 90, 146, 60, ["report", ".output, time, word"])
-    it.box(800, 90, 100, 60, ["event"])
+    it.box(796, 90, 94, 60, ["event"])
     it.box(330, 196, 110, 36, ["`memory[4096]"])
     it.box(452, 196, 150, 36, ["`const program[]"])
     it.arrow(120, 120, 170, 120)
@@ -186,7 +197,7 @@ def flight() -> Drawing:
     it.text(335, 112, "r2u2_row", "code")
     it.arrow(520, 120, 610, 120)
     it.text(565, 112, "r2u2_next", "code")
-    it.arrow(756, 120, 800, 120)
+    it.arrow(756, 120, 796, 120)
     it.arrow(410, 196, 410, 170)
     it.arrow(490, 196, 490, 170)
     return it

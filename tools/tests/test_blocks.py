@@ -6,6 +6,7 @@ import sys
 import tempfile
 import unittest
 from pathlib import Path
+from unittest import mock
 
 from support import DEV, program
 
@@ -89,8 +90,9 @@ class Blocks(unittest.TestCase):
         self.assertEqual(self.faults(block("$ echo b\na\n", marks=' needs="no-such-program"')), ["skipped: no-such-program"])
 
     def test_specifications(self):
-        program("r2u2")
-        program("c2po")
+        named = mock.patch.dict(os.environ, R2U2=program("r2u2"), C2PO=program("c2po"))
+        named.start()
+        self.addCleanup(named.stop)
         self.assertEqual(self.faults(block(SPEC, "c2po") + block("# p\n1\n", "csv")), [])
         self.assertEqual(self.faults(block("INPUT p: bool;\nFTSPEC f: p\n", "c2po")), ["page.md:3: c2po: line 2: syntax"])
         self.assertEqual(self.faults(block(SPEC, "c2po") + block("# p\n2\n", "csv"))[0].splitlines()[-1], "page.md:9: r2u2: trace line 2: out of range in column 1")

@@ -87,6 +87,19 @@ class Squares(Pictures):
         status, _, errors = tool("timeline", "--from", "9", *GRANT, give=TICKS)
         self.assertEqual((status, errors), (2, "timeline: no row and no verdict to show\n"))
 
+    def test_what_keeps_one_value_is_left_out(self):
+        """Its name is in the legend; a lane that ends within the rows shown changes."""
+        trace = self.file("trace", "# p,q\n1,0\n1,1\n1,1\n")
+        words, lines = ["--changing", "--trace", trace], "f:0,T\nf:1,F\nf:2,T\ng:0,T\ng:1,T\nh:0,F\nh:1,F\nh:2,F\n"
+        self.assertEqual(
+            self.texts(*words, give=lines),
+            ["q", "f", *"TFT", "g", *"TT?", "row", *"012", "T", "true", "F", "false", "?", "undecided"]
+            + ["left out, since unchanging: p, h"],
+        )
+        cut = " ".join(self.texts(*words, "--from", "1", give=lines))
+        self.assertTrue(cut.endswith("left out, since unchanging: p, q, h"), cut)
+        self.assertIn('"constant": ["p", "h"]', self.made("--html", *words, give=lines))
+
     def test_stamps_are_times(self):
         trace = self.file("trace", "# p\n@0,1\n@3,0\n@5,1\n")
         texts = self.texts("--trace", trace, "--ticks", "tick", give="tick:0,T\ntick:1,T\np:1,T\ntick:2,T\ntick:3,T\n")

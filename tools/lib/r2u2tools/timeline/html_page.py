@@ -104,7 +104,8 @@ def lane_data(lane: Lane, model: Model) -> dict[str, Any]:
 def data(model: Model) -> dict[str, Any]:
     """All that the page shows, lane by lane, so that little is held twice."""
     kept: dict[str, Any] = {"title": plain(model.title), "axis": model.axis(), "first": model.first, "last": model.last}
-    kept |= {"stamps": packed_stamps(model), "why": model.why, "rate": model.rate, "columns": [], "lanes": []}
+    kept |= {"stamps": packed_stamps(model), "why": model.why, "rate": model.rate, "constant": model.constant}
+    kept |= {"columns": [], "lanes": []}
     progress = Progress()
     for column in model.columns:
         progress.tell(f"packing {column.name}")

@@ -70,6 +70,8 @@ class Model:
     units: dict[str, str] = field(default_factory=dict)
     rate: Optional[float] = None
     why: Optional[str] = None
+    # Columns and outputs that aren't shown, since nothing changes in them.
+    constant: list[str] = field(default_factory=list)
 
     def take_spec(self, spec: Any) -> None:
         """Adds the outputs of a specification in their order, with the texts of their requirements."""
@@ -153,3 +155,18 @@ def cut_to(model: Model, first: Optional[int], last: Optional[int]) -> None:
     model.first = max(model.first, first or 0)
     if last is not None:
         model.last = min(model.last, last)
+
+
+def is_constant(runs: Any, first: int, last: int) -> bool:
+    """Returns whether one value holds at all times of a stretch, or none at any."""
+    values = {value for _, _, value in runs.between(first, last)}
+    return not values or len(values) == 1 and runs.end() > last
+
+
+def keep_changing(model: Model) -> None:
+    """Leaves out columns and outputs that keep one value over the times shown, and keeps their names."""
+    still = [it for it in model.columns if is_constant(it.runs, model.first, model.last)]
+    quiet = [name for name, it in model.lanes.items() if is_constant(it.words, model.first, model.last)]
+    model.columns = [it for it in model.columns if it not in still]
+    model.lanes = {name: it for name, it in model.lanes.items() if name not in quiet}
+    model.constant = [it.name for it in still] + quiet

@@ -3,6 +3,7 @@
 from __future__ import annotations
 
 from html import escape
+from textwrap import wrap
 from typing import Any, Callable, Iterator, Optional, Sequence
 
 from r2u2tools.common.cli import plain as printable
@@ -34,7 +35,7 @@ GRAVEST: dict[Word, int] = {word: rank for rank, word in enumerate(("inactive", 
 SQUARE, LANE, GAP, EDGE, MARK = 26, 24, 8, 12, 14
 LETTER = 7.8
 SQUARES, WIDE, NARROWEST, LONGEST = 60, 1100, 8, 24
-INK, FAINT, GRID, PALE = "#1f2933", "#6b7785", "#d9dfe6", "#e8edf2"
+INK, FAINT, GRID, PALE = "#1f2933", "#6b7785", "#7b8794", "#e8edf2"
 # The colours of a dark screen in place of those above, by element and attribute. Squares of words keep theirs.
 DARK = [
     ('rect[fill="#ffffff"]', "fill:#0d1117"),
@@ -42,7 +43,6 @@ DARK = [
     ('[stroke="#1f2933"]', "stroke:#e6edf3"),
     ('[fill="#6b7785"], text[fill="#5f6b78"]', "fill:#a9b4c0"),
     ('[stroke="#6b7785"]', "stroke:#a9b4c0"),
-    ('[stroke="#d9dfe6"]', "stroke:#5b6b7c"),
     ('[fill="#e8edf2"]', "fill:#2a3542"),
     ('path[fill="#8593a3"]', "fill:#5b6b7c;stroke:#5b6b7c"),
 ]
@@ -342,6 +342,15 @@ def draw_legend(sheet: Sheet) -> None:
         sheet.text(x + 8, sheet.top + LANE / 2 + 4, text, FAINT, 11)
     sheet.wide = max(sheet.wide, x + len(text) * 6.6)
     sheet.top += LANE
+    draw_left_out(sheet)
+
+
+def draw_left_out(sheet: Sheet) -> None:
+    """The names of columns and outputs in which nothing changes, in lines as wide as the picture."""
+    most = int((max(sheet.right(), sheet.wide) - EDGE) / 6.6)
+    for line in wrap("left out, since unchanging: " + ", ".join(sheet.model.constant), most) if sheet.model.constant else []:
+        sheet.text(EDGE, sheet.top + 14, line, FAINT, 11)
+        sheet.top += 16
 
 
 def svg(model: Model) -> str:
