@@ -182,10 +182,10 @@ class Installed(Case):
             for path in (f"bin/{name}", f"share/man/man1/{name}.1", f"share/bash-completion/completions/{name}"):
                 self.assertIn(path, found)
             self.assertIn(f"share/fish/vendor_completions.d/{name}.fish", found)
-        for tool in NAMES[2:]:
-            status, out, errors = shell('"$TOOL" --help', TOOL=self.folder / "into/usr/bin" / tool)
+        for name in NAMES[2:]:
+            status, out, errors = shell('"$TOOL" --help', TOOL=self.folder / "into/usr/bin" / name)
             self.assertEqual((status, errors), (0, ""))
-            self.assertIn(f"usage: {tool} ", out)
+            self.assertIn(f"usage: {name} ", out)
         for path in ("lib/libr2u2.a", "lib/libr2u2_heap.a", "lib/r2u2/libr2u2.so", "include/r2u2.h", "include/r2u2_checked.h"):
             self.assertIn(path, found)
         for path in (ROOT / "docs/man").iterdir():

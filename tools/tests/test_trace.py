@@ -243,7 +243,7 @@ class Pipes(Traces):
             )
             self.addCleanup(child.stdout.close)
             for k in range(3):
-                child.stdin.write(f"t,a\n0,1\n" if k == 0 else f"{k},{k + 1}\n")
+                child.stdin.write("t,a\n0,1\n" if k == 0 else f"{k},{k + 1}\n")
                 child.stdin.flush()
                 self.assertIn(child.stdout.readline(), ("# a\n", "# t,a\n") if k == 0 else (f"{k}\n", f"{k - 1},{k}\n"))
             child.stdin.close()

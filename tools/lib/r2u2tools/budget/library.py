@@ -1,5 +1,7 @@
 """The library, by ctypes: how many bytes a monitor of a program holds."""
 
+from __future__ import annotations
+
 import ctypes
 import os
 
@@ -19,17 +21,17 @@ class _Fault(ctypes.Structure):
                 ("text", ctypes.c_char * 96)]
 
 
-def path():
+def path() -> str:
     """The file that R2U2_LIBRARY names, else the one in build/, or of installed tools the one that was installed with them."""
     return os.environ.get("R2U2_LIBRARY") or str(OWN)
 
 
-def why_none():
+def why_none() -> str:
     """Why no library can be asked, in words; nothing where one is there."""
     return "" if os.path.isfile(path()) else f"no {path()}: {MADE_BY}, and R2U2_LIBRARY may name another"
 
 
-def bytes_of(program):
+def bytes_of(program: bytes) -> int:
     """How many bytes a monitor of this program holds while it is open."""
     try:
         call = ctypes.CDLL(path()).r2u2_bytes
@@ -38,8 +40,8 @@ def bytes_of(program):
     number = ctypes.c_uint64
     call.argtypes = [ctypes.c_char_p, ctypes.c_size_t, ctypes.POINTER(number), ctypes.POINTER(_Fault)]
     call.restype = ctypes.c_uint32
-    found, fault = number(), _Fault()
-    code = call(program, len(program), found, fault)
+    found, told = number(), _Fault()
+    code = call(program, len(program), found, told)
     if code != DONE:
-        raise Trouble("out of memory" if code == NO_MEMORY else fault.text.decode("ascii", "replace"))
-    return found.value
+        raise Trouble("out of memory" if code == NO_MEMORY else told.text.decode("ascii", "replace"))
+    return int(found.value)

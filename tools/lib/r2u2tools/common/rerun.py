@@ -1,15 +1,18 @@
 """Other requirements over a trace that r2u2 watches: further outputs for a specification or a compiled program."""
 
+from __future__ import annotations
+
 from pathlib import Path
+from typing import Sequence
 
 from r2u2tools.common import programs
-from r2u2tools.common.specs import read_spec, spec_of_text
+from r2u2tools.common.specs import Signal, Spec, read_spec, spec_of_text
 from r2u2tools.common.cli import Trouble
 
 TOLD = ("FTSPEC", "PTSPEC")
 
 
-def as_text(path, doing):
+def as_text(path: str, doing: str) -> tuple[Spec, Spec]:
     """A specification as it stands, or the text of a compiled program, and what was read."""
     given = read_spec(path)
     if not given.is_program():
@@ -20,7 +23,7 @@ def as_text(path, doing):
     return spec_of_text(str(path), shown.decode("ascii")), given
 
 
-def fresh(spec, stem):
+def fresh(spec: Spec, stem: str) -> str:
     """A beginning that no name of a specification has."""
     words = {token.text for item in spec.items for token in item.body} | {item.name for item in spec.items}
     while any(word and word.startswith(stem) for word in words):
@@ -28,7 +31,7 @@ def fresh(spec, stem):
     return stem
 
 
-def header_for(signals):
+def header_for(signals: Sequence[Signal]) -> str:
     """A header with each signal at its column, for a program that stores them."""
     taken, names = {signal.column: signal.name for signal in signals}, {signal.name for signal in signals}
     stem = "other"
@@ -37,7 +40,7 @@ def header_for(signals):
     return "# " + ",".join(taken.get(k, f"{stem}{k}") for k in range(max(taken, default=-1) + 1)) + "\n"
 
 
-def made(given, text, folder, doing):
+def made(given: Spec, text: str, folder: str, doing: str) -> Path:
     """The file that r2u2 takes in place of the given one: a text, or its program with the columns of the given one."""
     path, header, program = Path(folder) / "more.c2po", Path(folder) / "header.csv", Path(folder) / "more.obs"
     path.write_text(text, encoding="latin-1")

@@ -2,14 +2,21 @@
 
 from __future__ import annotations
 
-from typing import IO, Iterator
+from typing import Iterator, Protocol
 
 from r2u2tools.common.cli import Trouble
 
 BLOCK = 1 << 16
 
 
-def lines_of(file: IO[bytes], longest: int) -> Iterator[tuple[int, bytes]]:
+class Readable(Protocol):
+    """What bytes are read from: a file, a pipe, or what passes one on."""
+
+    def read(self, size: int, /) -> bytes:
+        """Up to so many bytes; none at the end."""
+
+
+def lines_of(file: Readable, longest: int) -> Iterator[tuple[int, bytes]]:
     """The lines of a file of bytes, as soon as they are there, with their numbers; none is longer than `longest`."""
     read = getattr(file, "read1", file.read)
     rest, number = b"", 0

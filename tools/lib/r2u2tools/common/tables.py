@@ -2,16 +2,18 @@
 
 from __future__ import annotations
 
-from typing import Iterator, Sequence
+from typing import Iterator, Optional, Sequence
 
 Row = Sequence[str]
 
 
-def in_columns(rows: Sequence[Row]) -> Iterator[str]:
-    """The rows in columns, the first to the left and the others to the right."""
+def in_columns(rows: Sequence[Row], right: Optional[range] = None) -> Iterator[str]:
+    """The rows in columns, of which some are flush right, by default all but the first."""
     wide = [max(map(len, column)) for column in zip(*rows)]
-    for first, *rest in rows:
-        yield f"{first:<{wide[0]}}" + "".join(f"  {word:>{size}}" for word, size in zip(rest, wide[1:]))
+    numbers = range(1, len(wide)) if right is None else right
+    for row in rows:
+        cells = [word.rjust(wide[k]) if k in numbers else word.ljust(wide[k]) for k, word in enumerate(row)]
+        yield "  ".join(cells).rstrip()
 
 
 def in_markdown(rows: Sequence[Row]) -> Iterator[str]:

@@ -10,11 +10,11 @@ import csv
 from array import array
 from bisect import bisect_left
 from pathlib import Path
-from typing import IO, Any, Iterator, Optional, Sequence, Union
+from typing import Any, Iterator, Optional, Sequence, Union
 
 from r2u2tools.common.cli import Trouble, opened
 from r2u2tools.common.specs import Signal
-from r2u2tools.common.streams import lines_of
+from r2u2tools.common.streams import Readable, lines_of
 
 LONGEST = 65536
 LATEST = 1 << 40
@@ -146,7 +146,7 @@ def places_of(names: list[str], wanted: Optional[Sequence[str]]) -> list[int]:
     return [names.index(name) for name in wanted]
 
 
-def filled(file: IO[bytes], wanted: Optional[list[str]], columns: Optional[list[int]]) -> Trace:
+def filled(file: Readable, wanted: Optional[list[str]], columns: Optional[list[int]]) -> Trace:
     """The trace of a file. `wanted` are names of columns; without a header they stand at `columns`."""
     trace = Trace()
     filler: Optional[Filler] = None

@@ -7,9 +7,9 @@ it, up to its own time: so both styles of r2u2 are read alike.
 from __future__ import annotations
 
 import re
-from typing import IO, Iterator, Optional
+from typing import Iterator, Optional
 
-from r2u2tools.common.streams import lines_of
+from r2u2tools.common.streams import Readable, lines_of
 from r2u2tools.common.cli import Trouble
 
 LINE = re.compile(rb"([A-Za-z0-9_]{1,64}):(\d{1,13}),(T|F|inactive|invalid|verified)\r?")
@@ -41,7 +41,7 @@ class Reader:
             return Trouble(f"{self.where}line {number}: not a verdict line: {shown(line)}")
         return Trouble(f"{self.where}line {number}: time {int(found[2])} of {found[1].decode()} is told twice")
 
-    def stretches(self, file: IO[bytes]) -> Iterator[tuple[str, int, int, str]]:
+    def stretches(self, file: Readable) -> Iterator[tuple[str, int, int, str]]:
         """What each line of a file tells: the output's name, the first and the last time, and the word."""
         match, after, names = LINE.fullmatch, self.next, self.names
         for number, line in self.numbered(file):
@@ -58,7 +58,7 @@ class Reader:
             self.count = number
             yield names[raw], first, last, NAMED[word]
 
-    def numbered(self, file: IO[bytes]) -> Iterator[tuple[int, bytes]]:
+    def numbered(self, file: Readable) -> Iterator[tuple[int, bytes]]:
         try:
             yield from lines_of(file, LONGEST)
         except Trouble as trouble:

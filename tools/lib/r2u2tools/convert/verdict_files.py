@@ -7,7 +7,7 @@ import json
 from collections import deque
 from dataclasses import dataclass, field
 from fractions import Fraction
-from typing import BinaryIO, Iterator, Optional
+from typing import IO, Iterator, Optional
 
 from r2u2tools.common.cli import Trouble
 from r2u2tools.common.verdict_lines import Reader
@@ -26,7 +26,7 @@ class Pending:
     end: int = 0
 
 
-def changes(file: BinaryIO, names: list[str]) -> tuple[list[str], list[tuple[int, int, Optional[str]]], int]:
+def changes(file: IO[bytes], names: list[str]) -> tuple[list[str], list[tuple[int, int, Optional[str]]], int]:
     """Returns the outputs, their changes as time, place and word, in the order of time, and the first time after all."""
     found: dict[str, list[tuple[int, Optional[str]]]] = {name: [] for name in names}
     ends: dict[str, int] = {}
@@ -53,7 +53,7 @@ def code(number: int) -> str:
             return text
 
 
-def to_vcd(file: BinaryIO, out: Output, names: list[str], rate: Optional[Fraction]) -> None:
+def to_vcd(file: IO[bytes], out: Output, names: list[str], rate: Optional[Fraction]) -> None:
     """Writes a dump: a wire for each output, 1 where it is true or verified, z where inactive, x where undecided."""
     outputs, found, after = changes(file, names)
     step = Fraction(NANOSECONDS) / rate if rate else Fraction(1)
@@ -71,7 +71,7 @@ def to_vcd(file: BinaryIO, out: Output, names: list[str], rate: Optional[Fractio
     out.write(f"#{round(after * step)}\n")
 
 
-def to_csv(file: BinaryIO, out: Output, names: list[str], rate: Optional[Fraction]) -> None:
+def to_csv(file: IO[bytes], out: Output, names: list[str], rate: Optional[Fraction]) -> None:
     """Writes a line for each row with the words of all outputs, empty where undecided; a row is written once all have it."""
     table = Table(names)
     writer = csv.writer(out, lineterminator="\n")
@@ -93,7 +93,7 @@ class Table:
         self.pending = {name: Pending() for name in names}
         self.next, self.fresh = 0, not names
 
-    def rows(self, file: BinaryIO) -> Iterator[tuple[int, list[str]]]:
+    def rows(self, file: IO[bytes]) -> Iterator[tuple[int, list[str]]]:
         for name, _, last, word in Reader().stretches(file):
             if name not in self.pending:
                 if self.known:
@@ -118,7 +118,7 @@ class Table:
         return it.stretches[0][1] if it.stretches else ""
 
 
-def to_json(file: BinaryIO, out: Output, _names: list[str], rate: Optional[Fraction]) -> None:
+def to_json(file: IO[bytes], out: Output, _names: list[str], rate: Optional[Fraction]) -> None:
     """Writes an object for each stretch of times with one word, as the lines come."""
     for name, first, last, word in Reader().stretches(file):
         kept: dict[str, object] = {"output": name, "from": first, "to": last, "word": word}

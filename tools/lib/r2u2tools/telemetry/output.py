@@ -6,7 +6,7 @@ import os
 import stat
 import sys
 import tempfile
-from typing import Any, BinaryIO, Optional
+from typing import IO, Any, Optional, Sequence
 
 from r2u2tools.common.cli import told_os
 
@@ -14,7 +14,7 @@ from r2u2tools.common.cli import told_os
 class Output:
     """Where the trace goes. A file takes its place only when it is whole."""
 
-    def __init__(self, path: Optional[str], sources: list[BinaryIO]) -> None:
+    def __init__(self, path: Optional[str], sources: Sequence[IO[bytes]]) -> None:
         self.path = path
         self.temporary: Optional[str] = None
         self.live = not all(is_regular(source) for source in sources)
@@ -60,7 +60,7 @@ class Output:
             os.unlink(self.temporary)
 
 
-def is_regular(file: BinaryIO) -> bool:
+def is_regular(file: IO[bytes]) -> bool:
     try:
         return stat.S_ISREG(os.fstat(file.fileno()).st_mode)
     except (OSError, ValueError):

@@ -30,7 +30,26 @@ def snap_of(text: str) -> Fraction:
     return value
 
 
-class Plain:
+class Rows:
+    """What makes rows of lines."""
+
+    def __init__(self, columns: Columns, found: Any, clock: Clock, output: Output) -> None:
+        raise NotImplementedError
+
+    def take(self, number: Any, fields: list[Optional[str]]) -> None:
+        """Takes the fields of a line."""
+        raise NotImplementedError
+
+    def end(self) -> None:
+        """Writes what is left after the last line."""
+        raise NotImplementedError
+
+    def remarks(self) -> Iterator[str]:
+        """Returns what is to be said of the rows."""
+        raise NotImplementedError
+
+
+class Plain(Rows):
     """A row for each line."""
 
     def __init__(self, columns: Columns, _found: Any, _clock: Clock, output: Output) -> None:
@@ -53,7 +72,7 @@ class Plain:
         return iter(())
 
 
-class Timed:
+class Timed(Rows):
     """Rows by the times of the lines."""
 
     def __init__(self, columns: Columns, found: Any, clock: Clock, output: Output) -> None:

@@ -1,13 +1,17 @@
 """The timeline as one page that needs nothing else: its data stand in it as runs, packed to few bytes."""
 
+from __future__ import annotations
+
 import json
 from base64 import b64encode
 from html import escape
 from pathlib import Path
 from string import Template
+from typing import Any, Optional
 
 from r2u2tools.common.cli import plain
 from r2u2tools.common.progress import Progress
+from r2u2tools.timeline.model import Column, Lane, Model
 
 PAGE = Path(__file__).resolve().parent / "page.html"
 
@@ -18,12 +22,9 @@ class PageTemplate(Template):
     delimiter = "@"
     idpattern = "(?!)"
     braceidpattern = "[a-z]+"
-    pattern = r"""
-    @(?:(?P<escaped>(?!))|(?P<named>(?!))|\{(?P<braced>[a-z]+)\}|(?P<invalid>(?!)))
-    """
 
 
-def pack(out, number):
+def pack(out: bytearray, number: int) -> None:
     """A number in groups of 7 bits, the lowest first."""
     while number > 127:
         out.append(number & 127 | 128)
@@ -31,16 +32,16 @@ def pack(out, number):
     out.append(number)
 
 
-def code(number):
+def code(number: int) -> bytes:
     """A number packed by itself."""
     out = bytearray()
     pack(out, number)
     return bytes(out)
 
 
-def packed(runs, first, last):
+def packed(runs: Any, first: int, last: int) -> dict[str, Any]:
     """Runs between two times: the values that occur, and for each run its length and the place of its value."""
-    codes, out, after = {}, bytearray(), first
+    codes, out, after = dict[str, bytes](), bytearray(), first
     for _, end, value in runs.between(first, last):
         place = codes.get(value)
         if place is None:
@@ -51,9 +52,10 @@ def packed(runs, first, last):
     return {"values": list(codes), "runs": b64encode(out).decode("ascii")}
 
 
-def packed_told(lane, first, last):
+def packed_told(lane: Lane, first: int, last: int) -> str:
     """The deciding rows: how often a step is repeated, how many times it decides, and how far after the last of them."""
-    out, step, count = bytearray(), None, 0
+    out, count = bytearray(), 0
+    step: Optional[tuple[int, int]] = None
     for begin, end, row in lane.told.between(first, last):
         now = (end - begin + 1, row - end)
         if now == step:
@@ -69,7 +71,7 @@ def packed_told(lane, first, last):
     return b64encode(out).decode("ascii")
 
 
-def packed_stamps(model):
+def packed_stamps(model: Model) -> Optional[str]:
     """The distances of stamps."""
     if model.stamps is None:
         return None
@@ -84,14 +86,14 @@ def packed_stamps(model):
 SHORT = [code(length) for length in range(1024)]
 
 
-def column_data(column, model):
+def column_data(column: Column, model: Model) -> dict[str, Any]:
     """A column for the page; its runs aren't needed any more."""
     kept = {"name": column.name, "kind": column.kind, **packed(column.runs, model.first, model.last)}
     column.runs = None
     return kept | ({"unit": model.units[column.name]} if column.name in model.units else {})
 
 
-def lane_data(lane, model):
+def lane_data(lane: Lane, model: Model) -> dict[str, Any]:
     """An output for the page; its runs aren't needed any more."""
     kept = {"name": lane.name, **packed(lane.words, model.first, model.last)}
     kept["told"] = packed_told(lane, model.first, model.last)
@@ -99,9 +101,9 @@ def lane_data(lane, model):
     return kept | ({"text": lane.text} if lane.text else {})
 
 
-def data(model):
+def data(model: Model) -> dict[str, Any]:
     """All that the page shows, lane by lane, so that little is held twice."""
-    kept = {"title": plain(model.title), "axis": model.axis(), "first": model.first, "last": model.last}
+    kept: dict[str, Any] = {"title": plain(model.title), "axis": model.axis(), "first": model.first, "last": model.last}
     kept |= {"stamps": packed_stamps(model), "why": model.why, "rate": model.rate, "constant": model.constant}
     kept |= {"columns": [], "lanes": []}
     progress = Progress()
@@ -115,7 +117,7 @@ def data(model):
     return kept
 
 
-def html(model):
+def html(model: Model) -> str:
     text = json.dumps(data(model), ensure_ascii=True).replace("<", "\\u003c")
     page = PageTemplate(PAGE.read_text(encoding="utf-8"))
-    return page.substitute(title=escape(plain(model.title or "timeline")), data=text)
+    return page.safe_substitute(title=escape(plain(model.title or "timeline")), data=text)

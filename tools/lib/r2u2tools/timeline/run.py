@@ -1,38 +1,41 @@
 """A run of r2u2 for a timeline: over the same trace, with one output more, which has a line with every row."""
 
+from __future__ import annotations
+
 import shlex
 import sys
 import tempfile
 from pathlib import Path
-from types import SimpleNamespace
+from typing import Optional
 
 from r2u2tools.common.rerun import as_text, fresh, made
-from r2u2tools.common.r2u2_run import Command
+from r2u2tools.common.r2u2_run import Command, Ended
 from r2u2tools.common.cli import Trouble
-from r2u2tools.timeline.model import take_lines, take_trace
+from r2u2tools.common.specs import Spec
+from r2u2tools.timeline.model import Model, take_lines, take_trace
 
 
-def title_of(spec):
+def title_of(spec: Spec) -> str:
     """The requirement, where a specification has one alone."""
     told = [item for item in spec.items if item.section in ("FTSPEC", "PTSPEC")]
     text = " ".join(spec.text[told[0].start : told[0].end].split()) if len(told) == 1 else ""
     return text if len(text) <= 100 and "--" not in text else ""
 
 
-def why_command(spec, trace, timed):
+def why_command(spec: str, trace: str, timed: bool) -> str:
     """The beginning of the command that explains a verdict of a run; its end is the output and the time."""
     tool = Path(sys.argv[0])
     words = [str(tool.with_name(tool.name.replace("timeline", "why"))), *["--timed"] * timed, spec, trace]
     return " ".join(shlex.quote(str(word)) for word in words)
 
 
-def run(words, model, every):
+def run(words: list[str], model: Model, every: bool) -> Optional[str]:
     """Takes a run into the model; where r2u2 fails, the lines before that, and its message is returned."""
     command = Command(words)
     told = command.r2u2
-    if not told or told.file in (None, "-") or told.trace == "-":
+    if not told or told.file is None or "-" in (told.file, told.trace):
         raise Trouble("the command has to be r2u2 with a specification or program, and a trace, that are files")
-    result = SimpleNamespace(log=None, failed=[])
+    result = Ended()
     with tempfile.TemporaryDirectory() as folder:
         spec, given = as_text(told.file, "timeline")
         ticks = fresh(spec, "tick")
@@ -44,4 +47,4 @@ def run(words, model, every):
         take_trace(model, told.trace, given.signals, every)
         again = Command([command.words[0], *told.with_file(file, not given.is_program())], quiet=True)
         again.run(lambda lines: take_lines(model, lines, "", ticks), result)
-    return result.failed[0]["message"] if result.failed else None
+    return str(result.failed[0]["message"]) if result.failed else None

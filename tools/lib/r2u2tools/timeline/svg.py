@@ -1,12 +1,20 @@
 """The timeline as one picture, an SVG: a square for each time of a short trace, bars for a long one."""
 
+from __future__ import annotations
+
 from html import escape
 from textwrap import wrap
+from typing import Any, Callable, Iterator, Optional, Sequence
 
 from r2u2tools.common.cli import plain as printable
+from r2u2tools.timeline.model import Column, Lane, Model
+
+Word = Optional[str]
+# Of a dot the values of the highest and of the lowest rank; None where it has no value.
+Ends = tuple[Any, Any]
 
 # How a word is drawn: its short text, the colour of its square and of the text.
-LOOKS = {
+LOOKS: dict[Word, tuple[str, str, str]] = {
     "T": ("T", "#2f74c0", "#ffffff"),
     "F": ("F", "#c93a4e", "#ffffff"),
     "inactive": ("–", "#c9d3de", "#3b4754"),
@@ -14,7 +22,7 @@ LOOKS = {
     "verified": ("✓", "#2f74c0", "#ffffff"),
     None: ("?", "#ffffff", "#5f6b78"),
 }
-MEANINGS = {
+MEANINGS: dict[Word, str] = {
     "T": "true",
     "F": "false",
     "inactive": "inactive",
@@ -23,7 +31,7 @@ MEANINGS = {
     None: "undecided",
 }
 # The word that a dot with several shows: the last of these.
-GRAVEST = {word: rank for rank, word in enumerate(("inactive", "T", "verified", None, "F", "invalid"))}
+GRAVEST: dict[Word, int] = {word: rank for rank, word in enumerate(("inactive", "T", "verified", None, "F", "invalid"))}
 SQUARE, LANE, GAP, EDGE, MARK = 26, 24, 8, 12, 14
 LETTER = 7.8
 SQUARES, WIDE, NARROWEST, LONGEST = 60, 1100, 8, 24
@@ -41,12 +49,12 @@ DARK = [
 STYLE = "<style>@media (prefers-color-scheme: dark){" + "".join(f"{what}{{{how}}}" for what, how in DARK) + "}</style>"
 
 
-def plain(number):
+def plain(number: float) -> str:
     """A number as short text, without a needless point."""
     return f"{number:.1f}".removesuffix(".0")
 
 
-def step_of(times, dots, apart=64):
+def step_of(times: int, dots: int, apart: int = 64) -> int:
     """The distance of labels on an axis: 1, 2 or 5 with zeros, so that they don't touch."""
     step = 1
     while step * dots / max(times, 1) < apart:
@@ -57,55 +65,58 @@ def step_of(times, dots, apart=64):
 class Sheet:
     """Shapes and texts, drawn from the top down, over an axis of times."""
 
-    def __init__(self, model):
+    def __init__(self, model: Model) -> None:
         names = [column.name for column in model.columns] + list(model.lanes)
-        self.model, self.parts = model, []
+        self.model, self.parts = model, list[str]()
         self.left = EDGE + max([len(name) for name in names] + [4]) * LETTER + GAP
         self.squares = model.times() <= SQUARES
         self.cell = max(SQUARE, widest(model)) if self.squares else WIDE / model.times()
-        self.top, self.wide = EDGE, 0
+        self.top, self.wide = float(EDGE), 0.0
         # Whether a line goes to a row that isn't shown.
         self.leaves = False
 
-    def add(self, text):
+    def add(self, text: str) -> None:
         self.parts.append(text)
 
-    def text(self, x, y, text, colour, size=12, anchor="start", weight=400):
+    def text(
+        self, x: float, y: float, text: str, colour: str, size: int = 12, anchor: str = "start", weight: int = 400
+    ) -> None:
         bold = f' font-weight="{weight}"' if weight != 400 else ""
         place = f' text-anchor="{anchor}"' if anchor != "start" else ""
         head = f'<text x="{plain(x)}" y="{plain(y)}" fill="{colour}" font-size="{size}"{place}{bold}>'
         self.add(f"{head}{escape(printable(text))}</text>")
 
-    def rect(self, x, y, wide, high, fill, more=""):
+    def rect(self, x: float, y: float, wide: float, high: float, fill: str, more: str = "") -> None:
         self.add(f'<rect x="{plain(x)}" y="{plain(y)}" width="{plain(wide)}" height="{plain(high)}" fill="{fill}"{more}/>')
 
-    def line(self, path, colour, width=1.0, more=""):
+    def line(self, path: str, colour: str, width: float = 1.0, more: str = "") -> None:
         self.add(f'<path d="{path}" fill="none" stroke="{colour}" stroke-width="{plain(width)}"{more}/>')
 
-    def x(self, time):
+    def x(self, time: float) -> float:
         return self.left + (time - self.model.first) * self.cell
 
-    def right(self):
+    def right(self) -> float:
         return self.x(self.model.last + 1)
 
-    def name(self, name):
+    def name(self, name: str) -> None:
         self.text(self.left - GAP, self.top + LANE / 2 + 4, name, INK, anchor="end")
 
-    def title(self, text):
+    def title(self, text: str) -> None:
         if text:
             self.text(EDGE, self.top + 14, text, INK, size=14, weight=600)
             self.wide = max(self.wide, EDGE + len(text) * 8.6)
             self.top += 16 + GAP
 
-    def rule(self):
+    def rule(self) -> None:
         self.line(f"M{EDGE} {plain(self.top)}H{plain(self.right())}", GRID)
         self.top += GAP
 
-    def dots(self, runs, rank):
+    def dots(self, runs: Any, rank: Callable[[Any], Any]) -> list[tuple[int, int, Ends]]:
         """Of each dot the values of the highest and of the lowest rank in it, as runs of dots."""
         first, last, cell = self.model.first, self.model.last, self.cell
-        ranks = {}
-        most, least = [None] * WIDE, [None] * WIDE
+        ranks: dict[Any, Any] = {}
+        most: list[Any] = [None] * WIDE
+        least: list[Any] = [None] * WIDE
         for begin, end, value in runs.between(first, last):
             low, mine = int((begin - first) * cell), ranks.get(value)
             if mine is None:
@@ -120,7 +131,7 @@ class Sheet:
                     least[k] = value
         return list(joined(list(zip(most, least))))
 
-    def svg(self):
+    def svg(self) -> str:
         width, height = max(self.right(), self.wide) + EDGE, self.top + EDGE
         head = (
             f'<svg xmlns="http://www.w3.org/2000/svg" width="{width:.0f}" height="{height:.0f}" '
@@ -130,7 +141,7 @@ class Sheet:
         return "\n".join([head, STYLE, back, *self.parts, "</svg>", ""])
 
 
-def joined(found):
+def joined(found: Sequence[Ends]) -> Iterator[tuple[int, int, Ends]]:
     """Runs of equal entries: first, one after the last, and the entry."""
     first = 0
     for k in range(1, len(found) + 1):
@@ -139,20 +150,20 @@ def joined(found):
             first = k
 
 
-def widest(model):
+def widest(model: Model) -> float:
     """The room that the longest number of a short trace needs."""
     numbers = [column.runs for column in model.columns if column.kind != "bool"]
     texts = [value for runs in numbers for _, _, value in runs.between(model.first, model.last)]
     return max([0] + [min(len(text), LONGEST) * 7.8 + 4 for text in texts])
 
 
-def draw_level(sheet, column):
+def draw_level(sheet: Sheet, column: Column) -> None:
     """A column of Booleans, as a line that is high where it is 1."""
     sheet.name(column.name)
     high, low = sheet.top + 5, sheet.top + LANE - 5
     if not sheet.squares:
         return draw_dense_level(sheet, column, high, low)
-    path = []
+    path = list[str]()
     for begin, end, value in column.runs.between(sheet.model.first, sheet.model.last):
         y = high if value == "1" else low
         if value == "1":
@@ -162,9 +173,9 @@ def draw_level(sheet, column):
     sheet.top += LANE + GAP / 2
 
 
-def draw_dense_level(sheet, column, high, low):
+def draw_dense_level(sheet: Sheet, column: Column, high: float, low: float) -> None:
     """The same of a long trace: a dot with both values is filled."""
-    path = []
+    path = list[str]()
     for begin, end, (most, least) in sheet.dots(column.runs, lambda value: value == "1"):
         if most is None:
             continue
@@ -176,7 +187,7 @@ def draw_dense_level(sheet, column, high, low):
     sheet.top += LANE + GAP / 2
 
 
-def draw_numbers(sheet, column):
+def draw_numbers(sheet: Sheet, column: Column) -> None:
     """A column of numbers: as their text, and over a long trace as a curve too."""
     sheet.name(column.name)
     if not sheet.squares:
@@ -191,26 +202,26 @@ def draw_numbers(sheet, column):
     sheet.top += LANE + GAP / 2
 
 
-def number(text):
+def number(text: str) -> Optional[float]:
     try:
         return float(text)
     except ValueError:
         return None
 
 
-def draw_curve(sheet, column):
+def draw_curve(sheet: Sheet, column: Column) -> None:
     """The least and the greatest number of each dot, as a band."""
     shown = {value for _, _, value in column.runs.between(sheet.model.first, sheet.model.last)}
-    values = {text: number(text) for text in shown}
-    if None in values.values() or not values:
+    values = {text: value for text in shown if (value := number(text)) is not None}
+    if len(values) < len(shown) or not values:
         return
     least, most = min(values.values()), max(values.values())
     high, low = sheet.top + 2, sheet.top + LANE - 2
 
-    def y(value):
+    def y(value: float) -> float:
         return low - (value - least) / (most - least or 1) * (low - high)
 
-    upper, lower = [], []
+    upper, lower = list[str](), list[str]()
     for begin, end, kept in sheet.dots(column.runs, values.get):
         if kept[0] is not None:
             left, right = plain(sheet.left + begin), plain(sheet.left + end)
@@ -224,7 +235,7 @@ def draw_curve(sheet, column):
         sheet.wide = max(sheet.wide, sheet.right() + 4 + len(text) * 6)
 
 
-def draw_square(sheet, x, y, word, wide):
+def draw_square(sheet: Sheet, x: float, y: float, word: Word, wide: float) -> None:
     text, fill, ink = LOOKS[word]
     dash = ' stroke="#7b8794" stroke-dasharray="3 2"' if word is None else ""
     sheet.rect(x + 1, y, wide - 2, LANE, fill, f' rx="3"{dash}')
@@ -232,7 +243,7 @@ def draw_square(sheet, x, y, word, wide):
         sheet.text(x + wide / 2, y + LANE / 2 + 4, text, ink, anchor="middle", weight=600)
 
 
-def draw_lane(sheet, lane):
+def draw_lane(sheet: Sheet, lane: Lane) -> None:
     sheet.name(lane.name)
     if sheet.squares:
         for time in range(sheet.model.first, sheet.model.last + 1):
@@ -245,7 +256,7 @@ def draw_lane(sheet, lane):
     sheet.top += GAP
 
 
-def draw_bar(sheet, begin, end, most, least):
+def draw_bar(sheet: Sheet, begin: int, end: int, most: Word, least: Word) -> None:
     """Dots of one word; or of several, of which the gravest is above the least grave."""
     text, fill, ink = LOOKS[most]
     x, wide = sheet.left + begin, end - begin
@@ -257,7 +268,7 @@ def draw_bar(sheet, begin, end, most, least):
         sheet.text(x + wide / 2, sheet.top + LANE / 2 + 4, text, ink, anchor="middle", weight=600)
 
 
-def draw_marks(sheet, lane):
+def draw_marks(sheet: Sheet, lane: Lane) -> None:
     """A dot at each row that decided a word, and a line to it from the time of the word."""
     if not len(lane.told):
         return
@@ -270,7 +281,7 @@ def draw_marks(sheet, lane):
             sheet.wide = max(sheet.wide, sheet.right() + 4 + len(text) * 7)
         return
     high, low = sheet.top + 1, sheet.top + MARK - 3
-    path, rows = [], set()
+    path, rows = list[str](), set[int]()
     for begin, end, row in lane.told.between(model.first, model.last):
         for time in range(begin, end + 1):
             sheet.leaves = sheet.leaves or row > model.last
@@ -284,7 +295,7 @@ def draw_marks(sheet, lane):
     sheet.top += MARK
 
 
-def draw_axis(sheet):
+def draw_axis(sheet: Sheet) -> None:
     model = sheet.model
     sheet.text(sheet.left - GAP, sheet.top + 8, model.axis(), FAINT, 11, "end")
     step = 1 if sheet.squares else step_of(model.times(), WIDE)
@@ -297,7 +308,7 @@ def draw_axis(sheet):
     sheet.top += 12 + GAP
 
 
-def draw_stamps(sheet):
+def draw_stamps(sheet: Sheet) -> None:
     """A mark under each time that a line of the trace has as its stamp."""
     model = sheet.model
     places = {round(sheet.x(time + 0.5)) for time in model.stamps or [] if model.first <= time <= model.last}
@@ -305,8 +316,8 @@ def draw_stamps(sheet):
         sheet.line("".join(f"M{x} {plain(sheet.top + 12)}v4" for x in sorted(places)), INK, 1.2)
 
 
-def draw_legend(sheet):
-    model, x = sheet.model, EDGE
+def draw_legend(sheet: Sheet) -> None:
+    model, x = sheet.model, float(EDGE)
     told = {value for lane in model.lanes.values() for _, _, value in lane.words.between(model.first, model.last)}
     if any(lane.words.end() <= model.last for lane in model.lanes.values()):
         told.add(None)
@@ -315,7 +326,7 @@ def draw_legend(sheet):
         sheet.text(x + SQUARE + 4, sheet.top + LANE / 2 + 4, MEANINGS[word], FAINT)
         x += SQUARE + 12 + len(MEANINGS[word]) * 7
     marks = any(len(lane.told) for lane in model.lanes.values())
-    notes = []
+    notes = list[str]()
     if marks and sheet.cell >= NARROWEST:
         sheet.add(f'<circle cx="{plain(x + 8)}" cy="{plain(sheet.top + LANE / 2)}" r="2.5" fill="{INK}"/>')
         sheet.text(x + 16, sheet.top + LANE / 2 + 4, f"printed with this {model.axis()}", FAINT)
@@ -334,7 +345,7 @@ def draw_legend(sheet):
     draw_left_out(sheet)
 
 
-def draw_left_out(sheet):
+def draw_left_out(sheet: Sheet) -> None:
     """The names of columns and outputs in which nothing changes, in lines as wide as the picture."""
     most = int((max(sheet.right(), sheet.wide) - EDGE) / 6.6)
     for line in wrap("left out, since unchanging: " + ", ".join(sheet.model.constant), most) if sheet.model.constant else []:
@@ -342,7 +353,7 @@ def draw_left_out(sheet):
         sheet.top += 16
 
 
-def svg(model):
+def svg(model: Model) -> str:
     sheet = Sheet(model)
     sheet.title(model.title)
     for column in model.columns:

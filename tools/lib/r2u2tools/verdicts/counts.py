@@ -4,10 +4,11 @@ from __future__ import annotations
 
 import os
 from dataclasses import dataclass, field
-from typing import Any, BinaryIO, Iterable, Optional
+from typing import IO, Any, Iterable, Optional
 
 from r2u2tools.common.cli import Stopped, Trouble, opened
 from r2u2tools.common.progress import Progress
+from r2u2tools.common.r2u2_run import Ended
 from r2u2tools.common.streams import lines_of
 from r2u2tools.common.traces import LONGEST
 from r2u2tools.common.verdict_lines import BAD, Reader
@@ -116,18 +117,15 @@ class Rules:
 
 
 @dataclass
-class Result:
+class Result(Ended):
     """What one log or many gave: outputs by name in their order, runs that failed, logs without a verdict."""
 
-    log: Optional[str] = None
     names: Iterable[str] = ()
     logs: int = 1
     spec: Optional[str] = None
     rows: Optional[int] = None
     lines: int = 0
     seconds: float = 0.0
-    stopped: int = 0
-    failed: list[dict[str, Any]] = field(default_factory=list)
     empty: list[str] = field(default_factory=list)
     suites: list[Result] = field(default_factory=list)
     outputs: dict[str, Output] = field(default_factory=dict)
@@ -170,7 +168,7 @@ class Result:
         return 1 if nothing or self.faults(rules) else 0
 
 
-def counted(file: BinaryIO, result: Result) -> Result:
+def counted(file: IO[bytes], result: Result) -> Result:
     """Reads lines to their end into a result, in constant memory; an interrupt ends the reading, and is kept."""
     reader, progress = Reader(result.log or ""), Progress()
     outputs = result.outputs

@@ -1,6 +1,9 @@
 """Where two runs part."""
 
+from __future__ import annotations
+
 from collections import deque
+from typing import Iterator
 
 from r2u2tools.common.cli import Trouble, opened
 from r2u2tools.common.verdict_lines import Reader
@@ -11,11 +14,12 @@ SHOWN = 10
 class Compared:
     """One output in both runs: stretches that one has told and the other hasn't yet, and where they part."""
 
-    def __init__(self):
-        self.ends, self.ahead = [0, 0], (deque(), deque())
-        self.differ, self.shown = 0, []
+    def __init__(self) -> None:
+        self.ends, self.ahead = [0, 0], (deque[tuple[int, str]](), deque[tuple[int, str]]())
+        self.differ, self.compared = 0, 0
+        self.shown: list[tuple[int, int, tuple[str, str]]] = []
 
-    def take(self, side, last, word):
+    def take(self, side: int, last: int, word: str) -> None:
         """A stretch of one side, up to its last time."""
         self.ends[side] = last + 1
         mine, other = self.ahead[side], self.ahead[1 - side]
@@ -34,9 +38,7 @@ class Compared:
                     queue.popleft()
             first = self.compared = last + 1
 
-    compared = 0
-
-    def part(self, first, last, words):
+    def part(self, first: int, last: int, words: tuple[str, str]) -> None:
         self.differ += last - first + 1
         if self.shown and self.shown[-1][1] == first - 1 and self.shown[-1][2] == words:
             self.shown[-1] = (self.shown[-1][0], last, words)
@@ -44,9 +46,9 @@ class Compared:
             self.shown.append((first, last, words))
 
 
-def walk(paths):
+def walk(paths: list[str]) -> dict[str, Compared]:
     """Reads both files side by side, that one first which is behind, so that little is kept."""
-    outputs = {}
+    outputs: dict[str, Compared] = {}
     with opened(paths[0]) as one, opened(paths[1]) as two:
         sides = [Reader(str(path)).stretches(file) for path, file in zip(paths, (one, two))]
         told, open_sides = [0, 0], [0, 1]
@@ -63,11 +65,11 @@ def walk(paths):
     return outputs
 
 
-def stretch(first, last):
+def stretch(first: int, last: int) -> str:
     return f"at {first}" if first == last else f"at {first} to {last}"
 
 
-def of_output(name, output, paths):
+def of_output(name: str, output: Compared, paths: list[str]) -> Iterator[str]:
     """The lines that tell where one output parts."""
     for first, last, words in output.shown[:SHOWN]:
         yield f"{name} {stretch(first, last)}: {words[0]} in {paths[0]}, {words[1]} in {paths[1]}"
@@ -81,7 +83,7 @@ def of_output(name, output, paths):
         yield f"{name} is decided {here}, {there} in {paths[1 - more]}"
 
 
-def told_diff(lines, other):
+def told_diff(lines: str, other: str) -> int:
     """Prints where two files of verdict lines part; 0 where they don't, 1 where they do."""
     if str(lines) == str(other) == "-":
         raise Trouble("one of the two has to be a file")

@@ -4,19 +4,11 @@ from __future__ import annotations
 
 from typing import Any, Iterator, Optional
 
+from r2u2tools.common.tables import in_columns
 from r2u2tools.common.verdict_lines import WORDS
 from r2u2tools.verdicts.counts import NO_VERDICT, Event, Output, Result, Rules
 
 SHOWN = 20
-
-
-def aligned(rows: list[list[str]], numbers: range) -> list[str]:
-    """Returns rows as lines with columns of equal width; those of numbers are flush right."""
-    wide = [max(len(row[k]) for row in rows) for k in range(len(rows[0]))]
-    return [
-        "  ".join(cell.rjust(wide[k]) if k in numbers else cell.ljust(wide[k]) for k, cell in enumerate(row)).rstrip()
-        for row in rows
-    ]
 
 
 def place(event: Optional[Event], many: bool) -> str:
@@ -65,7 +57,7 @@ def as_table(result: Result, rules: Rules) -> str:
     head += ["stretches", "longest", "last"] * extra["events"] + ["decided"] + ["undecided"] * extra["undecided"]
     head += ["left side true"] * extra["exercised"] + ["logs with one"] * many
     rows = [head] + [cells(output, words, extra, many) for output in outputs]
-    return "\n".join([*aligned(rows, range(1, len(words) + 1)), *remarks(result, rules)])
+    return "\n".join([*in_columns(rows, range(1, len(words) + 1)), *remarks(result, rules)])
 
 
 def remarks(result: Result, rules: Rules) -> Iterator[str]:

@@ -6,6 +6,7 @@ from collections import deque
 from dataclasses import dataclass
 from typing import Deque, Dict, Iterator, List, Optional, Tuple
 
+from r2u2tools.common.tables import in_columns
 from r2u2tools.common.verdict_lines import BAD
 
 HEADS = ("output", "verdict", "at", "behind", "false", "stretches", "last false")
@@ -81,9 +82,5 @@ class Board:
             lines.sort(key=lambda line: line[4] == "0")
             left = len(lines) - max(1, room - 3)
             lines = lines[: len(lines) - left]
-        wide = [max(len(line[k]) for line in [list(HEADS), *lines]) for k in range(len(HEADS))]
-        found = [self.head(rows, rate)]
-        for first, word, *rest in [list(HEADS), *lines]:
-            numbers = [f"{it:>{size}}" for it, size in zip(rest, wide[2:])]
-            found.append("  ".join([f"{first:<{wide[0]}}", f"{word:<{wide[1]}}", *numbers]).rstrip())
-        return found + ([f"and {left} more"] if left else [])
+        table = in_columns([HEADS, *lines], range(2, len(HEADS)))
+        return [self.head(rows, rate), *table, *[f"and {left} more"] * (left > 0)]

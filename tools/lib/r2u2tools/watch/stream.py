@@ -86,6 +86,7 @@ class Stream:
 
     def read(self) -> None:
         """Gives each stretch of verdicts to whoever hears them."""
+        assert self.child.stdout
         try:
             for name, first, last, word in Reader("r2u2").stretches(self.child.stdout):
                 self.heard(name, first, last, word)
@@ -95,7 +96,8 @@ class Stream:
             self.ended.set()
 
     def keep_errors(self) -> None:
-        while block := self.child.stderr.read1(BLOCK):  # type: ignore[union-attr]
+        errors: Any = self.child.stderr
+        while block := errors.read1(BLOCK):
             self.tail += block
             del self.tail[:-BLOCK]
 
