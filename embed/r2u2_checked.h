@@ -272,7 +272,7 @@ static inline uint32_t r2u2_checked_next(struct r2u2 *it, uint32_t style, struct
     return code;
 }
 
-/* Whether reports, at most `room` of them, can be stored beside the struct and their count. */
+/* Whether reports, at most `room` of them, can be stored, and overlap neither the struct nor their count. */
 static inline bool r2u2_have_room(const struct r2u2 *it, const struct r2u2_report *reports, size_t room, const size_t *count) {
     const size_t words = sizeof *reports / sizeof(uint64_t);
     return r2u2_is_struct(it) && (count != NULL) && r2u2_is_there(count, 1u, sizeof *count) &&

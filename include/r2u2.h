@@ -21,8 +21,8 @@
  * that goes away while it is open leaks its monitor. The calls keep no pointer that they are given: program, header, rows
  * and buffers stay the caller's.
  *
- * MEMORY. r2u2_open, r2u2_open_under and r2u2_open_checked allocate all of it, and r2u2_bytes allocates and frees again. No other call
- * allocates, and so none can run out of memory.
+ * MEMORY. r2u2_open, r2u2_open_under and r2u2_open_checked allocate all of it, and r2u2_bytes allocates and frees again. No
+ * other call allocates, and so none can run out of memory.
  *
  * RESULTS. A call that returns a code has succeeded where it returns R2U2_DONE, 0. At every other code the monitor is as it
  * was before the call, and nothing was written but the fault that says why.
