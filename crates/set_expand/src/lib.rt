@@ -10,7 +10,14 @@
 //! ```
 #![tactic(auto)]
 
+pub mod counting;
 pub mod expanding;
+pub mod formulas;
+pub mod heads;
+pub mod items;
+pub mod names;
+pub mod nodes;
+pub mod scope;
 
 pub use c2po_nodes::{Expanded, Plain, PlainOut};
 pub use expanding::expand;
