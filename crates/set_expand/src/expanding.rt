@@ -12,6 +12,7 @@ ghost use Rattle.c2po_nodes.specs.Faults.{HasRanges};
 ghost use Rattle.c2po_nodes.specs.Outputs.{IsSound, asked};
 ghost use Rattle.c2po_unfold.specs.Values.{counted_formula};
 ghost use Rattle.mltl_base.specs.Kinds.{ReadsSignals, kinds_of};
+ghost use Rattle.set_expand.specs.Counts.{CountsBodies};
 ghost use Rattle.set_expand.specs.Outputs.{HasPlainName, outputs_of};
 ghost use Rattle.set_expand.specs.Unfolded.{Leaves};
 
@@ -50,6 +51,7 @@ pub fn expand(alloc: Global, spec: &TypedSpec) -> Result<Expanded, AllocError>
     ensures named { IfOk result (λ expanded. All HasPlainName (asked expanded)) }
 
     // A counting quantifier that is unfolded counts its bodies, equal ones each.
+    ensures counted { IfOk result (λ expanded. All CountsBodies (asked expanded)) }
     ensures counting { (op : Op) (m : ℕ) (bodies : Seq Formula) (rows : Seq Row) (t : ℕ)
         → sat rows (counted_formula bodies (counting op (length bodies) m)) t
         ≡ compares op m (count rows bodies t) }

@@ -2,6 +2,7 @@ use Rattle.std.proofs.Common.{◌≡◌, ◌<◌, ◌^◌, ◌∙◌, List, [], 
 use Rattle.std.specs.Prelude.{All}
 use Rattle.std.proofs.lemmas.List.{length-map}
 use Rattle.mltl_base.specs.Kinds.{ReadsSignals, kinds_of}
+use Rattle.mltl_base.specs.Meaning.{sat}
 use Rattle.c2po_ast.specs.ItemShape.{ItemShape, item_shape, spec_shape}
 use Rattle.c2po_nodes.specs.declared.nodes.Plain.{Plain}
 use Rattle.c2po_nodes.specs.Faults.{HasRanges}
@@ -71,3 +72,6 @@ returns-then-len-clause-counting c = counting_means
 
 pub returns-clause-counting : goal.returns-clause-counting
 returns-clause-counting c = counting_means
+
+pub returns-clause-counted : goal.returns-clause-counted
+returns-clause-counted c = λ k asked at i p within op m bodies is rows t. ap (λ q. sat rows q t) is ∙ counting_means op m bodies rows t
