@@ -1,6 +1,6 @@
 -- Nodes that get one more, and operators over their operands' nodes.
 
-use Rattle.std.proofs.Common.{ℕ, Bool, true, false, ◌<◌, List, [], ◌∷◌, ◌++◌, subst}
+use Rattle.std.proofs.Common.{None, Some, ℕ, Bool, true, false, ◌<◌, List, [], ◌∷◌, ◌++◌, subst}
 use Rattle.mltl_base.specs.declared.interval.Interval.{Interval}
 use Rattle.mltl_base.specs.declared.operators.ArithOp.{ArithOp}
 use Rattle.mltl_base.specs.declared.operators.CompareOp.{CompareOp}
@@ -12,18 +12,39 @@ use Rattle.mltl_base.specs.Formula.{Formula, atom, negation}
 use Rattle.mltl_base.specs.Tables.{Table}
 use Rattle.c2po_nodes.specs.declared.nodes.Plain.{Plain}
 use Rattle.c2po_nodes.specs.declared.nodes.Plain.TheVariants as plain
-use Rattle.c2po_nodes.specs.Nodes.{Tree, number, formula, term_at, formula_at, arithmetic, comparison, connected, windowed, ranged, tree_of, trees, Has, IsFormed}
+use Rattle.c2po_nodes.specs.Nodes.{Grows, Tree, number, formula, term_at, formula_at, arithmetic, comparison, connected, windowed, ranged, tree_of, trees, Has, IsFormed}
 use Rattle.c2po_nodes.proofs.Pushing.{grows_same, grows_then, grows_push, sound_push, formula_in_place, number_at}
 use Rattle.set_expand.specs.declared.names.Declared.{Declared}
 use Rattle.set_expand.specs.Names.{SignalsBelow}
-use Rattle.set_expand.specs.Nodes.{IsMore, signal_node}
+use Rattle.set_expand.specs.declared.names.Entry.{Entry}
+use Rattle.set_expand.specs.declared.names.Entry.TheVariants as entry
+use Rattle.set_expand.specs.declared.nodes.Made.{Made}
+use Rattle.set_expand.specs.declared.nodes.Made.TheVariants as made
+use Rattle.set_expand.specs.Nodes.{HaveNodes, IsKept, IsMade, IsMore, signal_node}
+use Rattle.c2po_unfold.specs.Values.{Value}
+
+-- what is kept stays where nodes get more
+made_later : (old new : List Plain) (m : Made) (v : Value) → Grows old new → IsMade old m v → IsMade new m v
+made_later old new (made.Number n) v g h = (h.0, h.1, g.kept n (number h.0) h.2)
+made_later old new (made.Formula n) v g h = (h.0, h.1, g.kept n (formula h.0) h.2)
+made_later old new made.Whole v g h = h
+
+entry_later : (names : Table Declared) (old new : List Plain) (e : Entry) → Grows old new → IsKept old names e → IsKept new names e
+entry_later names old new (entry.Struct fs i) g h = tt
+entry_later names old new (entry.Signal b k) g h = tt
+entry_later names old new (entry.Defined e n None) g h = tt
+entry_later names old new (entry.Defined e n (Some m)) g h = made_later old new m _ g h
+
+have_later : (names : Table Declared) (old new : List Plain) → Grows old new → HaveNodes old names → HaveNodes new names
+have_later names old new g h = record { each = λ x d at. entry_later names old new d.entry g (h.each x d at) }
 
 pub more_same : (names : Table Declared) (nodes : List Plain) → IsMore names nodes nodes
-more_same names nodes = record { grows = grows_same nodes; sound = λ signals below h. h }
+more_same names nodes = record { grows = grows_same nodes; kept = λ h. h; sound = λ signals below h. h }
 
 pub more_then : (names : Table Declared) (old mid new : List Plain) → IsMore names old mid → IsMore names mid new → IsMore names old new
 more_then names old mid new g h = record {
   grows = grows_then old mid new g.grows h.grows;
+  kept = λ s. h.kept (g.kept s);
   sound = λ signals below s. h.sound signals below (g.sound signals below s);
 }
 
@@ -31,6 +52,7 @@ pub more_push : (names : Table Declared) (nodes : List Plain) (node : Plain)
     → ((signals : ℕ) → SignalsBelow signals names → IsFormed signals (trees nodes) node) → IsMore names nodes (nodes ++ node ∷ [])
 more_push names nodes node formed = record {
   grows = grows_push nodes node;
+  kept = have_later names nodes (nodes ++ node ∷ []) (grows_push nodes node);
   sound = λ signals below h. sound_push signals nodes node h (formed signals below);
 }
 

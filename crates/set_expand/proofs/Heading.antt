@@ -9,6 +9,7 @@ use Rattle.c2po_unfold.specs.Environment.{signal_value}
 use Rattle.c2po_unfold.proofs.Members.{values_count}
 use Rattle.c2po_unfold.proofs.Parts.{leaf_members, leaf_picked}
 use Rattle.set_expand.specs.declared.names.Declared.{Declared}
+use Rattle.set_expand.specs.declared.nodes.Made.{Made}
 use Rattle.set_expand.specs.declared.scope.Scope.{Scope}
 use Rattle.set_expand.specs.declared.scope.Head.{Head}
 use Rattle.set_expand.specs.declared.scope.Head.TheVariants as head
@@ -32,7 +33,8 @@ module _ (names : Table Declared) where
   pub other_members : (h : Head) →
       (h ≡ head.Nothing) ⊎ (((b : Bool) × (n : ℕ) × (h ≡ head.Signal b n))
       ⊎ (((x : Scope) × (y : Bor (List ℕ)) × (z : Bor (List Expr)) × (h ≡ head.Struct x y z))
-      ⊎ ((x : Scope) × (y : Bor Expr) × (h ≡ head.Leaf x y)))) →
+      ⊎ (((x : Scope) × (y : Bor Expr) × (h ≡ head.Leaf x y))
+      ⊎ ((m : Made) × (x : Scope) × (y : Bor Expr) × (h ≡ head.Kept m x y))))) →
       IsHead h → members (head_value names h) ≡ []
   other_members h e is = elim e [
     | inl n ↦ ap (λ x. members (head_value names x)) n
@@ -40,9 +42,14 @@ module _ (names : Table Declared) where
       | inl s ↦ ap (λ x. members (head_value names x)) s.2 ∙ signal_members s.0 s.1
       | inr k ↦ elim k [
         | inl s ↦ ap (λ x. members (head_value names x)) s.3
-        | inr l ↦
-            ap (λ x. members (head_value names x)) l.2
-            ∙ leaf_members (shape l.1.now) (env_in names l.0) _ refl (subst IsHead l.2 is)
+        | inr o ↦ elim o [
+          | inl l ↦
+              ap (λ x. members (head_value names x)) l.2
+              ∙ leaf_members (shape l.1.now) (env_in names l.0) _ refl (subst IsHead l.2 is)
+          | inr l ↦
+              ap (λ x. members (head_value names x)) l.3
+              ∙ leaf_members (shape l.2.now) (env_in names l.1) _ refl (subst IsHead l.3 is)
+        ]
       ]
     ]
   ]
@@ -50,7 +57,8 @@ module _ (names : Table Declared) where
   pub other_picked : (h : Head) (fields : List ℕ → List (List ℕ)) (f : List ℕ) →
       (h ≡ head.Nothing) ⊎ (((b : Bool) × (n : ℕ) × (h ≡ head.Signal b n))
       ⊎ (((x : Scope) × (z : Bor (List Expr)) × (h ≡ head.Set x z))
-      ⊎ ((x : Scope) × (y : Bor Expr) × (h ≡ head.Leaf x y)))) →
+      ⊎ (((x : Scope) × (y : Bor Expr) × (h ≡ head.Leaf x y))
+      ⊎ ((m : Made) × (x : Scope) × (y : Bor Expr) × (h ≡ head.Kept m x y))))) →
       IsHead h → head_value names h ≡ picked fields f (head_value names h)
   other_picked h fields f e is = elim e [
     | inl n ↦ subst (λ x. head_value names x ≡ picked fields f (head_value names x)) (sym n) refl
@@ -58,8 +66,12 @@ module _ (names : Table Declared) where
       | inl s ↦ subst (λ x. head_value names x ≡ picked fields f (head_value names x)) (sym s.2) (sym (signal_picked s.0 s.1 fields f))
       | inr k ↦ elim k [
         | inl s ↦ subst (λ x. head_value names x ≡ picked fields f (head_value names x)) (sym s.2) refl
-        | inr l ↦ subst (λ x. head_value names x ≡ picked fields f (head_value names x)) (sym l.2)
-            (sym (leaf_picked (shape l.1.now) (env_in names l.0) _ fields f refl (subst IsHead l.2 is)))
+        | inr o ↦ elim o [
+          | inl l ↦ subst (λ x. head_value names x ≡ picked fields f (head_value names x)) (sym l.2)
+              (sym (leaf_picked (shape l.1.now) (env_in names l.0) _ fields f refl (subst IsHead l.2 is)))
+          | inr l ↦ subst (λ x. head_value names x ≡ picked fields f (head_value names x)) (sym l.3)
+              (sym (leaf_picked (shape l.2.now) (env_in names l.1) _ fields f refl (subst IsHead l.3 is)))
+        ]
       ]
     ]
   ]

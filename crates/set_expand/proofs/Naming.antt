@@ -10,6 +10,7 @@ use Rattle.std.proofs.lemmas.List.Sums.{fold_push}
 use Rattle.std.proofs.lemmas.Option.{get_or_from_slice_get, slice_get-get_or}
 use Rattle.std.proofs.lemmas.Slice.Eq.{bytes_eq-Decides}
 use Rattle.mltl_base.specs.Tables.{Table, entry_of, is_named}
+use Rattle.c2po_nodes.specs.declared.nodes.Plain.{Plain}
 use Rattle.c2po_nodes.proofs.Places.{get_left, get_last}
 use Rattle.c2po_ast.specs.Shape.{shape}
 use Rattle.c2po_ast.specs.ItemShape.{field_shape}
@@ -18,6 +19,7 @@ use Rattle.c2po_unfold.proofs.Declaring.{or_entry, entry_push}
 use Rattle.set_expand.specs.declared.names.Entry.{Entry}
 use Rattle.set_expand.specs.declared.names.Entry.TheVariants as entry
 use Rattle.set_expand.specs.declared.names.Declared.{Declared}
+use Rattle.set_expand.specs.Nodes.{HaveNodes, IsKept, MadeAs}
 use Rattle.set_expand.specs.Names.{AreNumbered, EntryBelow, HasFields, IsEarly, SignalsBelow, env_after, env_at, env_last, env_now, env_of, envs_of, meaning, meaning_before, meaning_in, with_name}
 
 below_is : (a b : ℕ) → a < b → nat_lt a b ≡ true
@@ -58,7 +60,7 @@ last_at envs m h =
 meaning_kept : (envs : List Env) (more : Env) (k : ℕ) (e : Entry) → IsEarly k e → k < length envs → meaning_in (envs ++ more ∷ []) e ≡ meaning_in envs e
 meaning_kept envs more k (entry.Struct fs i) early h = refl
 meaning_kept envs more k (entry.Signal b n) early h = refl
-meaning_kept envs more k (entry.Defined e n) early h =
+meaning_kept envs more k (entry.Defined e n made) early h =
     ap (λ env. value (value_of (shape e.now) env)) (env_kept envs more n (omega arith))
 
 -- what an entry means is known
@@ -66,7 +68,7 @@ meaning_stays : (envs : List Env) (e : Entry) (k : Known) → or_else (meaning_i
 meaning_stays envs (entry.Struct fs i) k = refl
 meaning_stays envs (entry.Signal true n) k = refl
 meaning_stays envs (entry.Signal false n) k = refl
-meaning_stays envs (entry.Defined e n) k = refl
+meaning_stays envs (entry.Defined e n made) k = refl
 
 or_nothing : (k : Known) → or_else k nothing ≡ k
 or_nothing nothing = refl
@@ -139,7 +141,7 @@ entries_push P names x d all one y e h = elim (or_case (entry_of y names) (bytes
 early_more : (m n : ℕ) (e : Entry) → m ≤ n → IsEarly m e → IsEarly n e
 early_more m n (entry.Struct fs i) le h = tt
 early_more m n (entry.Signal b k) le h = tt
-early_more m n (entry.Defined e k) le h = omega arith
+early_more m n (entry.Defined e k made) le h = omega arith
 
 module _ (names : Table Declared) (structs : List (List (List ℕ))) (h : AreNumbered names structs) where
   -- the environment of all names
@@ -159,7 +161,7 @@ module _ (names : Table Declared) (structs : List (List (List ℕ))) (h : AreNum
       kept : (e : Entry) → HasFields structs e → HasFields (structs ++ own ∷ []) e
       kept (entry.Struct fs i) has = get_left structs (own ∷ []) i (map (λ f. f.name) (map field_shape fs.now)) has
       kept (entry.Signal b k) has = tt
-      kept (entry.Defined e k) has = tt
+      kept (entry.Defined e k made) has = tt
 
   module _ (x : List ℕ) (e : Entry) (early : IsEarly (length names) e) where
     abbrev own : Declared
@@ -224,6 +226,28 @@ below_with n names x e h one = by (is_named x names)
     by : (b : Bool) → SignalsBelow n (if b then names else names ++ (x, record { number = length names; entry = e }) ∷ [])
     by true = h
     by false = record { each = entries_push (λ d. EntryBelow n d.entry) names x (record { number = length names; entry = e }) h.each one }
+
+-- an entry that sees names before it keeps its node
+module _ (nodes : List Plain) (names : Table Declared) (structs : List (List (List ℕ))) (h : AreNumbered names structs) (x : List ℕ) (d : Declared) where
+  entry_kept : (e : Entry) → IsEarly (length names) e → IsKept nodes names e → IsKept nodes (names ++ (x, d) ∷ []) e
+  entry_kept (entry.Struct fs i) early has = tt
+  entry_kept (entry.Signal b k) early has = tt
+  entry_kept (entry.Defined e n made) early has =
+      let same : env_of (names ++ (x, d) ∷ []) n ≡ env_of names n =
+      ap (λ envs. env_at envs n) (envs_push names x d) ∙ env_kept (envs_of names) (env_after (envs_of names) x d.entry) n (omega (arith, h.count)) in
+      subst (λ env. MadeAs nodes (value_of (shape e.now) env) made) (sym same) has
+
+pub kept_with : (nodes : List Plain) (names : Table Declared) (structs : List (List (List ℕ))) (x : List ℕ) (e : Entry) → AreNumbered names structs
+    → IsEarly (length names) e → HaveNodes nodes names → IsKept nodes names e → HaveNodes nodes (with_name x e names)
+kept_with nodes names structs x e numbered early h one = by (is_named x names)
+  where
+    by : (b : Bool) → HaveNodes nodes (if b then names else names ++ (x, record { number = length names; entry = e }) ∷ [])
+    by true = h
+    by false = record {
+      each = entries_push (λ d. IsKept nodes (names ++ (x, record { number = length names; entry = e }) ∷ []) d.entry) names x (record { number = length names; entry = e })
+          (λ y d at. entry_kept nodes names structs numbered x (record { number = length names; entry = e }) d.entry (numbered.early y d at) (h.each y d at))
+          (entry_kept nodes names structs numbered x (record { number = length names; entry = e }) e early one);
+    }
 
 -- no names
 one_or : {X : Type 0} (x : X) (k : ℕ) → get_or (x ∷ []) k x ≡ x

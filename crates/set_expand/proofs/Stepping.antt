@@ -34,7 +34,7 @@ use Rattle.set_expand.specs.declared.names.Declared.{Declared}
 use Rattle.set_expand.specs.declared.names.Entry.{Entry}
 use Rattle.set_expand.specs.declared.names.Entry.TheVariants as entry
 use Rattle.set_expand.specs.Names.{EntryBelow, SignalsBelow, env_now, envs_of}
-use Rattle.set_expand.specs.Nodes.{IsMore}
+use Rattle.set_expand.specs.Nodes.{HaveNodes, IsMore}
 use Rattle.set_expand.specs.Unfolded.{AskFor, Leaves, StandsAt}
 use Rattle.set_expand.proofs.Asking.{asks-none, asks-later, asks-push}
 
@@ -82,7 +82,7 @@ signals-end xs b i from now h =
 entry-more : (m n : ℕ) (e : Entry) → m ≤ n → EntryBelow m e → EntryBelow n e
 entry-more m n (entry.Struct fs i) le h = tt
 entry-more m n (entry.Signal b k) le h = omega arith
-entry-more m n (entry.Defined e k) le h = tt
+entry-more m n (entry.Defined e k made) le h = tt
 
 pub below-more : (m n : ℕ) (names : Table Declared) → m ≤ n → SignalsBelow m names → SignalsBelow n names
 below-more m n names le h = record { each = λ x d at. entry-more m n d.entry le (h.each x d at) }
@@ -90,15 +90,16 @@ below-more m n names le h = record { each = λ x d at. entry-more m n d.entry le
 -- an item without outputs
 pub stands-after : (u v : Unfolded) (body : BodyShape) (place : Place) (told : List Asked) → asked_at body place ≡ [] → StandsAt u place told
     → env_now v.names ≡ values_after body place → v.signals ≡ u.signals + length (body_signals body) → SignalsBelow v.signals v.names
-    → v.nodes ≡ u.nodes → v.outs ≡ u.outs → StandsAt v (place_after body place) (told ++ asked_at body place)
-stands-after u v body place told none h values more below nodes outs = record {
+    → IsMore u.names u.nodes v.nodes → HaveNodes v.nodes v.names → v.outs ≡ u.outs → StandsAt v (place_after body place) (told ++ asked_at body place)
+stands-after u v body place told none h values signals below more kept outs = record {
   values = values;
-  numbered = more ∙ ap (λ k. k + length (body_signals body)) h.numbered;
+  numbered = signals ∙ ap (λ k. k + length (body_signals body)) h.numbered;
   below = below;
+  kept = kept;
   counted = omega (arith, h.counted, ap length none, ap length outs);
-  sound = subst (AreSound v.signals) (sym nodes) (sound-more u.signals v.signals u.nodes (omega (arith, more)) h.sound);
-  asked = subst (λ ns. AskFor ns v.outs (told ++ asked_at body place)) (sym nodes) (subst (λ os. AskFor u.nodes os (told ++ asked_at body place)) (sym outs)
-      (subst (AskFor u.nodes u.outs) (sym (append-nil told) ∙ ap (λ more. told ++ more) (sym none)) h.asked));
+  sound = sound-more u.signals v.signals v.nodes (omega (arith, signals)) (more.sound u.signals h.below h.sound);
+  asked = subst (λ os. AskFor v.nodes os (told ++ asked_at body place)) (sym outs)
+      (subst (AskFor v.nodes u.outs) (sym (append-nil told) ∙ ap (λ more. told ++ more) (sym none)) (asks-later u.nodes v.nodes u.outs told more.grows h.asked));
 }
 
 -- one more output, which an item asks for
@@ -109,6 +110,7 @@ stands-out u nodes place told o a h more names is = record {
   values = h.values;
   numbered = omega (arith, h.numbered);
   below = h.below;
+  kept = more.kept h.kept;
   counted = omega (arith, h.counted, length-append u.outs (o ∷ []));
   sound = more.sound u.signals h.below h.sound;
   asked = asks-push nodes u.outs told o a (asks-later u.nodes nodes u.outs told more.grows h.asked) names is;
@@ -147,6 +149,7 @@ nothing-yet u names signals nodes outs = record {
   values = ap env_now names;
   numbered = signals;
   below = subst (SignalsBelow u.signals) (sym names) (record { each = λ x d at. absurd (cc) });
+  kept = subst (HaveNodes u.nodes) (sym names) (record { each = λ x d at. absurd (cc) });
   counted = ap length outs;
   sound = subst (AreSound u.signals) (sym nodes) (sound_nil u.signals);
   asked = subst (λ os. AskFor u.nodes os []) (sym outs) (asks-none u.nodes);

@@ -25,7 +25,7 @@ abbrev pub named_meaning : Table Declared → Named → Known
 named_meaning names named.Nothing = nothing
 named_meaning names (named.Struct fs) = fields fs.now
 named_meaning names (named.Signal b n) = value (signal_value b n)
-named_meaning names (named.Open scope e) = value (value_of (shape e.now) (env_in names scope))
+named_meaning names (named.Open scope e made) = value (value_of (shape e.now) (env_in names scope))
 
 -- the value of a head
 abbrev pub head_value : Table Declared → Head → Value
@@ -34,10 +34,12 @@ head_value names (head.Signal b n) = signal_value b n
 head_value names (head.Struct scope x es) = built x.now (values_of (shapes es.now) (env_in names scope))
 head_value names (head.Set scope es) = grouped (values_of (shapes es.now) (env_in names scope))
 head_value names (head.Leaf scope e) = value_of (shape e.now) (env_in names scope)
+head_value names (head.Kept made scope e) = value_of (shape e.now) (env_in names scope)
 
 -- what is no name, struct, set or picked field is an operator
 abbrev pub IsHead : Head → Type 0
 IsHead (head.Leaf scope e) = is_operator (shape e.now) ≡ true
+IsHead (head.Kept made scope e) = is_operator (shape e.now) ≡ true
 IsHead _ = ⊤
 
 -- a signal that a name leads to is among the first n

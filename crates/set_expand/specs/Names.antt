@@ -22,7 +22,7 @@ env_last envs = get_or envs (length envs - 1) no_names
 abbrev pub meaning_in : List Env → Entry → Known
 meaning_in envs (entry.Struct fs i) = fields (map (λ f. f.name) (map field_shape fs.now))
 meaning_in envs (entry.Signal b n) = value (signal_value b n)
-meaning_in envs (entry.Defined e n) = value (value_of (shape e.now) (env_at envs n))
+meaning_in envs (entry.Defined e n made) = value (value_of (shape e.now) (env_at envs n))
 
 -- the environment after one more name
 abbrev pub env_after : List Env → List ℕ → Entry → Env
@@ -53,13 +53,13 @@ meaning_before envs n (Some d) = if nat_lt d.number n then meaning_in envs d.ent
 abbrev pub IsEarly : ℕ → Entry → Type 0
 IsEarly n (entry.Struct fs i) = ⊤
 IsEarly n (entry.Signal b k) = ⊤
-IsEarly n (entry.Defined e k) = k ≤ n
+IsEarly n (entry.Defined e k made) = k ≤ n
 
 -- a struct's number leads to its fields
 abbrev pub HasFields : List (List (List ℕ)) → Entry → Type 0
 HasFields structs (entry.Struct fs i) = slice_get structs i ≡ Some (map (λ f. f.name) (map field_shape fs.now))
 HasFields structs (entry.Signal b k) = ⊤
-HasFields structs (entry.Defined e k) = ⊤
+HasFields structs (entry.Defined e k made) = ⊤
 
 -- a table with one more name; a name that is there stays as it is
 abbrev pub with_name : List ℕ → Entry → Table Declared → Table Declared
@@ -70,7 +70,7 @@ with_name x e names = if is_named x names then names
 abbrev pub EntryBelow : ℕ → Entry → Type 0
 EntryBelow n (entry.Struct fs i) = ⊤
 EntryBelow n (entry.Signal b k) = k < n
-EntryBelow n (entry.Defined e k) = ⊤
+EntryBelow n (entry.Defined e k made) = ⊤
 
 -- all signals are among the first n
 pub record SignalsBelow (n : ℕ) (names : Table Declared) : Type 0 where

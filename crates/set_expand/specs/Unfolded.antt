@@ -11,6 +11,7 @@ use Rattle.c2po_types.specs.Outputs.{Place, place_after, asked_at, asked_from, o
 use Rattle.c2po_types.specs.Signals.{signals_of}
 use Rattle.set_expand.specs.declared.items.Unfolded.{Unfolded}
 use Rattle.set_expand.specs.Names.{SignalsBelow, env_now}
+use Rattle.set_expand.specs.Nodes.{HaveNodes}
 
 -- outputs over nodes name formulas, and ask for these
 pub record AskFor (nodes : List Plain) (outs : List PlainOut) (told : List Asked) : Type 0 where
@@ -22,6 +23,7 @@ pub record StandsAt (u : Unfolded) (place : Place) (told : List Asked) : Type 0 
   pub values : env_now u.names ≡ place.values
   pub numbered : u.signals ≡ place.signals
   pub below : SignalsBelow u.signals u.names
+  pub kept : HaveNodes u.nodes u.names
   pub counted : length u.outs ≡ place.outputs
   pub sound : AreSound u.signals u.nodes
   pub asked : AskFor u.nodes u.outs told

@@ -17,6 +17,7 @@ ghost use Rattle.set_expand.specs.Outputs.{HasPlainName, outputs_of};
 ghost use Rattle.set_expand.specs.Unfolded.{Leaves};
 
 use crate::items::Unfolded;
+use crate::plan::{deep_items, is_set};
 use c2po_ast::Item;
 use c2po_nodes::Expanded;
 use c2po_types::TypedSpec;
@@ -26,9 +27,11 @@ use std::alloc::{AllocError, Global};
 fn unfold_all<'a>(alloc: Global, items: &'a [Item]) -> Result<Unfolded<'a>, AllocError>
     ensures { IfOk result (λ u. Leaves u [] (map item_shape items.now)) }
 {
+    let deep = deep_items(alloc, items)?;
     let mut unfolded = Unfolded::new(alloc);
-    for item in items {
-        unfolded = unfolded.after(alloc, item)?;
+    for i in 0..items.len() {
+        let item = &items[i];
+        unfolded = unfolded.after(alloc, item, is_set(&deep, i))?;
     }
     Ok(unfolded)
 }

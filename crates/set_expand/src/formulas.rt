@@ -8,7 +8,7 @@ ghost use Rattle.c2po_unfold.specs.Heads.{is_operator};
 ghost use Rattle.c2po_unfold.specs.Operators.{binary_value, bodies_of, body_value, unary_value};
 ghost use Rattle.c2po_unfold.specs.Values.{Value, connected_all, counted, formula_of, members, term_of};
 ghost use Rattle.set_expand.specs.Heads.{IsHead, env_in, head_value};
-ghost use Rattle.set_expand.specs.Nodes.{AreFormulas, HaveFormulas, IsMade, IsMore};
+ghost use Rattle.set_expand.specs.Nodes.{AreFormulas, HaveFormulas, HaveNodes, IsMade, IsMore};
 
 use crate::heads::deeper;
 use crate::names::Names;
@@ -23,7 +23,13 @@ use std::alloc::AllocError;
 impl<'a> Names<'a> {
     /// The node of an expression.
     #[cycle(unfolding)]
-    fn made(&self, nodes: &mut NodeList, at: Site<'_>, e: &Expr) -> Result<Made, AllocError>
+    pub(crate) fn made(
+        &self,
+        nodes: &mut NodeList,
+        at: Site<'_>,
+        e: &Expr,
+    ) -> Result<Made, AllocError>
+        requires kept { HaveNodes nodes.old self.now }
         ensures more { OnOk result (IsMore self.now nodes.old nodes.new) }
         ensures made { IfOk result (λ made. IsMade nodes.new made
             (value_of (shape e.now) (env_in self.now at.entry.scope.now))) }
@@ -43,6 +49,7 @@ impl<'a> Names<'a> {
                 }
             }
             Head::Struct(..) | Head::Set(..) => Ok(Made::Whole),
+            Head::Kept(made, ..) => Ok(made),
             Head::Leaf(scope, e) => {
                 let within = Site {
                     depth,
@@ -57,7 +64,8 @@ impl<'a> Names<'a> {
     /// The node of a number, a Boolean, an operator or a quantifier.
     #[cycle(unfolding)]
     fn operator(&self, nodes: &mut NodeList, at: Site<'_>, e: &Expr) -> Result<Made, AllocError>
-        requires { is_operator (shape e.now) ≡ true }
+        requires operator { is_operator (shape e.now) ≡ true }
+        requires kept { HaveNodes nodes.old self.now }
         ensures more { OnOk result (IsMore self.now nodes.old nodes.new) }
         ensures made { IfOk result (λ made. IsMade nodes.new made
             (value_of (shape e.now) (env_in self.now at.entry.scope.now))) }
@@ -87,6 +95,7 @@ impl<'a> Names<'a> {
     /// A node with the integer of an expression; any integer where its value is of another kind.
     #[cycle(unfolding)]
     fn number(&self, nodes: &mut NodeList, at: Site<'_>, e: &Expr) -> Result<u32, AllocError>
+        requires kept { HaveNodes nodes.old self.now }
         ensures more { OnOk result (IsMore self.now nodes.old nodes.new) }
         ensures has { IfOk result (λ n. Has nodes.new n (number
             (term_of (value_of (shape e.now) (env_in self.now at.entry.scope.now))))) }
@@ -108,6 +117,7 @@ impl<'a> Names<'a> {
         at: Site<'_>,
         e: &Expr,
     ) -> Result<u32, AllocError>
+        requires kept { HaveNodes nodes.old self.now }
         ensures more { OnOk result (IsMore self.now nodes.old nodes.new) }
         ensures has { IfOk result (λ n. Has nodes.new n (formula
             (formula_of (value_of (shape e.now) (env_in self.now at.entry.scope.now))))) }
@@ -130,6 +140,7 @@ impl<'a> Names<'a> {
         op: UnaryOp,
         a: &Expr,
     ) -> Result<Made, AllocError>
+        requires kept { HaveNodes nodes.old self.now }
         ensures more { OnOk result (IsMore self.now nodes.old nodes.new) }
         ensures made { IfOk result (λ made. IsMade nodes.new made
             (unary_value op (value_of (shape a.now) (env_in self.now at.entry.scope.now)))) }
@@ -163,6 +174,7 @@ impl<'a> Names<'a> {
         a: &Expr,
         b: &Expr,
     ) -> Result<Made, AllocError>
+        requires kept { HaveNodes nodes.old self.now }
         ensures more { OnOk result (IsMore self.now nodes.old nodes.new) }
         ensures made { IfOk result (λ made. IsMade nodes.new made (binary_value op
             (value_of (shape a.now) (env_in self.now at.entry.scope.now))
@@ -202,6 +214,7 @@ impl<'a> Names<'a> {
         a: &Expr,
         b: &Expr,
     ) -> Result<(u32, u32), AllocError>
+        requires kept { HaveNodes nodes.old self.now }
         ensures more { OnOk result (IsMore self.now nodes.old nodes.new) }
         ensures left { IfOk result (λ r. Has nodes.new r.0 (number
             (term_of (value_of (shape a.now) (env_in self.now at.entry.scope.now))))) }
@@ -222,6 +235,7 @@ impl<'a> Names<'a> {
         a: &Expr,
         b: &Expr,
     ) -> Result<(u32, u32), AllocError>
+        requires kept { HaveNodes nodes.old self.now }
         ensures more { OnOk result (IsMore self.now nodes.old nodes.new) }
         ensures left { IfOk result (λ r. Has nodes.new r.0 (formula
             (formula_of (value_of (shape a.now) (env_in self.now at.entry.scope.now))))) }
@@ -243,7 +257,8 @@ impl<'a> Names<'a> {
         set: &Head<'_>,
         i: usize,
     ) -> Result<u32, AllocError>
-        requires { IsHead set.now }
+        requires head { IsHead set.now }
+        requires kept { HaveNodes nodes.old self.now }
         ensures more { OnOk result (IsMore self.now nodes.old nodes.new) }
         ensures has { (v : Value) → slice_get (members (head_value self.now set.now)) i ≡ Some v
             → IfOk result (λ n. Has nodes.new n (formula (formula_of
@@ -266,6 +281,7 @@ impl<'a> Names<'a> {
         op: LogicOp,
         bodies: Bodies<'_>,
     ) -> Result<u32, AllocError>
+        requires kept { HaveNodes nodes.old self.now }
         ensures more { OnOk result (IsMore self.now nodes.old nodes.new) }
         ensures has { IfOk result (λ n. Has nodes.new n (formula (formula_of (connected_all op
             (bodies_of bodies.entry (env_in self.now at.entry.scope.now)))))) }
@@ -295,6 +311,7 @@ impl<'a> Names<'a> {
         number: u64,
         bodies: Bodies<'_>,
     ) -> Result<u32, AllocError>
+        requires kept { HaveNodes nodes.old self.now }
         ensures more { OnOk result (IsMore self.now nodes.old nodes.new) }
         ensures has { IfOk result (λ n. Has nodes.new n (formula (formula_of (counted op number
             (bodies_of bodies.entry (env_in self.now at.entry.scope.now)))))) }
@@ -316,6 +333,7 @@ impl<'a> Names<'a> {
         at: Site<'_>,
         bodies: Bodies<'_>,
     ) -> Result<Vec<u32>, AllocError>
+        requires kept { HaveNodes nodes.old self.now }
         ensures more { OnOk result (IsMore self.now nodes.old nodes.new) }
         ensures formulas { IfOk result (λ places. AreFormulas nodes.new places.items) }
         ensures have { IfOk result (λ places. HaveFormulas nodes.new places.items

@@ -1,12 +1,15 @@
 //! What names and picked fields lead to, without a look at what they leave aside.
 
-ghost use Rattle.std.specs.Prelude.{◌≡◌, ◌+◌, ℕ, Some, length, position, slice_get, IfOk};
+ghost use Rattle.std.specs.Prelude.{◌≡◌, ◌+◌, ℕ, List as Seq, Some, length, position, slice_get, IfOk};
 ghost use Rattle.std.specs.Str.{bytes_eq};
 ghost use Rattle.c2po_ast.specs.Shape.{shape};
 ghost use Rattle.c2po_unfold.specs.Environment.{bind, fields_in, value_of};
 ghost use Rattle.c2po_unfold.specs.Values.{Value, members, picked};
 ghost use Rattle.set_expand.specs.Heads.{HeadBelow, IsHead, NamedBelow, env_in, head_value, named_meaning};
+ghost use Rattle.c2po_nodes.specs.declared.nodes.Plain.{Plain};
+ghost use Rattle.c2po_unfold.specs.Heads.{is_operator};
 ghost use Rattle.set_expand.specs.Names.{SignalsBelow};
+ghost use Rattle.set_expand.specs.Nodes.{HaveNodes, HeadKept, NamedKept};
 
 use crate::names::Names;
 use crate::scope::{Head, Named, Scope};
@@ -21,11 +24,23 @@ pub(crate) fn deeper(levels: u32) -> Result<u32, AllocError>
     levels.checked_sub(1).ok_or(AllocError)
 }
 
+/// Whether an expression is a number, a Boolean, an operator or a quantifier.
+pub(crate) fn is_operator(e: &Expr) -> bool
+    ensures { result ≡ is_operator (shape e.now) }
+{
+    match &e.node {
+        Node::Ref(_) | Node::Build(..) | Node::Group(_) | Node::Pick(..) => false,
+        _ => true,
+    }
+}
+
 impl<'a> Names<'a> {
     /// The meaning of a name: the innermost variable of that name, else what is declared.
     fn look<'b>(&'b self, scope: &Scope<'b>, name: &Name) -> Named<'b>
         ensures means { named_meaning self.now result ≡ env_in self.now scope.now name.now }
         ensures below { (n : ℕ) → SignalsBelow n self.now → NamedBelow n result }
+        ensures kept { (nodes : Seq Plain) → HaveNodes nodes self.now
+            → NamedKept nodes self.now result }
     {
         match scope {
             Scope::First(count) => self.find(*count, name),
@@ -36,7 +51,7 @@ impl<'a> Names<'a> {
                 outer,
             } => {
                 if name.bytes() == own.bytes() {
-                    Named::Open(**within, expr)
+                    Named::Open(**within, expr, None)
                 } else {
                     self.look(outer, name)
                 }
@@ -67,11 +82,16 @@ impl<'a> Names<'a> {
             ≡ value_of (shape e.now) (env_in self.now scope.now)) }
         ensures is { IfOk result IsHead }
         ensures below { (n : ℕ) → SignalsBelow n self.now → IfOk result (HeadBelow n) }
+        ensures kept { (nodes : Seq Plain) → HaveNodes nodes self.now
+            → IfOk result (HeadKept nodes self.now) }
     {
         let levels = deeper(levels)?;
         match &e.node {
             Node::Ref(name) => match self.look(scope, name) {
-                Named::Open(within, expr) => self.head(levels, &within, expr),
+                Named::Open(within, expr, Some(made)) if is_operator(expr) => {
+                    Ok(Head::Kept(made, within, expr))
+                }
+                Named::Open(within, expr, _) => self.head(levels, &within, expr),
                 Named::Signal(truth, number) => Ok(Head::Signal(truth, number)),
                 Named::Nothing | Named::Struct(_) => Ok(Head::Nothing),
             },
@@ -101,6 +121,8 @@ impl<'a> Names<'a> {
         ensures is { IfOk result IsHead }
         ensures below { (n : ℕ) → SignalsBelow n self.now → HeadBelow n whole.entry
             → IfOk result (HeadBelow n) }
+        ensures kept { (nodes : Seq Plain) → HaveNodes nodes self.now
+            → HeadKept nodes self.now whole.entry → IfOk result (HeadKept nodes self.now) }
     {
         let levels = deeper(levels)?;
         match whole {
@@ -113,7 +135,9 @@ impl<'a> Names<'a> {
                     None => Ok(whole),
                 }
             }
-            Head::Nothing | Head::Signal(..) | Head::Set(..) | Head::Leaf(..) => Ok(whole),
+            Head::Nothing | Head::Signal(..) | Head::Set(..) | Head::Leaf(..) | Head::Kept(..) => {
+                Ok(whole)
+            }
         }
     }
 
@@ -124,7 +148,8 @@ impl<'a> Names<'a> {
     {
         match *set {
             Head::Set(_, members) => members.len(),
-            Head::Nothing | Head::Signal(..) | Head::Struct(..) | Head::Leaf(..) => 0,
+            Head::Nothing | Head::Signal(..) | Head::Struct(..) | Head::Leaf(..) | Head::Kept(..) =>
+                0,
         }
     }
 
@@ -150,7 +175,8 @@ impl<'a> Names<'a> {
                 },
                 None => *scope,
             },
-            Head::Nothing | Head::Signal(..) | Head::Struct(..) | Head::Leaf(..) => *scope,
+            Head::Nothing | Head::Signal(..) | Head::Struct(..) | Head::Leaf(..) | Head::Kept(..) =>
+                *scope,
         }
     }
 }

@@ -10,10 +10,12 @@ ghost use Rattle.c2po_types.specs.Signals.{body_signals, is_bool};
 ghost use Rattle.c2po_unfold.specs.Environment.{value_of};
 ghost use Rattle.c2po_unfold.specs.Values.{formula_of};
 ghost use Rattle.set_expand.specs.Names.{SignalsBelow, env_now};
-ghost use Rattle.set_expand.specs.Nodes.{IsMore};
+ghost use Rattle.c2po_nodes.specs.declared.nodes.Plain.{Plain};
+ghost use Rattle.set_expand.specs.Nodes.{HaveNodes, IsMore, MadeAs};
 ghost use Rattle.set_expand.specs.Unfolded.{Puts, StandsAt};
 
 use crate::names::Names;
+use crate::nodes::Made;
 use crate::scope::{Scope, Site};
 use c2po_ast::{Body, Expr, FieldDecl, Item, TypeTree};
 use c2po_nodes::{NodeList, PlainOut};
@@ -62,6 +64,8 @@ impl<'a> Names<'a> {
         ensures env { IfOk result (λ r. env_now r.0 ≡ with_signals from
             (map (λ x. record { name = x; truth = truth }) signals.now) (env_now self.entry)) }
         ensures below { SignalsBelow from self.entry → IfOk result (λ r. SignalsBelow r.1 r.0) }
+        ensures kept { (nodes : Seq Plain) → HaveNodes nodes self.entry
+            → IfOk result (λ r. HaveNodes nodes r.0) }
         ensures number { IfOk result (λ r. r.1 ≡ from + length signals.now) }
     {
         let mut names = self;
@@ -76,6 +80,7 @@ impl<'a> Names<'a> {
 
     /// The node of the formula of an item's expression, which sees all names.
     fn unfold(&self, nodes: &mut NodeList, alloc: Global, e: &Expr) -> Result<u32, AllocError>
+        requires { HaveNodes nodes.old self.now }
         ensures more { OnOk result (IsMore self.now nodes.old nodes.new) }
         ensures has { IfOk result (λ n. Has nodes.new n
             (formula_tree (formula_of (value_of (shape e.now) (env_now self.now))))) }
@@ -87,6 +92,32 @@ impl<'a> Names<'a> {
             scope: &scope,
         };
         self.formula(nodes, at, e)
+    }
+
+    /// What a definition's expression is made of nodes, where it is to be made.
+    fn unfold_if(
+        &self,
+        nodes: &mut NodeList,
+        alloc: Global,
+        e: &Expr,
+        is_deep: bool,
+    ) -> Result<Option<Made>, AllocError>
+        requires { HaveNodes nodes.old self.now }
+        ensures more { OnOk result (IsMore self.now nodes.old nodes.new) }
+        ensures made { IfOk result (MadeAs nodes.new
+            (value_of (shape e.now) (env_now self.now))) }
+    {
+        if !is_deep {
+            return Ok(None);
+        }
+        let scope = Scope::First(self.count()?);
+        let at = Site {
+            alloc,
+            depth: DEPTH,
+            scope: &scope,
+        };
+        let made = self.made(nodes, at, e)?;
+        Ok(Some(made))
     }
 }
 
@@ -141,17 +172,31 @@ impl<'a> Unfolded<'a> {
         })
     }
 
-    /// What is known after a definition.
+    /// What is known after a definition, which is unfolded now where it is deep.
     fn after_define(
         self,
         alloc: Global,
         name: &Name,
         e: &'a Expr,
+        is_deep: bool,
     ) -> Result<Unfolded<'a>, AllocError>
+        requires { HaveNodes self.nodes self.names }
         ensures { Puts (define name.now (shape e.now)) self.entry result }
     {
-        let names = self.names.with_definition(alloc, name, e)?;
-        Ok(Unfolded { names, ..self })
+        let Unfolded {
+            names,
+            signals,
+            mut nodes,
+            outs,
+        } = self;
+        let made = names.unfold_if(&mut nodes, alloc, e, is_deep)?;
+        let names = names.with_definition(alloc, name, e, made)?;
+        Ok(Unfolded {
+            names,
+            signals,
+            nodes,
+            outs,
+        })
     }
 
     /// What is known after an output with a formula.
@@ -162,6 +207,7 @@ impl<'a> Unfolded<'a> {
         label: &Option<Name>,
         e: &Expr,
     ) -> Result<Unfolded<'a>, AllocError>
+        requires { HaveNodes self.nodes self.names }
         ensures { Puts (formula engine label.now (shape e.now)) self.entry result }
     {
         let Unfolded {
@@ -190,6 +236,7 @@ impl<'a> Unfolded<'a> {
         left: &Expr,
         right: &Expr,
     ) -> Result<Unfolded<'a>, AllocError>
+        requires { HaveNodes self.nodes self.names }
         ensures { Puts (contract engine label.now (shape left.now) (shape right.now))
             self.entry result }
     {
@@ -211,14 +258,20 @@ impl<'a> Unfolded<'a> {
         })
     }
 
-    /// What is known after one more item.
-    pub fn after(self, alloc: Global, item: &'a Item) -> Result<Unfolded<'a>, AllocError>
+    /// What is known after one more item. A definition that is deep is unfolded now, another one where it is used.
+    pub fn after(
+        self,
+        alloc: Global,
+        item: &'a Item,
+        is_deep: bool,
+    ) -> Result<Unfolded<'a>, AllocError>
+        requires { HaveNodes self.nodes self.names }
         ensures { Puts (body_shape item.now.body) self.entry result }
     {
         match &item.body {
             Body::Struct(name, fields) => self.after_struct(alloc, name, fields),
             Body::Input(names, tree) => self.after_input(alloc, names, tree),
-            Body::Define(name, e) => self.after_define(alloc, name, e),
+            Body::Define(name, e) => self.after_define(alloc, name, e, is_deep),
             Body::Formula(engine, label, e) => self.after_formula(alloc, *engine, label, e),
             Body::Contract(engine, label, left, right) => {
                 self.after_contract(alloc, *engine, label, left, right)

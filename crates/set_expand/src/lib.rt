@@ -17,6 +17,7 @@ pub mod heads;
 pub mod items;
 pub mod names;
 pub mod nodes;
+pub mod plan;
 pub mod scope;
 
 pub use c2po_nodes::{Expanded, Plain, PlainOut};

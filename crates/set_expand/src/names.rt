@@ -4,9 +4,12 @@ ghost use Rattle.std.specs.Prelude.{◌≡◌, ◌<◌, ℕ, List as Seq, [], le
 ghost use Rattle.c2po_ast.specs.Shape.{shape};
 ghost use Rattle.c2po_ast.specs.ItemShape.{field_shape};
 ghost use Rattle.c2po_unfold.specs.Environment.{declare, fields, no_names, signal_value, value, value_of};
+ghost use Rattle.c2po_nodes.specs.declared.nodes.Plain.{Plain};
 ghost use Rattle.set_expand.specs.Heads.{NamedBelow, named_meaning};
+ghost use Rattle.set_expand.specs.Nodes.{HaveNodes, IsKept, MadeAs, NamedKept};
 ghost use Rattle.set_expand.specs.Names.{EntryBelow, HasFields, IsEarly, SignalsBelow, env_now, env_of, meaning, with_name};
 
+use crate::nodes::Made;
 use crate::scope::{Named, Scope};
 use c2po_ast::{Expr, FieldDecl, Node, field_names};
 use c2po_unfold::fields::Fields;
@@ -21,8 +24,9 @@ pub enum Entry<'a> {
     Struct(&'a List<FieldDecl>, u32),
     /// A signal, of kind bool or int, by its number.
     Signal(bool, u32),
-    /// The value of an expression under the first names, of which there are so many.
-    Defined(&'a Expr, u32),
+    /// The value of an expression under the first names, of which there are so many, and what it is made of nodes,
+    /// if it is.
+    Defined(&'a Expr, u32, Option<Made>),
 }
 
 /// What a name stands for, and how many names were declared before it.
@@ -104,25 +108,35 @@ impl<'a> Names<'a> {
     pub fn find<'b>(&'b self, before: u32, name: &Name) -> Named<'b>
         ensures means { named_meaning self.now result ≡ env_of self.now before name.now }
         ensures below { (n : ℕ) → SignalsBelow n self.now → NamedBelow n result }
+        ensures kept { (nodes : Seq Plain) → HaveNodes nodes self.now
+            → NamedKept nodes self.now result }
     {
         match self.table.find(name) {
             Some(declared) if declared.number < before => match declared.entry {
                 Entry::Struct(_, number) => Named::Struct(self.structs.get(number as usize)),
                 Entry::Signal(truth, number) => Named::Signal(truth, number),
-                Entry::Defined(expr, count) => Named::Open(Scope::First(count), expr),
+                Entry::Defined(expr, count, made) => Named::Open(Scope::First(count), expr, made),
             },
             _ => Named::Nothing,
         }
     }
 
-    /// What a definition's name stands for. That of a name alone is what that name stands for.
-    fn entry_of(&self, e: &'a Expr, count: u32) -> Entry<'a>
-        requires { count ≡ length self.now }
+    /// What a definition's name stands for, with what it is made of nodes, if it is. That of a name alone is what that
+    /// name stands for.
+    fn entry_of(&self, e: &'a Expr, count: u32, made: Option<Made>) -> Entry<'a>
+        requires count { count ≡ length self.now }
+        requires all { env_of self.now count ≡ env_now self.now }
         ensures means { meaning self.now result ≡ value (value_of (shape e.now) (env_now self.now)) }
         ensures early { IsEarly (length self.now) result }
         ensures fields { (structs : Seq (Seq (Seq ℕ))) → HasFields structs result }
         ensures below { (n : ℕ) → SignalsBelow n self.now → EntryBelow n result }
+        ensures kept { (nodes : Seq Plain) → HaveNodes nodes self.now
+            → MadeAs nodes (value_of (shape e.now) (env_now self.now)) made
+            → IsKept nodes self.now result }
     {
+        if made.is_some() {
+            return Entry::Defined(e, count, made);
+        }
         if let Node::Ref(name) = &e.node {
             if let Some(declared) = self.table.find(name) {
                 match declared.entry {
@@ -131,7 +145,7 @@ impl<'a> Names<'a> {
                 }
             }
         }
-        Entry::Defined(e, count)
+        Entry::Defined(e, count, None)
     }
 
     /// The names with a struct. A name that is known keeps its meaning.
@@ -144,6 +158,8 @@ impl<'a> Names<'a> {
         ensures env { IfOk result (λ names. env_now names ≡ declare name.now
             (fields (map (λ f. f.name) (map field_shape decls.now))) (env_now self.entry)) }
         ensures below { (n : ℕ) → SignalsBelow n self.entry → IfOk result (SignalsBelow n) }
+        ensures kept { (nodes : Seq Plain) → HaveNodes nodes self.entry
+            → IfOk result (HaveNodes nodes) }
     {
         let Names {
             mut table,
@@ -169,25 +185,31 @@ impl<'a> Names<'a> {
             (value (signal_value truth number)) (env_now self.entry)) }
         ensures below { (n : ℕ) → SignalsBelow n self.entry → number < n
             → IfOk result (SignalsBelow n) }
+        ensures kept { (nodes : Seq Plain) → HaveNodes nodes self.entry
+            → IfOk result (HaveNodes nodes) }
     {
         let Names { mut table, structs } = self;
         put(&mut table, alloc, name, Entry::Signal(truth, number))?;
         Ok(Names { table, structs })
     }
 
-    /// The names with a definition. A name that is known keeps its meaning.
+    /// The names with a definition, and with what it is made of nodes, if it is. A name that is known keeps its meaning.
     pub fn with_definition(
         self,
         alloc: Global,
         name: &Name,
         e: &'a Expr,
+        made: Option<Made>,
     ) -> Result<Names<'a>, AllocError>
         ensures env { IfOk result (λ names. env_now names ≡ declare name.now
             (value (value_of (shape e.now) (env_now self.entry))) (env_now self.entry)) }
         ensures below { (n : ℕ) → SignalsBelow n self.entry → IfOk result (SignalsBelow n) }
+        ensures kept { (nodes : Seq Plain) → HaveNodes nodes self.entry
+            → MadeAs nodes (value_of (shape e.now) (env_now self.entry)) made
+            → IfOk result (HaveNodes nodes) }
     {
         let count = self.count()?;
-        let entry = self.entry_of(e, count);
+        let entry = self.entry_of(e, count, made);
         let Names { mut table, structs } = self;
         put(&mut table, alloc, name, entry)?;
         Ok(Names { table, structs })

@@ -1,5 +1,6 @@
 //! Scopes of expressions, and what names and picked fields lead to.
 
+use crate::nodes::Made;
 use c2po_ast::Expr;
 use c2po_unfold::fields::Fields;
 use mltl_base::Name;
@@ -35,8 +36,8 @@ pub enum Named<'a> {
     Struct(&'a Fields),
     /// A signal, of kind bool or int, by its number.
     Signal(bool, u32),
-    /// The value of an expression.
-    Open(Scope<'a>, &'a Expr),
+    /// The value of an expression, and what it is made of nodes, if it is.
+    Open(Scope<'a>, &'a Expr, Option<Made>),
 }
 
 /// A value as far as it is looked at: what names and picked fields lead to.
@@ -50,4 +51,6 @@ pub enum Head<'a> {
     Set(Scope<'a>, &'a [Expr]),
     /// A number, a Boolean, an operator or a quantifier.
     Leaf(Scope<'a>, &'a Expr),
+    /// The same, of which the node is made.
+    Kept(Made, Scope<'a>, &'a Expr),
 }

@@ -4,5 +4,5 @@ use Rattle.set_expand.specs.Unfolded.{Leaves}
 use Rattle.set_expand.proofs.expanding.unfold_all.Given as goal
 
 -- what is left to be unfolded makes the whole
-abbrev pub invariant-loop-item : goal.invariant-loop-item
-invariant-loop-item l = Leaves l.unfolded (map item_shape (drop l.item-index l.items)) (map item_shape l.items)
+abbrev pub invariant-loop-i : goal.invariant-loop-i
+invariant-loop-i l = Leaves l.unfolded (map item_shape (drop l.i l.items)) (map item_shape l.items)

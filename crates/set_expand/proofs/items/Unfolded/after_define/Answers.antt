@@ -11,6 +11,8 @@ pub returns : goal.returns
 returns c = λ place told h.
     let u : Unfolded = c.args.self in
     let e = shape c.args.e.now in
-    stands-after u (record u { names = c.in_ok-names.names }) (define c.args.name.now e) place told refl h
+    let v : Unfolded = record { names = c.in_ok-names.names; signals = u.signals; nodes = c.unfold_if.new.nodes; outs = u.outs } in
+    let more = c.in_ok-made.ensures.more in
+    stands-after u v (define c.args.name.now e) place told refl h
     (c.in_ok-names.ensures.env ∙ ap (λ env. declare c.args.name.now (value (value_of e env)) env) h.values)
-    (omega arith) (c.in_ok-names.ensures.below u.signals h.below) refl refl
+    (omega arith) (c.in_ok-names.ensures.below u.signals h.below) more (c.in_ok-names.ensures.kept v.nodes (more.kept h.kept) c.in_ok-made.ensures.made) refl

@@ -7,6 +7,7 @@ use Rattle.c2po_types.specs.FirstFault.{with_signals}
 use Rattle.c2po_types.specs.Signals.{body_signals, is_bool}
 use Rattle.set_expand.specs.declared.items.Unfolded.{Unfolded}
 use Rattle.set_expand.specs.Names.{env_now}
+use Rattle.set_expand.proofs.Growing.{more_same}
 use Rattle.set_expand.proofs.Stepping.{stands-after}
 use Rattle.set_expand.proofs.items.Unfolded.after_input.Goals as goal
 
@@ -26,4 +27,4 @@ returns c = λ place told h.
     ∙ ap (with_signals place.signals (body_signals body)) h.values)) in
     stands-after u (record u { names = c.in_ok-names.names; signals = c.in_ok-names.signals }) body place told refl h env
     (omega (arith, c.in_ok-names.ensures.number, ap length c.as_slice.ensures, length-map {B = Signal} xs (λ (x : List ℕ). record { name = x; truth = is_bool t })))
-    (c.in_ok-names.ensures.below h.below) refl refl
+    (c.in_ok-names.ensures.below h.below) (more_same u.names u.nodes) (c.in_ok-names.ensures.kept u.nodes h.kept) refl

@@ -70,6 +70,6 @@ operator-returns-in_ok-node-in-Joined-clause-made t c =
     let env = env_in c.args.self.now c.args.at.scope.now in
     let bodies = bodies_of c.in-Joined.bodies env in
     let same : connected_all c.in-Joined.op bodies ≡ value_of (shape c.args.e.now) env =
-    ap (λ r. operation_value r env) (sym c.in-Joined.is) ∙ c.of.ensures env c.requires in
+    ap (λ r. operation_value r env) (sym c.in-Joined.is) ∙ c.of.ensures env c.requires.operator in
     subst (IsMade c.joined.new.nodes (made.Formula c.in_ok-node-in-Joined.node)) same
     (made_joined c.joined.new.nodes c.in_ok-node-in-Joined.node c.in-Joined.op bodies c.in_ok-node-in-Joined.ensures.has)

@@ -1,7 +1,8 @@
 use Rattle.std.proofs.Common.{◌≡◌, ◌∙◌, ap, sym, subst}
 use Rattle.set_expand.specs.declared.names.Entry.TheVariants.{Signal}
+use Rattle.set_expand.specs.Nodes.{HaveNodes}
 use Rattle.set_expand.specs.Names.{AreNumbered, SignalsBelow, env_now, with_name}
-use Rattle.set_expand.proofs.Naming.{now_with, numbered_with, below_with}
+use Rattle.set_expand.proofs.Naming.{now_with, numbered_with, below_with, kept_with}
 use Rattle.set_expand.proofs.names.Names.with_signal.Goals as goal
 
 pub invariant_of-result : goal.invariant_of-result
@@ -32,3 +33,13 @@ returns-clause-below c = λ n h less.
     let e = Signal c.args.truth c.args.number in
     let put : c.put.new.table ≡ with_name x e names = c.in_ok-put.ensures ∙ ap (with_name x e) c.self.view_is in
     subst (SignalsBelow n) (sym put) (below_with n names x e h less)
+
+pub returns-clause-kept : goal.returns-clause-kept
+returns-clause-kept c = λ nodes h.
+    let names = c.args.self in
+    let structs = c.self.inside.structs in
+    let x = c.args.name.now in
+    let e = Signal c.args.truth c.args.number in
+    let numbered : AreNumbered names structs = subst (λ ns. AreNumbered ns structs) c.self.view_is c.self.invariant in
+    let put : c.put.new.table ≡ with_name x e names = c.in_ok-put.ensures ∙ ap (with_name x e) c.self.view_is in
+    subst (HaveNodes nodes) (sym put) (kept_with nodes names structs x e numbered tt h tt)

@@ -10,6 +10,7 @@ pub loop-name-init : goal.loop-name-init
 loop-name-init c = record {
   env = ap (λ k. with_signals k (signals_named c.args.signals.now c.args.truth) (env_now c.args.self)) (omega arith);
   below = λ h. h;
+  kept = λ nodes h. h;
   number = omega arith;
 }
 
@@ -28,6 +29,7 @@ loop-name-preserved c =
           ∙ (sym (signals-next xs b i c.args.from x (env_now c.loop-name.names) at) ∙ h.env);
       below = λ begins. subst (λ n. SignalsBelow n c.in_ok-names.names) (sym c.in_ok-after.ensures)
           (made.below (c.loop-name.number + 1) (below-more c.loop-name.number (c.loop-name.number + 1) c.loop-name.names (omega arith) (h.below begins)) (omega arith));
+      kept = λ nodes begins. made.kept nodes (h.kept nodes begins);
       number = omega (arith, c.in_ok-after.ensures, h.number);
     }
 

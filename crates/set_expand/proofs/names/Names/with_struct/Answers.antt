@@ -2,8 +2,9 @@ use Rattle.std.proofs.Common.{◌≡◌, ◌∙◌, ℕ, Some, List, map, slice_
 use Rattle.c2po_ast.specs.ItemShape.{field_shape}
 use Rattle.c2po_unfold.proofs.Members.{at_place}
 use Rattle.set_expand.specs.declared.names.Entry.TheVariants.{Struct}
+use Rattle.set_expand.specs.Nodes.{HaveNodes}
 use Rattle.set_expand.specs.Names.{AreNumbered, SignalsBelow, env_now, with_name}
-use Rattle.set_expand.proofs.Naming.{now_with, numbered_with, below_with, more_structs}
+use Rattle.set_expand.proofs.Naming.{now_with, numbered_with, below_with, kept_with, more_structs}
 use Rattle.set_expand.proofs.names.Names.with_struct.Goals as goal
 
 pub invariant_of-result : goal.invariant_of-result
@@ -41,3 +42,13 @@ returns-clause-below c = λ n h.
     let e = Struct c.args.decls c.in_ok-number.number in
     let put : c.put.new.table ≡ with_name x e names = c.in_ok-put.ensures ∙ ap (with_name x e) c.self.view_is in
     subst (SignalsBelow n) (sym put) (below_with n names x e h tt)
+
+pub returns-clause-kept : goal.returns-clause-kept
+returns-clause-kept c = λ nodes h.
+    let names = c.args.self in
+    let structs = c.self.inside.structs in
+    let x = c.args.name.now in
+    let e = Struct c.args.decls c.in_ok-number.number in
+    let numbered : AreNumbered names structs = subst (λ ns. AreNumbered ns structs) c.self.view_is c.self.invariant in
+    let put : c.put.new.table ≡ with_name x e names = c.in_ok-put.ensures ∙ ap (with_name x e) c.self.view_is in
+    subst (HaveNodes nodes) (sym put) (kept_with nodes names structs x e numbered tt h tt)
