@@ -1,2 +1,9 @@
+pub mod Asking
+pub mod Gates
+pub mod Growing
+pub mod Heading
+pub mod Joining
+pub mod Naming
 pub mod ReadValues
 pub mod Signalling
+pub mod Stepping

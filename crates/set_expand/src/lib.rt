@@ -1,4 +1,4 @@
-//! Unfolding of a whole specification: its outputs as one list of shared nodes.
+//! Unfolding of a whole specification: its outputs as one list of nodes.
 //!
 //! `outputs_of` in the `specs/` of `c2po_types` defines the outputs of a specification: names have the values of
 //! their definitions, fields and sets are taken apart, and quantifiers become formulas over their bodies. [`expand`]
@@ -6,11 +6,19 @@
 //!
 //! ```text
 //! let spec = check(alloc, &parse(alloc, &lex(alloc, b"INPUT p: bool; FTSPEC foreach(v: {p, !p})(v);")?)?)?;
-//! let expanded = expand(alloc, &spec)?; // one output, named 0, over the nodes p, !p and p && !p
+//! let expanded = expand(alloc, &spec)?; // one output, named 0, whose node is p && !p
 //! ```
 #![tactic(auto)]
 
+pub mod counting;
 pub mod expanding;
+pub mod formulas;
+pub mod heads;
+pub mod items;
+pub mod names;
+pub mod nodes;
+pub mod plan;
+pub mod scope;
 
 pub use c2po_nodes::{Expanded, Plain, PlainOut};
 pub use expanding::expand;

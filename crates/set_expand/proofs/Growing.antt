@@ -1,0 +1,97 @@
+-- Nodes that get one more, and operators over their operands' nodes.
+
+use Rattle.std.proofs.Common.{None, Some, ℕ, Bool, true, false, ◌<◌, List, [], ◌∷◌, ◌++◌, subst}
+use Rattle.mltl_base.specs.declared.interval.Interval.{Interval}
+use Rattle.mltl_base.specs.declared.operators.ArithOp.{ArithOp}
+use Rattle.mltl_base.specs.declared.operators.CompareOp.{CompareOp}
+use Rattle.mltl_base.specs.declared.operators.LogicOp.{LogicOp}
+use Rattle.mltl_base.specs.declared.operators.WindowOp.{WindowOp}
+use Rattle.mltl_base.specs.declared.operators.BetweenOp.{BetweenOp}
+use Rattle.mltl_base.specs.Atoms.{Term, negative}
+use Rattle.mltl_base.specs.Formula.{Formula, atom, negation}
+use Rattle.mltl_base.specs.Tables.{Table}
+use Rattle.c2po_nodes.specs.declared.nodes.Plain.{Plain}
+use Rattle.c2po_nodes.specs.declared.nodes.Plain.TheVariants as plain
+use Rattle.c2po_nodes.specs.Nodes.{Grows, Tree, number, formula, term_at, formula_at, arithmetic, comparison, connected, windowed, ranged, tree_of, trees, Has, IsFormed}
+use Rattle.c2po_nodes.proofs.Pushing.{grows_same, grows_then, grows_push, sound_push, formula_in_place, number_at}
+use Rattle.set_expand.specs.declared.names.Declared.{Declared}
+use Rattle.set_expand.specs.Names.{SignalsBelow}
+use Rattle.set_expand.specs.declared.names.Entry.{Entry}
+use Rattle.set_expand.specs.declared.names.Entry.TheVariants as entry
+use Rattle.set_expand.specs.declared.nodes.Made.{Made}
+use Rattle.set_expand.specs.declared.nodes.Made.TheVariants as made
+use Rattle.set_expand.specs.Nodes.{HaveNodes, IsKept, IsMade, IsMore, signal_node}
+use Rattle.c2po_unfold.specs.Values.{Value}
+
+-- what is kept stays where nodes get more
+made_later : (old new : List Plain) (m : Made) (v : Value) → Grows old new → IsMade old m v → IsMade new m v
+made_later old new (made.Number n) v g h = (h.0, h.1, g.kept n (number h.0) h.2)
+made_later old new (made.Formula n) v g h = (h.0, h.1, g.kept n (formula h.0) h.2)
+made_later old new made.Whole v g h = h
+
+entry_later : (names : Table Declared) (old new : List Plain) (e : Entry) → Grows old new → IsKept old names e → IsKept new names e
+entry_later names old new (entry.Struct fs i) g h = tt
+entry_later names old new (entry.Signal b k) g h = tt
+entry_later names old new (entry.Defined e n None) g h = tt
+entry_later names old new (entry.Defined e n (Some m)) g h = made_later old new m _ g h
+
+have_later : (names : Table Declared) (old new : List Plain) → Grows old new → HaveNodes old names → HaveNodes new names
+have_later names old new g h = record { each = λ x d at. entry_later names old new d.entry g (h.each x d at) }
+
+pub more_same : (names : Table Declared) (nodes : List Plain) → IsMore names nodes nodes
+more_same names nodes = record { grows = grows_same nodes; kept = λ h. h; sound = λ signals below h. h }
+
+pub more_then : (names : Table Declared) (old mid new : List Plain) → IsMore names old mid → IsMore names mid new → IsMore names old new
+more_then names old mid new g h = record {
+  grows = grows_then old mid new g.grows h.grows;
+  kept = λ s. h.kept (g.kept s);
+  sound = λ signals below s. h.sound signals below (g.sound signals below s);
+}
+
+pub more_push : (names : Table Declared) (nodes : List Plain) (node : Plain)
+    → ((signals : ℕ) → SignalsBelow signals names → IsFormed signals (trees nodes) node) → IsMore names nodes (nodes ++ node ∷ [])
+more_push names nodes node formed = record {
+  grows = grows_push nodes node;
+  kept = have_later names nodes (nodes ++ node ∷ []) (grows_push nodes node);
+  sound = λ signals below h. sound_push signals nodes node h (formed signals below);
+}
+
+-- the node of a signal that is one of those that there are
+pub signal_formed : (b : Bool) (n signals : ℕ) (ts : List Tree) → n < signals → IsFormed signals ts (signal_node b n)
+signal_formed true n signals ts h = h
+signal_formed false n signals ts h = h
+
+module _ (old new : List Plain) (n : ℕ) where
+  pub minus_has : (x : ℕ) (a : Term) → Has new n (tree_of (trees old) (plain.Minus x)) → Has old x (number a) → Has new n (number (negative a))
+  minus_has x a h p = subst (λ r. Has new n (number (negative r))) (number_at old x a p) h
+
+  pub not_has : (x : ℕ) (p : Formula) → Has new n (tree_of (trees old) (plain.Not x)) → Has old x (formula p) → Has new n (formula (negation p))
+  not_has x p h a = subst (λ r. Has new n (formula (negation r))) (formula_in_place old x p a) h
+
+  pub window_has : (op : WindowOp) (i : Interval) (x : ℕ) (p : Formula) → Has new n (tree_of (trees old) (plain.Window op i x))
+      → Has old x (formula p) → Has new n (formula (windowed op i p))
+  window_has op i x p h a = subst (λ r. Has new n (formula (windowed op i r))) (formula_in_place old x p a) h
+
+  pub arith_has : (op : ArithOp) (x y : ℕ) (a b : Term) → Has new n (tree_of (trees old) (plain.Arith op x y))
+      → Has old x (number a) → Has old y (number b) → Has new n (number (arithmetic op a b))
+  arith_has op x y a b h p q =
+      subst (λ r. Has new n (number (arithmetic op a r))) (number_at old y b q)
+      (subst (λ r. Has new n (number (arithmetic op r (term_at (trees old) y)))) (number_at old x a p) h)
+
+  pub compare_has : (op : CompareOp) (x y : ℕ) (a b : Term) → Has new n (tree_of (trees old) (plain.Compare op x y))
+      → Has old x (number a) → Has old y (number b) → Has new n (formula (atom (comparison op a b)))
+  compare_has op x y a b h p q =
+      subst (λ r. Has new n (formula (atom (comparison op a r)))) (number_at old y b q)
+      (subst (λ r. Has new n (formula (atom (comparison op r (term_at (trees old) y))))) (number_at old x a p) h)
+
+  pub logic_has : (op : LogicOp) (x y : ℕ) (p q : Formula) → Has new n (tree_of (trees old) (plain.Logic op x y))
+      → Has old x (formula p) → Has old y (formula q) → Has new n (formula (connected op p q))
+  logic_has op x y p q h a b =
+      subst (λ r. Has new n (formula (connected op p r))) (formula_in_place old y q b)
+      (subst (λ r. Has new n (formula (connected op r (formula_at (trees old) y)))) (formula_in_place old x p a) h)
+
+  pub between_has : (op : BetweenOp) (i : Interval) (x y : ℕ) (p q : Formula) → Has new n (tree_of (trees old) (plain.Between op i x y))
+      → Has old x (formula p) → Has old y (formula q) → Has new n (formula (ranged op i p q))
+  between_has op i x y p q h a b =
+      subst (λ r. Has new n (formula (ranged op i p r))) (formula_in_place old y q b)
+      (subst (λ r. Has new n (formula (ranged op i r (formula_at (trees old) y)))) (formula_in_place old x p a) h)

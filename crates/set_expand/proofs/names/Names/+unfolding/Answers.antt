@@ -1,0 +1,75 @@
+use Rattle.std.proofs.Common.{◌≡◌, ◌+◌, ℕ, false, Some, List, sym, subst, ap, ◌∙◌, get_or, slice_get, arith}
+use Rattle.c2po_nodes.proofs.Pushing.{is_formula}
+use Rattle.c2po_ast.specs.Shape.{shape}
+use Rattle.c2po_unfold.specs.Values.{members, formula_of, truth_value, connected_all}
+use Rattle.c2po_unfold.specs.Environment.{value_of}
+use Rattle.c2po_unfold.specs.Operators.{bodies_over, bodies_of, body_value, operation_value}
+use Rattle.c2po_unfold.proofs.Loops.{body_at, member_at}
+use Rattle.set_expand.specs.declared.nodes.Made.TheVariants as made
+use Rattle.set_expand.specs.Heads.{env_in, head_value}
+use Rattle.set_expand.specs.Nodes.{IsMade}
+use Rattle.set_expand.proofs.Gates.{CountedSoFar, counted_more}
+use Rattle.set_expand.proofs.Joining.{joined_start, joined_more, made_joined}
+use Rattle.set_expand.proofs.names.Names.+unfolding.Goals as goal
+
+pub body_nodes-loop-i-preserved : goal.body_nodes-loop-i-preserved
+body_nodes-loop-i-preserved t c =
+    let names = c.args.self.now in
+    let q = c.args.bodies in
+    let env = env_in names c.args.at.scope.now in
+    let s = head_value names c.in_ok-set.set in
+    let i = c.loop-i.i in
+    let v = get_or (members s) i (truth_value false) in
+    let at : slice_get (members s) i ≡ Some v = member_at (members s) i c.member_count-i-end.result c.member_count-i-end.ensures c.loop-i-test.true in
+    subst (λ (places : List ℕ). CountedSoFar names c.args.nodes.now c.body.new.nodes (bodies_over q env s) (i + 1) places) (sym c.in_ok-push.ensures.items)
+    (counted_more names c.args.nodes.now c.loop-i.nodes c.body.new.nodes (bodies_over q env s) i c.in_ok-place.place c.loop-i.places.items (body_value q env v)
+    c.loop-i.invariant (body_at q env s v i at) c.in_ok-place.ensures.more (c.in_ok-place.ensures.has v at))
+
+pub joined-loop-i-init : goal.joined-loop-i-init
+joined-loop-i-init t c =
+    let names = c.args.self.now in
+    let q = c.args.bodies in
+    let env = env_in names c.args.at.scope.now in
+    let s = head_value names c.in_ok-set.set in
+    let v = get_or (members s) 0 (truth_value false) in
+    let at : slice_get (members s) 0 ≡ Some v = member_at (members s) 0 c.member_count-count.result c.member_count-count.ensures (omega arith) in
+    joined_start names c.args.op (bodies_over q env s) c.args.nodes.now c.body.new.nodes c.in_ok-all.all (body_value q env v)
+    (body_at q env s v 0 at) c.in_ok-all.ensures.more (c.in_ok-all.ensures.has v at)
+
+pub joined-place-requires-in-loop-i : goal.joined-place-requires-in-loop-i
+joined-place-requires-in-loop-i t c = record {
+  formed = λ signals below.
+      let names = c.args.self.now in
+      let q = c.args.bodies in
+      let env = env_in names c.args.at.scope.now in
+      let s = head_value names c.in_ok-set.set in
+      let i = c.loop-i.i in
+      let v = get_or (members s) i (truth_value false) in
+      let at : slice_get (members s) i ≡ Some v = member_at (members s) i c.member_count-count.result c.member_count-count.ensures c.loop-i-test.true in
+      let nodes = c.body-in-loop-i.new.nodes in (
+        is_formula nodes c.loop-i.all _ (c.in_ok-next.ensures.more.grows.kept c.loop-i.all _ c.loop-i.invariant.has),
+        is_formula nodes c.in_ok-next.next (formula_of (body_value q env v)) (c.in_ok-next.ensures.has v at),
+      );
+}
+
+pub joined-loop-i-preserved : goal.joined-loop-i-preserved
+joined-loop-i-preserved t c =
+    let names = c.args.self.now in
+    let q = c.args.bodies in
+    let env = env_in names c.args.at.scope.now in
+    let s = head_value names c.in_ok-set.set in
+    let i = c.loop-i.i in
+    let v = get_or (members s) i (truth_value false) in
+    let at : slice_get (members s) i ≡ Some v = member_at (members s) i c.member_count-count.result c.member_count-count.ensures c.loop-i-test.true in
+    joined_more names c.args.op (bodies_over q env s) c.args.nodes.now c.loop-i.nodes c.body-in-loop-i.new.nodes c.place-in-loop-i.new.nodes
+    i c.loop-i.all c.in_ok-next.next c.in_ok-more.more (body_value q env v) c.loop-i.invariant (body_at q env s v i at) c.loop-i.auto.i
+    c.in_ok-next.ensures.more c.in_ok-more.ensures.more (c.in_ok-next.ensures.has v at) c.in_ok-more.ensures.has
+
+pub operator-returns-in_ok-node-in-Joined-clause-made : goal.operator-returns-in_ok-node-in-Joined-clause-made
+operator-returns-in_ok-node-in-Joined-clause-made t c =
+    let env = env_in c.args.self.now c.args.at.scope.now in
+    let bodies = bodies_of c.in-Joined.bodies env in
+    let same : connected_all c.in-Joined.op bodies ≡ value_of (shape c.args.e.now) env =
+    ap (λ r. operation_value r env) (sym c.in-Joined.is) ∙ c.of.ensures env c.requires.operator in
+    subst (IsMade c.joined.new.nodes (made.Formula c.in_ok-node-in-Joined.node)) same
+    (made_joined c.joined.new.nodes c.in_ok-node-in-Joined.node c.in-Joined.op bodies c.in_ok-node-in-Joined.ensures.has)

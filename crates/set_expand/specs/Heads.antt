@@ -1,0 +1,53 @@
+-- What scopes, names and heads stand for.
+
+use Rattle.std.specs.Prelude.{ℕ, ◌≡◌, ◌<◌, true, false, ⊤}
+use Rattle.mltl_base.specs.Tables.{Table}
+use Rattle.c2po_ast.specs.Shape.{shape, shapes}
+use Rattle.c2po_unfold.specs.Heads.{is_operator}
+use Rattle.c2po_unfold.specs.Values.{Value, truth_value, built, grouped}
+use Rattle.c2po_unfold.specs.Environment.{Env, Known, nothing, fields, value, bind, signal_value, value_of, values_of}
+use Rattle.set_expand.specs.declared.names.Declared.{Declared}
+use Rattle.set_expand.specs.declared.scope.Scope.{Scope, First, Member'}
+use Rattle.set_expand.specs.declared.scope.Named.{Named}
+use Rattle.set_expand.specs.declared.scope.Named.TheVariants as named
+use Rattle.set_expand.specs.declared.scope.Head.{Head}
+use Rattle.set_expand.specs.declared.scope.Head.TheVariants as head
+use Rattle.set_expand.specs.Names.{env_of}
+
+-- the environment of a scope: a variable has the value of its expression in the expression's own scope
+abbrev pub env_in : Table Declared → Scope → Env
+env_in names (First n) = env_of names n
+env_in names (Member' x e _ within _ outer) =
+    bind x.now (value_of (shape e.now) (env_in names within)) (env_in names outer)
+
+-- what a name that was looked up means
+abbrev pub named_meaning : Table Declared → Named → Known
+named_meaning names named.Nothing = nothing
+named_meaning names (named.Struct fs) = fields fs.now
+named_meaning names (named.Signal b n) = value (signal_value b n)
+named_meaning names (named.Open scope e made) = value (value_of (shape e.now) (env_in names scope))
+
+-- the value of a head
+abbrev pub head_value : Table Declared → Head → Value
+head_value names head.Nothing = truth_value false
+head_value names (head.Signal b n) = signal_value b n
+head_value names (head.Struct scope x es) = built x.now (values_of (shapes es.now) (env_in names scope))
+head_value names (head.Set scope es) = grouped (values_of (shapes es.now) (env_in names scope))
+head_value names (head.Leaf scope e) = value_of (shape e.now) (env_in names scope)
+head_value names (head.Kept made scope e) = value_of (shape e.now) (env_in names scope)
+
+-- what is no name, struct, set or picked field is an operator
+abbrev pub IsHead : Head → Type 0
+IsHead (head.Leaf scope e) = is_operator (shape e.now) ≡ true
+IsHead (head.Kept made scope e) = is_operator (shape e.now) ≡ true
+IsHead _ = ⊤
+
+-- a signal that a name leads to is among the first n
+abbrev pub NamedBelow : ℕ → Named → Type 0
+NamedBelow n (named.Signal b k) = k < n
+NamedBelow n _ = ⊤
+
+-- the same of a head
+abbrev pub HeadBelow : ℕ → Head → Type 0
+HeadBelow n (head.Signal b k) = k < n
+HeadBelow n _ = ⊤

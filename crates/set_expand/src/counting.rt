@@ -1,0 +1,122 @@
+//! Counting quantifiers: their gates as nodes.
+
+ghost use Rattle.std.specs.Prelude.{◌≡◌, ◌+◌, ◌<◌, ◌≤◌, ℕ, true, List as Seq, Some, length, map, slice_get, IfOk, IfErr, OnOk};
+ghost use Rattle.mltl_base.specs.declared.limits.TheConstants.{MAX_WEIGHT};
+ghost use Rattle.mltl_base.specs.Formula.{Formula};
+ghost use Rattle.count_sets.specs.Counting.{Counted, counting};
+ghost use Rattle.count_sets.specs.Gates.{IsNetwork, IsOver, formula_of, last_formula};
+ghost use Rattle.c2po_nodes.specs.Nodes.{Has, IsFormula, formula, trees};
+ghost use Rattle.c2po_unfold.specs.Values.{counted_formula, counting_weight};
+ghost use Rattle.set_expand.specs.Nodes.{AreFormulas, HaveFormulas, IsMore};
+
+use crate::names::Names;
+use c2po_nodes::{NodeList, Plain};
+use count_sets::{Gate, network};
+use mltl_base::limits::MAX_WEIGHT;
+use mltl_base::{CountOp, LogicOp};
+use std::alloc::{AllocError, Global};
+
+/// Whether a counting quantifier over `n` bodies weighs no more than an output may.
+fn is_light(n: usize, number: u64) -> bool
+    ensures { result ≡ true → counting_weight n number ≤ MAX_WEIGHT }
+{
+    if n > MAX_WEIGHT as usize {
+        return false;
+    }
+    let bodies = n as u64;
+    2 * bodies * (number.min(bodies) + 1) + 4 <= u64::from(MAX_WEIGHT)
+}
+
+impl<'a> Names<'a> {
+    /// The node of a counting quantifier over the nodes of its bodies. Above the weight that an output may have, which
+    /// the check has refused, it is out of memory.
+    pub(crate) fn gates(
+        &self,
+        nodes: &mut NodeList,
+        alloc: Global,
+        op: CountOp,
+        number: u64,
+        bodies: &[u32],
+    ) -> Result<u32, AllocError>
+        requires some { 1 ≤ length bodies.now }
+        requires formulas { AreFormulas nodes.old bodies.now }
+        ensures more { OnOk result (IsMore self.now nodes.old nodes.new) }
+        ensures has { (ps : Seq Formula) → HaveFormulas nodes.old bodies.now ps
+            → IfOk result (λ n. Has nodes.new n
+            (formula (counted_formula ps (counting op (length ps) number)))) }
+    {
+        if !is_light(bodies.len(), number) {
+            return Err(AllocError);
+        }
+        let count = bodies.len() as u32;
+        let number = number.min(u64::from(count) + 1) as u32;
+        let gates = network(alloc, op, count, number)?;
+        self.splice(nodes, alloc, gates.as_slice(), bodies)
+    }
+
+    /// The node of the last gate, over the nodes of the bodies.
+    fn splice(
+        &self,
+        nodes: &mut NodeList,
+        alloc: Global,
+        gates: &[Gate],
+        bodies: &[u32],
+    ) -> Result<u32, AllocError>
+        requires some { 1 ≤ length gates.now }
+        requires formed { IsNetwork (length bodies.now) gates.now }
+        requires formulas { AreFormulas nodes.old bodies.now }
+        ensures more { OnOk result (IsMore self.now nodes.old nodes.new) }
+        ensures has { (ps : Seq Formula) (c : Counted) → HaveFormulas nodes.old bodies.now ps
+            → last_formula gates.now ≡ Some c
+            → IfOk result (λ n. Has nodes.new n (formula (counted_formula ps c))) }
+    {
+        let mut places = Vec::new(alloc);
+        for gate in gates {
+            let place = self.gate(nodes, *gate, bodies, &places)?;
+            places.push(place)?;
+        }
+        Ok(places[gates.len() - 1])
+    }
+
+    /// The node of a gate, over the nodes of the bodies and of the gates before it.
+    fn gate(
+        &self,
+        nodes: &mut NodeList,
+        gate: Gate,
+        bodies: &[u32],
+        earlier: &[u32],
+    ) -> Result<u32, AllocError>
+        requires over { IsOver (length bodies.now) (length earlier.now) gate }
+        requires bodies { AreFormulas nodes.old bodies.now }
+        requires earlier { AreFormulas nodes.old earlier.now }
+        ensures more { OnOk result (IsMore self.now nodes.old nodes.new) }
+        ensures is { IfOk result (λ n. IsFormula (slice_get (trees nodes.new) n)) }
+        ensures has { (ps : Seq Formula) (cs : Seq Counted)
+            → HaveFormulas nodes.old bodies.now ps
+            → HaveFormulas nodes.old earlier.now (map (counted_formula ps) cs)
+            → IfOk result
+            (λ n. Has nodes.new n (formula (counted_formula ps (formula_of cs gate)))) }
+    {
+        match gate {
+            Gate::Truth(truth) => {
+                let node = self.place(nodes, Plain::Truth(truth))?;
+                Ok(node)
+            }
+            Gate::Body(i) => Ok(bodies[i as usize]),
+            Gate::Both(i, j) => {
+                let (left, right) = (earlier[i as usize], earlier[j as usize]);
+                let node = self.place(nodes, Plain::Logic(LogicOp::And, left, right))?;
+                Ok(node)
+            }
+            Gate::Either(i, j) => {
+                let (left, right) = (earlier[i as usize], earlier[j as usize]);
+                let node = self.place(nodes, Plain::Logic(LogicOp::Or, left, right))?;
+                Ok(node)
+            }
+            Gate::Not(i) => {
+                let node = self.place(nodes, Plain::Not(earlier[i as usize]))?;
+                Ok(node)
+            }
+        }
+    }
+}

@@ -1,0 +1,217 @@
+//! Names, each with what it stands for.
+
+ghost use Rattle.std.specs.Prelude.{◌≡◌, ◌<◌, ℕ, List as Seq, [], length, map, OnOk, IfOk};
+ghost use Rattle.c2po_ast.specs.Shape.{shape};
+ghost use Rattle.c2po_ast.specs.ItemShape.{field_shape};
+ghost use Rattle.c2po_unfold.specs.Environment.{declare, fields, no_names, signal_value, value, value_of};
+ghost use Rattle.c2po_nodes.specs.declared.nodes.Plain.{Plain};
+ghost use Rattle.set_expand.specs.Heads.{NamedBelow, named_meaning};
+ghost use Rattle.set_expand.specs.Nodes.{HaveNodes, IsKept, MadeAs, NamedKept};
+ghost use Rattle.set_expand.specs.Names.{EntryBelow, HasFields, IsEarly, SignalsBelow, env_now, env_of, meaning, with_name};
+
+use crate::nodes::Made;
+use crate::scope::{Named, Scope};
+use c2po_ast::{Expr, FieldDecl, Node, field_names};
+use c2po_unfold::fields::Fields;
+use mltl_base::{List, Name, NameTable};
+use std::alloc::{AllocError, Global};
+use std::marker::Model;
+
+/// What a name stands for.
+#[derive(Clone, Copy)]
+pub enum Entry<'a> {
+    /// A struct: its fields, and its number.
+    Struct(&'a List<FieldDecl>, u32),
+    /// A signal, of kind bool or int, by its number.
+    Signal(bool, u32),
+    /// The value of an expression under the first names, of which there are so many, and what it is made of nodes,
+    /// if it is.
+    Defined(&'a Expr, u32, Option<Made>),
+}
+
+/// What a name stands for, and how many names were declared before it.
+#[derive(Clone, Copy)]
+pub struct Declared<'a> {
+    pub number: u32,
+    pub entry: Entry<'a>,
+}
+
+/// The names of a specification in the order of declaration, which contracts see as a table of these.
+#[derive(Drop)]
+pub struct Names<'a> {
+    table: NameTable<Declared<'a>>,
+    structs: List<Fields>,
+}
+
+impl<'a> Model for Names<'a> {
+    ghost use Rattle.mltl_base.specs.Tables.{Table};
+    ghost use Rattle.c2po_ast.specs.contracts.item.TypeTree as types;
+    ghost use Rattle.c2po_ast.specs.contracts.tree.Expr as exprs;
+    ghost use Rattle.set_expand.specs.declared.names.Declared.{Declared as Meaning};
+    ghost use Rattle.set_expand.specs.Names.{AreNumbered};
+    ghost use Rattle.std.specs.Coded.{codes};
+
+    ghost Value = { Table Meaning };
+
+    ghost coded = { Prim.hlevel (codes, types.the_row.coded, exprs.the_row.coded) };
+
+    ghost view = { λ names. names.table };
+
+    ghost invariant = { λ names. AreNumbered names.table names.structs };
+}
+
+/// Returns the index after `count` others, as a number of 32 bits. At 2^32 it is out of memory.
+fn next_number(count: usize) -> Result<u32, AllocError>
+    ensures { IfOk result (λ number. number ≡ count) }
+{
+    u32::try_from(count).map_err(|_| AllocError)
+}
+
+/// Puts a name after the others, unless it is there.
+fn put<'a>(
+    table: &mut NameTable<Declared<'a>>,
+    alloc: Global,
+    name: &Name,
+    entry: Entry<'a>,
+) -> Result<(), AllocError>
+    ensures { OnOk result (table.new ≡ with_name name.now entry.entry table.old) }
+{
+    if table.contains(name) {
+        return Ok(());
+    }
+    let number = next_number(table.len())?;
+    table.add(alloc, name, Declared { number, entry })?;
+    Ok(())
+}
+
+impl<'a> Names<'a> {
+    /// Makes the table without names. It does not allocate.
+    pub fn new(alloc: Global) -> Self
+        ensures { result ≡ [] }
+    {
+        Names {
+            table: NameTable::new(alloc),
+            structs: List::new(alloc),
+        }
+    }
+
+    /// The number of names.
+    pub fn count(&self) -> Result<u32, AllocError>
+        ensures number { IfOk result (λ n. n ≡ length self.now) }
+        ensures all { IfOk result (λ n. env_of self.now n ≡ env_now self.now) }
+    {
+        let count = next_number(self.table.len())?;
+        Ok(count)
+    }
+
+    /// What a name means to the first names, of which there are so many.
+    pub fn find<'b>(&'b self, before: u32, name: &Name) -> Named<'b>
+        ensures means { named_meaning self.now result ≡ env_of self.now before name.now }
+        ensures below { (n : ℕ) → SignalsBelow n self.now → NamedBelow n result }
+        ensures kept { (nodes : Seq Plain) → HaveNodes nodes self.now
+            → NamedKept nodes self.now result }
+    {
+        match self.table.find(name) {
+            Some(declared) if declared.number < before => match declared.entry {
+                Entry::Struct(_, number) => Named::Struct(self.structs.get(number as usize)),
+                Entry::Signal(truth, number) => Named::Signal(truth, number),
+                Entry::Defined(expr, count, made) => Named::Open(Scope::First(count), expr, made),
+            },
+            _ => Named::Nothing,
+        }
+    }
+
+    /// What a definition's name stands for, with what it is made of nodes, if it is. That of a name alone is what that
+    /// name stands for.
+    fn entry_of(&self, e: &'a Expr, count: u32, made: Option<Made>) -> Entry<'a>
+        requires count { count ≡ length self.now }
+        requires all { env_of self.now count ≡ env_now self.now }
+        ensures means { meaning self.now result ≡ value (value_of (shape e.now) (env_now self.now)) }
+        ensures early { IsEarly (length self.now) result }
+        ensures fields { (structs : Seq (Seq (Seq ℕ))) → HasFields structs result }
+        ensures below { (n : ℕ) → SignalsBelow n self.now → EntryBelow n result }
+        ensures kept { (nodes : Seq Plain) → HaveNodes nodes self.now
+            → MadeAs nodes (value_of (shape e.now) (env_now self.now)) made
+            → IsKept nodes self.now result }
+    {
+        if made.is_some() {
+            return Entry::Defined(e, count, made);
+        }
+        if let Node::Ref(name) = &e.node {
+            if let Some(declared) = self.table.find(name) {
+                match declared.entry {
+                    Entry::Struct(..) => {}
+                    entry => return entry,
+                }
+            }
+        }
+        Entry::Defined(e, count, None)
+    }
+
+    /// The names with a struct. A name that is known keeps its meaning.
+    pub fn with_struct(
+        self,
+        alloc: Global,
+        name: &Name,
+        decls: &'a List<FieldDecl>,
+    ) -> Result<Names<'a>, AllocError>
+        ensures env { IfOk result (λ names. env_now names ≡ declare name.now
+            (fields (map (λ f. f.name) (map field_shape decls.now))) (env_now self.entry)) }
+        ensures below { (n : ℕ) → SignalsBelow n self.entry → IfOk result (SignalsBelow n) }
+        ensures kept { (nodes : Seq Plain) → HaveNodes nodes self.entry
+            → IfOk result (HaveNodes nodes) }
+    {
+        let Names {
+            mut table,
+            mut structs,
+        } = self;
+        let number = next_number(structs.len())?;
+        let names = field_names(alloc, decls.as_slice())?;
+        let own = Fields::of(alloc, names)?;
+        structs.push(own)?;
+        put(&mut table, alloc, name, Entry::Struct(decls, number))?;
+        Ok(Names { table, structs })
+    }
+
+    /// The names with the signal with a number, of kind bool or int. A name that is known keeps its meaning.
+    pub fn with_signal(
+        self,
+        alloc: Global,
+        name: &Name,
+        truth: bool,
+        number: u32,
+    ) -> Result<Names<'a>, AllocError>
+        ensures env { IfOk result (λ names. env_now names ≡ declare name.now
+            (value (signal_value truth number)) (env_now self.entry)) }
+        ensures below { (n : ℕ) → SignalsBelow n self.entry → number < n
+            → IfOk result (SignalsBelow n) }
+        ensures kept { (nodes : Seq Plain) → HaveNodes nodes self.entry
+            → IfOk result (HaveNodes nodes) }
+    {
+        let Names { mut table, structs } = self;
+        put(&mut table, alloc, name, Entry::Signal(truth, number))?;
+        Ok(Names { table, structs })
+    }
+
+    /// The names with a definition, and with what it is made of nodes, if it is. A name that is known keeps its meaning.
+    pub fn with_definition(
+        self,
+        alloc: Global,
+        name: &Name,
+        e: &'a Expr,
+        made: Option<Made>,
+    ) -> Result<Names<'a>, AllocError>
+        ensures env { IfOk result (λ names. env_now names ≡ declare name.now
+            (value (value_of (shape e.now) (env_now self.entry))) (env_now self.entry)) }
+        ensures below { (n : ℕ) → SignalsBelow n self.entry → IfOk result (SignalsBelow n) }
+        ensures kept { (nodes : Seq Plain) → HaveNodes nodes self.entry
+            → MadeAs nodes (value_of (shape e.now) (env_now self.entry)) made
+            → IfOk result (HaveNodes nodes) }
+    {
+        let count = self.count()?;
+        let entry = self.entry_of(e, count, made);
+        let Names { mut table, structs } = self;
+        put(&mut table, alloc, name, entry)?;
+        Ok(Names { table, structs })
+    }
+}
