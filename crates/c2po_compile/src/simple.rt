@@ -17,6 +17,7 @@ use delay_sizes::slot_count;
 use mltl_base::Columns;
 use mltl_simplify::simplify;
 use obs_verify::Checked;
+use set_expand::expand;
 use std::alloc::Global;
 
 /// The first program where it has no more slots and boxes than the second, else the second.
@@ -54,7 +55,9 @@ pub fn back_simple(
     ensures names { IfOk result NamesFit }
 {
     let plain = back(alloc, spec, columns)?;
-    let simple = simplify(alloc, spec.expanded())?;
+    let unfolded = expand(alloc, spec)?;
+    let simple = simplify(alloc, &unfolded)?;
+    drop(unfolded);
     let made = built(alloc, &simple, spec, columns);
     drop(simple);
     match made {

@@ -1,20 +1,14 @@
 -- Specifications without a fault.
 
-use Rattle.std.specs.Prelude.{◌≡◌, List, None, length}
+use Rattle.std.specs.Prelude.{◌≡◌, List, None}
 use Rattle.c2po_ast.specs.ItemShape.{ItemShape}
 use Rattle.c2po_ast.specs.Names.{ArePlainItems}
 use Rattle.mltl_base.specs.declared.signal.Signal.{Signal}
-use Rattle.c2po_nodes.specs.declared.nodes.Expanded.{Expanded}
-use Rattle.c2po_nodes.specs.Outputs.{IsSound, asked}
 use Rattle.c2po_types.specs.FirstFault.{first_fault}
-use Rattle.c2po_types.specs.Outputs.{outputs_of}
 use Rattle.c2po_types.specs.Signals.{signals_of}
 
--- a specification has no fault, its names are made of letters, digits and `_`, and these are its signals and what it is
--- unfolded to
-pub record IsFaultless (items : List ItemShape) (signals : List Signal) (expanded : Expanded) : Type 0 where
+-- a specification has no fault, its names are made of letters, digits and `_`, and these are its signals
+pub record IsFaultless (items : List ItemShape) (signals : List Signal) : Type 0 where
   pub faultless : first_fault items ≡ None
   pub plain : ArePlainItems items
   pub signals_are : signals ≡ signals_of items
-  pub unfolds : asked expanded ≡ outputs_of items
-  pub sound : IsSound expanded (length (signals_of items))

@@ -3,7 +3,6 @@ pub mod FirstFault
 pub mod Signals
 pub mod Outputs
 pub mod Reaching
-pub mod Unfolded
 pub mod Checking
 pub mod Kinds
 pub mod Scopes

@@ -1,33 +1,26 @@
 //! The check of one item after others.
 
-ghost use Rattle.std.specs.Prelude.{◌≡◌, ◌+◌, ◌≤◌, ◌∷◌, ◌++◌, [], List as Seq, length, drop, map, OnOk, IfErr};
+ghost use Rattle.std.specs.Prelude.{◌≡◌, ◌+◌, ◌≤◌, drop, map, OnOk, IfErr};
 ghost use Rattle.mltl_base.specs.declared.limits.TheConstants.{MAX_WEIGHT};
-ghost use Rattle.mltl_base.specs.Ranges.{NoRange as Why};
-ghost use Rattle.mltl_base.specs.Subformulas.{Asked};
 ghost use Rattle.mltl_base.specs.Answers.{reason};
-ghost use Rattle.c2po_ast.specs.Shape.{Shape, shape};
-ghost use Rattle.c2po_ast.specs.ItemShape.{body_shape, contract, define, field_shape, formula, input, item_shape, structure, type_shape};
-ghost use Rattle.c2po_nodes.specs.Facts.{told_fault};
-ghost use Rattle.c2po_nodes.specs.Nodes.{AreSound, Grows, Has, formula as formula_tree};
+ghost use Rattle.c2po_ast.specs.Shape.{shape};
+ghost use Rattle.c2po_ast.specs.ItemShape.{field_shape, item_shape, type_shape};
+ghost use Rattle.c2po_unfold.specs.Facts.{told_fault};
 ghost use Rattle.c2po_unfold.specs.Environment.{Env, value_of};
-ghost use Rattle.c2po_unfold.specs.Holding.{StandsFor, Unfolds, nodes_of};
-ghost use Rattle.c2po_unfold.specs.Values.{Value, formula_of};
+ghost use Rattle.c2po_unfold.specs.Holding.{StandsFor, Weighs};
+ghost use Rattle.c2po_unfold.specs.Values.{Value};
 ghost use Rattle.c2po_types.specs.FirstFault.{item_step, struct_step, input_step, define_step, formula_step, contract_step, one_out, two_out, with_out, other_tense, range_fault, with_signals};
-ghost use Rattle.c2po_types.specs.Outputs.{Place, asked_at, place_after, name_of};
 ghost use Rattle.c2po_types.specs.Reaching.{Reaches, state_of, unfold_fault};
-ghost use Rattle.c2po_types.specs.Unfolded.{HasUnfolded, Puts};
 
-use crate::names::output_name;
 use crate::progress::Progress;
 use crate::{Signal, TypeFault, check_contract, check_define, check_formula, declare_label};
 use c2po_ast::{Body, Expr, FieldDecl, Item, TypeTree, field_names};
-use c2po_nodes::{PlainOut, Tenses, first_fault};
-use c2po_unfold::{UnfoldFault, Unfolded, Unfolding};
+use c2po_unfold::{Tenses, UnfoldFault, Unfolding, Weighed, first_fault};
 use mltl_base::limits::MAX_WEIGHT;
 use mltl_base::{Engine, List, Name, NoRange};
 use std::alloc::Global;
 
-/// The fault of an item that isn't unfolded.
+/// The fault of an item whose value isn't found.
 fn too_wide(line: u32, why: UnfoldFault) -> TypeFault
     ensures { result ≡ unfold_fault line why }
 {
@@ -66,23 +59,17 @@ fn add_signals(
 ) -> Result<(), TypeFault>
     ensures added { (env : Env) → StandsFor values.old env
         → OnOk result (StandsFor values.new (with_signals from (drop from signals.now) env)) }
-    ensures sound { AreSound from (nodes_of values.old) → from ≤ length signals.now
-        → OnOk result (AreSound (length signals.now) (nodes_of values.new)) }
-    ensures grows { OnOk result (Grows (nodes_of values.old) (nodes_of values.new)) }
     ensures only { IfErr result (λ fault. fault ≡ TypeFault.Memory) }
 {
     for number in from..signals.len() {
         let signal = &signals[number];
-        let Ok(place) = u32::try_from(number) else {
-            return Err(TypeFault::Memory);
-        };
-        values.add_signal(alloc, &signal.name, place, signal.truth)?;
+        values.add_signal(alloc, &signal.name, signal.truth)?;
     }
     Ok(())
 }
 
 impl Progress {
-    /// Checks and unfolds a struct.
+    /// Checks a struct.
     fn step_struct(
         &mut self,
         alloc: Global,
@@ -93,8 +80,6 @@ impl Progress {
         ensures reached { (env : Env) → StandsFor self.old.values env
             → Reaches result self.new
             (struct_step line name.now (map field_shape fields.now) (state_of self.old env)) }
-        ensures puts { Puts (structure name.now (map field_shape fields.now))
-            self.old self.new result }
         ensures total { OnOk result (self.new.total ≡ self.old.total) }
     {
         self.declared.declare_struct(alloc, line, name, fields)?;
@@ -103,7 +88,7 @@ impl Progress {
         Ok(())
     }
 
-    /// Checks and unfolds signals.
+    /// Checks signals.
     fn step_input(
         &mut self,
         alloc: Global,
@@ -114,7 +99,6 @@ impl Progress {
         ensures reached { (env : Env) → StandsFor self.old.values env
             → Reaches result self.new
             (input_step line names.now (type_shape tree.now) (state_of self.old env)) }
-        ensures puts { Puts (input names.now (type_shape tree.now)) self.old self.new result }
         ensures total { OnOk result (self.new.total ≡ self.old.total) }
     {
         let from = self.declared.signals.len();
@@ -128,7 +112,7 @@ impl Progress {
         Ok(())
     }
 
-    /// Checks and unfolds a definition.
+    /// Checks a definition.
     fn step_define(
         &mut self,
         alloc: Global,
@@ -139,7 +123,6 @@ impl Progress {
         ensures reached { (env : Env) → StandsFor self.old.values env
             → Reaches result self.new
             (define_step line name.now (shape expr.now) (state_of self.old env)) }
-        ensures puts { Puts (define name.now (shape expr.now)) self.old self.new result }
         ensures total { OnOk result (self.new.total ≡ self.old.total) }
     {
         let kind = check_define(alloc, &self.declared, line, name, expr)?;
@@ -154,23 +137,19 @@ impl Progress {
         Ok(())
     }
 
-    /// Puts an output with so much weight after the others, where nothing is wrong with it.
-    fn put_out(
+    /// Counts an output with so much weight, where nothing is wrong with it.
+    fn count_out(
         &mut self,
         line: u32,
         weight: u32,
         why: Option<NoRange>,
         mixed: bool,
-        out: PlainOut,
     ) -> Result<(), TypeFault>
         requires { self.old.total + weight ≤ MAX_WEIGHT }
         ensures reached { (env : Env) → StandsFor self.old.values env
             → Reaches result self.new
             (with_out line self.old.labels weight (told_fault why) mixed (state_of self.old env)) }
-        ensures put { OnOk result (self.new ≡ record self.old {
-          total = self.old.total + weight;
-          outs = self.old.outs ++ out ∷ [];
-        }) }
+        ensures light { OnOk result (self.new.total ≤ MAX_WEIGHT) }
     {
         if let Some(why) = why {
             return Err(no_range(line, why));
@@ -178,39 +157,34 @@ impl Progress {
         if mixed {
             return Err(TypeFault::Tense(line));
         }
-        self.outs.push(out)?;
         self.total += weight;
         Ok(())
     }
 
-    /// Unfolds a formula whose names and kinds are right, and puts it as an output.
-    fn put_formula(
+    /// Counts a formula whose names and kinds are right as an output.
+    fn count_formula(
         &mut self,
         alloc: Global,
         line: u32,
         engine: Engine,
-        label: &Option<Name>,
         expr: &Expr,
     ) -> Result<(), TypeFault>
         requires { self.old.total ≤ MAX_WEIGHT }
         ensures reached { (env : Env) → StandsFor self.old.values env
             → Reaches result self.new (one_out line engine self.old.labels
             (value_of (shape expr.now) env) (state_of self.old env)) }
-        ensures puts { Puts (formula engine label.now (shape expr.now)) self.old self.new result }
         ensures light { OnOk result (self.new.total ≤ MAX_WEIGHT) }
     {
         let room = MAX_WEIGHT - self.total;
         let found = self
             .values
-            .unfold(alloc, expr, room)
+            .weigh(alloc, expr, room)
             .map_err(|why| too_wide(line, why))?;
         let mixed = is_mixed(engine, found.tenses);
-        let name = output_name(self.outs.len(), label);
-        let out = PlainOut::Formula(engine, found.node, name);
-        self.put_out(line, found.weight, found.fault, mixed, out)
+        self.count_out(line, found.weight, found.fault, mixed)
     }
 
-    /// Checks and unfolds an output with a formula.
+    /// Checks an output with a formula.
     fn step_formula(
         &mut self,
         alloc: Global,
@@ -223,56 +197,44 @@ impl Progress {
         ensures reached { (env : Env) → StandsFor self.old.values env
             → Reaches result self.new
             (formula_step line engine label.now (shape expr.now) (state_of self.old env)) }
-        ensures puts { Puts (formula engine label.now (shape expr.now)) self.old self.new result }
         ensures light { OnOk result (self.new.total ≤ MAX_WEIGHT) }
     {
         declare_label(alloc, &mut self.labels, line, label)?;
         check_formula(alloc, &self.declared, line, expr)?;
-        self.put_formula(alloc, line, engine, label, expr)
+        self.count_formula(alloc, line, engine, expr)
     }
 
-    /// Puts a contract as an output: its left formula is unfolded, and its right one is unfolded here.
-    fn put_right(
+    /// Counts a contract as an output: its left formula is weighed, and its right one is weighed here.
+    fn count_right(
         &mut self,
         alloc: Global,
         line: u32,
         engine: Engine,
-        label: &Option<Name>,
-        left: Unfolded,
+        left: Weighed,
         right: &Expr,
     ) -> Result<(), TypeFault>
         requires { self.old.total + left.weight ≤ MAX_WEIGHT }
-        ensures reached { (env : Env) (v : Value) → StandsFor self.old.values env → Unfolds left v
+        ensures reached { (env : Env) (v : Value) → StandsFor self.old.values env → Weighs left v
             → Reaches result self.new (two_out line engine self.old.labels
             v (value_of (shape right.now) env) (state_of self.old env)) }
-        ensures puts { (e : Shape) (place : Place) (told : Seq Asked)
-            → Has (nodes_of self.old.values) left.node
-            (formula_tree (formula_of (value_of e place.values)))
-            → HasUnfolded self.old place told
-            → OnOk result (HasUnfolded self.new
-            (place_after (contract engine label.now e (shape right.now)) place)
-            (told ++ asked_at (contract engine label.now e (shape right.now)) place)) }
         ensures light { OnOk result (self.new.total ≤ MAX_WEIGHT) }
     {
         let room = MAX_WEIGHT - self.total - left.weight;
         let found = self
             .values
-            .unfold(alloc, right, room)
+            .weigh(alloc, right, room)
             .map_err(|why| too_wide(line, why))?;
         let why = first_fault(left.fault, found.fault);
         let mixed = is_mixed(engine, left.tenses) || is_mixed(engine, found.tenses);
-        let name = output_name(self.outs.len(), label);
-        let out = PlainOut::Contract(engine, left.node, found.node, name);
-        self.put_out(line, left.weight + found.weight, why, mixed, out)
+        self.count_out(line, left.weight + found.weight, why, mixed)
     }
 
-    /// Unfolds a contract whose names and kinds are right, and puts it as an output.
-    fn put_contract(
+    /// Counts a contract whose names and kinds are right as an output.
+    fn count_contract(
         &mut self,
         alloc: Global,
         line: u32,
         engine: Engine,
-        label: &Option<Name>,
         left: &Expr,
         right: &Expr,
     ) -> Result<(), TypeFault>
@@ -281,19 +243,17 @@ impl Progress {
             → Reaches result self.new (two_out line engine self.old.labels
             (value_of (shape left.now) env) (value_of (shape right.now) env)
             (state_of self.old env)) }
-        ensures puts { Puts (contract engine label.now (shape left.now) (shape right.now))
-            self.old self.new result }
         ensures light { OnOk result (self.new.total ≤ MAX_WEIGHT) }
     {
         let room = MAX_WEIGHT - self.total;
         let left = self
             .values
-            .unfold(alloc, left, room)
+            .weigh(alloc, left, room)
             .map_err(|why| too_wide(line, why))?;
-        self.put_right(alloc, line, engine, label, left, right)
+        self.count_right(alloc, line, engine, left, right)
     }
 
-    /// Checks and unfolds an output with a contract.
+    /// Checks an output with a contract.
     fn step_contract(
         &mut self,
         alloc: Global,
@@ -307,21 +267,18 @@ impl Progress {
         ensures reached { (env : Env) → StandsFor self.old.values env
             → Reaches result self.new (contract_step line engine label.now
             (shape left.now) (shape right.now) (state_of self.old env)) }
-        ensures puts { Puts (contract engine label.now (shape left.now) (shape right.now))
-            self.old self.new result }
         ensures light { OnOk result (self.new.total ≤ MAX_WEIGHT) }
     {
         declare_label(alloc, &mut self.labels, line, label)?;
         check_contract(alloc, &self.declared, line, left, right)?;
-        self.put_contract(alloc, line, engine, label, left, right)
+        self.count_contract(alloc, line, engine, left, right)
     }
 
-    /// Checks and unfolds one more item.
+    /// Checks one more item.
     pub fn step(&mut self, alloc: Global, item: &Item) -> Result<(), TypeFault>
         requires { self.old.total ≤ MAX_WEIGHT }
         ensures reached { (env : Env) → StandsFor self.old.values env
             → Reaches result self.new (item_step (item_shape item.now) (state_of self.old env)) }
-        ensures puts { Puts (body_shape item.now.body) self.old self.new result }
         ensures light { OnOk result (self.new.total ≤ MAX_WEIGHT) }
     {
         let line = item.line;

@@ -1,19 +1,15 @@
 //! Specifications without a fault.
 
-ghost use Rattle.std.specs.Prelude.{◌≡◌, ◌≤◌, None, All, length};
+ghost use Rattle.std.specs.Prelude.{◌≡◌, ◌≤◌, None, length};
 ghost use Rattle.mltl_base.specs.declared.limits.TheConstants.{MAX_SIGNALS};
 ghost use Rattle.mltl_base.specs.Kinds.{HaveOwnNames};
 ghost use Rattle.c2po_ast.specs.ItemShape.{spec_shape};
 ghost use Rattle.c2po_ast.specs.Names.{ArePlainItems};
-ghost use Rattle.c2po_nodes.specs.Faults.{HasRanges};
-ghost use Rattle.c2po_nodes.specs.Outputs.{IsSound, asked};
 ghost use Rattle.c2po_types.specs.FirstFault.{first_fault};
-ghost use Rattle.c2po_types.specs.Outputs.{HasPlainName, outputs_of};
 ghost use Rattle.c2po_types.specs.Signals.{signals_of};
 
 use crate::Signal;
 use c2po_ast::SpecTree;
-use c2po_nodes::Expanded;
 use mltl_base::List;
 use std::marker::Model;
 
@@ -22,7 +18,6 @@ use std::marker::Model;
 pub struct TypedSpec {
     tree: SpecTree,
     signals: List<Signal>,
-    expanded: Expanded,
 }
 
 impl Model for TypedSpec {
@@ -39,24 +34,18 @@ impl Model for TypedSpec {
 
     ghost view = { λ spec. spec.tree };
 
-    ghost invariant = { λ spec. IsFaultless (spec_shape spec.tree) spec.signals spec.expanded };
+    ghost invariant = { λ spec. IsFaultless (spec_shape spec.tree) spec.signals };
 }
 
 impl TypedSpec {
-    /// The specification of a tree without a fault, with its signals and what it is unfolded to.
-    pub(crate) fn of(tree: SpecTree, signals: List<Signal>, expanded: Expanded) -> TypedSpec
+    /// The specification of a tree without a fault, with its signals.
+    pub(crate) fn of(tree: SpecTree, signals: List<Signal>) -> TypedSpec
         requires faultless { first_fault (spec_shape tree) ≡ None }
         requires plain { ArePlainItems (spec_shape tree) }
         requires signals { signals ≡ signals_of (spec_shape tree) }
-        requires unfolds { asked expanded ≡ outputs_of (spec_shape tree) }
-        requires sound { IsSound expanded (length (signals_of (spec_shape tree))) }
         ensures { result ≡ tree }
     {
-        TypedSpec {
-            tree,
-            signals,
-            expanded,
-        }
+        TypedSpec { tree, signals }
     }
 
     /// The tree, which has no fault.
@@ -76,15 +65,5 @@ impl TypedSpec {
         ensures plain { ArePlainItems (spec_shape self.now) }
     {
         &self.signals
-    }
-
-    /// The nodes and the outputs that the specification is unfolded to.
-    pub fn expanded(&self) -> &Expanded
-        ensures unfolds { asked result.now ≡ outputs_of (spec_shape self.now) }
-        ensures sound { IsSound result.now (length (signals_of (spec_shape self.now))) }
-        ensures ranged { All HasRanges (asked result.now) }
-        ensures named { All HasPlainName (asked result.now) }
-    {
-        &self.expanded
     }
 }

@@ -1,7 +1,6 @@
 -- A later state of an unfolding stands for what the earlier one stands for.
 
 use Rattle.std.proofs.Common.{◌≡◌, List, Option, Some, None, refl, sym, subst, ◌∙◌}
-use Rattle.c2po_nodes.proofs.Pushing.{grows_same, grows_then}
 use Rattle.mltl_base.specs.Tables.{entry_of}
 use Rattle.c2po_unfold.specs.declared.values.Stored.{Stored}
 use Rattle.c2po_unfold.specs.declared.values.Whole.TheVariants as whole
@@ -20,14 +19,13 @@ use Rattle.c2po_unfold.specs.Heads.{Heads}
 pub later_same : (u : Unfolding) → IsLater u u
 later_same u = record {
   names = refl;
-  keeps = record { structs = λ i xs h. h; nodes = grows_same u.nodes; parts = λ i p h. h };
-  sound = λ signals h. h;
+  keeps = record { structs = λ i xs h. h; facts = λ i f h. h; parts = λ i p h. h };
 }
 
 keeps_then : (old mid new : Unfolding) → Keeps old mid → Keeps mid new → Keeps old new
 keeps_then old mid new g h = record {
   structs = λ i xs s. h.structs i xs (g.structs i xs s);
-  nodes = grows_then old.nodes mid.nodes new.nodes g.nodes h.nodes;
+  facts = λ i f s. h.facts i f (g.facts i f s);
   parts = λ i p s. h.parts i p (g.parts i p s);
 }
 
@@ -35,12 +33,11 @@ pub later_then : (old mid new : Unfolding) → IsLater old mid → IsLater mid n
 later_then old mid new g h = record {
   names = h.names ∙ g.names;
   keeps = keeps_then old mid new g.keeps h.keeps;
-  sound = λ signals s. h.sound signals (g.sound signals s);
 }
 
 mutual
   pub holds_kept : (v : Value) (old new : Unfolding) (s : Stored) → Keeps old new → Holds old s v → Holds new s v
-  holds_kept (leaf t w) old new s g h = (h.0, (h.1.0, h.1.1, g.nodes.kept h.1.0 t h.1.2, h.1.3))
+  holds_kept (leaf t w) old new s g h = (h.0, (h.1.0, h.1.1, h.1.2, g.facts h.1.0 h.1.1 h.1.3, h.1.4, h.1.5))
   holds_kept (structure x vs w) old new s g h =
       (h.0, (h.1.0, h.1.1, h.1.2, g.parts h.1.0 (record { whole = whole.Struct x; members = h.1.1 }) h.1.3, hold_all_kept vs old new h.1.1 g h.1.4, h.1.5))
   holds_kept (set vs w) old new s g h =

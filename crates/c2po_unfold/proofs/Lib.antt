@@ -1,10 +1,11 @@
 pub mod Declaring
-pub mod Gates
+pub mod Gathering
+pub mod Holding
+pub mod Knowing
 pub mod Later
-pub mod Meaning
 pub mod Loops
+pub mod Meaning
 pub mod Members
-pub mod Nodes
 pub mod Parts
 pub mod Placing
 pub mod ValueWalk

@@ -1,12 +1,16 @@
 -- What the loops of unfolding keep.
 
-use Rattle.std.proofs.Common.{◌≡◌, ℕ, zero, suc, Bool, false, nat_eq, ◌+◌, ◌-◌, ◌<◌, ◌≤◌, Some, List, [], ◌∷◌, ◌++◌, map, fold, take, length, get_or, slice_get, sum_by, option_map, refl, sym, subst, ap, ◌∙◌, arith}
+use Rattle.std.proofs.Common.{◌≡◌, ℕ, false, ◌+◌, ◌-◌, ◌<◌, ◌≤◌, Option, Some, List, [], ◌∷◌, ◌++◌, map, fold, take, length, get_or, slice_get, sum_by, option_map, refl, sym, subst, ap, ◌∙◌, arith}
 use Rattle.std.proofs.lemmas.List.{take_more, take-map, map-append, length-map, length-take-le}
 use Rattle.std.proofs.lemmas.List.Sums.{fold_push, sum_by_push, sum_by-cons, sum_by_more_le}
 use Rattle.std.proofs.lemmas.Option.{slice_get_within, get_or_from_slice_get, slice_get-get_or, slice_get-map}
 use Rattle.mltl_base.specs.declared.operators.LogicOp.{LogicOp}
 use Rattle.mltl_base.specs.declared.operators.CountOp.{CountOp}
-use Rattle.c2po_nodes.specs.Nodes.{formula}
+use Rattle.mltl_base.specs.Formula.{Formula, falsity, disjunction}
+use Rattle.count_sets.specs.Counting.{counting}
+use Rattle.c2po_unfold.specs.declared.fact.Fact.{Fact}
+use Rattle.c2po_unfold.specs.Facts.{Tells}
+use Rattle.c2po_nodes.specs.Nodes.{Tree, formula, formula_in}
 use Rattle.c2po_ast.specs.declared.tree.Expr.{Expr}
 use Rattle.c2po_ast.specs.Shape.{shape, shapes}
 use Rattle.c2po_unfold.specs.declared.values.Stored.{Stored}
@@ -16,11 +20,13 @@ use Rattle.c2po_unfold.specs.declared.operators.Bodies.{Bodies}
 use Rattle.c2po_unfold.specs.declared.operators.BinaryOp.{BinaryOp}
 use Rattle.c2po_unfold.specs.declared.operators.BinaryOp.TheVariants as binary
 use Rattle.c2po_unfold.specs.declared.unfolding.Unfolding.{Unfolding}
-use Rattle.c2po_unfold.specs.Values.{Value, leaf, list_of, weight, formula_of, members, connected_value, connected_all, counted, counted_some, counting_weight, truth_value}
+use Rattle.c2po_unfold.specs.Values.{Value, leaf, list_of, weight, formula_of, members, connected_value, connected_all, counted, counted_formula, counted_some, counting_weight, tree_in, truth_value}
 use Rattle.c2po_unfold.specs.Environment.{Env, bind, value_of, values_of}
 use Rattle.c2po_unfold.specs.Holding.{Holds, HoldAll, Fits, IsLater}
 use Rattle.c2po_unfold.specs.Heads.{Heads}
 use Rattle.c2po_unfold.specs.Operators.{binary_value, bodies_over}
+use Rattle.c2po_unfold.specs.declared.summary.Summary.{Summary}
+use Rattle.c2po_unfold.specs.Summaries.{IsSummary, gathered}
 use Rattle.c2po_unfold.proofs.Later.{later_same, later_then, hold_all_later, fits_later}
 use Rattle.c2po_unfold.proofs.Members.{holds_weight, list_values, value_at}
 
@@ -120,11 +126,33 @@ joined_first op vs v h = omega (arith, joined_weight op vs, sum_within vs 0 v h)
 abbrev pub values_over : Expr → List ℕ → Env → Value → List Value
 values_over body name env s = map (λ v. value_of (shape body) (bind name v env)) (members s)
 
+-- the weight of the first expressions
+pub record WeighedSoFar (u : Unfolding) (scope : Scope) (es : List Expr) (room left : ℕ) : Type 0 where
+  pub inside : left < room
+  pub weight : (env : Env) → Fits u scope env → room ≡ left + (1 + sum_by weight (list_of (values_of (shapes es) env)))
+
+pub weighed_more : (u : Unfolding) (scope : Scope) (es : List Expr) (i : ℕ) (e : Expr) (s : Summary) (room left : ℕ) →
+    WeighedSoFar u scope (take i es) room left → slice_get es i ≡ Some e →
+    ((env : Env) → Fits u scope env → IsSummary s (value_of (shape e) env)) → s.weight ≤ left →
+    WeighedSoFar u scope (take (i + 1) es) room (left - s.weight)
+weighed_more u scope es i e s room left b at holds light =
+    subst (λ xs. WeighedSoFar u scope xs room (left - s.weight)) (sym (take_next es i e at)) (record {
+      inside = omega (arith, b.inside);
+      weight = λ env h. omega (arith, b.weight env h, weight_push (take i es) e env, (holds env h).weight);
+    })
+
 -- the bodies of a quantifier that are joined so far
-pub record JoinedSoFar (old now : Unfolding) (scope : Scope) (set : Head) (q : Bodies) (op : LogicOp) (room i : ℕ) (all : Stored) : Type 0 where
-  pub later : IsLater old now
+pub record JoinedSoFar (u : Unfolding) (scope : Scope) (set : Head) (q : Bodies) (op : LogicOp) (room i : ℕ) (all : Summary) : Type 0 where
   pub light : all.weight ≤ room
-  pub holds : (env : Env) (s : Value) → Fits old scope env → Heads old set s → Holds now all (connected_all op (take i (bodies_over q env s)))
+  pub holds : (env : Env) (s : Value) → Fits u scope env → Heads u set s → IsSummary all (connected_all op (take i (bodies_over q env s)))
+
+-- what is known of the bodies of a quantifier so far, together
+pub record GatheredSoFar (u : Unfolding) (scope : Scope) (set : Head) (q : Bodies) (room i : ℕ) (fact : Fact) (left : ℕ) : Type 0 where
+  pub inside : left ≤ room
+  pub tells : (env : Env) (s : Value) → Fits u scope env → Heads u set s →
+      Tells fact (Some (formula (gathered (map formula_of (take i (bodies_over q env s))))))
+  pub weight : (env : Env) (s : Value) → Fits u scope env → Heads u set s →
+      room ≡ left + sum_by weight (take i (bodies_over q env s))
 
 -- a member of a set, and the body with it
 pub member_at : (ms : List Value) (i n : ℕ) → n ≡ length ms → i < n → slice_get ms i ≡ Some (get_or ms i (truth_value false))
@@ -157,6 +185,42 @@ bodies_count q env s = length-map (members s) (λ v. value_of (shape q.body.now)
 pub sum_next : (vs : List Value) (i : ℕ) (v : Value) → slice_get vs i ≡ Some v → sum_by weight (take (i + 1) vs) ≡ sum_by weight (take i vs) + weight v
 sum_next vs i v h = ap (sum_by weight) (take_next vs i v h) ∙ sum_by_push weight (take i vs) v
 
+pub gathered_push : (ps : List Formula) (p : Formula) → gathered (ps ++ p ∷ []) ≡ disjunction p (gathered ps)
+gathered_push ps p = fold_push (λ found p. disjunction p found) falsity ps p
+
+gathered_next : (vs : List Value) (i : ℕ) (v : Value) → slice_get vs i ≡ Some v →
+    gathered (map formula_of (take (i + 1) vs)) ≡ disjunction (formula_of v) (gathered (map formula_of (take i vs)))
+gathered_next vs i v h =
+    ap (λ xs. gathered (map formula_of xs)) (take_next vs i v h)
+    ∙ (ap gathered (map-append formula_of (take i vs) (v ∷ []))
+    ∙ gathered_push (map formula_of (take i vs)) (formula_of v))
+
+-- one more body, before the others
+pub gathered_more : (u : Unfolding) (scope : Scope) (set : Head) (q : Bodies) (room i : ℕ) (fact new : Fact) (left : ℕ) (next : Summary) →
+    GatheredSoFar u scope set q room i fact left → next.weight ≤ left → ((s : Value) → Heads u set s → i < length (members s)) →
+    ((env : Env) (s v : Value) → Fits u scope env → Heads u set s → slice_get (members s) i ≡ Some v →
+    IsSummary next (value_of (shape q.body.now) (bind q.name.now v env))) →
+    ((o p : Option Tree) → Tells next.fact o → Tells fact p → Tells new (Some (formula (disjunction (formula_in o) (formula_in p))))) →
+    GatheredSoFar u scope set q room (i + 1) new (left - next.weight)
+gathered_more u scope set q room i fact new left next g light inside holds joins = record {
+  inside = omega (arith, g.inside);
+  tells = λ env s h heads.
+      let v = get_or (members s) i (truth_value false) in
+      let at : slice_get (members s) i ≡ Some v = member_at (members s) i (length (members s)) refl (inside s heads) in
+      let w = value_of (shape q.body.now) (bind q.name.now v env) in
+      subst (λ p. Tells new (Some (formula p))) (sym (gathered_next (bodies_over q env s) i w (body_at q env s v i at)))
+      (joins (tree_in w) (Some (formula (gathered (map formula_of (take i (bodies_over q env s)))))) (holds env s v h heads at).fact (g.tells env s h heads));
+  weight = λ env s h heads.
+      let v = get_or (members s) i (truth_value false) in
+      let at : slice_get (members s) i ≡ Some v = member_at (members s) i (length (members s)) refl (inside s heads) in
+      omega (
+        arith,
+        g.weight env s h heads,
+        sum_next (bodies_over q env s) i (value_of (shape q.body.now) (bind q.name.now v env)) (body_at q env s v i at),
+        (holds env s v h heads at).weight,
+      );
+}
+
 -- counting quantifiers over some bodies
 pub counted_is_some : (op : CountOp) (m : ℕ) (vs : List Value) → 0 < length vs → counted op m vs ≡ counted_some op m vs
 counted_is_some op m [] h = absurd (omega arith)
@@ -165,10 +229,9 @@ counted_is_some op m (v ∷ vs) h = refl
 pub counted_weight : (op : CountOp) (m : ℕ) (vs : List Value) → 0 < length vs → weight (counted op m vs) ≡ sum_by weight vs + counting_weight (length vs) m
 counted_weight op m vs h = ap weight (counted_is_some op m vs h)
 
--- a number that is not 0
-pub some_left : (n : ℕ) (b : Bool) → b ≡ nat_eq n 0 → b ≡ false → 0 < n
-some_left zero b e f = cc
-some_left (suc n) b e f = omega arith
+pub counted_tells : (op : CountOp) (n m : ℕ) (vs : List Value) (f : Fact) → n ≡ length vs →
+    Tells f (Some (formula (counted_formula (map formula_of vs) (counting op n m)))) → Tells f (tree_in (counted_some op m vs))
+counted_tells op n m vs f count h = subst (λ k. Tells f (Some (formula (counted_formula (map formula_of vs) (counting op k m))))) count h
 
 -- the weight of an operator over two operands
 pub binary_weight : (op : BinaryOp) (v w : Value) → weight (binary_value op v w) ≡ 1 + weight v + weight w

@@ -13,7 +13,7 @@ use Rattle.c2po_nodes.specs.Nodes.{Tree}
 use Rattle.c2po_unfold.specs.declared.values.Stored.{Stored}
 use Rattle.c2po_unfold.specs.declared.unfolding.Unfolding.{Unfolding}
 use Rattle.c2po_nodes.specs.Faults.{or_later}
-use Rattle.c2po_nodes.specs.Facts.{told_fault}
+use Rattle.c2po_unfold.specs.Facts.{told_fault}
 use Rattle.c2po_unfold.specs.Faults.{value_fault, values_fault}
 use Rattle.c2po_unfold.specs.Parts.{stored_fault}
 use Rattle.c2po_unfold.specs.Values.{Value, Values, leaf, structure, set, none, more, list_of, weight, connected_value, connected_all, counted, members}
@@ -101,7 +101,7 @@ holds_weight (structure x vs w) u s h = h.0
 holds_weight (set vs w) u s h = h.0
 
 pub holds_fault : (v : Value) (u : Unfolding) (s : Stored) → Holds u s v → told_fault s.fault ≡ value_fault v
-holds_fault (leaf t w) u s h = h.1.3
+holds_fault (leaf t w) u s h = h.1.5
 holds_fault (structure x vs w) u s h = h.1.5
 holds_fault (set vs w) u s h = h.1.5
 

@@ -4,8 +4,8 @@ use Rattle.std.proofs.Common.{◌≡◌, ℕ, ◌<◌, ◌≤◌, true, Some, No
 use Rattle.std.specs.Str.{bytes_eq}
 use Rattle.std.proofs.lemmas.Option.{slice_get_within, slice_get-get_or, get_or_from_slice_get, same_Some}
 use Rattle.std.proofs.lemmas.List.{get_or_past}
-use Rattle.c2po_nodes.proofs.Pushing.{grows_same}
 use Rattle.c2po_nodes.proofs.Places.{get_left}
+use Rattle.c2po_unfold.specs.declared.fact.Fact.{Fact}
 use Rattle.c2po_ast.specs.declared.tree.Expr.{Expr}
 use Rattle.c2po_ast.specs.Shape.{Shape, shape, shapes}
 use Rattle.c2po_unfold.specs.declared.values.Location.TheVariants.{Parts as PartsAt}
@@ -141,15 +141,23 @@ picked_none es env x fields f v same named =
 pub parts_push : (u : Unfolding) (parts : List Parts) (p : Parts) → parts ≡ u.parts ++ p ∷ [] → Keeps u (record u { parts = parts })
 parts_push u parts p same = record {
   structs = λ i xs h. h;
-  nodes = grows_same u.nodes;
+  facts = λ i f h. h;
   parts = λ i q h. subst (λ ps. slice_get ps i ≡ Some q) (sym same) (get_left u.parts (p ∷ []) i q h);
 }
 
 pub structs_push : (u : Unfolding) (structs : List (List (List ℕ))) (xs : List (List ℕ)) → structs ≡ u.structs ++ xs ∷ [] → Keeps u (record u { structs = structs })
 structs_push u structs xs same = record {
   structs = λ i q h. subst (λ ps. slice_get ps i ≡ Some q) (sym same) (get_left u.structs (xs ∷ []) i q h);
-  nodes = grows_same u.nodes;
+  facts = λ i f h. h;
   parts = λ i q h. h;
+}
+
+-- the facts of an unfolding that gets one more
+pub facts_push : (u : Unfolding) (facts : List Fact) (f : Fact) → facts ≡ u.facts ++ f ∷ [] → Keeps u (record u { facts = facts })
+facts_push u facts f same = record {
+  structs = λ i xs h. h;
+  facts = λ i g h. subst (λ fs. slice_get fs i ≡ Some g) (sym same) (get_left u.facts (f ∷ []) i g h);
+  parts = λ i p h. h;
 }
 
 -- other heads than sets have no members, and other heads than structs have no parts

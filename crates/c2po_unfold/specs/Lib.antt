@@ -3,8 +3,8 @@ pub mod Environment
 pub mod Holding
 pub mod Heads
 pub mod Operators
-pub mod Leaves
-pub mod Bodies
+pub mod Summaries
+pub mod Facts
 pub mod Faults
 pub mod Parts
 pub mod Fields

@@ -3,7 +3,7 @@
 use Rattle.std.specs.Prelude.{Option, None, List, [], ◌∷◌}
 use Rattle.mltl_base.specs.Ranges.{NoRange}
 use Rattle.c2po_nodes.specs.Faults.{or_later}
-use Rattle.c2po_nodes.specs.Facts.{told_fault}
+use Rattle.c2po_unfold.specs.Facts.{told_fault}
 use Rattle.c2po_unfold.specs.declared.values.Stored.{Stored}
 
 -- the first fault among stored values

@@ -1,22 +1,25 @@
-//! Unfolding: from expressions whose names have values to plain nodes.
+//! Values of expressions, and what is known of them.
 //!
-//! [`Unfolding`] holds the meanings of the names of a specification, and the nodes that their values unfold to. Only
-//! what a value has is unfolded: a part that a picked field leaves aside, or a member of a set that a body doesn't
-//! use, is never visited. Nodes and visits are limited.
+//! `value_of` in `specs/Environment.antt` says what an expression unfolds to. [`Unfolding`] holds the meanings of the
+//! names of a specification, and finds of a value its weight, the first fault of its integers and its tenses, without
+//! its nodes. A part that a picked field leaves aside, or a member of a set that a body doesn't use, is never visited.
 #![tactic(auto)]
 
-pub mod building;
 pub mod counting;
+pub mod fact;
 pub mod fault;
 pub mod fields;
 pub mod heads;
 pub mod laws;
-pub mod leaves;
 pub mod operators;
 pub mod scope;
+pub mod storing;
+pub mod summary;
+pub mod summing;
 pub mod unfolding;
 pub mod values;
 pub mod visits;
 
+pub use fact::{Tenses, first_fault};
 pub use fault::UnfoldFault;
-pub use unfolding::{Unfolded, Unfolding};
+pub use unfolding::{Unfolding, Weighed};

@@ -3,7 +3,6 @@
 use crate::values::Stored;
 use c2po_ast::Expr;
 use mltl_base::Name;
-use std::alloc::Global;
 
 /// The variables around an expression, the innermost first.
 #[derive(Clone, Copy)]
@@ -24,10 +23,9 @@ pub enum Scope<'a> {
     },
 }
 
-/// Where an expression is unfolded: the variables around it, and how deep it may still be nested.
+/// Where an expression stands: the variables around it, and how deep it may still be nested.
 #[derive(Clone, Copy)]
 pub struct Site<'a> {
-    pub alloc: Global,
     pub depth: u32,
     pub scope: &'a Scope<'a>,
 }

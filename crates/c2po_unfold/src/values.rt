@@ -1,11 +1,11 @@
-//! Values that are unfolded.
+//! Values that are stored.
 
 use mltl_base::{List, Name, NoRange};
 
-/// Where a value is stored: as a node of plain formulas, or as parts of a struct or a set.
+/// Where a value is stored: as what is known of an integer or a formula, or as parts of a struct or a set.
 #[derive(Clone, Copy)]
 pub enum Location {
-    Node(u32),
+    Leaf(u32),
     Parts(u32),
 }
 

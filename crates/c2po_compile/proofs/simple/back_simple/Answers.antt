@@ -1,13 +1,10 @@
 use Rattle.std.proofs.Common.{◌≡◌, ◌∙◌, None, List, ap, length, nat_le, subst, sym}
-use Rattle.std.specs.Prelude.{All}
-use Rattle.mltl_base.specs.Kinds.{ReadsSignals, kinds_of}
 use Rattle.mltl_base.specs.Subformulas.{Asked}
 use Rattle.mltl_simplify.specs.Outputs.{simple_outputs}
 use Rattle.c2po_ast.specs.ItemShape.{spec_shape}
 use Rattle.c2po_types.specs.Signals.{signals_of}
 use Rattle.c2po_nodes.specs.Outputs.{asked}
 use Rattle.c2po_types.specs.Outputs.{outputs_of}
-use Rattle.set_expand.proofs.Signalling.{outputs-read}
 use Rattle.c2po_compile.specs.BuildLimits.{IsReason}
 use Rattle.obs_files.specs.Names.{NamesFit}
 use Rattle.c2po_compile.specs.Limits.{limit_refusal}
@@ -20,15 +17,14 @@ use Rattle.c2po_compile.proofs.simple.back_simple.Goals as goal
 pub built-made-requires-clause-unfolded : goal.built-made-requires-clause-unfolded
 built-made-requires-clause-unfolded c =
     let signals = signals_of (spec_shape c.args.spec.now) in
-    let spec = c.expanded.result.now in
+    let spec = c.in_ok-unfolded.unfolded in
     let simple = c.in_ok-simple.simple in
     let same = c.in_ok-simple.ensures.outputs in
-    let reads = subst (All (ReadsSignals (kinds_of signals))) (sym c.expanded.ensures.unfolds) (outputs-read (spec_shape c.args.spec.now)) in
     record {
-      sound = c.in_ok-simple.ensures.sound (length signals) c.expanded.ensures.sound;
+      sound = c.in_ok-simple.ensures.sound (length signals) c.in_ok-unfolded.ensures.sound;
       ranged = c.in_ok-simple.ensures.ranged;
-      kinds = kinds_simple signals spec simple same reads;
-      named = named_simple spec simple same c.expanded.ensures.named;
+      kinds = kinds_simple signals spec simple same c.in_ok-unfolded.ensures.kinds;
+      named = named_simple spec simple same c.in_ok-unfolded.ensures.named;
     }
 
 pub smaller-requires-clause-simple : goal.smaller-requires-clause-simple
@@ -46,7 +42,7 @@ returns-in-Ok-clause-image c =
     let columns = c.args.columns.now in
     let signals = signals_of (spec_shape c.args.spec.now) in
     let outs = outputs_of (spec_shape c.args.spec.now) in
-    let same : asked c.in_ok-simple.simple ≡ simple_outputs outs = c.in_ok-simple.ensures.outputs ∙ ap simple_outputs c.expanded.ensures.unfolds in
+    let same : asked c.in_ok-simple.simple ≡ simple_outputs outs = c.in_ok-simple.ensures.outputs ∙ ap simple_outputs c.in_ok-unfolded.ensures.unfolds in
     c.smaller.ensures
     ∙ smaller_is columns signals outs c.in-Ok.simple c.in_ok-plain.plain
     (subst (λ (xs : List Asked). limit_refusal (over_columns columns xs) ≡ None) same (none_exceeded (over_columns columns (asked c.in_ok-simple.simple)) c.in-Ok.ensures.within))
@@ -63,7 +59,7 @@ returns-in_default-clause-image c =
     let columns = c.args.columns.now in
     let signals = signals_of (spec_shape c.args.spec.now) in
     let outs = outputs_of (spec_shape c.args.spec.now) in
-    let same : asked c.in_ok-simple.simple ≡ simple_outputs outs = c.in_ok-simple.ensures.outputs ∙ ap simple_outputs c.expanded.ensures.unfolds in
+    let same : asked c.in_ok-simple.simple ≡ simple_outputs outs = c.in_ok-simple.ensures.outputs ∙ ap simple_outputs c.in_ok-unfolded.ensures.unfolds in
     plain_is columns signals outs c.in-Err.fault c.in_ok-plain.plain
     (subst (λ (xs : List Asked). IsReason (over_columns columns xs) c.in-Err.fault) same c.in-Err.ensures.refused)
     c.in_default.not-Memory

@@ -6,14 +6,12 @@ use Rattle.c2po_unfold.specs.Environment.{Env}
 use Rattle.c2po_unfold.specs.Holding.{StandsFor}
 use Rattle.c2po_types.specs.FirstFault.{item_step, checked}
 use Rattle.c2po_types.specs.Reaching.{state_of}
-use Rattle.c2po_types.specs.Unfolded.{Leaves}
 use Rattle.c2po_types.proofs.checking.run.Given as goal
 
--- what is left to be checked and unfolded makes the whole
+-- what is left to be checked makes the whole
 abbrev pub invariant-loop-item : goal.invariant-loop-item
 invariant-loop-item l = record {
   light : l.progress.total ≤ MAX_WEIGHT;
   reached : (env : Env) × StandsFor l.progress.values env
       × (in_turn (λ i. item_step (item_shape i)) (drop l.item-index l.items) (state_of l.progress env) ≡ checked (map item_shape l.items));
-  unfolded : Leaves l.progress (map item_shape (drop l.item-index l.items)) (map item_shape l.items);
 }

@@ -1,7 +1,6 @@
 use Rattle.std.proofs.Common.{◌≡◌, drop}
-use Rattle.c2po_nodes.specs.Nodes.{AreSound, Grows}
 use Rattle.c2po_unfold.specs.Environment.{Env}
-use Rattle.c2po_unfold.specs.Holding.{StandsFor, nodes_of}
+use Rattle.c2po_unfold.specs.Holding.{StandsFor}
 use Rattle.c2po_types.specs.FirstFault.{with_signals}
 use Rattle.c2po_types.proofs.steps.add_signals.Given as goal
 
@@ -10,6 +9,4 @@ abbrev pub invariant-loop-number : goal.invariant-loop-number
 invariant-loop-number l = record {
   stand : (env : Env) → StandsFor l.fn.values env
       → (now : Env) × StandsFor l.values now × (with_signals l.number (drop l.number l.signals) now ≡ with_signals l.from (drop l.from l.signals) env);
-  sound : AreSound l.from (nodes_of l.fn.values) → AreSound l.number (nodes_of l.values);
-  grows : Grows (nodes_of l.fn.values) (nodes_of l.values);
 }

@@ -1,14 +1,12 @@
-use Rattle.std.proofs.Common.{◌≡◌, ℕ, List, Some, slice_get, refl, sym, subst, ◌∙◌}
-use Rattle.c2po_nodes.specs.Nodes.{Grows}
-use Rattle.c2po_nodes.proofs.Pushing.{grows_same}
+use Rattle.std.proofs.Common.{◌≡◌, ℕ, List, Some, slice_get, refl, subst, ◌∙◌}
 use Rattle.c2po_unfold.specs.Environment.{fields}
 use Rattle.c2po_unfold.proofs.Later.{stands_kept}
 use Rattle.c2po_unfold.proofs.Members.{at_place}
 use Rattle.c2po_unfold.proofs.Parts.{structs_push}
 use Rattle.c2po_unfold.proofs.unfolding.Unfolding.add_struct.Goals as goal
 
-pub returns-clause-stands : goal.returns-clause-stands
-returns-clause-stands c = λ env h.
+pub returns : goal.returns
+returns c = λ env h.
     c.in_ok-declare.ensures.stands env (fields c.args.names)
     (stands_kept c.args.self.now (record c.args.self.now { structs = c.push.new.self }) env refl
     (structs_push c.args.self.now c.push.new.self c.in_ok-fields.fields c.in_ok-push.ensures.pushed) h) (
@@ -17,7 +15,3 @@ returns-clause-stands c = λ env h.
           (at_place c.args.self.now.structs c.push.new.self c.in_ok-fields.fields c.in_ok-place.place c.in_ok-push.ensures.pushed (c.in_ok-place.ensures ∙ c.len.ensures)),
       refl,
     )
-
-pub returns-clause-grows : goal.returns-clause-grows
-returns-clause-grows c =
-    subst (λ u. Grows c.args.self.now.nodes u.nodes) (sym c.in_ok-declare.ensures.kept) (grows_same c.args.self.now.nodes)

@@ -1,6 +1,5 @@
-use Rattle.std.proofs.Common.{refl, sym, subst}
+use Rattle.std.proofs.Common.{refl}
 use Rattle.c2po_ast.specs.Shape.{shape}
-use Rattle.c2po_nodes.specs.Nodes.{Grows}
 use Rattle.c2po_unfold.specs.Environment.{value, value_of}
 use Rattle.c2po_unfold.proofs.Later.{stands_later, stands_visited}
 use Rattle.c2po_unfold.proofs.Members.{holds_fault}
@@ -9,13 +8,9 @@ use Rattle.c2po_unfold.proofs.unfolding.Unfolding.define.Goals as goal
 pub returns-clause-stands : goal.returns-clause-stands
 returns-clause-stands c = λ env h.
     c.in_ok-declare.ensures.stands env (value (value_of (shape c.args.e.now) env))
-    (stands_visited c.build.new.self c.build.new.visits env (stands_later c.args.self.now c.build.new.self env c.in_ok-stored.ensures.later h))
+    (stands_visited c.store.new.self c.store.new.visits env (stands_later c.args.self.now c.store.new.self env c.in_ok-stored.ensures.later h))
     (value_of (shape c.args.e.now) env, c.in_ok-stored.ensures.holds env h, refl)
 
 pub returns-clause-fault : goal.returns-clause-fault
 returns-clause-fault c = λ env h.
-    holds_fault (value_of (shape c.args.e.now) env) c.build.new.self c.in_ok-stored.stored (c.in_ok-stored.ensures.holds env h)
-
-pub returns-clause-grows : goal.returns-clause-grows
-returns-clause-grows c =
-    subst (λ u. Grows c.args.self.now.nodes u.nodes) (sym c.in_ok-declare.ensures.kept) c.in_ok-stored.ensures.later.keeps.nodes
+    holds_fault (value_of (shape c.args.e.now) env) c.store.new.self c.in_ok-stored.stored (c.in_ok-stored.ensures.holds env h)

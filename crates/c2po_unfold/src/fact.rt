@@ -1,0 +1,281 @@
+//! What is known of an integer or a formula.
+
+ghost use Rattle.std.specs.Prelude.{◌≡◌, ◌||◌, ℕ, Bool, true, Some, Option as Maybe};
+ghost use Rattle.mltl_base.specs.declared.operators.CompareOp.{CompareOp as Comparison};
+ghost use Rattle.mltl_base.specs.declared.operators.LogicOp.{LogicOp as Connective};
+ghost use Rattle.mltl_base.specs.declared.interval.Interval.{Interval};
+ghost use Rattle.mltl_base.specs.Atoms.{column, constant, is_true, negative};
+ghost use Rattle.mltl_base.specs.Formula.{atom, negation};
+ghost use Rattle.mltl_base.specs.Ranges.{negated, over};
+ghost use Rattle.c2po_nodes.specs.Faults.{or_later, tree_fault, why_none};
+ghost use Rattle.c2po_unfold.specs.Facts.{Tells, fact_view, fault_in, future_in, past_in, range_by, range_in, told, told_fault, whole};
+ghost use Rattle.c2po_nodes.specs.Nodes.{Tree, arithmetic, comparison, connected, constant_formula, formula, formula_in, number, ranged, term_in, windowed};
+
+use mltl_base::range::{self, NoRange, Range};
+use mltl_base::{ArithOp, BetweenOp, WindowOp};
+
+/// Whether operators of the past, and of the future, are in a formula.
+#[derive(Clone, Copy)]
+pub struct Tenses {
+    pub past: bool,
+    pub future: bool,
+}
+
+impl Tenses {
+    /// Those of no operator.
+    const NONE: Tenses = Tenses {
+        past: false,
+        future: false,
+    };
+
+    /// Those of either of two formulas.
+    fn or(self, other: Tenses) -> Tenses
+        ensures past { result.past ≡ (self.past || other.past) }
+        ensures future { result.future ≡ (self.future || other.future) }
+    {
+        Tenses {
+            past: self.past || other.past,
+            future: self.future || other.future,
+        }
+    }
+
+    /// The same, with an operator of the past.
+    fn and_past(self) -> Tenses
+        ensures past { result.past ≡ true }
+        ensures future { result.future ≡ self.future }
+    {
+        Tenses {
+            past: true,
+            future: self.future,
+        }
+    }
+
+    /// The same, with an operator of the future.
+    fn and_future(self) -> Tenses
+        ensures past { result.past ≡ self.past }
+        ensures future { result.future ≡ true }
+    {
+        Tenses {
+            past: self.past,
+            future: true,
+        }
+    }
+}
+
+/// What is known of a value: the range of an integer, or why it has none, or the first fault and the tenses of a
+/// formula.
+#[derive(Clone, Copy)]
+pub enum Fact {
+    Number(Range),
+    NoNumber(NoRange),
+    Formula(Option<NoRange>, Tenses),
+    /// A struct's value or a set, of which nothing is kept here.
+    Parts,
+}
+
+/// Returns the range of an operand; any range where it isn't an integer.
+fn range_of(fact: &Fact) -> Result<Range, NoRange>
+    ensures { told result ≡ range_in (fact_view fact.now) }
+{
+    match fact {
+        Fact::Number(range) => Ok(*range),
+        Fact::NoNumber(why) => Err(*why),
+        Fact::Formula(..) | Fact::Parts => Ok(range::constant(0)),
+    }
+}
+
+/// Returns the first fault of an operand; none where it isn't a formula.
+pub fn fault_of(fact: &Fact) -> Option<NoRange>
+    ensures { told_fault result ≡ fault_in (fact_view fact.now) }
+{
+    match fact {
+        Fact::Formula(fault, _) => *fault,
+        Fact::Number(_) | Fact::NoNumber(_) | Fact::Parts => None,
+    }
+}
+
+/// Returns the tenses of an operand; none where it isn't a formula.
+pub fn tenses_of(fact: &Fact) -> Tenses
+    ensures past { result.past ≡ past_in (fact_view fact.now) }
+    ensures future { result.future ≡ future_in (fact_view fact.now) }
+{
+    match fact {
+        Fact::Formula(_, tenses) => *tenses,
+        Fact::Number(_) | Fact::NoNumber(_) | Fact::Parts => Tenses::NONE,
+    }
+}
+
+/// What is known of an integer with this range.
+fn number_fact(range: Result<Range, NoRange>) -> Fact
+    ensures { fact_view result ≡ Some (whole (told range)) }
+{
+    match range {
+        Ok(range) => Fact::Number(range),
+        Err(why) => Fact::NoNumber(why),
+    }
+}
+
+/// The range of a negation, where its operand has one.
+fn negated_range(a: Result<Range, NoRange>) -> Result<Range, NoRange>
+    ensures { told result ≡ over negated (told a) }
+{
+    range::negation(a?)
+}
+
+/// Returns the range of two integers under an operator, where they have one: the left one first.
+fn computed_range(
+    op: ArithOp,
+    a: Result<Range, NoRange>,
+    b: Result<Range, NoRange>,
+) -> Result<Range, NoRange>
+    ensures { told result ≡ range_by op (told a) (told b) }
+{
+    let a = a?;
+    let b = b?;
+    match op {
+        ArithOp::Add => range::sum(a, b),
+        ArithOp::Sub => range::difference(a, b),
+        ArithOp::Mul => range::product(a, b),
+        ArithOp::Div => range::quotient(a, b),
+        ArithOp::Rem => range::remainder(a, b),
+    }
+}
+
+/// Why there is no range.
+fn why_none_of(range: Result<Range, NoRange>) -> Option<NoRange>
+    ensures { told_fault result ≡ why_none (told range) }
+{
+    range.err()
+}
+
+/// The first of two faults, the left one first.
+pub fn first_fault(left: Option<NoRange>, right: Option<NoRange>) -> Option<NoRange>
+    ensures { told_fault result ≡ or_later (told_fault left) (told_fault right) }
+{
+    left.or(right)
+}
+
+impl Fact {
+    /// Returns the fault of an integer or of a formula.
+    pub fn fault(&self) -> Option<NoRange>
+        ensures { (t : Tree) → Tells self.now (Some t) → told_fault result ≡ tree_fault t }
+    {
+        match self {
+            Fact::NoNumber(why) => Some(*why),
+            Fact::Formula(fault, _) => *fault,
+            Fact::Number(_) | Fact::Parts => None,
+        }
+    }
+
+    /// Returns what is known of a Boolean, or of a Boolean signal.
+    #[tactic(auto, using(crate::proofs::Knowing::known_truth, crate::proofs::Knowing::known_flag))]
+    pub fn truth() -> Fact
+        ensures truth { (b : Bool) → Tells result (Some (formula (constant_formula b))) }
+        ensures signal { (n : ℕ) → Tells result (Some (formula (atom (is_true n)))) }
+    {
+        Fact::Formula(None, Tenses::NONE)
+    }
+
+    /// Returns what is known of a number.
+    #[tactic(auto, unfolding(mltl_base::specs::Ranges::range))]
+    pub fn constant(n: i64) -> Fact
+        ensures { Tells result (Some (number (constant n))) }
+    {
+        Fact::Number(range::constant(n))
+    }
+
+    /// Returns what is known of an integer signal.
+    #[tactic(auto, unfolding(mltl_base::specs::Ranges::range))]
+    pub fn signal() -> Fact
+        ensures { (n : ℕ) → Tells result (Some (number (column n))) }
+    {
+        Fact::Number(range::signal())
+    }
+
+    /// Returns what is known of an operand as a formula.
+    pub fn formula(a: &Fact) -> Fact
+        ensures { (o : Maybe Tree) → Tells a.now o
+            → Tells result (Some (formula (formula_in o))) }
+    {
+        let fault = fault_of(a);
+        let tenses = tenses_of(a);
+        Fact::Formula(fault, tenses)
+    }
+
+    /// Returns what is known of a negation.
+    #[tactic(auto, unfolding(c2po_nodes::specs::Faults::formula_fault, c2po_nodes::specs::Tenses::has_past, c2po_nodes::specs::Tenses::has_future))]
+    pub fn negation(a: &Fact) -> Fact
+        ensures { (o : Maybe Tree) → Tells a.now o
+            → Tells result (Some (formula (negation (formula_in o)))) }
+    {
+        Fact::formula(a)
+    }
+
+    /// Returns what is known of the negative of an integer.
+    pub fn negative(a: &Fact) -> Fact
+        ensures { (o : Maybe Tree) → Tells a.now o
+            → Tells result (Some (number (negative (term_in o)))) }
+    {
+        let operand = range_of(a);
+        let range = negated_range(operand);
+        number_fact(range)
+    }
+
+    /// Returns what is known of an operation on two integers.
+    pub fn computed(op: ArithOp, a: &Fact, b: &Fact) -> Fact
+        ensures { (o q : Maybe Tree) → Tells a.now o → Tells b.now q
+            → Tells result (Some (number (arithmetic op (term_in o) (term_in q)))) }
+    {
+        let left = range_of(a);
+        let right = range_of(b);
+        let range = computed_range(op, left, right);
+        number_fact(range)
+    }
+
+    /// Returns what is known of a comparison of two integers.
+    pub fn compared(a: &Fact, b: &Fact) -> Fact
+        ensures { (op : Comparison) (o q : Maybe Tree) → Tells a.now o → Tells b.now q
+            → Tells result (Some (formula (atom (comparison op (term_in o) (term_in q))))) }
+    {
+        let left = why_none_of(range_of(a));
+        let right = why_none_of(range_of(b));
+        let fault = first_fault(left, right);
+        Fact::Formula(fault, Tenses::NONE)
+    }
+
+    /// Returns what is known of two formulas under a connective.
+    pub fn joined(a: &Fact, b: &Fact) -> Fact
+        ensures { (op : Connective) (o q : Maybe Tree) → Tells a.now o → Tells b.now q
+            → Tells result (Some (formula (connected op (formula_in o) (formula_in q)))) }
+    {
+        let fault = first_fault(fault_of(a), fault_of(b));
+        let tenses = tenses_of(a).or(tenses_of(b));
+        Fact::Formula(fault, tenses)
+    }
+
+    /// Returns what is known of a formula under a temporal operator.
+    pub fn windowed(op: WindowOp, a: &Fact) -> Fact
+        ensures { (i : Interval) (o : Maybe Tree) → Tells a.now o
+            → Tells result (Some (formula (windowed op i (formula_in o)))) }
+    {
+        let fault = fault_of(a);
+        let tenses = tenses_of(a);
+        match op {
+            WindowOp::F | WindowOp::G => Fact::Formula(fault, tenses.and_future()),
+            WindowOp::O | WindowOp::H => Fact::Formula(fault, tenses.and_past()),
+        }
+    }
+
+    /// Returns what is known of two formulas under a temporal operator.
+    pub fn between(op: BetweenOp, a: &Fact, b: &Fact) -> Fact
+        ensures { (i : Interval) (o q : Maybe Tree) → Tells a.now o → Tells b.now q
+            → Tells result (Some (formula (ranged op i (formula_in o) (formula_in q)))) }
+    {
+        let fault = first_fault(fault_of(a), fault_of(b));
+        let tenses = tenses_of(a).or(tenses_of(b));
+        match op {
+            BetweenOp::U | BetweenOp::R => Fact::Formula(fault, tenses.and_future()),
+            BetweenOp::S => Fact::Formula(fault, tenses.and_past()),
+        }
+    }
+}

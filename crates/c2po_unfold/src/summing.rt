@@ -1,0 +1,335 @@
+//! What is known of expressions, without their nodes.
+
+ghost use Rattle.std.specs.Prelude.{◌≡◌, ◌+◌, ◌<◌, ◌≤◌, true, length, map, sum_by, slice_get, Some, IfOk, IfErr};
+ghost use Rattle.mltl_base.specs.declared.limits.TheConstants.{MAX_WEIGHT};
+ghost use Rattle.c2po_ast.specs.Shape.{shape, shapes};
+ghost use Rattle.c2po_unfold.specs.Facts.{Tells};
+ghost use Rattle.c2po_nodes.specs.Nodes.{formula};
+ghost use Rattle.c2po_unfold.specs.declared.fault.UnfoldFault.TheVariants.{Heavy};
+ghost use Rattle.c2po_unfold.specs.declared.fact.Fact.TheVariants.{Parts};
+ghost use Rattle.c2po_unfold.specs.Environment.{Env, value_of, values_of};
+ghost use Rattle.c2po_unfold.specs.Heads.{Heads, is_operator};
+ghost use Rattle.c2po_unfold.specs.Operators.{binary_value, bodies_of, body_value, unary_value};
+ghost use Rattle.c2po_unfold.specs.Holding.{Fits, Holds};
+ghost use Rattle.c2po_unfold.specs.Summaries.{IsSummary, gathered};
+ghost use Rattle.c2po_unfold.specs.Values.{Value, counted, formula_of, connected_all, list_of, members, tree_in, weight};
+
+use crate::counting::{counted_fact, gates_weight};
+use crate::fact::Fact;
+use crate::fault::{deeper, less};
+use crate::operators::{BinaryOp, Bodies, Operation, UnaryOp};
+use crate::scope::{Head, Site};
+use crate::summary::Summary;
+use crate::values::{Location, Stored};
+use crate::visits::Visits;
+use crate::{UnfoldFault, Unfolding};
+use c2po_ast::Expr;
+use mltl_base::{CountOp, LogicOp};
+
+/// What is known of the bodies of a quantifier together: their number, what is known of their formulas from the last to
+/// the first, and the room that they leave.
+#[derive(Clone, Copy)]
+pub(crate) struct Gathered {
+    count: usize,
+    fact: Fact,
+    left: u32,
+}
+
+impl Unfolding {
+    /// What is known of the integer or the formula of a stored value.
+    fn held_fact(&self, stored: Stored) -> Fact
+        ensures { (v : Value) → Holds self.now stored v → Tells result (tree_in v) }
+    {
+        let Location::Leaf(i) = stored.location else {
+            return Fact::Parts;
+        };
+        match self.facts.as_slice().get(i as usize) {
+            Some(fact) => *fact,
+            None => Fact::Parts,
+        }
+    }
+
+    /// What is known of a stored value.
+    fn held(&self, stored: Stored) -> Summary
+        ensures weight { result.weight ≡ stored.weight }
+        ensures holds { (v : Value) → Holds self.now stored v → IsSummary result v }
+    {
+        let fact = self.held_fact(stored);
+        Summary {
+            weight: stored.weight,
+            fact,
+        }
+    }
+
+    /// What is known of the value of an expression.
+    #[cycle(summing)]
+    pub(crate) fn summary(
+        &self,
+        visits: &mut Visits,
+        at: Site<'_>,
+        e: &Expr,
+        room: u32,
+    ) -> Result<Summary, UnfoldFault>
+        requires { room ≤ MAX_WEIGHT }
+        ensures light { IfOk result (λ s. s.weight ≤ room) }
+        ensures holds { (env : Env) → Fits self.now at.entry.scope.now env
+            → IfOk result (λ s. IsSummary s (value_of (shape e.now) env)) }
+        ensures heavy { (env : Env) → Fits self.now at.entry.scope.now env
+            → IfErr result (λ why. why ≡ Heavy → room < weight (value_of (shape e.now) env)) }
+    {
+        let depth = deeper(at.depth)?;
+        match self.head(visits, depth, at.scope, e)? {
+            Head::Nothing => Summary::token(Fact::truth(), room),
+            Head::Held(stored) => {
+                less(room, stored.weight)?;
+                Ok(self.held(stored))
+            }
+            Head::Struct(scope, _, parts) => {
+                self.parts_summary(visits, Site { depth, scope }, parts, room)
+            }
+            Head::Set(scope, members) => {
+                self.parts_summary(visits, Site { depth, scope }, members, room)
+            }
+            Head::Leaf(scope, e) => self.operator(visits, Site { depth, scope }, e, room),
+        }
+    }
+
+    /// What is known of a struct's value or a set with these parts: it weighs what they weigh, and one more.
+    #[cycle(summing)]
+    fn parts_summary(
+        &self,
+        visits: &mut Visits,
+        at: Site<'_>,
+        es: &[Expr],
+        room: u32,
+    ) -> Result<Summary, UnfoldFault>
+        requires { room ≤ MAX_WEIGHT }
+        ensures light { IfOk result (λ s. s.weight ≤ room) }
+        ensures parts { IfOk result (λ s. s.fact ≡ Parts) }
+        ensures weight { (env : Env) → Fits self.now at.entry.scope.now env
+            → IfOk result
+            (λ s. s.weight ≡ 1 + sum_by weight (list_of (values_of (shapes es.now) env))) }
+        ensures heavy { (env : Env) → Fits self.now at.entry.scope.now env
+            → IfErr result (λ why. why ≡ Heavy
+            → room < 1 + sum_by weight (list_of (values_of (shapes es.now) env))) }
+    {
+        let mut left = less(room, 1)?;
+        for e in es {
+            let member = self.summary(visits, at, e, left)?;
+            left -= member.weight;
+        }
+        Ok(Summary {
+            weight: room - left,
+            fact: Fact::Parts,
+        })
+    }
+
+    /// What is known of a number, a Boolean, an operator or a quantifier.
+    #[cycle(summing)]
+    pub(crate) fn operator(
+        &self,
+        visits: &mut Visits,
+        at: Site<'_>,
+        e: &Expr,
+        room: u32,
+    ) -> Result<Summary, UnfoldFault>
+        requires { room ≤ MAX_WEIGHT }
+        ensures light { IfOk result (λ s. s.weight ≤ room) }
+        ensures holds { (env : Env) → Fits self.now at.entry.scope.now env
+            → is_operator (shape e.now) ≡ true
+            → IfOk result (λ s. IsSummary s (value_of (shape e.now) env)) }
+        ensures heavy { (env : Env) → Fits self.now at.entry.scope.now env
+            → is_operator (shape e.now) ≡ true
+            → IfErr result (λ why. why ≡ Heavy → room < weight (value_of (shape e.now) env)) }
+    {
+        match Operation::of(e) {
+            Operation::Number(n) => Summary::token(Fact::constant(n), room),
+            Operation::Truth(_) => Summary::token(Fact::truth(), room),
+            Operation::Unary(op, a) => self.unary(visits, at, op, a, room),
+            Operation::Binary(op, a, b) => self.binary(visits, at, op, a, b, room),
+            Operation::Joined(op, bodies) => self.joined_bodies(visits, at, op, bodies, room),
+            Operation::Counted(op, number, bodies) => {
+                self.counted_bodies(visits, at, op, number, bodies, room)
+            }
+        }
+    }
+
+    /// What is known of an operator over one operand.
+    #[cycle(summing)]
+    fn unary(
+        &self,
+        visits: &mut Visits,
+        at: Site<'_>,
+        op: UnaryOp,
+        a: &Expr,
+        room: u32,
+    ) -> Result<Summary, UnfoldFault>
+        requires { room ≤ MAX_WEIGHT }
+        ensures light { IfOk result (λ s. s.weight ≤ room) }
+        ensures holds { (env : Env) → Fits self.now at.entry.scope.now env
+            → IfOk result (λ s. IsSummary s (unary_value op (value_of (shape a.now) env))) }
+        ensures heavy { (env : Env) → Fits self.now at.entry.scope.now env
+            → IfErr result (λ why. why ≡ Heavy
+            → room < weight (unary_value op (value_of (shape a.now) env))) }
+    {
+        let left = less(room, 1)?;
+        let a = self.summary(visits, at, a, left)?;
+        Ok(Summary::over_one(op, &a))
+    }
+
+    /// What is known of an operator over two operands.
+    #[cycle(summing)]
+    fn binary(
+        &self,
+        visits: &mut Visits,
+        at: Site<'_>,
+        op: BinaryOp,
+        a: &Expr,
+        b: &Expr,
+        room: u32,
+    ) -> Result<Summary, UnfoldFault>
+        requires { room ≤ MAX_WEIGHT }
+        ensures light { IfOk result (λ s. s.weight ≤ room) }
+        ensures holds { (env : Env) → Fits self.now at.entry.scope.now env
+            → IfOk result (λ s. IsSummary s
+            (binary_value op (value_of (shape a.now) env) (value_of (shape b.now) env))) }
+        ensures heavy { (env : Env) → Fits self.now at.entry.scope.now env
+            → IfErr result (λ why. why ≡ Heavy → room < weight
+            (binary_value op (value_of (shape a.now) env) (value_of (shape b.now) env))) }
+    {
+        let left = less(room, 1)?;
+        let a = self.summary(visits, at, a, left)?;
+        let b = self.summary(visits, at, b, left - a.weight)?;
+        Ok(Summary::over_two(op, &a, &b))
+    }
+
+    /// What is known of the bodies of a quantifier, one for each member of its set, joined by an operator.
+    #[cycle(summing)]
+    fn joined_bodies(
+        &self,
+        visits: &mut Visits,
+        at: Site<'_>,
+        op: LogicOp,
+        bodies: Bodies<'_>,
+        room: u32,
+    ) -> Result<Summary, UnfoldFault>
+        requires { room ≤ MAX_WEIGHT }
+        ensures light { IfOk result (λ s. s.weight ≤ room) }
+        ensures holds { (env : Env) → Fits self.now at.entry.scope.now env
+            → IfOk result (λ s. IsSummary s (connected_all op (bodies_of bodies.entry env))) }
+        ensures heavy { (env : Env) → Fits self.now at.entry.scope.now env
+            → IfErr result
+            (λ why. why ≡ Heavy → room < weight (connected_all op (bodies_of bodies.entry env))) }
+    {
+        let set = self.head(visits, at.depth, at.scope, bodies.set)?;
+        let count = self.member_count(&set);
+        if count == 0 {
+            return Ok(Summary::none());
+        }
+        let first = self.body(visits, at, bodies, &set, 0, room)?;
+        let mut all = first.as_formula();
+        for i in 1..count {
+            let left = less(room - all.weight, 1)?;
+            let next = self.body(visits, at, bodies, &set, i, left)?;
+            all = Summary::over_two(BinaryOp::Logic(op), &all, &next);
+        }
+        Ok(all)
+    }
+
+    /// What is known of the body of a quantifier where its variable is member `i` of its set.
+    #[cycle(summing)]
+    fn body(
+        &self,
+        visits: &mut Visits,
+        at: Site<'_>,
+        bodies: Bodies<'_>,
+        set: &Head<'_>,
+        i: usize,
+        room: u32,
+    ) -> Result<Summary, UnfoldFault>
+        requires { room ≤ MAX_WEIGHT }
+        ensures light { IfOk result (λ s. s.weight ≤ room) }
+        ensures holds { (env : Env) (s v : Value) → Fits self.now at.entry.scope.now env
+            → Heads self.now set.now s
+            → slice_get (members s) i ≡ Some v
+            → IfOk result (λ r. IsSummary r (body_value bodies.entry env v)) }
+        ensures heavy { (env : Env) (s v : Value) → Fits self.now at.entry.scope.now env
+            → Heads self.now set.now s
+            → slice_get (members s) i ≡ Some v
+            → IfErr result (λ why. why ≡ Heavy → room < weight (body_value bodies.entry env v)) }
+    {
+        let scope = &self.member_scope(&*at.scope, &*bodies.name, &*set, i);
+        self.summary(
+            visits,
+            Site {
+                depth: at.depth,
+                scope,
+            },
+            bodies.body,
+            room,
+        )
+    }
+
+    /// What is known of a counting quantifier over its bodies, one for each member of its set.
+    #[cycle(summing)]
+    fn counted_bodies(
+        &self,
+        visits: &mut Visits,
+        at: Site<'_>,
+        op: CountOp,
+        number: u64,
+        bodies: Bodies<'_>,
+        room: u32,
+    ) -> Result<Summary, UnfoldFault>
+        requires { room ≤ MAX_WEIGHT }
+        ensures light { IfOk result (λ s. s.weight ≤ room) }
+        ensures holds { (env : Env) → Fits self.now at.entry.scope.now env
+            → IfOk result (λ s. IsSummary s (counted op number (bodies_of bodies.entry env))) }
+        ensures heavy { (env : Env) → Fits self.now at.entry.scope.now env
+            → IfErr result
+            (λ why. why ≡ Heavy → room < weight (counted op number (bodies_of bodies.entry env))) }
+    {
+        let all = self.gather(visits, at, bodies, room)?;
+        if all.count == 0 {
+            return Ok(Summary::none());
+        }
+        let gates = gates_weight(all.count, number, all.left)?;
+        Ok(Summary {
+            weight: room - all.left + gates,
+            fact: counted_fact(op, all.count, number, all.fact),
+        })
+    }
+
+    /// What is known of the bodies of a quantifier together, and the room that they leave.
+    #[cycle(summing)]
+    fn gather(
+        &self,
+        visits: &mut Visits,
+        at: Site<'_>,
+        bodies: Bodies<'_>,
+        room: u32,
+    ) -> Result<Gathered, UnfoldFault>
+        requires { room ≤ MAX_WEIGHT }
+        ensures light { IfOk result (λ r. r.left ≤ room) }
+        ensures count { (env : Env) → Fits self.now at.entry.scope.now env
+            → IfOk result (λ r. r.count ≡ length (bodies_of bodies.entry env)) }
+        ensures fact { (env : Env) → Fits self.now at.entry.scope.now env
+            → IfOk result (λ r. Tells r.fact
+            (Some (formula (gathered (map formula_of (bodies_of bodies.entry env)))))) }
+        ensures weight { (env : Env) → Fits self.now at.entry.scope.now env
+            → IfOk result (λ r. room ≡ r.left + sum_by weight (bodies_of bodies.entry env)) }
+        ensures heavy { (env : Env) → Fits self.now at.entry.scope.now env
+            → IfErr result (λ why. why ≡ Heavy → room < sum_by weight (bodies_of bodies.entry env)) }
+    {
+        let set = self.head(visits, at.depth, at.scope, bodies.set)?;
+        let count = self.member_count(&set);
+        let mut fact = Fact::truth();
+        let mut left = room;
+        for i in 0..count {
+            let next = self.body(visits, at, bodies, &set, i, left)?;
+            left -= next.weight;
+            fact = Fact::joined(&next.fact, &fact);
+        }
+        Ok(Gathered { count, fact, left })
+    }
+}
