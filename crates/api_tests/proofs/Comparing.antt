@@ -14,7 +14,7 @@ use Rattle.c2po_nodes.specs.declared.nodes.Plain.{Plain}
 use Rattle.c2po_nodes.specs.declared.nodes.Plain.TheVariants.{Number, Signal, Compare}
 use Rattle.c2po_nodes.specs.declared.nodes.PlainOut.{PlainOut}
 use Rattle.c2po_nodes.specs.declared.nodes.PlainOut.TheVariants.{Formula, Contract}
-use Rattle.c2po_nodes.specs.Nodes.{Tree, number, formula, comparison, formula_at, formula_in, term_at, tree_of, trees, Has, Grows, IsFormula, IsFormed, AreSound}
+use Rattle.c2po_nodes.specs.Nodes.{Tree, number, formula, comparison, node_formula, formula_in, node_term, tree_of, trees, Has, Grows, IsFormula, IsFormed, AreSound}
 use Rattle.c2po_nodes.specs.Outputs.{NamesFormulas, asked_by}
 use Rattle.c2po_nodes.proofs.Pushing.{has_new, grows_push, sound_nil, sound_push, is_number, is_formula}
 
@@ -40,7 +40,7 @@ still-named old new g (Contract engine n m name) h =
     (stays old new n (slice_get (trees old) n) g refl h.0, stays old new m (slice_get (trees old) m) g refl h.1)
 
 still-formula : (old new : List Plain) (n : ℕ) (found : Option Tree) → Grows old new → slice_get (trees old) n ≡ found → IsFormula found
-    → formula_at (trees new) n ≡ formula_at (trees old) n
+    → node_formula (trees new) n ≡ node_formula (trees old) n
 still-formula old new n (Some (formula p)) g e h = ap formula_in ((g.kept n (formula p) (record { found = e })).found ∙ sym e)
 still-formula old new n (Some (number a)) g e h = absurd h
 still-formula old new n None g e h = absurd h
@@ -96,9 +96,9 @@ comparing-next signal other equal next n engine name nodes one two outs more h e
     let first : AreComparing signal other one outs = rw e (more-nodes signal other nodes outs (Compare Eq signal other) h kinds) in
     let there : Has one equal (tree_of (trees nodes) (Compare Eq signal other)) = rw (e, at) (has_new nodes (Compare Eq signal other)) in
     let named : All (NamesFormulas (trees one)) more = rw o (All-push (NamesFormulas (trees one)) outs (Formula engine equal name) first.named (is_formula one equal _ there)) in
-    let is : formula_at (trees one) equal ≡ atom (comparison Eq (term_at (trees nodes) signal) (term_at (trees nodes) other)) = ap formula_in there.found in
+    let is : node_formula (trees one) equal ≡ atom (comparison Eq (node_term (trees nodes) signal) (node_term (trees nodes) other)) = ap formula_in there.found in
     let last : IsTensed (asked_by (trees one) (Formula engine equal name)) =
-    subst (λ p. All (IsOfTense engine) (p ∷ [])) (sym is) (All-push (IsOfTense engine) [] (atom (comparison Eq (term_at (trees nodes) signal) (term_at (trees nodes) other))) (All-nil (IsOfTense engine)) (atom-tensed engine _)) in
+    subst (λ p. All (IsOfTense engine) (p ∷ [])) (sym is) (All-push (IsOfTense engine) [] (atom (comparison Eq (node_term (trees nodes) signal) (node_term (trees nodes) other))) (All-nil (IsOfTense engine)) (atom-tensed engine _)) in
     let tensed : All (λ out. IsTensed (asked_by (trees one) out)) more =
     rw o (All-push (λ out. IsTensed (asked_by (trees one) out)) outs (Formula engine equal name) first.tensed last) in
     let whole : AreComparing signal other one more = record { left = first.left; right = first.right; has_left = first.has_left; has_right = first.has_right; sound = first.sound; named = named; tensed = tensed } in

@@ -7,9 +7,9 @@ use Rattle.std.proofs.lemmas.Option.{same_Some}
 use Rattle.mltl_base.specs.declared.operators.BzOp.{BzOp}
 use Rattle.mltl_base.specs.declared.operators.BzOp.TheVariants.{Column, IsTrue, Const, Neg, Add, Sub, Mul, Div, Rem, Eq, Lt, Le}
 use Rattle.mltl_base.specs.Atoms.{Row, value, holds}
-use Rattle.mltl_base.specs.Programs.{Expression, whole, truth, expression_of, expressions_after, expressions, term_at, term_of}
+use Rattle.mltl_base.specs.Programs.{Expression, whole, truth, expression_of, expressions_after, expressions, term_at, expression_term}
 use Rattle.obs_verify.specs.Soundness.{IsWhole, IsWholeExpression}
-use Rattle.booleanizer.specs.Evaluation.{number_on, numbers_on, value_at, CanCompute, AllCompute, number_at, result_of, CanApply}
+use Rattle.booleanizer.specs.Evaluation.{number_on, numbers_on, value_at, Computable, AllCompute, number_at, result_of, CanApply}
 
 -- ---- the expressions of the first instructions
 
@@ -23,14 +23,14 @@ unfolding expressions_after
 length-expressions before [] = omega arith
 length-expressions before (x ∷ xs) = omega (arith, length-expressions (before ++ expression_of before x ∷ []) xs, length-append before (expression_of before x ∷ []))
 
-can_at-from : (row : Row) (before : List Expression) (ops : List BzOp) (i : ℕ) (op : BzOp) → AllCompute row before ops → i < length ops → op ≡ get_or ops i op → CanCompute row (expressions_after before (take i ops)) op
+can_at-from : (row : Row) (before : List Expression) (ops : List BzOp) (i : ℕ) (op : BzOp) → AllCompute row before ops → i < length ops → op ≡ get_or ops i op → Computable row (expressions_after before (take i ops)) op
 unfolding AllCompute expressions_after
 can_at-from row before [] i op h lt is = absurd (omega arith)
-can_at-from row before (x ∷ xs) zero op h lt is = subst (λ y. CanCompute row before y) (sym is) h.0
+can_at-from row before (x ∷ xs) zero op h lt is = subst (λ y. Computable row before y) (sym is) h.0
 can_at-from row before (x ∷ xs) (suc i) op h lt is = can_at-from row (before ++ expression_of before x ∷ []) xs i op h.1 (omega arith) is
 
 -- instruction i can be computed over the expressions of those before it
-pub can_at : (row : Row) (ops : List BzOp) (i : ℕ) (op : BzOp) → AllCompute row [] ops → i < length ops → op ≡ get_or ops i op → CanCompute row (expressions (take i ops)) op
+pub can_at : (row : Row) (ops : List BzOp) (i : ℕ) (op : BzOp) → AllCompute row [] ops → i < length ops → op ≡ get_or ops i op → Computable row (expressions (take i ops)) op
 can_at row ops i op h lt is = can_at-from row [] ops i op h lt is
 
 -- ---- numbers that are those of expressions
@@ -61,7 +61,7 @@ whole-read-of row before numbers a agree None e h = absurd h
 whole-read-of row before numbers a agree (Some (truth b)) e h = absurd h
 whole-read-of row before numbers a agree (Some (whole t)) e h =
     let r = read row before numbers a (whole t) agree.same agree.room e in
-    let term : term_at before a ≡ t = ap term_of e in
+    let term : term_at before a ≡ t = ap expression_term e in
     record { is = r.0 ∙ ap (λ x. value x row) (sym term); lt = r.1 }
 
 whole-read : (row : Row) (before : List Expression) (numbers : List ℤ) (a : ℕ) → Agree row before numbers → IsWhole before a → ReadsWhole row before numbers a
@@ -80,7 +80,7 @@ module _ (row : Row) (before : List Expression) (numbers : List ℤ) (agree : Ag
   not-zero : (b : ℕ) → IsWhole before b → value_at row before b ≢ pos 0 → number_at numbers b ≢ pos 0
   not-zero b q h = λ e. h (sym (at b q).is ∙ e)
 
-  pub can_apply : (op : BzOp) → CanCompute row before op → CanApply row numbers op
+  pub can_apply : (op : BzOp) → Computable row before op → CanApply row numbers op
   can_apply (Column c) h = h
   can_apply (IsTrue c) h = h
   can_apply (Const n) h = tt
@@ -94,7 +94,7 @@ module _ (row : Row) (before : List Expression) (numbers : List ℤ) (agree : Ag
   can_apply (Lt a b) h = ((at a h.0).lt, (at b h.1).lt)
   can_apply (Le a b) h = ((at a h.0).lt, (at b h.1).lt)
 
-  pub result_is : (op : BzOp) → CanCompute row before op → result_of row numbers op ≡ number_on row (expression_of before op)
+  pub result_is : (op : BzOp) → Computable row before op → result_of row numbers op ≡ number_on row (expression_of before op)
   unfolding value holds
   result_is (Column c) h = refl
   result_is (IsTrue c) h = refl

@@ -8,12 +8,12 @@ use Rattle.std.proofs.lemmas.List.Elements.{recursion_from_All}
 use Rattle.mltl_base.specs.declared.operators.BzOp.{BzOp}
 use Rattle.mltl_base.specs.declared.operators.BzOp.TheVariants.{Column, IsTrue, Const, Neg, Add, Sub, Mul, Div, Rem, Eq, Lt, Le}
 use Rattle.mltl_base.specs.Atoms.{Row, Term, negative, plus, minus, times, quotient, value}
-use Rattle.mltl_base.specs.Programs.{Expression, whole, truth, expression_of, term_at, term_of, FitsRow, IsFit}
+use Rattle.mltl_base.specs.Programs.{Expression, whole, truth, expression_of, term_at, expression_term, FitsRow, IsFit}
 use Rattle.mltl_base.specs.Ranges.{Range, range, over_divisor, divided, left_over, FitsTerm}
-use Rattle.booleanizer.specs.Evaluation.{CanCompute, AllCompute}
+use Rattle.booleanizer.specs.Evaluation.{Computable, AllCompute}
 use Rattle.mltl_base.specs.declared.program.Program.{Program}
 use Rattle.mltl_base.proofs.Ranging.{value_fits_word, divisor_not_zero, has_range}
-use Rattle.obs_verify.specs.Soundness.{IsSound, AreSound}
+use Rattle.obs_verify.specs.Soundness.{SoundOp, SoundOps}
 use Rattle.obs_verify.specs.WellFormed.{IsWellFormed}
 use Rattle.obs_verify.proofs.SoundOps.{all_sound}
 
@@ -35,7 +35,7 @@ fitting-push row [] e all one (suc a) = tt
 fitting-push row (x ∷ xs) e all one zero = all zero
 fitting-push row (x ∷ xs) e all one (suc a) = fitting-push row xs e (λ b. all (suc b)) one a
 
-term-fits-of : (row : Row) (o : Option Expression) → Fitting row o → FitsTerm row (term_of o)
+term-fits-of : (row : Row) (o : Option Expression) → Fitting row o → FitsTerm row (expression_term o)
 unfolding FitsTerm
 term-fits-of row (Some (whole e)) h = h
 term-fits-of row (Some (truth a)) h = tt
@@ -74,7 +74,7 @@ module _ (row : Row) where
   both : (before : List Expression) (a b : ℕ) → AllFitting row before → FitsTerm row (term_at before a) × FitsTerm row (term_at before b)
   both before a b all = (term-fits row before a all, term-fits row before b all)
 
-  can : (before : List Expression) (op : BzOp) → AllFitting row before → IsSound (length row) before op → CanCompute row before op
+  can : (before : List Expression) (op : BzOp) → AllFitting row before → SoundOp (length row) before op → Computable row before op
   unfolding FitsTerm value range
   can before (Column c) all h = h
   can before (IsTrue c) all h = h
@@ -89,13 +89,13 @@ module _ (row : Row) where
   can before (Lt a b) all h = h
   can before (Le a b) all h = h
 
-  all-can : (before : List Expression) (ops : List BzOp) → AllFitting row before → AllByRecursion (FitsRow row) ops → AreSound (length row) before ops → AllCompute row before ops
-  unfolding AreSound AllCompute
+  all-can : (before : List Expression) (ops : List BzOp) → AllFitting row before → AllByRecursion (FitsRow row) ops → SoundOps (length row) before ops → AllCompute row before ops
+  unfolding SoundOps AllCompute
   all-can before [] all f h = tt
   all-can before (op ∷ ops) all f h =
       (can before op all h.0, all-can (before ++ expression_of before op ∷ []) ops (fitting-push row before (expression_of before op) all (expression-fits row before op all f.0)) f.1 h.1)
 
-  pub sound-computes : (ops : List BzOp) → AllByRecursion (FitsRow row) ops → AreSound (length row) [] ops → AllCompute row [] ops
+  pub sound-computes : (ops : List BzOp) → AllByRecursion (FitsRow row) ops → SoundOps (length row) [] ops → AllCompute row [] ops
   unfolding AllFitting
   sound-computes ops f h = all-can [] ops (λ a. tt) f h
 
@@ -103,4 +103,4 @@ module _ (row : Row) where
 pub fit-computes : (program : Program) (row : Row) → IsWellFormed program → IsFit program row → AllCompute row [] program.bz
 fit-computes program row good fit =
     sound-computes row program.bz (recursion_from_All (FitsRow row) program.bz fit.kinds)
-    (subst (λ (n : ℕ). AreSound n [] program.bz) (sym fit.width) (all_sound program good))
+    (subst (λ (n : ℕ). SoundOps n [] program.bz) (sym fit.width) (all_sound program good))

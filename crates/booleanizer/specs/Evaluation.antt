@@ -39,27 +39,27 @@ value_at row before a = value (term_at before a) row
 
 -- what an instruction requires so that it can be computed in 64 bits: its column is in the row, its operands are
 -- earlier integers, its divisor isn't 0, and its value has 64 bits
-abbrev pub CanCompute : Row → List Expression → BzOp → Type 0
-CanCompute row before (Column c) = c < length row
-CanCompute row before (IsTrue c) = c < length row
-CanCompute row before (Const n) = ⊤
-CanCompute row before (Neg a) = IsWhole before a × FitsSigned w64 (neg_ℤ (value_at row before a))
-CanCompute row before (Add a b) = AreWhole before a b × FitsSigned w64 (value_at row before a +ℤ value_at row before b)
-CanCompute row before (Sub a b) = AreWhole before a b × FitsSigned w64 (value_at row before a -ℤ value_at row before b)
-CanCompute row before (Mul a b) = AreWhole before a b × FitsSigned w64 (value_at row before a *ℤ value_at row before b)
-CanCompute row before (Div a b) =
+abbrev pub Computable : Row → List Expression → BzOp → Type 0
+Computable row before (Column c) = c < length row
+Computable row before (IsTrue c) = c < length row
+Computable row before (Const n) = ⊤
+Computable row before (Neg a) = IsWhole before a × FitsSigned w64 (neg_ℤ (value_at row before a))
+Computable row before (Add a b) = AreWhole before a b × FitsSigned w64 (value_at row before a +ℤ value_at row before b)
+Computable row before (Sub a b) = AreWhole before a b × FitsSigned w64 (value_at row before a -ℤ value_at row before b)
+Computable row before (Mul a b) = AreWhole before a b × FitsSigned w64 (value_at row before a *ℤ value_at row before b)
+Computable row before (Div a b) =
     AreWhole before a b × (value_at row before b ≢ pos 0)
     × FitsSigned w64 (int_div (value_at row before a) (value_at row before b))
-CanCompute row before (Rem a b) = AreWhole before a b × (value_at row before b ≢ pos 0)
-CanCompute row before (Eq a b) = AreWhole before a b
-CanCompute row before (Lt a b) = AreWhole before a b
-CanCompute row before (Le a b) = AreWhole before a b
+Computable row before (Rem a b) = AreWhole before a b × (value_at row before b ≢ pos 0)
+Computable row before (Eq a b) = AreWhole before a b
+Computable row before (Lt a b) = AreWhole before a b
+Computable row before (Le a b) = AreWhole before a b
 
 -- each instruction can be computed, over the expressions of those before it
 unfoldable pub AllCompute : Row → List Expression → List BzOp → Type 0
 AllCompute row before [] = ⊤
 AllCompute row before (op ∷ ops) =
-    CanCompute row before op × AllCompute row (before ++ expression_of before op ∷ []) ops
+    Computable row before op × AllCompute row (before ++ expression_of before op ∷ []) ops
 
 -- ---- one instruction over numbers
 

@@ -3,9 +3,9 @@
 
 mod bz;
 mod evaluation;
-mod fitting;
+mod row_fit;
 mod soundness;
 
 pub use bz::Bz;
-pub use fitting::is_fit;
+pub use row_fit::is_fit;
 pub use soundness::sound_instructions_compute;

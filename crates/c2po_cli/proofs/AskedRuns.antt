@@ -85,6 +85,6 @@ run_helped (make asked) answer events ran is = absurd (subst (λ s. MakeOutcome 
 run_helped nothing answer events ran is = absurd (subst (λ s. NothingOutcome s (given at.Out events)) is ran.outcome)
 
 -- what was read of the words
-pub asked_served : (words_asked : words.Asked) (list : List (List ℕ)) → words_asked ≡ words.ask list → served words_asked ≡ ask list
+pub asked_served : (words_asked : words.C2poRequest) (list : List (List ℕ)) → words_asked ≡ words.ask list → served words_asked ≡ ask list
 unfolding ask
 asked_served words_asked list is = ap served is

@@ -9,7 +9,7 @@ use Rattle.tool_io.specs.declared.host.Place as place
 use Rattle.tool_io.specs.declared.host.Place.TheVariants as at
 use Rattle.tool_io.specs.Log.{Event, Attached, Missed, same_place, taken, ended_from, names_of, IsFront}
 use Rattle.tool_io.specs.Host.{IsSource}
-use Rattle.tool_io.specs.Whole.{Takes}
+use Rattle.tool_io.specs.Whole.{Draws}
 use Rattle.tool_io.specs.Cutting.{lines_of}
 use Rattle.tool_io.proofs.LogLaws.{taken-append, ended_from-append, names_of-append}
 use Rattle.tool_words.specs.declared.file_kind.FileKind.{FileKind}
@@ -25,10 +25,10 @@ use Rattle.c2po_cli.specs.declared.make.Form.{Form}
 use Rattle.c2po_cli.specs.declared.make.Product.{Product}
 use Rattle.c2po_cli.specs.declared.make.Product.TheVariants.{Compiled, Upgrade, Show}
 use Rattle.c2po_cli.specs.Asking.{MakeAsked, file_kind, place_named, read_names}
-use Rattle.c2po_cli.specs.Images.{WritesImage, GivesImage, header_of}
+use Rattle.c2po_cli.specs.Images.{WritesImage, GivesImage, asked_header}
 use Rattle.c2po_cli.specs.Made.{first_line, made, made_of_text}
-use Rattle.c2po_cli.specs.Run.{Seen, seen, place_of, is_tried, IsFaultless, IsHeaded, Makes, MakeOutcome}
-use Rattle.c2po_cli.specs.Phases.{Refuses, RefusesAlone, HeaderLog, RefusedLog, MadeLog, SpecLog, TextLog, FileMadeLog, AfterLog, OnlySources, Gathered, NotGathered, GatherLog}
+use Rattle.c2po_cli.specs.Run.{Seen, seen, input_place, is_tried, HasFaultlessText, IsHeaded, MakesFile, MakeOutcome}
+use Rattle.c2po_cli.specs.Phases.{IsRefusal, RefusesAlone, HeaderLog, RefusedLog, MadeLog, SpecLog, TextLog, FileMadeLog, AfterLog, OnlySources, Gathered, NotGathered, GatherLog}
 use Rattle.c2po_cli.proofs.LogLaws.{HasRead, has_read, sources-append, sources_given, sources_unattached}
 
 -- what two logs say alike
@@ -60,8 +60,8 @@ pub record Behind (asked : MakeAsked) (names : List (place.Place × List ℕ)) (
   pub names_are : names_of events ≡ names
   pub sources : OnlySources events
   pub reads : ReadsAttached [] events
-  pub no_file : taken (place_of asked) events ≡ []
-  pub no_file_end : (ended : Bool) → ended_from ended (place_of asked) events ≡ ended
+  pub no_file : taken (input_place asked) events ≡ []
+  pub no_file_end : (ended : Bool) → ended_from ended (input_place asked) events ≡ ended
   pub lines_are : lines_of (ended_from false at.Header events) (taken at.Header events) ≡ lines
   pub over_is : ended_from false at.Header events ≡ over
 
@@ -87,7 +87,7 @@ after_missed asked name events is = subst (Behind asked ((at.Header, name) ∷ [
   over_is = refl;
 })
 
-after_header : (asked : MakeAsked) (name bytes : List ℕ) (ended : Bool) (log events : List Event) → events ≡ Attached at.Header name ∷ log → Takes at.Header bytes ended log → Behind asked ((at.Header, name) ∷ []) (lines_of ended bytes) ended events
+after_header : (asked : MakeAsked) (name bytes : List ℕ) (ended : Bool) (log events : List Event) → events ≡ Attached at.Header name ∷ log → Draws at.Header bytes ended log → Behind asked ((at.Header, name) ∷ []) (lines_of ended bytes) ended events
 after_header asked name bytes ended log events is takes =
     let read = has_read at.Header name bytes ended log tt takes in
     let other = file_else (file_kind asked.product) in
@@ -95,19 +95,19 @@ after_header asked name bytes ended log events is takes =
       names_are = read.names;
       sources = read.sources;
       reads = read.reads;
-      no_file = read.takes_else (place_of asked) other;
-      no_file_end = λ start. read.end_else (place_of asked) start other;
+      no_file = read.takes_else (input_place asked) other;
+      no_file_end = λ start. read.end_else (input_place asked) start other;
       lines_are = ap (λ v. lines_of v (taken at.Header (Attached at.Header name ∷ log))) read.end ∙ ap (lines_of ended) read.takes;
       over_is = read.end;
     })
 
 -- the file was read, and this came after it
 abbrev pub read_so : MakeAsked → List ℕ → Bool → List (place.Place × List ℕ) → List (List ℕ) → Bool → Seen
-read_so asked bytes ended names lines over = record { names = (place_of asked, asked.file) ∷ names; file = bytes; whole = ended; header = lines; header_ended = over; out = []; attached = false }
+read_so asked bytes ended names lines over = record { names = (input_place asked, asked.file) ∷ names; file = bytes; whole = ended; header = lines; header_ended = over; out = []; attached = false }
 
-module _ (asked : MakeAsked) (bytes : List ℕ) (ended : Bool) (first second : List Event) (names : List (place.Place × List ℕ)) (lines : List (List ℕ)) (over : Bool) (read : HasRead (place_of asked) asked.file bytes ended first) (behind : Behind asked names lines over second) where
+module _ (asked : MakeAsked) (bytes : List ℕ) (ended : Bool) (first second : List Event) (names : List (place.Place × List ℕ)) (lines : List (List ℕ)) (over : Bool) (read : HasRead (input_place asked) asked.file bytes ended first) (behind : Behind asked names lines over second) where
   abbrev p : place.Place
-  p = place_of asked
+  p = input_place asked
 
   abbrev all : List Event
   all = first ++ second
@@ -134,21 +134,21 @@ module _ (asked : MakeAsked) (bytes : List ℕ) (ended : Bool) (first second : L
       (sources_unattached all all_sources)
 
   -- the header was tried only where names say so
-  tries_both : (is_tried at.Header names ≡ true → IsFaultless asked (read_so asked bytes ended names lines over)) → is_tried at.Header (names_of all) ≡ true → IsFaultless asked (seen asked all)
+  tries_both : (is_tried at.Header names ≡ true → HasFaultlessText asked (read_so asked bytes ended names lines over)) → is_tried at.Header (names_of all) ≡ true → HasFaultlessText asked (seen asked all)
   tries_both faultless tried =
-      subst (IsFaultless asked) (sym seen_both)
+      subst (HasFaultlessText asked) (sym seen_both)
       (faultless (sym (ap (λ v. v || is_tried at.Header names) (header_else (file_kind asked.product))) ∙ sym (ap (is_tried at.Header) all_names) ∙ tried))
 
-  pub gather_ok : (made_bytes : List ℕ) → names ≡ place_named at.Header asked.header → Makes asked (read_so asked bytes ended names lines over) (Ok made_bytes) → (is_tried at.Header names ≡ true → IsFaultless asked (read_so asked bytes ended names lines over)) → Gathered asked made_bytes all
+  pub gather_ok : (made_bytes : List ℕ) → names ≡ place_named at.Header asked.header → MakesFile asked (read_so asked bytes ended names lines over) (Ok made_bytes) → (is_tried at.Header names ≡ true → HasFaultlessText asked (read_so asked bytes ended names lines over)) → Gathered asked made_bytes all
   gather_ok made_bytes complete makes faultless = record {
     names = all_names ∙ ap (λ ns. (p, asked.file) ∷ ns) complete;
     sources = all_sources;
     reads = ReadsAttached-append first second read.reads behind.reads;
-    makes = subst (λ run. Makes asked run (Ok made_bytes)) (sym seen_both) makes;
+    makes = subst (λ run. MakesFile asked run (Ok made_bytes)) (sym seen_both) makes;
     tries = tries_both faultless;
   }
 
-  pub gather_not : (answer : status.Status) → IsFront names (place_named at.Header asked.header) → MakeOutcome answer asked (read_so asked bytes ended names lines over) → (is_tried at.Header names ≡ true → IsFaultless asked (read_so asked bytes ended names lines over)) → OpensAsTold answer all → NotGathered asked answer all
+  pub gather_not : (answer : status.Status) → IsFront names (place_named at.Header asked.header) → MakeOutcome answer asked (read_so asked bytes ended names lines over) → (is_tried at.Header names ≡ true → HasFaultlessText asked (read_so asked bytes ended names lines over)) → OpensAsTold answer all → NotGathered asked answer all
   gather_not answer front outcome faultless opened_so = record {
     names = record { rest = front.rest; split = ap (λ ns. (p, asked.file) ∷ ns) front.split ∙ ap (λ ns. ns ++ front.rest) (sym all_names) };
     sources = all_sources;
@@ -159,12 +159,12 @@ module _ (asked : MakeAsked) (bytes : List ℕ) (ended : Bool) (first second : L
   }
 
 -- a status that refuses tells of no call
-refuses_opened : (answer : status.Status) (events : List Event) → Refuses answer → OpensAsTold answer events
+refuses_opened : (answer : status.Status) (events : List Event) → IsRefusal answer → OpensAsTold answer events
 refuses_opened (answers.OpenFault p) events speaks = absurd speaks
 refuses_opened (answers.ReadFault p) events speaks = absurd speaks
 refuses_opened answer events speaks = tt
 
-refusal_outcome : (answer : status.Status) (asked : MakeAsked) (run : Seen) → RefusesAlone answer → run.out ≡ [] → is_tried at.Out run.names ≡ false → Makes asked run (Err answer) → MakeOutcome answer asked run
+refusal_outcome : (answer : status.Status) (asked : MakeAsked) (run : Seen) → RefusesAlone answer → run.out ≡ [] → is_tried at.Out run.names ≡ false → MakesFile asked run (Err answer) → MakeOutcome answer asked run
 refusal_outcome (answers.Refused line why) asked run speaks none untried makes = record { refused = makes; none_out = none }
 refusal_outcome (answers.BadProgram fault) asked run speaks none untried makes = record { refused = makes; none_out = none }
 refusal_outcome (answers.TextTooLong at.Out) asked run speaks none untried makes = record { refused = makes; none_out = none }
@@ -172,7 +172,7 @@ refusal_outcome answers.Memory asked run speaks none untried makes = (none, untr
 refusal_outcome answer asked run speaks none untried makes = absurd speaks
 
 -- a header too, where it was begun
-headed_outcome : (answer : status.Status) (asked : MakeAsked) (run : Seen) → Refuses answer → IsHeaded run → run.out ≡ [] → is_tried at.Out run.names ≡ false → Makes asked run (Err answer) → MakeOutcome answer asked run
+headed_outcome : (answer : status.Status) (asked : MakeAsked) (run : Seen) → IsRefusal answer → IsHeaded run → run.out ≡ [] → is_tried at.Out run.names ≡ false → MakesFile asked run (Err answer) → MakeOutcome answer asked run
 headed_outcome (answers.BadHeader why) asked run speaks begun none untried makes = (record { refused = makes; none_out = none }, begun)
 headed_outcome (answers.Refused line why) asked run speaks begun none untried makes = refusal_outcome (answers.Refused line why) asked run speaks none untried makes
 headed_outcome (answers.BadProgram fault) asked run speaks begun none untried makes = refusal_outcome (answers.BadProgram fault) asked run speaks none untried makes
@@ -196,7 +196,7 @@ out_untried_header Spec name head = refl
 out_untried_header Program name head = refl
 
 -- the file was read whole, within its limit
-module _ (asked : MakeAsked) (bytes : List ℕ) (first second : List Event) (read : HasRead (place_of asked) asked.file bytes true first) (within : length bytes ≤ file_limit (file_kind asked.product)) where
+module _ (asked : MakeAsked) (bytes : List ℕ) (first second : List Event) (read : HasRead (input_place asked) asked.file bytes true first) (within : length bytes ≤ file_limit (file_kind asked.product)) where
   abbrev alone : Seen
   alone = read_so asked bytes true [] [] false
 
@@ -227,7 +227,7 @@ module _ (asked : MakeAsked) (bytes : List ℕ) (first second : List Event) (rea
   -- a header file comes after it, which a specification without a fault names
   module _ (form : Form) (name : List ℕ) (named : asked.header ≡ Some name) (is_made : (lines : List (List ℕ)) → made asked bytes lines ≡ made_of_text form (Some name) bytes lines) (none : first_refusal bytes ≡ None)
       (images : (lines : List (List ℕ)) (made_bytes : List ℕ) → WritesImage form bytes (Some (first_line lines)) made_bytes → GivesImage asked.product asked.header bytes lines made_bytes) where
-    faultless : (lines : List (List ℕ)) (over : Bool) → IsFaultless asked (headed name lines over)
+    faultless : (lines : List (List ℕ)) (over : Bool) → HasFaultlessText asked (headed name lines over)
     faultless lines over = record { whole = record { ended = refl; within = within }; faultless = none }
 
     all_named : (at.Header, name) ∷ [] ≡ place_named at.Header asked.header
@@ -243,7 +243,7 @@ module _ (asked : MakeAsked) (bytes : List ℕ) (first second : List Event) (rea
     missed_attached events un =
         is_attached-append at.Header first events ∙ ap (λ v. v || is_attached at.Header events) (read.unattached at.Header (header_else (file_kind asked.product))) ∙ un
 
-    header_tried : is_tried at.Header ((place_of asked, asked.file) ∷ (at.Header, name) ∷ []) ≡ true
+    header_tried : is_tried at.Header ((input_place asked, asked.file) ∷ (at.Header, name) ∷ []) ≡ true
     header_tried = ap (λ v. v || true) (header_else (file_kind asked.product))
 
     header_missed : second ≡ Missed at.Header name ∷ [] → NotGathered asked (answers.OpenFault at.Header) (first ++ second)
@@ -292,14 +292,14 @@ module _ (asked : MakeAsked) (bytes : List ℕ) (first second : List Event) (rea
         (λ tried. faultless lines line.ended) (refuses_opened answer (first ++ second) speaks)
 
   spec_made : (header : Option (List ℕ)) (form : Form) (result : Result (Vec ℕ Global) status.Status) → asked.header ≡ header → ((lines : List (List ℕ)) → made asked bytes lines ≡ made_of_text form header bytes lines) → first_refusal bytes ≡ None
-      → ((lines : List (List ℕ)) (made_bytes : List ℕ) → WritesImage form bytes (header_of header lines) made_bytes → GivesImage asked.product asked.header bytes lines made_bytes) → SpecLog result form header bytes second → GatherLog result asked (first ++ second)
+      → ((lines : List (List ℕ)) (made_bytes : List ℕ) → WritesImage form bytes (asked_header header lines) made_bytes → GivesImage asked.product asked.header bytes lines made_bytes) → SpecLog result form header bytes second → GatherLog result asked (first ++ second)
   spec_made None form result named is_made none images is =
       made_alone result (ap (place_named at.Header) named) (subst (λ found. MadeLog result found second) (sym (is_made [])) is.0)
       (IfOk-weaker result _ _ (λ made_bytes image. images [] made_bytes.items image) is.1)
   spec_made (Some name) form result named is_made none images is = header_made form name named is_made none images result is
 
   text_made : (form : Form) (result : Result (Vec ℕ Global) status.Status) → ((lines : List (List ℕ)) → made asked bytes lines ≡ made_of_text form asked.header bytes lines)
-      → ((lines : List (List ℕ)) (made_bytes : List ℕ) → WritesImage form bytes (header_of asked.header lines) made_bytes → GivesImage asked.product asked.header bytes lines made_bytes) → TextLog result form asked.header bytes second → GatherLog result asked (first ++ second)
+      → ((lines : List (List ℕ)) (made_bytes : List ℕ) → WritesImage form bytes (asked_header asked.header lines) made_bytes → GivesImage asked.product asked.header bytes lines made_bytes) → TextLog result form asked.header bytes second → GatherLog result asked (first ++ second)
   text_made form (Ok made_bytes) is_made images (inl is) = absurd is
   text_made form (Err answer) is_made images (inl is) = refused_alone answer (subst (λ found. RefusedLog (Err answer) found second) (sym (is_made [])) is)
   text_made form result is_made images (inr is) = spec_made asked.header form result refl is_made is.0 images is.1
@@ -322,33 +322,33 @@ file_made Show name header out bytes result first second no_header read within i
     made_alone (record { product = Show; file = name; header = header; out = out }) bytes first second read within result (ap (place_named at.Header) (no_header refl)) is (nothing_said result)
 
 pub gather_after : (asked : MakeAsked) (bytes : Vec ℕ Global) (result : Result (Vec ℕ Global) status.Status) (first second : List Event) → (file_kind asked.product ≡ Program → asked.header ≡ None)
-    → FileLog (Ok bytes) (place_of asked) (file_limit (file_kind asked.product)) asked.file first → AfterLog result asked bytes.items second → GatherLog result asked (first ++ second)
+    → FileLog (Ok bytes) (input_place asked) (file_limit (file_kind asked.product)) asked.file first → AfterLog result asked bytes.items second → GatherLog result asked (first ++ second)
 gather_after asked bytes result first second no_header read is =
-    let was = subst (HasRead (place_of asked) asked.file bytes.items true) (sym read.1) (has_read (place_of asked) asked.file bytes.items true read.0 (file_source (file_kind asked.product)) read.2) in
+    let was = subst (HasRead (input_place asked) asked.file bytes.items true) (sym read.1) (has_read (input_place asked) asked.file bytes.items true read.0 (file_source (file_kind asked.product)) read.2) in
     file_made asked.product asked.file asked.header asked.out bytes.items result first second no_header was read.3 is
 
 -- the file wasn't read whole
 module _ (asked : MakeAsked) where
   abbrev untouched : Seen
-  untouched = record { names = (place_of asked, asked.file) ∷ []; file = []; whole = false; header = []; header_ended = false; out = []; attached = false }
+  untouched = record { names = (input_place asked, asked.file) ∷ []; file = []; whole = false; header = []; header_ended = false; out = []; attached = false }
 
-  read_alone : (answer : status.Status) (bytes : List ℕ) (log events : List Event) → events ≡ Attached (place_of asked) asked.file ∷ log → Takes (place_of asked) bytes false log
+  read_alone : (answer : status.Status) (bytes : List ℕ) (log events : List Event) → events ≡ Attached (input_place asked) asked.file ∷ log → Draws (input_place asked) bytes false log
       → MakeOutcome answer asked (read_so asked bytes false [] [] false) → OpensAsTold answer events → NotGathered asked answer events
   read_alone answer bytes log events is takes outcome opened_so =
-      let read = subst (HasRead (place_of asked) asked.file bytes false) (sym is) (has_read (place_of asked) asked.file bytes false log (file_source (file_kind asked.product)) takes) in
+      let read = subst (HasRead (input_place asked) asked.file bytes false) (sym is) (has_read (input_place asked) asked.file bytes false log (file_source (file_kind asked.product)) takes) in
       subst (NotGathered asked answer) (append-nil events)
       (gather_not asked bytes false events [] [] [] false read (after_none asked [] refl) answer (record { rest = place_named at.Header asked.header; split = refl }) outcome (λ tried. absurd (cc)) (subst (OpensAsTold answer) (sym (append-nil events)) opened_so))
 
-  file_missed : (events : List Event) → (events ≡ Missed (place_of asked) asked.file ∷ []) ⊎ (events ≡ []) → MakeOutcome (answers.OpenFault (place_of asked)) asked untouched → MakeOutcome (answers.OpenFault (place_of asked)) asked (record untouched { names = [] }) → NotGathered asked (answers.OpenFault (place_of asked)) events
-  file_missed events (inl is) outcome none = subst (NotGathered asked (answers.OpenFault (place_of asked))) (sym is) (record {
+  file_missed : (events : List Event) → (events ≡ Missed (input_place asked) asked.file ∷ []) ⊎ (events ≡ []) → MakeOutcome (answers.OpenFault (input_place asked)) asked untouched → MakeOutcome (answers.OpenFault (input_place asked)) asked (record untouched { names = [] }) → NotGathered asked (answers.OpenFault (input_place asked)) events
+  file_missed events (inl is) outcome none = subst (NotGathered asked (answers.OpenFault (input_place asked))) (sym is) (record {
     names = record { rest = place_named at.Header asked.header; split = refl };
     sources = (file_source (file_kind asked.product), tt);
-    reads = missed_none (place_of asked) asked.file;
+    reads = missed_none (input_place asked) asked.file;
     outcome = outcome;
-    tries = λ tried. absurd (let none : same_place at.Header (place_of asked) ≡ false = header_else (file_kind asked.product) in let some : (same_place at.Header (place_of asked) || false) ≡ true = tried in cc);
+    tries = λ tried. absurd (let none : same_place at.Header (input_place asked) ≡ false = header_else (file_kind asked.product) in let some : (same_place at.Header (input_place asked) || false) ≡ true = tried in cc);
     opened = refl;
   })
-  file_missed events (inr is) outcome none = subst (NotGathered asked (answers.OpenFault (place_of asked))) (sym is) (record {
+  file_missed events (inr is) outcome none = subst (NotGathered asked (answers.OpenFault (input_place asked))) (sym is) (record {
     names = record { rest = read_names asked; split = refl };
     sources = tt;
     reads = no_reads_none;
@@ -377,17 +377,17 @@ file_attached_so : (kind : FileKind) (name : List ℕ) (log : List Event) → is
 file_attached_so Spec name log = refl
 file_attached_so Program name log = refl
 
-pub gather_unread : (asked : MakeAsked) (answer : status.Status) (events : List Event) → FileLog (Err answer) (place_of asked) (file_limit (file_kind asked.product)) asked.file events → NotGathered asked answer events
+pub gather_unread : (asked : MakeAsked) (answer : status.Status) (events : List Event) → FileLog (Err answer) (input_place asked) (file_limit (file_kind asked.product)) asked.file events → NotGathered asked answer events
 gather_unread asked (answers.OpenFault p) events is =
     subst (λ q. NotGathered asked (answers.OpenFault q) events) (sym is.0)
     (file_missed asked events is.1 (open_outcome asked.product asked (untouched asked) refl refl refl) (open_outcome asked.product asked (record (untouched asked) { names = [] }) refl refl refl))
 gather_unread asked (answers.ReadFault p) events is =
     subst (λ q. NotGathered asked (answers.ReadFault q) events) (sym is.0)
-    (read_alone asked (answers.ReadFault (place_of asked)) is.2 is.1 events is.3 is.4 (read_outcome asked.product asked (read_so asked is.2 false [] [] false) refl refl is.5 refl)
-    (ap (is_attached (place_of asked)) is.3 ∙ file_attached_so (file_kind asked.product) asked.file is.1))
+    (read_alone asked (answers.ReadFault (input_place asked)) is.2 is.1 events is.3 is.4 (read_outcome asked.product asked (read_so asked is.2 false [] [] false) refl refl is.5 refl)
+    (ap (is_attached (input_place asked)) is.3 ∙ file_attached_so (file_kind asked.product) asked.file is.1))
 gather_unread asked (answers.TextTooLong p) events is =
     subst (λ q. NotGathered asked (answers.TextTooLong q) events) (sym is.0)
-    (read_alone asked (answers.TextTooLong (place_of asked)) is.2 is.1 events is.3 is.4 (long_outcome asked.product asked (read_so asked is.2 false [] [] false) refl is.5 refl) tt)
+    (read_alone asked (answers.TextTooLong (input_place asked)) is.2 is.1 events is.3 is.4 (long_outcome asked.product asked (read_so asked is.2 false [] [] false) refl is.5 refl) tt)
 gather_unread asked answers.Memory events is =
     read_alone asked answers.Memory is.1 is.0 events is.2 is.3 (refl, out_untried (file_kind asked.product) asked.file) tt
 gather_unread asked answer events is = absurd is

@@ -7,7 +7,7 @@ use Rattle.std.proofs.lemmas.List.{append-nil}
 use Rattle.tool_io.specs.declared.host.Place.TheVariants.{Header, Out}
 use Rattle.tool_io.specs.declared.line_cut.Line as line
 use Rattle.tool_io.specs.Log.{Event, Attached}
-use Rattle.tool_io.specs.Whole.{Takes}
+use Rattle.tool_io.specs.Whole.{Draws}
 use Rattle.tool_io.specs.Cutting.{Cutting, IsRow, CutsLine, line_text, lines_of, fresh, row_of}
 use Rattle.tool_io.proofs.CutLaws.{lines_of-row, lines_of-last, lines_of-long, lines_of-none, is_long-row}
 use Rattle.c2po_ast.specs.ItemShape.{ItemShape}
@@ -24,13 +24,13 @@ use Rattle.c2po_cli.specs.declared.make.Form.{Form}
 use Rattle.tool_words.specs.FirstLine.{begins_long}
 use Rattle.c2po_cli.specs.Images.{WritesImage}
 use Rattle.c2po_cli.specs.Made.{compile_status, compiled_bytes, text_bytes, unless_long, first_line, made_of_text}
-use Rattle.c2po_cli.specs.Phases.{Refuses, RefusesAlone, ReadsLine, LineLog, HeaderLog, RefusedLog, MadeLog}
+use Rattle.c2po_cli.specs.Phases.{IsRefusal, RefusesAlone, ReadsLine, LineLog, HeaderLog, RefusedLog, MadeLog}
 use Rattle.c2po_cli.proofs.MakingLaws.{headed, refused_by, refused_so}
 
 -- what a call that makes bytes under a header line answers
 abbrev pub Made : Result (Vec ℕ Global) status.Status → Result (List ℕ) status.Status → Type 0
 Made (Ok bytes) found = found ≡ Ok bytes.items
-Made (Err answer) found = Refuses answer × (answer ≢ answers.Memory → found ≡ Err answer)
+Made (Err answer) found = IsRefusal answer × (answer ≢ answers.Memory → found ≡ Err answer)
 
 -- and one that makes them without
 abbrev pub MadeAlone : Result (Vec ℕ Global) status.Status → Result (List ℕ) status.Status → Type 0
@@ -50,7 +50,7 @@ row_lines raw rest ended (inr last) = ([], lines_of-last raw rest ended last)
 
 -- what a cut took
 module _ (cut : Cutting) (events : List Event) where
-  cut_takes : (outcome : line.Line) (cuts : CutsLine Header fresh cut outcome events) → Takes Header (concat cuts.pieces) cut.ended events
+  cut_takes : (outcome : line.Line) (cuts : CutsLine Header fresh cut outcome events) → Draws Header (concat cuts.pieces) cut.ended events
   cut_takes outcome cuts = record { pieces = cuts.pieces; are = cuts.reads; joined = refl; end = sym cuts.ended }
 
   module _ (form : Form) (text : List ℕ) (none : first_refusal text ≡ None) where
@@ -126,7 +126,7 @@ module _ (cut : Cutting) (events : List Event) where
   pub fault_made : (form : Form) (text : List ℕ) → CutsLine Header fresh cut line.TheVariants.ReadFault events → LineLog (Err (answers.ReadFault Header)) form text events
   fault_made form text cuts = record {
     bytes = concat cuts.pieces;
-    takes = subst (λ ended. Takes Header (concat cuts.pieces) ended events) cuts.answer.2 (cut_takes line.TheVariants.ReadFault cuts);
+    takes = subst (λ ended. Draws Header (concat cuts.pieces) ended events) cuts.answer.2 (cut_takes line.TheVariants.ReadFault cuts);
     no_line = lines_of-none (concat cuts.pieces) cuts.answer.0.no_newline cuts.answer.1;
   }
 
@@ -144,7 +144,7 @@ header_log (Err answer) form name text events has = has
 pub made_so : (form : Form) (header : Option (List ℕ)) (items : List ItemShape) (text : List ℕ) (result : Result (Vec ℕ Global) status.Status)
     → IfOk result (λ bytes. (text : List ℕ) → first_refusal text ≡ None → items ≡ items_in text → text_bytes form text header ≡ Ok bytes.items)
     → IfErr result (λ answer. answer ≢ answers.Memory → (text : List ℕ) → first_refusal text ≡ None → items ≡ items_in text → text_bytes form text header ≡ Err answer)
-    → IfErr result Refuses → first_refusal text ≡ None → items ≡ items_in text → Made result (text_bytes form text header)
+    → IfErr result IsRefusal → first_refusal text ≡ None → items ≡ items_in text → Made result (text_bytes form text header)
 made_so form header items text (Ok bytes) made refused speaks none same = made text none same
 made_so form header items text (Err answer) made refused speaks none same = (speaks, λ some. refused some text none same)
 

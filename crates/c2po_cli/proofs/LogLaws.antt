@@ -5,7 +5,7 @@ use Rattle.tool_io.specs.declared.host.Place as place
 use Rattle.tool_io.specs.declared.host.Place.TheVariants as at
 use Rattle.tool_io.specs.Log.{Event, Attached, Missed, Took, Gave, same_place, taken, given, ended_from, names_of}
 use Rattle.tool_io.specs.Host.{IsSource}
-use Rattle.tool_io.specs.Whole.{Takes}
+use Rattle.tool_io.specs.Whole.{Draws}
 use Rattle.tool_io.proofs.LogLaws.{Reads-names, Reads-taken, Reads-taken_elsewhere, Reads-ended, Reads-ended_elsewhere}
 use Rattle.tool_words.specs.Attaching.{is_attached, ReadsAttached}
 use Rattle.tool_words.specs.Telling.{is_used}
@@ -165,7 +165,7 @@ attached_self at.Trace events = refl
 attached_self at.Out events = refl
 attached_self at.Err events = refl
 
-pub has_read : (p : place.Place) (name bytes : List ℕ) (ended : Bool) (log : List Event) → IsSource p → Takes p bytes ended log → HasRead p name bytes ended (Attached p name ∷ log)
+pub has_read : (p : place.Place) (name bytes : List ℕ) (ended : Bool) (log : List Event) → IsSource p → Draws p bytes ended log → HasRead p name bytes ended (Attached p name ∷ log)
 has_read p name bytes ended log source takes =
     let pieces = takes.pieces in
     let are = takes.are in

@@ -22,7 +22,7 @@ use Rattle.tool_words.proofs.CauseLaws.{rose_at, err_stays, message_rose}
 use Rattle.tool_words.proofs.MessageLaws.{Leaves, message_leaves, unattached}
 use Rattle.tool_words.proofs.UseLaws.{unused-given}
 use Rattle.c2po_cli.specs.Asking.{Ask, help, make, nothing, MakeAsked, file_kind}
-use Rattle.c2po_cli.specs.Run.{Seen, seen, place_of, TriesOf, TriesInTurn, WritesAttached, names_out, MakeOutcome, HelpOutcome, NothingOutcome, OutcomeOf, CompletesBy, Ran, IsMade}
+use Rattle.c2po_cli.specs.Run.{Seen, seen, input_place, TriesOf, TriesInTurn, WritesAttached, names_out, MakeOutcome, HelpOutcome, NothingOutcome, OutcomeOf, CompletesBy, Ran, IsMade}
 use Rattle.c2po_cli.specs.Made.{made}
 use Rattle.c2po_cli.proofs.LogLaws.{writes-append}
 use Rattle.c2po_cli.proofs.GatherRuns.{same_seen}
@@ -66,7 +66,7 @@ complete_run (make asked) answer before between now events cause same is = λ no
 -- a message after a run changes nothing but what Err was given
 module _ (first all : List Event) (leaves : Leaves first all) where
   all_seen : (asked : MakeAsked) → seen asked all ≡ seen asked first
-  all_seen asked = same_seen (seen asked all) (seen asked first) leaves.names (leaves.bytes (place_of asked)) (leaves.ends (place_of asked))
+  all_seen asked = same_seen (seen asked all) (seen asked first) leaves.names (leaves.bytes (input_place asked)) (leaves.ends (input_place asked))
       (ap (λ v. lines_of v (taken at.Header all)) (leaves.ends at.Header) ∙ ap (lines_of (ended_from false at.Header first)) (leaves.bytes at.Header)) (leaves.ends at.Header) leaves.out (leaves.attached at.Out)
 
   pub tries_still : (asked : Ask) (answer : status.Status) → TriesOf asked answer first → TriesOf asked answer all

@@ -13,7 +13,7 @@ use Rattle.tool_words.specs.Attaching.{is_attached, OpensAsTold}
 use Rattle.tool_words.proofs.AttachLaws.{is_attached-append, ReadsAttached-append}
 use Rattle.tool_words.proofs.UseLaws.{unused-append}
 use Rattle.c2po_cli.specs.Asking.{make, MakeAsked, place_named, read_names}
-use Rattle.c2po_cli.specs.Run.{Seen, seen, place_of, is_tried, IsFaultless, IsOfOut, Makes, MakeOutcome, WritesAttached, Ran}
+use Rattle.c2po_cli.specs.Run.{Seen, seen, input_place, is_tried, HasFaultlessText, IsOfOut, MakesFile, MakeOutcome, WritesAttached, Ran}
 use Rattle.c2po_cli.specs.Phases.{OnlyOut, Gathered, NotGathered, GivenLog, PutOutcome, PutLog}
 use Rattle.c2po_cli.proofs.LogLaws.{sources_given, sources_unattached, sources_unused, sources_untried, sources_writes, out_taken, out_ended, out_unused, out_untried, out_reads, out_writes, gave_unattached, is_tried-append, writes-append}
 use Rattle.c2po_cli.proofs.GatherRuns.{same_seen}
@@ -40,7 +40,7 @@ module _ (asked : MakeAsked) (bytes : List ℕ) (answer : status.Status) (first 
   all = first ++ second
 
   abbrev p : place.Place
-  p = place_of asked
+  p = input_place asked
 
   abbrev before : Seen
   before = seen asked first
@@ -71,11 +71,11 @@ module _ (asked : MakeAsked) (bytes : List ℕ) (answer : status.Status) (first 
       all_attached
 
   -- the file and the header say the same
-  makes_after : (found : Result (List ℕ) status.Status) → Makes asked before found → Makes asked after found
+  makes_after : (found : Result (List ℕ) status.Status) → MakesFile asked before found → MakesFile asked after found
   makes_after found makes = record { whole = record { ended = makes.whole.ended; within = makes.whole.within }; is = makes.is; image = makes.image }
 
   outcome_after : (answer : status.Status) → PutOutcome answer asked.out bytes (given at.Out second) (is_attached at.Out second) → MakeOutcome answer asked after
-  outcome_after answers.Done is = record { bytes = subst (λ b. Makes asked after (Ok b)) (sym is.0) (makes_after (Ok bytes) gathered.makes); attached = is.1 }
+  outcome_after answers.Done is = record { bytes = subst (λ b. MakesFile asked after (Ok b)) (sym is.0) (makes_after (Ok bytes) gathered.makes); attached = is.1 }
   outcome_after (answers.WriteFault at.Out) is = record { whole = bytes; bytes = makes_after (Ok bytes) gathered.makes; front = is.0; attached = is.1 }
   outcome_after (answers.OpenFault at.Out) is = record { whole = bytes; bytes = makes_after (Ok bytes) gathered.makes; named = is.0; none_out = is.1 }
   outcome_after answer is = absurd is
@@ -105,8 +105,8 @@ module _ (asked : MakeAsked) (bytes : List ℕ) (answer : status.Status) (first 
   make_written = record {
     names = record { rest = put.names.rest; split = ap (λ ns. read_names asked ++ ns) put.names.split ∙ sym (append_assoc (read_names asked) (names_of second) put.names.rest) ∙ ap (λ ns. ns ++ put.names.rest) (sym all_names) };
     tries = record {
-      header = λ tried. subst (IsFaultless asked) (sym seen_all) (let is = gathered.tries (header_before tried) in record { whole = record { ended = is.whole.ended; within = is.whole.within }; faultless = is.faultless });
-      out = λ tried. (bytes, subst (λ run. Makes asked run (Ok bytes)) (sym seen_all) (makes_after (Ok bytes) gathered.makes));
+      header = λ tried. subst (HasFaultlessText asked) (sym seen_all) (let is = gathered.tries (header_before tried) in record { whole = record { ended = is.whole.ended; within = is.whole.within }; faultless = is.faultless });
+      out = λ tried. (bytes, subst (λ run. MakesFile asked run (Ok bytes)) (sym seen_all) (makes_after (Ok bytes) gathered.makes));
       out_last = λ tried. of_out answer put.outcome;
     };
     reads = ReadsAttached-append first second gathered.reads (out_reads second put.only);

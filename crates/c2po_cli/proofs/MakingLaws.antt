@@ -23,18 +23,18 @@ use Rattle.tool_words.specs.declared.status.Status.{Status}
 use Rattle.tool_words.specs.declared.status.Status.TheVariants.{Memory}
 use Rattle.c2po_cli.specs.declared.make.Form.{Form}
 use Rattle.tool_words.specs.FirstLine.{begins_long}
-use Rattle.c2po_cli.specs.Made.{compile_status, compiled_bytes, image_by, program_by, text_bytes, written_as, unless_long, first_line, made_of_text}
+use Rattle.c2po_cli.specs.Made.{compile_status, compiled_bytes, image_by, asked_program, text_bytes, written_as, unless_long, first_line, made_of_text}
 use Rattle.c2po_cli.specs.Phases.{RefusesAlone}
 
 -- a text is refused alike in both forms
-pub refused_by : (simplify : Bool) (text : List ℕ) (header : Option (List ℕ)) (fault : CompileFault) → image_of_text text header ≡ Err fault → program_by simplify text header ≡ Err fault
+pub refused_by : (simplify : Bool) (text : List ℕ) (header : Option (List ℕ)) (fault : CompileFault) → image_of_text text header ≡ Err fault → asked_program simplify text header ≡ Err fault
 refused_by false text header fault h = h
 refused_by true text header fault h = simple_refused text header fault h
 
 -- and compiled in each
 compiled_by : (simplify : Bool) (text : List ℕ) (header : Option (List ℕ)) (items : List ItemShape) (columns : Columns) (program : Program) → first_refusal text ≡ None → items ≡ items_in text
     → columns_by (signals_of items) header ≡ Ok columns → program ≡ image_by simplify columns (signals_of items) (outputs_of items) → limit_refusal (over_columns columns (outputs_of items)) ≡ None
-    → program_by simplify text header ≡ Ok program
+    → asked_program simplify text header ≡ Ok program
 compiled_by false text header items columns program none same found made within = back_answers text header items columns (Ok program) none same found made within
 compiled_by true text header items columns program none same found made within =
     simple_compiled text header columns program none

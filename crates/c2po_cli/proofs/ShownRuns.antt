@@ -9,7 +9,7 @@ use Rattle.tool_io.specs.declared.host.Put as put
 use Rattle.tool_io.specs.Log.{Event}
 use Rattle.tool_io.specs.Host.{WriteCause}
 use Rattle.tool_io.specs.Whole.{PutAllLog}
-use Rattle.obs_files.specs.Layout.{Fits, spelling}
+use Rattle.obs_files.specs.Layout.{IsEncodable, spelling}
 use Rattle.obs_files.specs.declared.fault.FileFault.{FileFault}
 use Rattle.obs_files.specs.Faults.{opened}
 use Rattle.obs_files.proofs.Spelled.{opened_spelled}
@@ -70,7 +70,7 @@ simple_back source columns none = record {
 }
 
 -- the bytes of such a program return from its text
-given_back : (p program : Program) (file written : List ℕ) → IsGivenBack p → Fits p → file ≡ spelling p → opened file ≡ Ok program → show_fault (up program) ≡ None → text (up program) ≡ written → Returns program file written
+given_back : (p program : Program) (file written : List ℕ) → IsGivenBack p → IsEncodable p → file ≡ spelling p → opened file ≡ Ok program → show_fault (up program) ≡ None → text (up program) ≡ written → Returns program file written
 given_back p program file written back fits spells opens within is =
     let found = opened_spelled p program file fits spells opens in
     let few : HasLayout p = layout_of p fits.layout in

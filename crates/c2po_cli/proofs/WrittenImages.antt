@@ -7,7 +7,7 @@ use Rattle.mltl_base.specs.declared.program.Program.{Program}
 use Rattle.c2po_ast.specs.ItemShape.{ItemShape}
 use Rattle.c2po_types.specs.Signals.{signals_of}
 use Rattle.c2po_types.specs.Outputs.{outputs_of}
-use Rattle.obs_files.specs.Layout.{Fits, spelling}
+use Rattle.obs_files.specs.Layout.{IsEncodable, spelling}
 use Rattle.c2po_compile.specs.Front.{items_in, first_refusal}
 use Rattle.c2po_compile.specs.Image.{AreColumnsFor}
 use Rattle.c2po_compile.specs.Compiled.{columns_by, outputs_in, signals_in}
@@ -28,7 +28,7 @@ file_by true text columns file is = is
 -- the bytes of a program that fits are a file of it
 pub image_written : (form : Form) (header : Option (List ℕ)) (items : List ItemShape) (columns : Columns) (program : Program) (result : Result (Vec ℕ Global) status.Status)
     → columns_by (signals_of items) header ≡ Ok columns → AreColumnsFor (length (signals_of items)) columns → program ≡ image_by form.simplify columns (signals_of items) (outputs_of items)
-    → IfOk result (λ bytes. bytes.items ≡ written_as form.table program) → OnOk result (form.table ≡ false → Fits program)
+    → IfOk result (λ bytes. bytes.items ≡ written_as form.table program) → OnOk result (form.table ≡ false → IsEncodable program)
     → IfOk result (λ bytes. (text : List ℕ) → first_refusal text ≡ None → items ≡ items_in text → WritesImage form text header bytes.items)
 image_written form header items columns program (Ok bytes) found serve made is fits = λ text none same untabled.
     let image = λ (is : List ItemShape). image_by form.simplify columns (signals_of is) (outputs_of is) in
@@ -39,7 +39,7 @@ image_written form header items columns program (Ok bytes) found serve made is f
       is_image = file_by form.simplify text columns bytes.items (record {
         faultless = none;
         serve = subst (λ is. AreColumnsFor (length (signals_of is)) columns) same serve;
-        fits = subst Fits here (fits untabled);
+        fits = subst IsEncodable here (fits untabled);
         bytes = is ∙ ap (λ tabled. written_as tabled program) untabled ∙ ap spelling here;
       });
     }

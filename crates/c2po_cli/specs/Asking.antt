@@ -5,7 +5,7 @@ use Rattle.tool_io.specs.declared.host.Place.{Place}
 use Rattle.tool_io.specs.declared.host.Place.TheVariants.{Header, Out}
 use Rattle.tool_words.specs.declared.file_kind.FileKind.{FileKind}
 use Rattle.tool_words.specs.declared.file_kind.FileKind.TheVariants.{Spec, Program}
-use Rattle.tool_words.specs.C2poWords.{Asked, CompileAsked}
+use Rattle.tool_words.specs.C2poWords.{C2poRequest, CompileAsked}
 use Rattle.tool_words.specs.C2poWords as words
 use Rattle.tool_words.specs.Files.{file_place}
 use Rattle.c2po_cli.specs.declared.make.Product.{Product}
@@ -44,7 +44,7 @@ abbrev pub show_asked : Option (List ℕ) → List ℕ → MakeAsked
 show_asked out program = record { product = Show; file = program; header = None; out = out }
 
 -- of what words may ask for
-abbrev pub served : Asked → Ask
+abbrev pub served : C2poRequest → Ask
 served words.help = help
 served (words.compile asked) = make (compile_asked asked)
 served (words.upgrade out program) = make (upgrade_asked out program)

@@ -22,9 +22,9 @@ pub record IsFileUnder (simplify : Bool) (text : List ℕ) (header : Option (Lis
   pub is_image : IsFileBy simplify text columns file
 
 -- the header of a compilation: the first line of the header file, where one is named
-abbrev pub header_of : Option (List ℕ) → List (List ℕ) → Option (List ℕ)
-header_of None lines = None
-header_of (Some name) lines = Some (first_line lines)
+abbrev pub asked_header : Option (List ℕ) → List (List ℕ) → Option (List ℕ)
+asked_header None lines = None
+asked_header (Some name) lines = Some (first_line lines)
 
 -- what is written of a text in this form, its table aside, is such a file
 abbrev pub WritesImage : Form → List ℕ → Option (List ℕ) → List ℕ → Type 0
@@ -32,6 +32,6 @@ WritesImage form text header file = form.table ≡ false → IsFileUnder form.si
 
 -- so are the bytes that are made by a compilation; of those of an upgrade and of a text nothing is said here
 abbrev pub GivesImage : Product → Option (List ℕ) → List ℕ → List (List ℕ) → List ℕ → Type 0
-GivesImage (Compiled form) header file lines bytes = WritesImage form file (header_of header lines) bytes
+GivesImage (Compiled form) header file lines bytes = WritesImage form file (asked_header header lines) bytes
 GivesImage Upgrade header file lines bytes = ⊤
 GivesImage Show header file lines bytes = ⊤

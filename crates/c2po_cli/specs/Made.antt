@@ -57,13 +57,13 @@ image_by false columns signals outs = image columns signals outs
 image_by true columns signals outs = simple_image columns signals outs
 
 -- the program of a text and a header line in the same two forms
-abbrev pub program_by : Bool → List ℕ → Option (List ℕ) → Result Program CompileFault
-program_by false text header = image_of_text text header
-program_by true text header = simple_image_of_text text header
+abbrev pub asked_program : Bool → List ℕ → Option (List ℕ) → Result Program CompileFault
+asked_program false text header = image_of_text text header
+asked_program true text header = simple_image_of_text text header
 
 -- what is written of a text and a header line
 abbrev pub text_bytes : Form → List ℕ → Option (List ℕ) → Result (List ℕ) Status
-text_bytes form text header = compiled_bytes form.table (program_by form.simplify text header)
+text_bytes form text header = compiled_bytes form.table (asked_program form.simplify text header)
 
 -- what is made of a program: bytes, or a refusal
 abbrev pub Making : Type 0
@@ -80,8 +80,8 @@ opened_as gives (Ok program) = raised_as gives program (clash_of program)
 opened_as gives (Err fault) = Err (file_status fault)
 
 -- the bytes of a program
-abbrev pub bytes_of : Making
-bytes_of program = Ok (spelling program)
+abbrev pub made_bytes : Making
+made_bytes program = Ok (spelling program)
 
 -- the status of a run whose program has no text
 abbrev pub show_status : ShowFault → Status
@@ -119,7 +119,7 @@ made_of_text form (Some name) text lines =
 -- what a file gives, with the lines of the header file that were read
 abbrev pub made_as : Product → Option (List ℕ) → List ℕ → List (List ℕ) → Result (List ℕ) Status
 made_as (Compiled form) header file lines = made_of_text form header file lines
-made_as Upgrade header file lines = opened_as bytes_of (opened file)
+made_as Upgrade header file lines = opened_as made_bytes (opened file)
 made_as Show header file lines = opened_as text_within (opened file)
 
 -- what is made of a file and the lines of its header file, or the status of what refuses them

@@ -7,7 +7,7 @@ use Rattle.tool_io.specs.declared.host.Place as place
 use Rattle.tool_io.specs.Log.{Event, Attached, Missed, Took, Gave, given, names_of, IsFront, IsProperFront, Writes}
 use Rattle.tool_io.specs.Log.{WritesFront}
 use Rattle.tool_io.specs.Host.{IsSource}
-use Rattle.tool_io.specs.Whole.{Takes}
+use Rattle.tool_io.specs.Whole.{Draws}
 use Rattle.tool_io.specs.Cutting.{lines_of}
 use Rattle.c2po_compile.specs.Front.{first_refusal}
 use Rattle.tool_words.specs.declared.status.Status as status
@@ -18,23 +18,23 @@ use Rattle.c2po_cli.specs.declared.make.Product.{Product}
 use Rattle.c2po_cli.specs.declared.make.Product.TheVariants.{Compiled, Upgrade, Show}
 use Rattle.c2po_cli.specs.Asking.{MakeAsked, read_names, place_named}
 use Rattle.c2po_cli.specs.Images.{WritesImage}
-use Rattle.c2po_cli.specs.Made.{bytes_of, first_line, made_of_text, opened_as, text_within}
+use Rattle.c2po_cli.specs.Made.{made_bytes, first_line, made_of_text, opened_as, text_within}
 use Rattle.obs_files.specs.Faults.{opened}
-use Rattle.c2po_cli.specs.Run.{seen, is_tried, IsFaultless, Makes, MakeOutcome, WritesAttached}
+use Rattle.c2po_cli.specs.Run.{seen, is_tried, HasFaultlessText, MakesFile, MakeOutcome, WritesAttached}
 
 -- a status by which a file, a header or a limit refuses, that of a text that is to be written too, or out of memory
-abbrev pub Refuses : status.Status → Type 0
-Refuses (status.TheVariants.Refused line refusal) = ⊤
-Refuses (status.TheVariants.BadProgram fault) = ⊤
-Refuses (status.TheVariants.BadHeader why) = ⊤
-Refuses (status.TheVariants.TextTooLong place.TheVariants.Out) = ⊤
-Refuses status.TheVariants.Memory = ⊤
-Refuses answer = ⊥
+abbrev pub IsRefusal : status.Status → Type 0
+IsRefusal (status.TheVariants.Refused line refusal) = ⊤
+IsRefusal (status.TheVariants.BadProgram fault) = ⊤
+IsRefusal (status.TheVariants.BadHeader why) = ⊤
+IsRefusal (status.TheVariants.TextTooLong place.TheVariants.Out) = ⊤
+IsRefusal status.TheVariants.Memory = ⊤
+IsRefusal answer = ⊥
 
 -- one by which no header does
 abbrev pub RefusesAlone : status.Status → Type 0
 RefusesAlone (status.TheVariants.BadHeader why) = ⊥
-RefusesAlone answer = Refuses answer
+RefusesAlone answer = IsRefusal answer
 
 -- reads of an attached header file returned its first line, or reached its end before one, or there is no end of that
 -- line
@@ -42,7 +42,7 @@ pub record ReadsLine (form : Form) (text : List ℕ) (found : Result (List ℕ) 
     (log : List Event) : Type 0 where
   pub bytes : List ℕ
   pub ended : Bool
-  pub takes : Takes place.TheVariants.Header bytes ended log
+  pub takes : Draws place.TheVariants.Header bytes ended log
   pub begun : HasBegun ended (lines_of ended bytes)
   pub makes : (name : List ℕ) → made_of_text form (Some name) text (lines_of ended bytes) ≡ found
   pub image : IfOk found (WritesImage form text (Some (first_line (lines_of ended bytes))))
@@ -51,12 +51,12 @@ pub record ReadsLine (form : Form) (text : List ℕ) (found : Result (List ℕ) 
 pub record ReadsNone (log : List Event) : Type 0 where
   pub bytes : List ℕ
   pub ended : Bool
-  pub takes : Takes place.TheVariants.Header bytes ended log
+  pub takes : Draws place.TheVariants.Header bytes ended log
 
 -- reads that met no end, and gave no line yet
 pub record ReadsNoLine (log : List Event) : Type 0 where
   pub bytes : List ℕ
-  pub takes : Takes place.TheVariants.Header bytes false log
+  pub takes : Draws place.TheVariants.Header bytes false log
   pub no_line : lines_of false bytes ≡ []
 
 -- the log under the first line of an attached header file, by a text that isn't refused
@@ -66,7 +66,7 @@ LineLog (Err (status.TheVariants.ReadFault place.TheVariants.Header)) form text 
 LineLog (Err status.TheVariants.Memory) form text log = ReadsNone log
 LineLog (Err (status.TheVariants.TextTooLong place.TheVariants.Header)) form text log =
     ReadsLine form text (Err (status.TheVariants.TextTooLong place.TheVariants.Header)) log
-LineLog (Err answer) form text log = Refuses answer × ReadsLine form text (Err answer) log
+LineLog (Err answer) form text log = IsRefusal answer × ReadsLine form text (Err answer) log
 
 -- the same where the header file is to be attached
 abbrev pub HeaderLog : Result (Vec ℕ Global) status.Status → Form → List ℕ → List ℕ → List Event → Type 0
@@ -102,7 +102,7 @@ TextLog result form header text events =
 -- after the bytes of a file
 abbrev pub FileMadeLog : Product → Result (Vec ℕ Global) status.Status → Option (List ℕ) → List ℕ → List Event → Type 0
 FileMadeLog (Compiled form) result header file events = TextLog result form header file events
-FileMadeLog Upgrade result header file events = MadeLog result (opened_as bytes_of (opened file)) events
+FileMadeLog Upgrade result header file events = MadeLog result (opened_as made_bytes (opened file)) events
 FileMadeLog Show result header file events = MadeLog result (opened_as text_within (opened file)) events
 
 -- after the bytes of the file that the arguments name
@@ -122,8 +122,8 @@ pub record Gathered (asked : MakeAsked) (bytes : List ℕ) (events : List Event)
   pub names : names_of events ≡ read_names asked
   pub sources : OnlySources events
   pub reads : ReadsAttached [] events
-  pub makes : Makes asked (seen asked events) (Ok bytes)
-  pub tries : is_tried place.TheVariants.Header (names_of events) ≡ true → IsFaultless asked (seen asked events)
+  pub makes : MakesFile asked (seen asked events) (Ok bytes)
+  pub tries : is_tried place.TheVariants.Header (names_of events) ≡ true → HasFaultlessText asked (seen asked events)
 
 -- something failed or was refused
 pub record NotGathered (asked : MakeAsked) (answer : status.Status) (events : List Event) : Type 0 where
@@ -131,7 +131,7 @@ pub record NotGathered (asked : MakeAsked) (answer : status.Status) (events : Li
   pub sources : OnlySources events
   pub reads : ReadsAttached [] events
   pub outcome : MakeOutcome answer asked (seen asked events)
-  pub tries : is_tried place.TheVariants.Header (names_of events) ≡ true → IsFaultless asked (seen asked events)
+  pub tries : is_tried place.TheVariants.Header (names_of events) ≡ true → HasFaultlessText asked (seen asked events)
   pub opened : OpensAsTold answer events
 
 -- the log up to the bytes that are to be written, or to what failed or was refused

@@ -32,15 +32,15 @@ pub record Seen : Type 0 where
   pub attached : Bool
 
 -- the place at which the file is read
-abbrev pub place_of : MakeAsked → place.Place
-place_of asked = file_place (file_kind asked.product)
+abbrev pub input_place : MakeAsked → place.Place
+input_place asked = file_place (file_kind asked.product)
 
 -- what a log says of such a run
 abbrev pub seen : MakeAsked → List Event → Seen
 seen asked events = record {
   names = names_of events;
-  file = taken (place_of asked) events;
-  whole = ended_from false (place_of asked) events;
+  file = taken (input_place asked) events;
+  whole = ended_from false (input_place asked) events;
   header = lines_of (ended_from false place.TheVariants.Header events) (taken place.TheVariants.Header events);
   header_ended = ended_from false place.TheVariants.Header events;
   out = given place.TheVariants.Out events;
@@ -49,7 +49,7 @@ seen asked events = record {
 
 -- the bytes of the file that were taken
 abbrev pub file_in : MakeAsked → List Event → List ℕ
-file_in asked events = taken (place_of asked) events
+file_in asked events = taken (input_place asked) events
 
 -- what the bytes that were taken give, with the header's lines
 abbrev pub made_in : MakeAsked → List Event → Result (List ℕ) status.Status
@@ -60,18 +60,18 @@ abbrev pub is_tried : place.Place → List (place.Place × List ℕ) → Bool
 is_tried p names = list_any (λ named. same_place p named.0) names
 
 -- the file was read to its end, within its limit
-pub record IsWhole (asked : MakeAsked) (run : Seen) : Type 0 where
+pub record IsReadWhole (asked : MakeAsked) (run : Seen) : Type 0 where
   pub ended : run.whole ≡ true
   pub within : length run.file ≤ file_limit (file_kind asked.product)
 
 -- so was a specification, and it has no fault
-pub record IsFaultless (asked : MakeAsked) (run : Seen) : Type 0 where
-  pub whole : IsWhole asked run
+pub record HasFaultlessText (asked : MakeAsked) (run : Seen) : Type 0 where
+  pub whole : IsReadWhole asked run
   pub faultless : first_refusal run.file ≡ None
 
 -- what was read gives these bytes, or this refusal; the bytes of a compilation are those of an image
-pub record Makes (asked : MakeAsked) (run : Seen) (found : Result (List ℕ) status.Status) : Type 0 where
-  pub whole : IsWhole asked run
+pub record MakesFile (asked : MakeAsked) (run : Seen) (found : Result (List ℕ) status.Status) : Type 0 where
+  pub whole : IsReadWhole asked run
   pub is : made asked run.file run.header ≡ found
   pub image : IfOk found (GivesImage asked.product asked.header run.file run.header)
 
@@ -84,33 +84,33 @@ IsOfOut answer = ⊥
 
 -- the header is tried only after a specification without a fault, and Out only where the bytes exist, and then last
 pub record TriesInTurn (asked : MakeAsked) (answer : status.Status) (run : Seen) : Type 0 where
-  pub header : is_tried place.TheVariants.Header run.names ≡ true → IsFaultless asked run
-  pub out : is_tried place.TheVariants.Out run.names ≡ true → (bytes : List ℕ) × Makes asked run (Ok bytes)
+  pub header : is_tried place.TheVariants.Header run.names ≡ true → HasFaultlessText asked run
+  pub out : is_tried place.TheVariants.Out run.names ≡ true → (bytes : List ℕ) × MakesFile asked run (Ok bytes)
   pub out_last : is_tried place.TheVariants.Out run.names ≡ true → IsOfOut answer
 
 -- all bytes are out; Out was attached exactly where a file is named
 pub record IsWritten (asked : MakeAsked) (run : Seen) : Type 0 where
-  pub bytes : Makes asked run (Ok run.out)
+  pub bytes : MakesFile asked run (Ok run.out)
   pub attached : run.attached ≡ is_some asked.out
 
 -- a proper prefix of the bytes is out; Out was attached exactly where a file is named
 pub record IsPartlyWritten (asked : MakeAsked) (run : Seen) : Type 0 where
   pub whole : List ℕ
-  pub bytes : Makes asked run (Ok whole)
+  pub bytes : MakesFile asked run (Ok whole)
   pub front : IsProperFront run.out whole
   pub attached : run.attached ≡ is_some asked.out
 
 -- the bytes exist and a file is named for them, but none are out
 pub record IsUnwritten (asked : MakeAsked) (run : Seen) : Type 0 where
   pub whole : List ℕ
-  pub bytes : Makes asked run (Ok whole)
+  pub bytes : MakesFile asked run (Ok whole)
   pub named : is_some asked.out ≡ true
   pub none_out : run.out ≡ []
 
 -- the header was asked for, after a specification without a fault, and nothing is out
 pub record IsUnheaded (asked : MakeAsked) (run : Seen) : Type 0 where
   pub named : is_some asked.header ≡ true
-  pub spec : IsFaultless asked run
+  pub spec : HasFaultlessText asked run
   pub none_out : run.out ≡ []
 
 -- so it was, and couldn't be read on: its end wasn't met, and its first line isn't there
@@ -121,7 +121,7 @@ pub record IsHeaderUnread (asked : MakeAsked) (run : Seen) : Type 0 where
 
 -- what was read is refused so, and nothing is out
 pub record IsRefused (answer : status.Status) (asked : MakeAsked) (run : Seen) : Type 0 where
-  pub refused : Makes asked run (Err answer)
+  pub refused : MakesFile asked run (Err answer)
   pub none_out : run.out ≡ []
 
 -- the header was tried, and its first line is there, or its end was met
@@ -140,12 +140,12 @@ MakeOutcome (status.TheVariants.TextTooLong place.TheVariants.Header) asked run 
     IsRefused (status.TheVariants.TextTooLong place.TheVariants.Header) asked run
 MakeOutcome (status.TheVariants.TextTooLong place.TheVariants.Out) asked run =
     IsRefused (status.TheVariants.TextTooLong place.TheVariants.Out) asked run
-MakeOutcome (status.TheVariants.OpenFault p) asked run = (p ≡ place_of asked) × (run.file ≡ []) × (run.out ≡ [])
+MakeOutcome (status.TheVariants.OpenFault p) asked run = (p ≡ input_place asked) × (run.file ≡ []) × (run.out ≡ [])
 MakeOutcome (status.TheVariants.ReadFault p) asked run =
-    (p ≡ place_of asked) × (run.whole ≡ false)
+    (p ≡ input_place asked) × (run.whole ≡ false)
     × (length run.file ≤ file_limit (file_kind asked.product)) × (run.out ≡ [])
 MakeOutcome (status.TheVariants.TextTooLong p) asked run =
-    (p ≡ place_of asked) × (file_limit (file_kind asked.product) < length run.file) × (run.out ≡ [])
+    (p ≡ input_place asked) × (file_limit (file_kind asked.product) < length run.file) × (run.out ≡ [])
 MakeOutcome (status.TheVariants.Refused line why) asked run = IsRefused (status.TheVariants.Refused line why) asked run
 MakeOutcome (status.TheVariants.BadProgram fault) asked run = IsRefused (status.TheVariants.BadProgram fault) asked run
 MakeOutcome (status.TheVariants.BadHeader why) asked run =

@@ -11,9 +11,9 @@ ghost use Rattle.c2po_cli.specs.Asking.{ask, file_kind as kind_of, help, make as
 ghost use Rattle.c2po_cli.specs.Run.{IsMade, Ran};
 ghost use Rattle.c2po_cli.specs.Showing.{ShowsProgram};
 
-use crate::gathering::gather;
+use crate::inputs::gather;
 use crate::make::{Make, compilation, showing, upgrading};
-use crate::writing::write_out;
+use crate::output::write_out;
 use std::alloc::Global;
 use tool_io::Host;
 use tool_words::{C2poAsk, Status, Tool, Words, c2po_ask, give_help, tell_user};

@@ -6,11 +6,11 @@
 #![tactic(auto)]
 
 mod c2po_run;
-mod gathering;
-mod heading;
+mod compiled;
+mod header_file;
+mod inputs;
 mod make;
-mod making;
-mod raising;
-mod writing;
+mod output;
+mod upgrade;
 
 pub use c2po_run::c2po_main;

@@ -41,7 +41,7 @@ use Rattle.c2po_compile.specs.declared.build_fault.BuildFault.TheVariants.{TooMa
 use Rattle.mltl_base.specs.Kinds.{kinds_of}
 use Rattle.c2po_compile.specs.Conditions.{IsBuildable}
 use Rattle.c2po_compile.specs.Images.{IsImageOf, stored_signals}
-use Rattle.c2po_compile.specs.BuildLimits.{IsReason, IsSizeReason, IsWithinLimits, slots_of}
+use Rattle.c2po_compile.specs.BuildLimits.{IsReason, IsSizeReason, IsWithinLimits, slots_needed}
 use Rattle.c2po_compile.proofs.Parts.{AtCore, fold_expressions_all}
 use Rattle.c2po_compile.proofs.Cores.{deep_then, each_then}
 use Rattle.c2po_compile.proofs.Reading.{IsReadable}
@@ -245,7 +245,7 @@ pub reason : (asks : List Asked) (graph : Graph) (fault : BuildFault) → IsGrap
 reason asks graph TooManyNodes h few none = absurd none
 reason asks graph TooLate h few late = (few, subst (λ (ops : List FtOp). Any (λ rows. 16777216 < rows) (worst_delays ops)) h.ft late)
 reason asks graph TooManySlots' h few large =
-    let same : slot_count graph.ft graph.pt graph.outs ≡ slots_of asks =
+    let same : slot_count graph.ft graph.pt graph.outs ≡ slots_needed asks =
     ap (λ (ops : List FtOp). slot_count ops graph.pt graph.outs) h.ft
     ∙ (ap (λ (ops : List PtOp). slot_count (ft_list asks) ops graph.outs) h.pt ∙ ap (λ (os : List Out). slot_count (ft_list asks) (pt_list asks) os) h.reports) in
     (few, subst (λ (ops : List FtOp). All (λ rows. rows ≤ 16777216) (worst_delays ops)) h.ft large.0, subst (λ (n : ℕ). 16777216 < n) same large.1)
@@ -257,7 +257,7 @@ pub image_built : (spec : Expanded) (signals : List Signal) (columns : Columns) 
 image_built spec signals columns program ready limits image =
     let asks : List Asked = asked_in columns.of_signal spec in
     let draft : IsDraft spec signals columns program = record { version = image.version; width = image.width; lists = image.lists; kept = image.inputs } in
-    let slots : slot_count program.ft program.pt program.outs ≡ slots_of asks =
+    let slots : slot_count program.ft program.pt program.outs ≡ slots_needed asks =
     ap (λ (ops : List FtOp). slot_count ops program.pt program.outs) image.lists.ft
     ∙ (ap (λ (ops : List PtOp). slot_count (ft_list asks) ops program.outs) image.lists.pt ∙ ap (λ (os : List Out). slot_count (ft_list asks) (pt_list asks) os) image.lists.reports) in
     built spec signals columns program ready draft limits.few image.queues image.boxes

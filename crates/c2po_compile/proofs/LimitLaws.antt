@@ -10,7 +10,7 @@ use Rattle.mltl_base.specs.Subformulas.{Asked, ft_list}
 use Rattle.core_graph.specs.Limits.{AreFew, AreMany}
 use Rattle.c2po_compile.specs.declared.build_fault.BuildFault.{BuildFault}
 use Rattle.c2po_compile.specs.declared.build_fault.BuildFault.TheVariants as build
-use Rattle.c2po_compile.specs.BuildLimits.{IsWithinLimits, IsReason, AreInTime, IsLate, slots_of}
+use Rattle.c2po_compile.specs.BuildLimits.{IsWithinLimits, IsReason, AreInTime, IsLate, slots_needed}
 use Rattle.c2po_compile.specs.Refusals.{IsFirstRefusal, build_refusal}
 use Rattle.c2po_compile.specs.Limits.{has_many_nodes, has_many_slots, is_late, limit_refusal}
 
@@ -50,6 +50,6 @@ last_test false true slots x y z h = absurd (cc)
 last_test false false true x y z h = absurd (cc)
 last_test false false false x y z h = refl
 
-pub none_fits : (outs : List Asked) → limit_refusal outs ≡ None → slots_of outs ≤ MAX_SLOTS
+pub none_fits : (outs : List Asked) → limit_refusal outs ≡ None → slots_needed outs ≤ MAX_SLOTS
 unfolding limit_refusal
 none_fits outs h = ltb-false _ _ (last_test (has_many_nodes outs) (is_late outs) (has_many_slots outs) _ _ _ h)

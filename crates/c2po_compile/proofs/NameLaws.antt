@@ -6,7 +6,7 @@ use Rattle.std.specs.List.{flat_map, list_all}
 use Rattle.std.proofs.lemmas.List.Folds.{list_all-append}
 use Rattle.std.proofs.lemmas.List.Sums.{list_all-from_AllPass}
 use Rattle.mltl_base.specs.declared.program.Out.{Out}
-use Rattle.mltl_base.specs.Programs.{name_of}
+use Rattle.mltl_base.specs.Programs.{out_name}
 use Rattle.mltl_base.proofs.Unfolding.{Each, each_from_all}
 use Rattle.c2po_ast.specs.ItemShape.{TypeShape, BodyShape, ItemShape, structure, input, define, formula, contract}
 use Rattle.c2po_ast.specs.Names.{IsPlainName, ArePlain, IsPlainBody, ArePlainItems}
@@ -29,8 +29,8 @@ each_letters : {X : Type 0} (name : X → List ℕ) (xs : List X) → Each IsPla
 each_letters name [] h = refl
 each_letters name (x ∷ xs) h = letters_append (name x) (flat_map name xs) (name_letters (name x) h.0) (each_letters name xs h.1)
 
-pub output_letters : (outs : List Out) (names : List (List ℕ)) → map name_of outs ≡ names → All IsPlainName names → list_all is_in_word (flat_map name_of outs) ≡ true
-output_letters outs names e h = each_letters name_of outs (each_from_all IsPlainName (map name_of outs) (subst (All IsPlainName) (sym e) h))
+pub output_letters : (outs : List Out) (names : List (List ℕ)) → map out_name outs ≡ names → All IsPlainName names → list_all is_in_word (flat_map out_name outs) ≡ true
+output_letters outs names e h = each_letters out_name outs (each_from_all IsPlainName (map out_name outs) (subst (All IsPlainName) (sym e) h))
 
 -- and those of signals
 abbrev ArePlainSignals : List Signal → Type 0

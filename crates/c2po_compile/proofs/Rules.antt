@@ -15,7 +15,7 @@ use Rattle.mltl_base.specs.declared.operators.BzOp.{BzOp}
 use Rattle.mltl_base.specs.declared.program.Program.{Program}
 use Rattle.mltl_base.specs.Atoms.{Term, column, constant, negative, plus, minus, times, quotient, remainder, Atom, is_true, equal, less, at_most, different, greater, at_least}
 use Rattle.mltl_base.specs.Formula.{Core, ctrue, catom, cnot, cand, cuntil, csince, core}
-use Rattle.mltl_base.specs.Programs.{Expression, whole, truth, term_of, term_at, expressions}
+use Rattle.mltl_base.specs.Programs.{Expression, whole, truth, expression_term, term_at, expressions}
 use Rattle.mltl_base.specs.Ranges.{Ranged, divisor, wide, range}
 use Rattle.mltl_base.specs.Reports.{Output, formula, contract}
 use Rattle.mltl_base.specs.Subformulas.{Asked, cores_of_output, subformulas, same_expression, same, place_of, instruction_of, bz_instruction, ft_instruction, pt_instruction, out_by}
@@ -27,7 +27,7 @@ use Rattle.mltl_base.proofs.Booleans.{HasAtom, HasParts, IsWholeAfter}
 use Rattle.c2po_nodes.specs.Faults.{why_none}
 use Rattle.c2po_nodes.specs.Nodes.{IsBounded}
 use Rattle.obs_verify.specs.declared.fault.VerifyFault.TheVariants.{Operand, Interval as BadInterval, Output as BadOutput}
-use Rattle.obs_verify.specs.WellFormed.{bz_fault, first_in, ft_fault, has_operands, is_truth, is_whole, is_whole_before, is_window, output_fault, pt_fault, range_fault, reports_within, size_fault}
+use Rattle.obs_verify.specs.WellFormed.{bz_fault, first_in, ft_fault, has_operands, is_truth, is_whole, is_whole_before, is_window, output_fault, pt_fault, no_range_fault, reports_within, size_fault}
 use Rattle.obs_verify.proofs.RuleLaws.{unless_eq}
 use Rattle.obs_verify.proofs.WellBound.{both_none, from_each}
 use Rattle.c2po_compile.proofs.Outputs.{IsFit}
@@ -111,12 +111,12 @@ module _ (program : Program) (all : List Expression) (kept : program.bz ≡ map 
     operands_hold (truth (greater a b)) h r = absurd h
     operands_hold (truth (at_least a b)) h r = absurd h
 
-has_range : (i : ℕ) (r : Ranged) → why_none r ≡ None → range_fault i r ≡ None
+has_range : (i : ℕ) (r : Ranged) → why_none r ≡ None → no_range_fault i r ≡ None
 has_range i (Ok r) h = refl
 has_range i (Err divisor) h = absurd (cc)
 has_range i (Err wide) h = absurd (cc)
 
-range_holds : (program : Program) (i : ℕ) (e : Expression) → IsReadable program e → range_fault i (range (term_of (Some e))) ≡ None
+range_holds : (program : Program) (i : ℕ) (e : Expression) → IsReadable program e → no_range_fault i (range (expression_term (Some e))) ≡ None
 unfolding range
 range_holds program i (whole a) r = has_range i (range a) r.0
 range_holds program i (truth a) r = refl
@@ -124,11 +124,11 @@ range_holds program i (truth a) r = refl
 module _ (program : Program) (all : List Expression) (kept : program.bz ≡ map (bz_instruction all) all) (unfolds : expressions program.bz ≡ all) where
   bz_here : (before rest : List Expression) (e : Expression) → all ≡ before ++ e ∷ rest → HasParts before e → IsReadable program e → bz_fault program (length before) (bz_instruction all e) ≡ None
   bz_here before rest e cut h r =
-      let stands : term_at (expressions program.bz) (length before) ≡ term_of (Some e) =
-      ap (λ (es : List Expression). term_at es (length before)) (unfolds ∙ cut) ∙ ap term_of (get_after before rest e) in
+      let stands : term_at (expressions program.bz) (length before) ≡ expression_term (Some e) =
+      ap (λ (es : List Expression). term_at es (length before)) (unfolds ∙ cut) ∙ ap expression_term (get_after before rest e) in
       both_none _ _
       (passes _ (Operand Bz (length before)) (operands_hold program all kept before (e ∷ rest) cut e h r))
-      (ap (λ (a : Term). range_fault (length before) (range a)) stands ∙ range_holds program (length before) e r)
+      (ap (λ (a : Term). no_range_fault (length before) (range a)) stands ∙ range_holds program (length before) e r)
 
   pub bz_none : (before es : List Expression) → all ≡ before ++ es → IsWholeAfter before es → Each (IsReadable program) es → first_in (bz_fault program) (length before) (map (bz_instruction all) es) ≡ None
   unfolding first_in

@@ -16,7 +16,7 @@ use Rattle.mltl_simplify.proofs.Signals.{simple_kinds}
 use Rattle.c2po_types.specs.Outputs.{HasPlainName}
 use Rattle.c2po_compile.specs.declared.build_fault.BuildFault.{BuildFault}
 use Rattle.c2po_compile.specs.declared.build_fault.BuildFault.TheVariants as build
-use Rattle.c2po_compile.specs.BuildLimits.{IsReason, slots_of}
+use Rattle.c2po_compile.specs.BuildLimits.{IsReason, slots_needed}
 use Rattle.obs_files.specs.Names.{NamesFit}
 use Rattle.trace_feed.specs.declared.header_fault.HeaderFault.{HeaderFault}
 use Rattle.c2po_compile.specs.declared.fault.CompileFault.{CompileFault}
@@ -42,7 +42,7 @@ kinds_simple signals spec simple same h = subst (All (ReadsSignals (kinds_of sig
 pub image_slots : (columns : Columns) (signals : List Signal) (outs : List Asked) (p : Program) → p ≡ image columns signals outs → limit_refusal (over_columns columns outs) ≡ None → slots_in p < 2 ^ 64
 unfolding image
 image_slots columns signals outs p is within =
-    let same : slots_in p ≡ slots_of (over_columns columns outs) = ap slots_in is in
+    let same : slots_in p ≡ slots_needed (over_columns columns outs) = ap slots_in is in
     omega (arith, none_fits (over_columns columns outs) within)
 
 -- ---- which form is taken
@@ -63,15 +63,15 @@ pub smaller_is : (columns : Columns) (signals : List Signal) (outs : List Asked)
 unfolding image smaller_outputs
 smaller_is columns signals outs simple plain within is was =
     ap₂ (λ p q. if nat_le (slots_in p) (slots_in q) then p else q) is was
-    ∙ chosen_image columns signals (simple_outputs outs) outs (nat_le (slots_of (over_columns columns (simple_outputs outs))) (slots_of (over_columns columns outs)))
-    ∙ ap (λ refusal. image columns signals (if is_none refusal && nat_le (slots_of (over_columns columns (simple_outputs outs))) (slots_of (over_columns columns outs)) then simple_outputs outs else outs)) (sym within)
+    ∙ chosen_image columns signals (simple_outputs outs) outs (nat_le (slots_needed (over_columns columns (simple_outputs outs))) (slots_needed (over_columns columns outs)))
+    ∙ ap (λ refusal. image columns signals (if is_none refusal && nat_le (slots_needed (over_columns columns (simple_outputs outs))) (slots_needed (over_columns columns outs)) then simple_outputs outs else outs)) (sym within)
 
 -- else the plain one
 plain_taken : (columns : Columns) (signals : List Signal) (outs : List Asked) (refusal : CompileFault) → limit_refusal (over_columns columns (simple_outputs outs)) ≡ Some refusal
     → image columns signals outs ≡ simple_image columns signals outs
 unfolding smaller_outputs
 plain_taken columns signals outs refusal exceeded =
-    ap (λ found. image columns signals (if is_none found && nat_le (slots_of (over_columns columns (simple_outputs outs))) (slots_of (over_columns columns outs)) then simple_outputs outs else outs)) (sym exceeded)
+    ap (λ found. image columns signals (if is_none found && nat_le (slots_needed (over_columns columns (simple_outputs outs))) (slots_needed (over_columns columns outs)) then simple_outputs outs else outs)) (sym exceeded)
 
 pub plain_is : (columns : Columns) (signals : List Signal) (outs : List Asked) (fault : BuildFault) (plain : Program) → IsReason (over_columns columns (simple_outputs outs)) fault
     → fault ≢ build.Memory → plain ≡ image columns signals outs → plain ≡ simple_image columns signals outs
@@ -129,9 +129,9 @@ image_no_more : (columns : Columns) (signals : List Signal) (outs : List Asked) 
 unfolding image smaller_outputs
 image_no_more columns signals outs =
     go (are_smaller (over_columns columns (simple_outputs outs)) (over_columns columns outs))
-    (λ is. leb-true _ _ (and_parts (is_none (limit_refusal (over_columns columns (simple_outputs outs)))) (nat_le (slots_of (over_columns columns (simple_outputs outs))) (slots_of (over_columns columns outs))) is).1)
+    (λ is. leb-true _ _ (and_parts (is_none (limit_refusal (over_columns columns (simple_outputs outs)))) (nat_le (slots_needed (over_columns columns (simple_outputs outs))) (slots_needed (over_columns columns outs))) is).1)
   where
-    go : (b : Bool) → (b ≡ true → slots_of (over_columns columns (simple_outputs outs)) ≤ slots_of (over_columns columns outs))
+    go : (b : Bool) → (b ≡ true → slots_needed (over_columns columns (simple_outputs outs)) ≤ slots_needed (over_columns columns outs))
         → slots_in (image columns signals (if b then simple_outputs outs else outs)) ≤ slots_in (image columns signals outs)
     go true less = less refl
     go false less = omega arith

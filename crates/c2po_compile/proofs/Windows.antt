@@ -11,7 +11,7 @@ use Rattle.mltl_base.specs.Formula.{Formula}
 use Rattle.mltl_base.proofs.Unfolding.{Each, all_push}
 use Rattle.c2po_nodes.specs.declared.nodes.Plain.{Plain}
 use Rattle.c2po_nodes.specs.declared.nodes.Plain.TheVariants.{Truth, Flag, Number, Signal, Minus, Arith, Compare, Not, Logic, Window, Between}
-use Rattle.c2po_nodes.specs.Nodes.{Tree, number, formula, formula_at, tree_of, trees, IsBounded, IsFormed, AreSound}
+use Rattle.c2po_nodes.specs.Nodes.{Tree, number, formula, node_formula, tree_of, trees, IsBounded, IsFormed, AreSound}
 use Rattle.c2po_nodes.proofs.Pushing.{trees_more}
 use Rattle.c2po_compile.proofs.Cores.{Throughout}
 
@@ -26,7 +26,7 @@ TreeWindowed (formula p) = IsWindowed p
 pub AreWindowed : List Tree → Type 0
 AreWindowed ts = Each TreeWindowed ts
 
-pub windowed_at : (ts : List Tree) (n : ℕ) → AreWindowed ts → IsWindowed (formula_at ts n)
+pub windowed_at : (ts : List Tree) (n : ℕ) → AreWindowed ts → IsWindowed (node_formula ts n)
 unfolding AreWindowed
 windowed_at [] n h = tt
 windowed_at (number a ∷ ts) zero h = tt

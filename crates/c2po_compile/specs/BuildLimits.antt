@@ -10,32 +10,32 @@ use Rattle.c2po_compile.specs.declared.build_fault.BuildFault.{BuildFault}
 use Rattle.c2po_compile.specs.declared.build_fault.BuildFault.TheVariants.{TooManyNodes, TooLate, TooManySlots, Memory}
 
 -- the worst-case delays of the future-time instructions of outputs
-abbrev pub delays_of : List Asked → List ℕ
-delays_of outs = worst_delays (ft_list outs)
+abbrev pub output_delays : List Asked → List ℕ
+output_delays outs = worst_delays (ft_list outs)
 
 -- all slots and boxes that outputs need
-abbrev pub slots_of : List Asked → ℕ
-slots_of outs = slot_count (ft_list outs) (pt_list outs) (out_list outs)
+abbrev pub slots_needed : List Asked → ℕ
+slots_needed outs = slot_count (ft_list outs) (pt_list outs) (out_list outs)
 
 -- no instruction is later than the limit
 abbrev pub AreInTime : List Asked → Type 0
-AreInTime outs = All (λ rows. rows ≤ MAX_DELAY) (delays_of outs)
+AreInTime outs = All (λ rows. rows ≤ MAX_DELAY) (output_delays outs)
 
 -- an instruction is later than the limit
 abbrev pub IsLate : List Asked → Type 0
-IsLate outs = Any (λ rows. MAX_DELAY < rows) (delays_of outs)
+IsLate outs = Any (λ rows. MAX_DELAY < rows) (output_delays outs)
 
 -- all limits are kept
 pub record IsWithinLimits (outs : List Asked) : Type 0 where
   pub few : AreFew outs
   pub in_time : AreInTime outs
-  pub fits : slots_of outs ≤ MAX_SLOTS
+  pub fits : slots_needed outs ≤ MAX_SLOTS
 
 -- the limit that a refusal names is exceeded, and those before it are kept: nodes, then delays, then slots
 abbrev pub IsReason : List Asked → BuildFault → Type 0
 IsReason outs TooManyNodes = AreMany outs
 IsReason outs TooLate = AreFew outs × IsLate outs
-IsReason outs TooManySlots = AreFew outs × AreInTime outs × (MAX_SLOTS < slots_of outs)
+IsReason outs TooManySlots = AreFew outs × AreInTime outs × (MAX_SLOTS < slots_needed outs)
 IsReason outs Memory = ⊤
 
 -- why a graph has no sizes: an instruction is later than the limit, or none is and the slots exceed theirs

@@ -30,8 +30,8 @@ refusal_text refusal.TheVariants.TooLate = codes "delay too large"
 refusal_text refusal.TheVariants.TooManySlots = codes "too many slots"
 
 -- the line of a specification, where there is one
-abbrev pub line_text : ℕ → List ℕ
-line_text n = if n == 0 then [] else codes "line " ++ decimal n ++ codes ": "
+abbrev pub spec_line_text : ℕ → List ℕ
+spec_line_text n = if n == 0 then [] else codes "line " ++ decimal n ++ codes ": "
 
 -- the fault of a header that is the reason
 abbrev pub header_fault_of : why.HeaderWhy → header.HeaderFault
@@ -41,6 +41,6 @@ header_fault_of (why.TheVariants.Twice name) = header.TheVariants.Twice name
 
 -- why a specification isn't compiled
 abbrev pub compile_fault_text : fault.CompileFault → List ℕ
-compile_fault_text (fault.TheVariants.Refused line why) = line_text line ++ refusal_text why
+compile_fault_text (fault.TheVariants.Refused line why) = spec_line_text line ++ refusal_text why
 compile_fault_text (fault.TheVariants.BadHeader why) = codes "header: " ++ header_fault_text (header_fault_of why)
 compile_fault_text fault.TheVariants.Memory = codes "out of memory"

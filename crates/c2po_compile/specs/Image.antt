@@ -28,8 +28,8 @@ abbrev pub plain_outputs : Columns → List Asked → List Output
 plain_outputs columns outs = map (λ asked. asked.output) (over_columns columns outs)
 
 -- the program with the instructions, the outputs and the sizes of outputs, which stores these signals
-abbrev pub program_of : Columns → List Signal → List Asked → Program
-program_of columns signals outs = record {
+abbrev pub assembled_program : Columns → List Signal → List Asked → Program
+assembled_program columns signals outs = record {
   version = 2;
   width = columns.width;
   bz = bz_list outs;
@@ -42,4 +42,4 @@ program_of columns signals outs = record {
 
 -- the image of outputs over signals by their numbers: their program over the columns, in version 2
 unfoldable pub image : Columns → List Signal → List Asked → Program
-image columns signals outs = program_of columns signals (over_columns columns outs)
+image columns signals outs = assembled_program columns signals (over_columns columns outs)

@@ -3,7 +3,7 @@
 use Rattle.std.specs.Prelude.{◌≡◌, ℕ, List, [], None, length, map}
 use Rattle.mltl_base.specs.declared.program.Columns.{Columns}
 use Rattle.mltl_base.specs.declared.program.Program.{Program}
-use Rattle.obs_files.specs.Layout.{Fits, spelling}
+use Rattle.obs_files.specs.Layout.{IsEncodable, spelling}
 use Rattle.obs_verify.specs.Bound.{bound}
 use Rattle.obs_verify.specs.Layout.{HasLayout}
 use Rattle.obs_verify.specs.WellFormed.{IsWellFormed}
@@ -40,7 +40,7 @@ pub record CanMove (text : List ℕ) (old new : Columns) : Type 0 where
 pub record IsFileOf (text : List ℕ) (columns : Columns) (program : Program) (file : List ℕ) : Type 0 where
   pub faultless : first_refusal text ≡ None
   pub serve : AreColumnsFor (length (signals_in text)) columns
-  pub fits : Fits program
+  pub fits : IsEncodable program
   pub bytes : file ≡ spelling program
 
 -- that program is the image

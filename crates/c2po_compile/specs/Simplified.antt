@@ -13,7 +13,7 @@ use Rattle.mltl_base.specs.Programs.{outputs}
 use Rattle.mltl_base.specs.Reports.{Output, delay, meaning, reports, told, IsRising, IsSettled}
 use Rattle.mltl_base.specs.Subformulas.{Asked}
 use Rattle.mltl_simplify.specs.Outputs.{simple_outputs}
-use Rattle.c2po_compile.specs.BuildLimits.{slots_of}
+use Rattle.c2po_compile.specs.BuildLimits.{slots_needed}
 use Rattle.obs_verify.specs.Bound.{bound}
 use Rattle.obs_verify.specs.Layout.{HasLayout}
 use Rattle.obs_verify.specs.WellFormed.{IsWellFormed}
@@ -31,7 +31,7 @@ slots_in program = sum program.sizes.ft + sum program.sizes.pt
 
 -- the first outputs over columns are within all limits, and need no more slots and boxes than the others
 abbrev pub are_smaller : List Asked → List Asked → Bool
-are_smaller simple plain = is_none (limit_refusal simple) && nat_le (slots_of simple) (slots_of plain)
+are_smaller simple plain = is_none (limit_refusal simple) && nat_le (slots_needed simple) (slots_needed plain)
 
 -- the outputs in their simplified forms where these are smaller, else as they are
 unfoldable pub smaller_outputs : Columns → List Asked → List Asked

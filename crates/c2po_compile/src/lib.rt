@@ -13,7 +13,7 @@
 
 mod assembly;
 mod build_fault;
-mod compiling;
+mod compiler;
 mod fault;
 mod image_laws;
 pub mod laws;
@@ -26,7 +26,7 @@ mod text;
 
 pub use assembly::build;
 pub use build_fault::BuildFault;
-pub use compiling::{columns_of, compile};
+pub use compiler::{columns_of, compile};
 pub use fault::{CompileFault, HeaderWhy, Refusal};
 pub use image_laws::{images_are_well_formed, images_tell_their_outputs};
 pub use program::back;

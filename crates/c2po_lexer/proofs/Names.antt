@@ -9,8 +9,8 @@ use Rattle.std.proofs.lemmas.List.Sums.{prefix_len_passes, prefix_len-le-length}
 use Rattle.std.proofs.lemmas.List.Elements.{All-cons}
 use Rattle.c2po_lexer.specs.Spelling.{keyword_of, sign_at}
 use Rattle.mltl_base.specs.Letters.{is_in_word}
-use Rattle.c2po_lexer.specs.Cut.{is_blank, begins_word, is_in_line, sign_or_stray, front_of, size_of, piece_at, pieces_from}
-use Rattle.c2po_lexer.specs.Tokens.{HasPlainName, reserved_or_name, line_at, what_of, reading_of, result_map, before, all_of, tokens_of, token_of}
+use Rattle.c2po_lexer.specs.Cut.{is_white, begins_word, is_in_line, sign_or_stray, front_of, size_of, piece_at, pieces_from}
+use Rattle.c2po_lexer.specs.Tokens.{HasPlainLetters, reserved_or_name, line_at, what_of, read_piece, result_map, comes_first, all_of, tokens_of, token_of}
 use Rattle.c2po_lexer.proofs.Spans.{in_word}
 use Rattle.c2po_lexer.specs.declared.token.Token.{Token}
 use Rattle.c2po_lexer.specs.declared.token.What.{What}
@@ -57,11 +57,11 @@ front_word false false false false n m s text e = sign_no_word s (take (size_of 
 pub piece_word : (text : List ℕ) → IsWord (front_of text) (take (size_of (front_of text)) text)
 unfolding front_of
 piece_word text =
-    front_word (is_blank (slice_index text 0)) (starts_with nat_eq text (codes "--")) (begins_word (slice_index text 0)) (is_ascii_digit (slice_index text 0))
+    front_word (is_white (slice_index text 0)) (starts_with nat_eq text (codes "--")) (begins_word (slice_index text 0)) (is_ascii_digit (slice_index text 0))
     (prefix_len is_in_line text) (prefix_len is_ascii_digit text) (sign_at text) text refl
 
 abbrev pub PlainReading : Result (Option What) LexFault → Type 0
-PlainReading r = IfOk r (λ w. IfSome w HasPlainName)
+PlainReading r = IfOk r (λ w. IfSome w HasPlainLetters)
 
 plain_word : (long : Bool) (k : Option Keyword) (line : ℕ) (bytes : List ℕ) (fault : LexFault) → AllPass is_in_word bytes → PlainReading (result_map Some (if long then Err fault else Ok (reserved_or_name bytes k)))
 plain_word true k line bytes fault word = tt
@@ -81,26 +81,26 @@ what_plain line (front.Sign s) bytes word = tt
 what_plain line front.Stray bytes word = tt
 
 abbrev pub PlainTokens : Result (List Token) LexFault → Type 0
-PlainTokens r = IfOk r (All (λ t. HasPlainName t.what))
+PlainTokens r = IfOk r (All (λ t. HasPlainLetters t.what))
 
-before_plain : (token : What → Token) → ((w : What) → (token w).what ≡ w) → (r : Result (Option What) LexFault) (rest : Result (List Token) LexFault) → PlainReading r → PlainTokens rest → PlainTokens (before (result_map (option_map token) r) rest)
+before_plain : (token : What → Token) → ((w : What) → (token w).what ≡ w) → (r : Result (Option What) LexFault) (rest : Result (List Token) LexFault) → PlainReading r → PlainTokens rest → PlainTokens (comes_first (result_map (option_map token) r) rest)
 before_plain token same (Err f) rest plain others = tt
 before_plain token same (Ok None) rest plain others = others
 before_plain token same (Ok (Some w)) (Err f) plain others = tt
 before_plain token same (Ok (Some w)) (Ok ts) plain others =
-    All-cons (λ t. HasPlainName t.what) (token w) ts (subst HasPlainName (sym (same w)) plain) others
+    All-cons (λ t. HasPlainLetters t.what) (token w) ts (subst HasPlainLetters (sym (same w)) plain) others
 
-pieces_plain : (text : List ℕ) (k s : ℕ) (xs : List ℕ) → PlainTokens (all_of (map (reading_of text) (pieces_from k s xs)))
+pieces_plain : (text : List ℕ) (k s : ℕ) (xs : List ℕ) → PlainTokens (all_of (map (read_piece text) (pieces_from k s xs)))
 unfolding pieces_from all_of
 pieces_plain text zero s [] = λ k d inside. absurd (omega arith)
 pieces_plain text (suc k) s [] = λ k d inside. absurd (omega arith)
 pieces_plain text (suc k) s (x ∷ xs) = pieces_plain text k (suc s) xs
 pieces_plain text zero s (x ∷ xs) =
     before_plain (token_of text (piece_at s (x ∷ xs))) (λ w. refl) (what_of (line_at text s) (front_of (x ∷ xs)) (take (size_of (front_of (x ∷ xs))) (x ∷ xs)))
-    (all_of (map (reading_of text) (pieces_from (size_of (front_of (x ∷ xs)) - 1) (suc s) xs)))
+    (all_of (map (read_piece text) (pieces_from (size_of (front_of (x ∷ xs)) - 1) (suc s) xs)))
     (what_plain (line_at text s) (front_of (x ∷ xs)) (take (size_of (front_of (x ∷ xs))) (x ∷ xs)) (piece_word (x ∷ xs)))
     (pieces_plain text (size_of (front_of (x ∷ xs)) - 1) (suc s) xs)
 
-pub tokens_plain : (text : List ℕ) (ts : List Token) → tokens_of text ≡ Ok ts → All (λ t. HasPlainName t.what) ts
+pub tokens_plain : (text : List ℕ) (ts : List Token) → tokens_of text ≡ Ok ts → All (λ t. HasPlainLetters t.what) ts
 unfolding tokens_of
 tokens_plain text ts e = subst PlainTokens e (pieces_plain text 0 0 text)

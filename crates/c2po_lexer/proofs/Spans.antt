@@ -9,8 +9,8 @@ use Rattle.std.proofs.lemmas.Bool.Decides.{nat_tests}
 use Rattle.c2po_lexer.proofs.Fronts.{size_of_sign}
 use Rattle.c2po_lexer.specs.Spelling.{sign_at, sign_text, signs}
 use Rattle.mltl_base.specs.Letters.{is_in_word}
-use Rattle.c2po_lexer.specs.Cut.{is_blank, begins_word, is_in_line, sign_or_stray, front_of, size_of, piece_at, pieces_from}
-use Rattle.c2po_lexer.specs.Tokens.{AreInOrder, line_at, what_of, reading_of, result_map, before, all_of, tokens_of, token_of}
+use Rattle.c2po_lexer.specs.Cut.{is_white, begins_word, is_in_line, sign_or_stray, front_of, size_of, piece_at, pieces_from}
+use Rattle.c2po_lexer.specs.Tokens.{TokensAreInOrder, line_at, what_of, read_piece, result_map, comes_first, all_of, tokens_of, token_of}
 use Rattle.c2po_lexer.specs.declared.token.Token.{Token}
 use Rattle.c2po_lexer.specs.declared.token.What.{What}
 use Rattle.c2po_lexer.specs.declared.token.Sign.{Sign}
@@ -22,7 +22,7 @@ prefix_len_some : (p : ℕ → Bool) (text : List ℕ) → 0 < length text → p
 prefix_len_some p [] some first = absurd (omega arith)
 prefix_len_some p (x ∷ xs) some first = rw first (omega arith)
 
-in_line : (b : ℕ) → is_blank b ≡ false → is_in_line b ≡ true
+in_line : (b : ℕ) → is_white b ≡ false → is_in_line b ≡ true
 in_line b h = grind (arith, nat_tests)
 
 pub in_word : (b : ℕ) → begins_word b ≡ true → is_in_word b ≡ true
@@ -53,7 +53,7 @@ run_sized : (p : ℕ → Bool) (text : List ℕ) → 0 < length text → p (slic
 run_sized p text some first = (prefix_len_some p text some first, prefix_len-le-length p text)
 
 front_sized : (text : List ℕ) → 0 < length text → (blank comment word digit : Bool)
-    → is_blank (slice_index text 0) ≡ blank → begins_word (slice_index text 0) ≡ word → is_ascii_digit (slice_index text 0) ≡ digit
+    → is_white (slice_index text 0) ≡ blank → begins_word (slice_index text 0) ≡ word → is_ascii_digit (slice_index text 0) ≡ digit
     → IsSized text (if blank then front.Blank else (if comment then front.Comment (prefix_len is_in_line text) else (if word then front.Word (prefix_len is_in_word text) else (if digit then front.Digits (prefix_len is_ascii_digit text) else sign_or_stray (sign_at text)))))
 front_sized text some true comment word digit b w d = (omega arith, omega arith)
 front_sized text some false true word digit b w d = run_sized is_in_line text some (in_line (slice_index text 0) b)
@@ -64,49 +64,49 @@ front_sized text some false false false false b w d = sign_sized text some (sign
 pub piece_sized : (text : List ℕ) → 0 < length text → IsSized text (front_of text)
 unfolding front_of
 piece_sized text some =
-    front_sized text some (is_blank (slice_index text 0)) (starts_with nat_eq text (codes "--")) (begins_word (slice_index text 0)) (is_ascii_digit (slice_index text 0)) refl refl refl
+    front_sized text some (is_white (slice_index text 0)) (starts_with nat_eq text (codes "--")) (begins_word (slice_index text 0)) (is_ascii_digit (slice_index text 0)) refl refl refl
 
 abbrev pub OrderedTokens : (from to : ℕ) → Result (List Token) LexFault → Type 0
-OrderedTokens from to r = IfOk r (AreInOrder from to)
+OrderedTokens from to r = IfOk r (TokensAreInOrder from to)
 
-earlier : (from start to : ℕ) (ts : List Token) → from ≤ start → AreInOrder start to ts → AreInOrder from to ts
-earlier from start to [] before order = omega arith
-earlier from start to (t ∷ ts) before order = (omega arith, order.1, order.2)
+earlier : (from start to : ℕ) (ts : List Token) → from ≤ start → TokensAreInOrder start to ts → TokensAreInOrder from to ts
+earlier from start to [] comes_first order = omega arith
+earlier from start to (t ∷ ts) comes_first order = (omega arith, order.1, order.2)
 
 before_ordered : (from next to : ℕ) (token : What → Token) → ((w : What) → (token w).start ≡ from) → ((w : What) → (token w).end ≡ next) → from < next
-    → (r : Result (Option What) LexFault) (rest : Result (List Token) LexFault) → OrderedTokens next to rest → OrderedTokens from to (before (result_map (option_map token) r) rest)
+    → (r : Result (Option What) LexFault) (rest : Result (List Token) LexFault) → OrderedTokens next to rest → OrderedTokens from to (comes_first (result_map (option_map token) r) rest)
 before_ordered from next to token at past more (Err f) rest others = tt
 before_ordered from next to token at past more (Ok None) (Err f) others = tt
 before_ordered from next to token at past more (Ok None) (Ok ts) others = earlier from next to ts (omega arith) others
 before_ordered from next to token at past more (Ok (Some w)) (Err f) others = tt
 before_ordered from next to token at past more (Ok (Some w)) (Ok ts) others =
-    (omega (arith, at w), omega (arith, at w, past w), subst (λ n. AreInOrder n to ts) (sym (past w)) others)
+    (omega (arith, at w), omega (arith, at w, past w), subst (λ n. TokensAreInOrder n to ts) (sym (past w)) others)
 
 ordered_at : (a b c d : ℕ) (r : Result (List Token) LexFault) → a ≡ b → c ≡ d → OrderedTokens a c r → OrderedTokens b d r
 ordered_at a b c d r e f order = subst (λ n. OrderedTokens b n r) f (subst (λ n. OrderedTokens n c r) e order)
 
-pieces_ordered : (text : List ℕ) (k s : ℕ) (xs : List ℕ) → k ≤ length xs → OrderedTokens (s + k) (s + length xs) (all_of (map (reading_of text) (pieces_from k s xs)))
+pieces_ordered : (text : List ℕ) (k s : ℕ) (xs : List ℕ) → k ≤ length xs → OrderedTokens (s + k) (s + length xs) (all_of (map (read_piece text) (pieces_from k s xs)))
 unfolding pieces_from all_of
 pieces_ordered text zero s [] inside = omega arith
 pieces_ordered text (suc k) s [] inside = absurd (omega arith)
 pieces_ordered text (suc k) s (x ∷ xs) inside =
-    ordered_at (suc s + k) (s + suc k) (suc s + length xs) (s + suc (length xs)) (all_of (map (reading_of text) (pieces_from k (suc s) xs)))
+    ordered_at (suc s + k) (s + suc k) (suc s + length xs) (s + suc (length xs)) (all_of (map (read_piece text) (pieces_from k (suc s) xs)))
     (omega arith) (omega arith) (pieces_ordered text k (suc s) xs (omega arith))
 pieces_ordered text zero s (x ∷ xs) inside =
     let sized : IsSized (x ∷ xs) (front_of (x ∷ xs)) = piece_sized (x ∷ xs) (omega arith) in
     let whole : length (take (size_of (front_of (x ∷ xs))) (x ∷ xs)) ≡ size_of (front_of (x ∷ xs)) = length-take-le (size_of (front_of (x ∷ xs))) (x ∷ xs) sized.1 in
-    let rest = all_of (map (reading_of text) (pieces_from (size_of (front_of (x ∷ xs)) - 1) (suc s) xs)) in
+    let rest = all_of (map (read_piece text) (pieces_from (size_of (front_of (x ∷ xs)) - 1) (suc s) xs)) in
     let others : OrderedTokens (s + size_of (front_of (x ∷ xs))) (s + suc (length xs)) rest =
     ordered_at (suc s + (size_of (front_of (x ∷ xs)) - 1)) (s + size_of (front_of (x ∷ xs))) (suc s + length xs) (s + suc (length xs)) rest
     (omega (arith, sized.0)) (omega arith) (pieces_ordered text (size_of (front_of (x ∷ xs)) - 1) (suc s) xs (omega (arith, sized.0, sized.1))) in
     let begin : s ≡ s + 0 = omega arith in
-    subst (λ n. OrderedTokens n (s + suc (length xs)) (before (reading_of text (piece_at s (x ∷ xs))) rest)) begin
+    subst (λ n. OrderedTokens n (s + suc (length xs)) (comes_first (read_piece text (piece_at s (x ∷ xs))) rest)) begin
     (before_ordered s (s + size_of (front_of (x ∷ xs))) (s + suc (length xs)) (token_of text (piece_at s (x ∷ xs))) (λ w. refl) (λ w. ap (λ n. s + n) whole) (omega (arith, sized.0))
     (what_of (line_at text s) (front_of (x ∷ xs)) (take (size_of (front_of (x ∷ xs))) (x ∷ xs))) rest others)
 
-pub tokens_ordered : (text : List ℕ) (ts : List Token) → tokens_of text ≡ Ok ts → AreInOrder 0 (length text) ts
+pub tokens_ordered : (text : List ℕ) (ts : List Token) → tokens_of text ≡ Ok ts → TokensAreInOrder 0 (length text) ts
 unfolding tokens_of
 tokens_ordered text ts e =
     subst (OrderedTokens 0 (length text)) e
-    (ordered_at (0 + 0) 0 (0 + length text) (length text) (all_of (map (reading_of text) (pieces_from 0 0 text))) (omega arith) (omega arith)
+    (ordered_at (0 + 0) 0 (0 + length text) (length text) (all_of (map (read_piece text) (pieces_from 0 0 text))) (omega arith) (omega arith)
     (pieces_ordered text 0 0 text (omega arith)))

@@ -4,7 +4,7 @@ use Rattle.std.proofs.lemmas.List.{drop-drop, length-drop, length-take-le, drop_
 use Rattle.std.proofs.Math.Seq.{take-add}
 use Rattle.std.proofs.lemmas.List.Sums.{sum_by-append}
 use Rattle.c2po_lexer.specs.Cut.{front_of, size_of, piece_at, pieces_from}
-use Rattle.c2po_lexer.specs.Tokens.{IsAfter, line_at, reading_of, reading_at, size_at, before, all_of, tokens_of, result_map}
+use Rattle.c2po_lexer.specs.Tokens.{IsAfter, line_at, read_piece, token_at, size_at, comes_first, all_of, tokens_of, result_map}
 use Rattle.c2po_lexer.specs.declared.token.Token.{Token}
 use Rattle.c2po_lexer.specs.declared.fault.LexFault.{LexFault}
 
@@ -62,41 +62,41 @@ after_piece text start size line count rest within e is inside l k =
 
 -- the tokens of a text from a place on, or the first fault from there on
 unfoldable pub tokens_from : List ℕ → ℕ → Result (List Token) LexFault
-tokens_from text start = all_of (map (reading_of text) (pieces_from 0 start (drop start text)))
+tokens_from text start = all_of (map (read_piece text) (pieces_from 0 start (drop start text)))
 
 -- these tokens, then those
 abbrev pub onto : List Token → Result (List Token) LexFault → Result (List Token) LexFault
 onto ts rest = result_map (λ us. ts ++ us) rest
 
 -- tokens from a place on: the reading of the piece there, then the tokens from the next place on
-pub tokens_step : (text : List ℕ) (start : ℕ) → start < length text → 1 ≤ size_at text start → tokens_from text start ≡ before (reading_at text start) (tokens_from text (start + size_at text start))
+pub tokens_step : (text : List ℕ) (start : ℕ) → start < length text → 1 ≤ size_at text start → tokens_from text start ≡ comes_first (token_at text start) (tokens_from text (start + size_at text start))
 unfolding tokens_from all_of
 tokens_step text start inside size =
     let some : 0 < length (drop start text) = omega (arith, length-drop start text) in
     let pieces = pieces_step start (drop start text) some size in
     let past : drop (size_at text start) (drop start text) ≡ drop (start + size_at text start) text = drop-drop (size_at text start) start text in
-    ap (λ ps. all_of (map (reading_of text) ps)) pieces
-    ∙ ap (λ rest. before (reading_at text start) (all_of (map (reading_of text) (pieces_from 0 (start + size_at text start) rest)))) past
+    ap (λ ps. all_of (map (read_piece text) ps)) pieces
+    ∙ ap (λ rest. comes_first (token_at text start) (all_of (map (read_piece text) (pieces_from 0 (start + size_at text start) rest)))) past
 
-onto-before : (old : List Token) (token : Option Token) (rest : Result (List Token) LexFault) → onto old (before (Ok token) rest) ≡ onto (old ++ option_to_list token) rest
+onto-before : (old : List Token) (token : Option Token) (rest : Result (List Token) LexFault) → onto old (comes_first (Ok token) rest) ≡ onto (old ++ option_to_list token) rest
 onto-before old None (Ok ts) = ap (λ us. Ok (us ++ ts)) (sym (append-nil old))
 onto-before old None (Err f) = refl
 onto-before old (Some t) (Ok ts) = ap (λ us. Ok us) (sym (append_assoc old (t ∷ []) ts))
 onto-before old (Some t) (Err f) = refl
 
 -- a piece that was read well: its token stands after those before
-pub tokens_read : (text : List ℕ) (old : List Token) (start next : ℕ) (token : Option Token) → start < length text → 1 ≤ size_at text start → reading_at text start ≡ Ok token → next ≡ start + size_at text start → onto old (tokens_from text start) ≡ onto (old ++ option_to_list token) (tokens_from text next)
+pub tokens_read : (text : List ℕ) (old : List Token) (start next : ℕ) (token : Option Token) → start < length text → 1 ≤ size_at text start → token_at text start ≡ Ok token → next ≡ start + size_at text start → onto old (tokens_from text start) ≡ onto (old ++ option_to_list token) (tokens_from text next)
 tokens_read text old start next token inside size reading same =
     ap (λ r. onto old r) (tokens_step text start inside size)
-    ∙ ap (λ r. onto old (before r (tokens_from text (start + size_at text start)))) reading
+    ∙ ap (λ r. onto old (comes_first r (tokens_from text (start + size_at text start)))) reading
     ∙ onto-before old token (tokens_from text (start + size_at text start))
     ∙ ap (λ n. onto (old ++ option_to_list token) (tokens_from text n)) (sym same)
 
 -- a piece that has a fault: it is the first fault from there on
-pub tokens_fault : (text : List ℕ) (old : List Token) (start : ℕ) (fault : LexFault) → start < length text → 1 ≤ size_at text start → reading_at text start ≡ Err fault → onto old (tokens_from text start) ≡ Err fault
+pub tokens_fault : (text : List ℕ) (old : List Token) (start : ℕ) (fault : LexFault) → start < length text → 1 ≤ size_at text start → token_at text start ≡ Err fault → onto old (tokens_from text start) ≡ Err fault
 tokens_fault text old start fault inside size reading =
     ap (λ r. onto old r) (tokens_step text start inside size)
-    ∙ ap (λ r. onto old (before r (tokens_from text (start + size_at text start)))) reading
+    ∙ ap (λ r. onto old (comes_first r (tokens_from text (start + size_at text start)))) reading
 
 onto-nil : (rest : Result (List Token) LexFault) → rest ≡ onto [] rest
 onto-nil (Ok ts) = refl
@@ -105,7 +105,7 @@ onto-nil (Err f) = refl
 -- at the first place no token stands before, and at the end none comes
 pub tokens_begin : (text : List ℕ) → tokens_of text ≡ onto [] (tokens_from text 0)
 unfolding tokens_of tokens_from
-tokens_begin text = onto-nil (all_of (map (reading_of text) (pieces_from 0 0 text)))
+tokens_begin text = onto-nil (all_of (map (read_piece text) (pieces_from 0 0 text)))
 
 pub tokens_end : (text : List ℕ) (old : List Token) (start : ℕ) → length text ≤ start → onto old (tokens_from text start) ≡ Ok old
 unfolding tokens_from all_of pieces_from

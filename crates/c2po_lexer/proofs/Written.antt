@@ -12,8 +12,8 @@ use Rattle.c2po_lexer.proofs.Fronts.{find_passes}
 use Rattle.c2po_lexer.proofs.Spans.{piece_sized}
 use Rattle.c2po_lexer.specs.Spelling.{keyword_text, keyword_of, keywords, sign_text, sign_at, signs}
 use Rattle.mltl_base.specs.Letters.{is_in_word}
-use Rattle.c2po_lexer.specs.Cut.{is_blank, begins_word, is_in_line, sign_or_stray, front_of, size_of, piece_at, pieces_from}
-use Rattle.c2po_lexer.specs.Tokens.{IsWrittenAs, bytes_of, reserved_or_name, line_at, what_of, reading_of, result_map, before, all_of, tokens_of, token_of}
+use Rattle.c2po_lexer.specs.Cut.{is_white, begins_word, is_in_line, sign_or_stray, front_of, size_of, piece_at, pieces_from}
+use Rattle.c2po_lexer.specs.Tokens.{IsWrittenAs, token_bytes, reserved_or_name, line_at, what_of, read_piece, result_map, comes_first, all_of, tokens_of, token_of}
 use Rattle.c2po_lexer.specs.declared.token.Token.{Token}
 use Rattle.c2po_lexer.specs.declared.token.What.{What}
 use Rattle.c2po_lexer.specs.declared.token.What.TheVariants as what
@@ -55,7 +55,7 @@ front_sign false false false false n m l text = sign_or_none text (sign_at text)
 piece_sign : (text : List ℕ) → IsSign (front_of text) (take (size_of (front_of text)) text)
 unfolding front_of
 piece_sign text =
-    front_sign (is_blank (slice_index text 0)) (starts_with nat_eq text (codes "--")) (begins_word (slice_index text 0)) (is_ascii_digit (slice_index text 0))
+    front_sign (is_white (slice_index text 0)) (starts_with nat_eq text (codes "--")) (begins_word (slice_index text 0)) (is_ascii_digit (slice_index text 0))
     (prefix_len is_in_line text) (prefix_len is_in_word text) (prefix_len is_ascii_digit text) text
 
 abbrev pub ReadingOf : List ℕ → Result (Option What) LexFault → Type 0
@@ -79,16 +79,16 @@ what_written line (front.Sign s) bytes sign = sign
 what_written line front.Stray bytes sign = tt
 
 abbrev pub WrittenTokens : List ℕ → Result (List Token) LexFault → Type 0
-WrittenTokens text r = IfOk r (All (λ t. IsWrittenAs t.what (bytes_of text t)))
+WrittenTokens text r = IfOk r (All (λ t. IsWrittenAs t.what (token_bytes text t)))
 
-before_written : (text bytes : List ℕ) (token : What → Token) → ((w : What) → (token w).what ≡ w) → ((w : What) → bytes ≡ bytes_of text (token w))
-    → (r : Result (Option What) LexFault) (rest : Result (List Token) LexFault) → ReadingOf bytes r → WrittenTokens text rest → WrittenTokens text (before (result_map (option_map token) r) rest)
+before_written : (text bytes : List ℕ) (token : What → Token) → ((w : What) → (token w).what ≡ w) → ((w : What) → bytes ≡ token_bytes text (token w))
+    → (r : Result (Option What) LexFault) (rest : Result (List Token) LexFault) → ReadingOf bytes r → WrittenTokens text rest → WrittenTokens text (comes_first (result_map (option_map token) r) rest)
 before_written text bytes token same at (Err f) rest reading others = tt
 before_written text bytes token same at (Ok None) rest reading others = others
 before_written text bytes token same at (Ok (Some w)) (Err f) reading others = tt
 before_written text bytes token same at (Ok (Some w)) (Ok ts) reading others =
-    All-cons (λ t. IsWrittenAs t.what (bytes_of text t)) (token w) ts
-    (subst (λ v. IsWrittenAs v (bytes_of text (token w))) (sym (same w)) (subst (λ b. IsWrittenAs w b) (at w) reading)) others
+    All-cons (λ t. IsWrittenAs t.what (token_bytes text t)) (token w) ts
+    (subst (λ v. IsWrittenAs v (token_bytes text (token w))) (sym (same w)) (subst (λ b. IsWrittenAs w b) (at w) reading)) others
 
 next_rest : (text : List ℕ) (s x : ℕ) (xs : List ℕ) → x ∷ xs ≡ drop s text → xs ≡ drop (suc s) text
 next_rest text s x xs e =
@@ -101,7 +101,7 @@ span_bytes text s size rest e inside =
     let n : s + length (take size rest) - s ≡ size = omega (arith, whole) in
     rw n (ap (λ l. take size l) e)
 
-pieces_written : (text : List ℕ) (k s : ℕ) (xs : List ℕ) → xs ≡ drop s text → WrittenTokens text (all_of (map (reading_of text) (pieces_from k s xs)))
+pieces_written : (text : List ℕ) (k s : ℕ) (xs : List ℕ) → xs ≡ drop s text → WrittenTokens text (all_of (map (read_piece text) (pieces_from k s xs)))
 unfolding pieces_from all_of
 pieces_written text zero s [] e = λ k d inside. absurd (omega arith)
 pieces_written text (suc k) s [] e = λ k d inside. absurd (omega arith)
@@ -110,10 +110,10 @@ pieces_written text zero s (x ∷ xs) e =
     before_written text (take (size_of (front_of (x ∷ xs))) (x ∷ xs)) (token_of text (piece_at s (x ∷ xs))) (λ w. refl)
     (λ w. span_bytes text s (size_of (front_of (x ∷ xs))) (x ∷ xs) e (piece_sized (x ∷ xs) (omega arith)).1)
     (what_of (line_at text s) (front_of (x ∷ xs)) (take (size_of (front_of (x ∷ xs))) (x ∷ xs)))
-    (all_of (map (reading_of text) (pieces_from (size_of (front_of (x ∷ xs)) - 1) (suc s) xs)))
+    (all_of (map (read_piece text) (pieces_from (size_of (front_of (x ∷ xs)) - 1) (suc s) xs)))
     (what_written (line_at text s) (front_of (x ∷ xs)) (take (size_of (front_of (x ∷ xs))) (x ∷ xs)) (piece_sign (x ∷ xs)))
     (pieces_written text (size_of (front_of (x ∷ xs)) - 1) (suc s) xs (next_rest text s x xs e))
 
-pub tokens_written : (text : List ℕ) (ts : List Token) → tokens_of text ≡ Ok ts → All (λ t. IsWrittenAs t.what (bytes_of text t)) ts
+pub tokens_written : (text : List ℕ) (ts : List Token) → tokens_of text ≡ Ok ts → All (λ t. IsWrittenAs t.what (token_bytes text t)) ts
 unfolding tokens_of
 tokens_written text ts e = subst (WrittenTokens text) e (pieces_written text 0 0 text refl)

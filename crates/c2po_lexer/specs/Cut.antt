@@ -11,8 +11,8 @@ use Rattle.c2po_lexer.specs.declared.front.Front.{Front}
 use Rattle.c2po_lexer.specs.declared.front.Front.TheVariants as front
 
 -- space, tab, carriage return and newline
-abbrev pub is_blank : ℕ → Bool
-is_blank b = b == 32 || b == 9 || b == 13 || b == 10
+abbrev pub is_white : ℕ → Bool
+is_white b = b == 32 || b == 9 || b == 13 || b == 10
 
 -- a word begins with a letter of ASCII or `_`, and goes on with letters, digits and `_`
 abbrev pub begins_word : ℕ → Bool
@@ -30,7 +30,7 @@ sign_or_stray None = front.Stray
 -- what a text begins with, as long as can be; a comment runs from `--` to the end of its line
 unfoldable pub front_of : List ℕ → Front
 front_of text =
-    if is_blank (slice_index text 0) then front.Blank
+    if is_white (slice_index text 0) then front.Blank
     else (if starts_with nat_eq text (codes "--") then front.Comment (prefix_len is_in_line text)
     else (if begins_word (slice_index text 0) then front.Word (prefix_len is_in_word text)
     else (if is_ascii_digit (slice_index text 0) then front.Digits (prefix_len is_ascii_digit text)

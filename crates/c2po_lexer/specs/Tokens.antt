@@ -31,14 +31,14 @@ reserved_or_name word (Some k) = what.Reserved k
 reserved_or_name word None = what.Word word
 
 -- a word has at most 64 bytes
-abbrev pub word_of : ℕ → List ℕ → Result What LexFault
-word_of line word =
+abbrev pub word_token : ℕ → List ℕ → Result What LexFault
+word_token line word =
     if nat_lt 64 (length word) then Err (fault.LongWord line)
     else Ok (reserved_or_name word (keyword_of word))
 
 -- a number is at most 2 ^ 63 - 1
-abbrev pub number_of : ℕ → List ℕ → Result What LexFault
-number_of line digits =
+abbrev pub number_token : ℕ → List ℕ → Result What LexFault
+number_token line digits =
     if nat_lt MAX_NUMBER (digits_value 10 digits) then Err (fault.Number line)
     else Ok (what.Number (pos (digits_value 10 digits)))
 
@@ -46,8 +46,8 @@ number_of line digits =
 abbrev pub what_of : ℕ → Front → List ℕ → Result (Option What) LexFault
 what_of line front.Blank bytes = Ok None
 what_of line (front.Comment n) bytes = Ok None
-what_of line (front.Word n) bytes = result_map Some (word_of line bytes)
-what_of line (front.Digits n) bytes = result_map Some (number_of line bytes)
+what_of line (front.Word n) bytes = result_map Some (word_token line bytes)
+what_of line (front.Digits n) bytes = result_map Some (number_token line bytes)
 what_of line (front.Sign s) bytes = Ok (Some (what.Sign s))
 what_of line front.Stray bytes = Err (fault.Letter line)
 
@@ -62,13 +62,13 @@ token_of text piece w =
     }
 
 -- a token, none, or a fault
-abbrev pub reading_of : List ℕ → Piece → Result (Option Token) LexFault
-reading_of text piece =
+abbrev pub read_piece : List ℕ → Piece → Result (Option Token) LexFault
+read_piece text piece =
     result_map (option_map (token_of text piece)) (what_of (line_at text piece.start) piece.front piece.bytes)
 
 -- the same at a place where a piece starts
-abbrev pub reading_at : List ℕ → ℕ → Result (Option Token) LexFault
-reading_at text start = reading_of text (piece_at start (drop start text))
+abbrev pub token_at : List ℕ → ℕ → Result (Option Token) LexFault
+token_at text start = read_piece text (piece_at start (drop start text))
 
 -- how many bytes the piece takes that starts at a place
 abbrev pub size_at : List ℕ → ℕ → ℕ
@@ -81,24 +81,24 @@ pub record IsAfter (text : List ℕ) (first next number : ℕ) : Type 0 where
   pub line : number ≡ line_at text next
 
 -- a token comes before the others, and a fault is the first one
-abbrev pub before :
+abbrev pub comes_first :
     Result (Option Token) LexFault → Result (List Token) LexFault → Result (List Token) LexFault
-before (Err f) rest = Err f
-before (Ok None) rest = rest
-before (Ok (Some t)) rest = result_map (λ ts. t ∷ ts) rest
+comes_first (Err f) rest = Err f
+comes_first (Ok None) rest = rest
+comes_first (Ok (Some t)) rest = result_map (λ ts. t ∷ ts) rest
 
 -- all tokens, or the first fault
 unfoldable pub all_of : List (Result (Option Token) LexFault) → Result (List Token) LexFault
 all_of [] = Ok []
-all_of (reading ∷ rest) = before reading (all_of rest)
+all_of (reading ∷ rest) = comes_first reading (all_of rest)
 
 -- the tokens of a text, or its first fault
 unfoldable pub tokens_of : List ℕ → Result (List Token) LexFault
-tokens_of text = all_of (map (reading_of text) (pieces_of text))
+tokens_of text = all_of (map (read_piece text) (pieces_of text))
 
 -- the bytes of a token's span
-abbrev pub bytes_of : List ℕ → Token → List ℕ
-bytes_of text t = take (t.end - t.start) (drop t.start text)
+abbrev pub token_bytes : List ℕ → Token → List ℕ
+token_bytes text t = take (t.end - t.start) (drop t.start text)
 
 -- how a token is written
 abbrev pub IsWrittenAs : What → List ℕ → Type 0
@@ -108,11 +108,11 @@ IsWrittenAs (what.Number value) bytes = value ≡ pos (digits_value 10 bytes)
 IsWrittenAs (what.Sign s) bytes = sign_text s ≡ bytes
 
 -- tokens are in order between two positions of a text, and each has a byte or more
-abbrev pub AreInOrder : (from to : ℕ) → List Token → Type 0
-AreInOrder from to [] = from ≤ to
-AreInOrder from to (t ∷ ts) = (from ≤ t.start) × (t.start < t.end) × AreInOrder t.end to ts
+abbrev pub TokensAreInOrder : (from to : ℕ) → List Token → Type 0
+TokensAreInOrder from to [] = from ≤ to
+TokensAreInOrder from to (t ∷ ts) = (from ≤ t.start) × (t.start < t.end) × TokensAreInOrder t.end to ts
 
 -- a name is made of letters of ASCII, digits and `_`
-abbrev pub HasPlainName : What → Type 0
-HasPlainName (what.Word name) = AllPass is_in_word name
-HasPlainName _ = ⊤
+abbrev pub HasPlainLetters : What → Type 0
+HasPlainLetters (what.Word name) = AllPass is_in_word name
+HasPlainLetters _ = ⊤

@@ -2,7 +2,7 @@
 
 ghost use Rattle.std.specs.Prelude.{◌≡◌, ◌<◌, ◌≤◌, ℕ, length, take};
 ghost use Rattle.mltl_base.specs.Letters.{is_in_word};
-ghost use Rattle.c2po_lexer.specs.Cut.{is_blank, begins_word, is_in_line, front_of, size_of, HasDigitsAlone};
+ghost use Rattle.c2po_lexer.specs.Cut.{is_white, begins_word, is_in_line, front_of, size_of, HasDigitsAlone};
 ghost use Rattle.std.specs.List.{prefix_len};
 ghost use Rattle.std.specs.Char.{is_ascii_digit};
 
@@ -23,7 +23,7 @@ pub enum Front {
 
 /// Whether a byte is a space, a tab, a carriage return or a newline.
 fn is_blank(byte: u8) -> bool
-    ensures { result ≡ is_blank byte }
+    ensures { result ≡ is_white byte }
 {
     matches!(byte, b' ' | b'\t' | b'\r' | b'\n')
 }

@@ -4,7 +4,7 @@ ghost use Rattle.std.specs.Prelude.{◌≡◌, ◌≢◌, ◌==◌, ◌<◌, ◌
 ghost use Rattle.std.specs.Str.{all_ascii_digits};
 ghost use Rattle.std.specs.Str.Parse.{digits_value};
 ghost use Rattle.c2po_lexer.specs.Cut.{HasDigitsAlone};
-ghost use Rattle.c2po_lexer.specs.Tokens.{line_at, word_of, number_of, what_of, reading_at, size_at, tokens_of, HasPlainName, AreInOrder, IsAfter, IsWrittenAs, bytes_of};
+ghost use Rattle.c2po_lexer.specs.Tokens.{line_at, word_token, number_token, what_of, token_at, size_at, tokens_of, HasPlainLetters, TokensAreInOrder, IsAfter, IsWrittenAs, token_bytes};
 
 use crate::fault::LexFault;
 use crate::front::Front;
@@ -36,7 +36,7 @@ fn value_of(digits: &[u8]) -> Option<i64>
 fn number(line: u32, digits: &[u8]) -> Result<What, LexFault>
     requires some { 1 ≤ length digits.now }
     requires digits { IsTrue (all_ascii_digits digits.now) }
-    ensures { result ≡ number_of line digits.now }
+    ensures { result ≡ number_token line digits.now }
 {
     let value = value_of(digits).ok_or(LexFault::Number(line))?;
     Ok(What::Number(value))
@@ -45,7 +45,7 @@ fn number(line: u32, digits: &[u8]) -> Result<What, LexFault>
 /// The token of a word, reserved or not.
 fn word(line: u32, word: &[u8]) -> Result<What, LexFault>
     requires { 1 ≤ length word.now }
-    ensures { result ≡ word_of line word.now }
+    ensures { result ≡ word_token line word.now }
 {
     if word.len() > MAX_WORD_BYTES {
         return Err(LexFault::LongWord(line));
@@ -83,10 +83,10 @@ fn piece(text: &[u8], at: Position) -> Result<(Option<Token>, Position), LexFaul
     requires limit { length text.now ≤ MAX_SPEC_BYTES }
     requires inside { at.start < length text.now }
     requires line { at.line ≡ line_at text.now at.start }
-    ensures token { IfOk result (λ r. reading_at text.now at.start ≡ Ok r.0) }
+    ensures token { IfOk result (λ r. token_at text.now at.start ≡ Ok r.0) }
     ensures next { IfOk result (λ r. IsAfter text.now at.start r.1.start r.1.line) }
     ensures some { 1 ≤ size_at text.now at.start }
-    ensures fault { IfErr result (λ fault. reading_at text.now at.start ≡ Err fault) }
+    ensures fault { IfErr result (λ fault. token_at text.now at.start ≡ Err fault) }
 {
     let rest = &text[at.start..];
     let front = Front::of(rest);
@@ -130,9 +130,9 @@ pub fn lex(alloc: Global, text: &[u8]) -> Result<Tokens, LexFault>
     ensures first_fault { IfErr result (λ fault. fault ≢ LexFault.Memory
         → tokens_of text.now ≡ Err fault) }
     ensures written { IfOk result
-        (All (λ token. IsWrittenAs token.what (bytes_of text.now token))) }
-    ensures spans { IfOk result (AreInOrder 0 (length text.now)) }
-    ensures names { IfOk result (All (λ token. HasPlainName token.what)) }
+        (All (λ token. IsWrittenAs token.what (token_bytes text.now token))) }
+    ensures spans { IfOk result (TokensAreInOrder 0 (length text.now)) }
+    ensures names { IfOk result (All (λ token. HasPlainLetters token.what)) }
 {
     let mut tokens = List::new(alloc);
     let mut at = Position { line: 1, start: 0 };

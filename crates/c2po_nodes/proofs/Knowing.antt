@@ -12,7 +12,7 @@ use Rattle.mltl_base.specs.Formula.{Formula}
 use Rattle.mltl_base.specs.Ranges.{range}
 use Rattle.c2po_nodes.specs.declared.nodes.Plain.{Plain}
 use Rattle.c2po_nodes.specs.declared.nodes.Plain.TheVariants as plain
-use Rattle.c2po_nodes.specs.Nodes.{Tree, number, formula, term_in, formula_in, term_at, formula_at, tree_of, trees, Has}
+use Rattle.c2po_nodes.specs.Nodes.{Tree, number, formula, term_in, formula_in, node_term, node_formula, tree_of, trees, Has}
 use Rattle.c2po_nodes.proofs.Pushing.{trees_push}
 use Rattle.c2po_nodes.specs.declared.fact.Fact.{Fact}
 use Rattle.c2po_nodes.specs.Faults.{formula_fault, tree_fault}
@@ -44,16 +44,16 @@ in_future (Some (number a)) = refl
 in_future (Some (formula p)) = refl
 
 -- the facts of operands
-at_range : (ts : List Tree) (n : ℕ) → range_in (slice_get (map tree_fact ts) n) ≡ range (term_at ts n)
+at_range : (ts : List Tree) (n : ℕ) → range_in (slice_get (map tree_fact ts) n) ≡ range (node_term ts n)
 at_range ts n = ap range_in (slice_get-map tree_fact ts n) ∙ in_range (slice_get ts n)
 
-at_fault : (ts : List Tree) (n : ℕ) → fault_in (slice_get (map tree_fact ts) n) ≡ formula_fault (formula_at ts n)
+at_fault : (ts : List Tree) (n : ℕ) → fault_in (slice_get (map tree_fact ts) n) ≡ formula_fault (node_formula ts n)
 at_fault ts n = ap fault_in (slice_get-map tree_fact ts n) ∙ in_fault (slice_get ts n)
 
-at_past : (ts : List Tree) (n : ℕ) → past_in (slice_get (map tree_fact ts) n) ≡ has_past (formula_at ts n)
+at_past : (ts : List Tree) (n : ℕ) → past_in (slice_get (map tree_fact ts) n) ≡ has_past (node_formula ts n)
 at_past ts n = ap past_in (slice_get-map tree_fact ts n) ∙ in_past (slice_get ts n)
 
-at_future : (ts : List Tree) (n : ℕ) → future_in (slice_get (map tree_fact ts) n) ≡ has_future (formula_at ts n)
+at_future : (ts : List Tree) (n : ℕ) → future_in (slice_get (map tree_fact ts) n) ≡ has_future (node_formula ts n)
 at_future ts n = ap future_in (slice_get-map tree_fact ts n) ∙ in_future (slice_get ts n)
 
 pub node_fact_tree : (ts : List Tree) (node : Plain) → node_fact (map tree_fact ts) node ≡ tree_fact (tree_of ts node)

@@ -7,7 +7,7 @@ use Rattle.std.proofs.lemmas.Option.{get_or_from_slice_get, slice_get_within}
 use Rattle.mltl_base.specs.Atoms.{Term}
 use Rattle.mltl_base.specs.Formula.{Formula}
 use Rattle.c2po_nodes.specs.declared.nodes.Plain.{Plain}
-use Rattle.c2po_nodes.specs.Nodes.{Tree, number, formula, term_at, formula_at, tree_of, trees, Has, Grows, IsNumber, IsFormula, IsFormed, AreSound}
+use Rattle.c2po_nodes.specs.Nodes.{Tree, number, formula, node_term, node_formula, tree_of, trees, Has, Grows, IsNumber, IsFormula, IsFormed, AreSound}
 use Rattle.c2po_nodes.proofs.Places.{get_left, get_last, at_push}
 
 pub trees_push : (nodes : List Plain) (node : Plain) → trees (nodes ++ node ∷ []) ≡ trees nodes ++ tree_of (trees nodes) node ∷ []
@@ -77,13 +77,13 @@ sound_push signals nodes node h g = record {
 }
 
 -- a node that unfolds to a whole number, or to a formula, is an operand of that kind
-pub number_at : (nodes : List Plain) (n : ℕ) (a : Term) → Has nodes n (number a) → term_at (trees nodes) n ≡ a
+pub number_at : (nodes : List Plain) (n : ℕ) (a : Term) → Has nodes n (number a) → node_term (trees nodes) n ≡ a
 number_at nodes n a h = rw h.found refl
 
 pub is_number : (nodes : List Plain) (n : ℕ) (a : Term) → Has nodes n (number a) → IsNumber (slice_get (trees nodes) n)
 is_number nodes n a h = rw h.found tt
 
-pub formula_in_place : (nodes : List Plain) (n : ℕ) (p : Formula) → Has nodes n (formula p) → formula_at (trees nodes) n ≡ p
+pub formula_in_place : (nodes : List Plain) (n : ℕ) (p : Formula) → Has nodes n (formula p) → node_formula (trees nodes) n ≡ p
 formula_in_place nodes n p h = rw h.found refl
 
 pub is_formula : (nodes : List Plain) (n : ℕ) (p : Formula) → Has nodes n (formula p) → IsFormula (slice_get (trees nodes) n)

@@ -36,12 +36,12 @@ formula_in (Some (number a)) = falsity
 formula_in None = falsity
 
 -- the integer of node n
-abbrev pub term_at : List Tree → ℕ → Term
-term_at earlier n = term_in (slice_get earlier n)
+abbrev pub node_term : List Tree → ℕ → Term
+node_term earlier n = term_in (slice_get earlier n)
 
 -- the formula of node n
-abbrev pub formula_at : List Tree → ℕ → Formula
-formula_at earlier n = formula_in (slice_get earlier n)
+abbrev pub node_formula : List Tree → ℕ → Formula
+node_formula earlier n = formula_in (slice_get earlier n)
 
 -- the formula of a Boolean
 abbrev pub constant_formula : Bool → Formula
@@ -91,13 +91,13 @@ tree_of earlier (Truth v) = formula (constant_formula v)
 tree_of earlier (Flag s) = formula (atom (is_true s))
 tree_of earlier (Number n) = number (constant n)
 tree_of earlier (Signal s) = number (column s)
-tree_of earlier (Minus a) = number (negative (term_at earlier a))
-tree_of earlier (Arith op a b) = number (arithmetic op (term_at earlier a) (term_at earlier b))
-tree_of earlier (Compare op a b) = formula (atom (comparison op (term_at earlier a) (term_at earlier b)))
-tree_of earlier (Not a) = formula (negation (formula_at earlier a))
-tree_of earlier (Logic op a b) = formula (connected op (formula_at earlier a) (formula_at earlier b))
-tree_of earlier (Window op i a) = formula (windowed op i (formula_at earlier a))
-tree_of earlier (Between op i a b) = formula (ranged op i (formula_at earlier a) (formula_at earlier b))
+tree_of earlier (Minus a) = number (negative (node_term earlier a))
+tree_of earlier (Arith op a b) = number (arithmetic op (node_term earlier a) (node_term earlier b))
+tree_of earlier (Compare op a b) = formula (atom (comparison op (node_term earlier a) (node_term earlier b)))
+tree_of earlier (Not a) = formula (negation (node_formula earlier a))
+tree_of earlier (Logic op a b) = formula (connected op (node_formula earlier a) (node_formula earlier b))
+tree_of earlier (Window op i a) = formula (windowed op i (node_formula earlier a))
+tree_of earlier (Between op i a b) = formula (ranged op i (node_formula earlier a) (node_formula earlier b))
 
 -- the trees that the nodes unfold to, in order
 unfoldable pub trees : List Plain → List Tree

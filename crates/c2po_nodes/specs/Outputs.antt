@@ -8,14 +8,14 @@ use Rattle.mltl_base.specs.Subformulas.{Asked, IsTensed}
 use Rattle.c2po_nodes.specs.declared.nodes.PlainOut.{PlainOut}
 use Rattle.c2po_nodes.specs.declared.nodes.PlainOut.TheVariants.{Formula, Contract}
 use Rattle.c2po_nodes.specs.declared.nodes.Expanded.{Expanded}
-use Rattle.c2po_nodes.specs.Nodes.{Tree, trees, formula_at, IsFormula, AreSound}
+use Rattle.c2po_nodes.specs.Nodes.{Tree, trees, node_formula, IsFormula, AreSound}
 
 -- what an output asks for, over the trees of the nodes
 abbrev pub asked_by : List Tree → PlainOut → Asked
 asked_by trees (Formula engine n name) =
-    record { engine = engine; name = name; output = formula (formula_at trees n) }
+    record { engine = engine; name = name; output = formula (node_formula trees n) }
 asked_by trees (Contract engine n m name) =
-    record { engine = engine; name = name; output = contract (formula_at trees n) (formula_at trees m) }
+    record { engine = engine; name = name; output = contract (node_formula trees n) (node_formula trees m) }
 
 -- what the outputs ask for, in order, over signals by their numbers
 abbrev pub asked : Expanded → List Asked

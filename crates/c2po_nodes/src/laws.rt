@@ -2,7 +2,7 @@
 
 ghost use Rattle.mltl_base.specs.Atoms.{Term};
 ghost use Rattle.mltl_base.specs.Formula.{Formula};
-ghost use Rattle.c2po_nodes.specs.Nodes.{AreSound, Grows, Has, IsFormed, IsFormula, IsNumber, formula, formula_at, number, term_at, tree_of, trees};
+ghost use Rattle.c2po_nodes.specs.Nodes.{AreSound, Grows, Has, IsFormed, IsFormula, IsNumber, formula, node_formula, number, node_term, tree_of, trees};
 ghost use Rattle.c2po_nodes.specs.declared.nodes.Plain.{Plain as Node};
 ghost use Rattle.std.specs.Prelude.{◌≡◌, ℕ, List as Seq, [], ◌∷◌, ◌++◌, length, slice_get};
 
@@ -22,11 +22,11 @@ pub fn nodes_grow()
 #[tactic(auto, using(crate::proofs::Pushing::number_at, crate::proofs::Pushing::is_number, crate::proofs::Pushing::formula_in_place, crate::proofs::Pushing::is_formula))]
 pub fn operands_unfold()
     ensures number { (nodes : Seq Node) (n : ℕ) (a : Term) → Has nodes n (number a)
-        → term_at (trees nodes) n ≡ a }
+        → node_term (trees nodes) n ≡ a }
     ensures is_number { (nodes : Seq Node) (n : ℕ) (a : Term) → Has nodes n (number a)
         → IsNumber (slice_get (trees nodes) n) }
     ensures formula { (nodes : Seq Node) (n : ℕ) (p : Formula) → Has nodes n (formula p)
-        → formula_at (trees nodes) n ≡ p }
+        → node_formula (trees nodes) n ≡ p }
     ensures is_formula { (nodes : Seq Node) (n : ℕ) (p : Formula) → Has nodes n (formula p)
         → IsFormula (slice_get (trees nodes) n) }
 {}

@@ -3,7 +3,7 @@ use Rattle.std.proofs.lemmas.List.{append-nil}
 use Rattle.c2po_lexer.specs.declared.token.Token.{Token}
 use Rattle.c2po_ast.specs.Shape.{Shape}
 use Rattle.c2po_parse.specs.Tokens.{right_level}
-use Rattle.c2po_parse.specs.Splitting.{at_end, tree_of}
+use Rattle.c2po_parse.specs.Splitting.{at_end, parsed_tree}
 use Rattle.c2po_parse.specs.Climbing.{climb, climb_all, Whole}
 use Rattle.c2po_parse.proofs.Walks.{bind-some}
 use Rattle.c2po_parse.proofs.Rules.{Derives}
@@ -36,16 +36,16 @@ derived-climbs n ts e enough d =
     (derived-completes 1 ts e d).completes 1 1 n [] (e, []) (omega arith) end (rest-stops 1 1 e [] (omega arith) rest.stops) (omega arith) in
     bind-with (climb n (Whole 1) ts) (λ x. at_end x.0 x.1) (e, []) e (ap (climb n (Whole 1)) (sym (append-nil ts)) ∙ whole) refl
 
-pub derived-tree : (ts : List Token) (e : Shape) → Derives 1 ts e → tree_of ts ≡ Some e
-unfolding tree_of
+pub derived-tree : (ts : List Token) (e : Shape) → Derives 1 ts e → parsed_tree ts ≡ Some e
+unfolding parsed_tree
 derived-tree ts e d = (derived-found 1 ts e d).found (13 * length ts + 13) (omega arith) (omega arith)
 
-pub tree-derives : (ts : List Token) (e : Shape) → tree_of ts ≡ Some e → Derives 1 ts e
-unfolding tree_of
+pub tree-derives : (ts : List Token) (e : Shape) → parsed_tree ts ≡ Some e → Derives 1 ts e
+unfolding parsed_tree
 tree-derives ts e h = (tree-sound (13 * length ts + 13)).derives 1 ts e (omega arith) (omega arith) h
 
-pub agree : (n : ℕ) (ts : List Token) → 4 * length ts + 1 ≤ n → climb_all n ts ≡ tree_of ts
+pub agree : (n : ℕ) (ts : List Token) → 4 * length ts + 1 ≤ n → climb_all n ts ≡ parsed_tree ts
 agree n ts enough =
-    same-option (climb_all n ts) (tree_of ts)
+    same-option (climb_all n ts) (parsed_tree ts)
     (λ e h. derived-tree ts e (climbed-derives n ts e h))
     (λ e h. derived-climbs n ts e enough (tree-derives ts e h))

@@ -19,7 +19,7 @@ use Rattle.c2po_ast.specs.Shape.{Shape, pick}
 use Rattle.c2po_parse.specs.Tokens.{is_sign, token_level, is_separator, left_level, right_level, is_right_level, is_prefix_level}
 use Rattle.c2po_ast.specs.Parts.{joined, prefixed, enclosed, quantified, leaf}
 use Rattle.c2po_parse.specs.Fronts.{◌>>=◌, past, operator_at, start_at, middle_at, infix_level, level_of, prefix_level, closing}
-use Rattle.c2po_parse.specs.Climbing.{Goal, Whole, Operand, Rest, Elements, Climbs, closed, operand, joins, rest_of, elements_of, climb_step, climb}
+use Rattle.c2po_parse.specs.Climbing.{Goal, Whole, Operand, Rest, Elements, Climbs, closed, operand, joins, climbed, elements_of, climb_step, climb}
 use Rattle.c2po_parse.proofs.Walks.{bind-some, if-cases}
 use Rattle.c2po_parse.proofs.Heads.{is_sign-same, past-at}
 use Rattle.c2po_parse.proofs.Operators.{IsOperator, separator-none, separator-closed}
@@ -82,7 +82,7 @@ joins-extends read further l left (Binary line op) ts r x h =
 joins-extends read further l left (Field line f) ts r x h = x.extends (Rest l (pick line left f)) ts r h
 
 rest_of-extends : (read further : Climbs) (l : ℕ) (left : Shape) (ts : List Token) (v : Option (Operator × List Token)) (r : Shape × List Token) →
-    Extends read further → rest_of read l left ts v ≡ Some r → rest_of further l left ts v ≡ Some r
+    Extends read further → climbed read l left ts v ≡ Some r → climbed further l left ts v ≡ Some r
 rest_of-extends read further l left ts None r x h = h
 rest_of-extends read further l left ts (Some o) r x h =
     elim (if-cases (nat_le l (level_of o.0)) (joins read l left o) (Some (left, ts)) (Some r) h) [
@@ -147,14 +147,14 @@ rest-by : (n p l : ℕ) (e : Shape) (t : Token) (us z : List Token) (o : Operato
     l ≤ level_of o → joins (climb p) l e (o, z) ≡ Some r → climb n (Rest l e) (t ∷ (us ++ z)) ≡ Some r
 rest-by n p l e t us z o r is operator low h =
     climb-by n p (Rest l e) (t ∷ (us ++ z)) r is
-    (ap (rest_of (climb p) l e (t ∷ (us ++ z))) (operator.reads z)
+    (ap (climbed (climb p) l e (t ∷ (us ++ z))) (operator.reads z)
     ∙ if-true (nat_le l (level_of o)) (joins (climb p) l e (o, z)) (Some (e, t ∷ (us ++ z))) (Some r) (le-leb l (level_of o) low) h)
 
 below : (a b : ℕ) → b < a → nat_le a b ≡ false
 below a b h = grind (arith, nat_tests)
 
 rest_of-stops : (read : Climbs) (l : ℕ) (e : Shape) (z : List Token) (v : Option (Operator × List Token)) → operator_at z ≡ v → Stops l z →
-    rest_of read l e z v ≡ Some (e, z)
+    climbed read l e z v ≡ Some (e, z)
 rest_of-stops read l e z None is stops = refl
 rest_of-stops read l e z (Some o) is stops =
     if-false (nat_le l (level_of o.0)) (joins read l e o) (Some (e, z)) (Some (e, z)) (below l (level_of o.0) (stops.stops o.0 o.1 is)) refl

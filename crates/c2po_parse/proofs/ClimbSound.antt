@@ -18,7 +18,7 @@ use Rattle.c2po_ast.specs.Shape.{Shape, pick}
 use Rattle.c2po_parse.specs.Tokens.{left_level, right_level, is_prefix_level, is_right_level}
 use Rattle.c2po_ast.specs.Parts.{joined, prefixed, enclosed, quantified, leaf}
 use Rattle.c2po_parse.specs.Fronts.{◌>>=◌, past, operator_at, start_at, middle_at, infix_level, level_of, prefix_level, closing}
-use Rattle.c2po_parse.specs.Climbing.{Whole, Operand, Rest, Elements, Climbs, closed, operand, joins, rest_of, elements_of, climb_step, climb}
+use Rattle.c2po_parse.specs.Climbing.{Whole, Operand, Rest, Elements, Climbs, closed, operand, joins, climbed, elements_of, climb_step, climb}
 use Rattle.c2po_parse.proofs.Walks.{bind-some, if-cases}
 use Rattle.c2po_parse.proofs.Heads.{past-begins}
 use Rattle.c2po_parse.proofs.Operators.{IsOperator, operator_at-front}
@@ -188,7 +188,7 @@ stops-at l ts o q r rest low is found =
 
 rest-sound : (read : Climbs) (l k : ℕ) (b ts : List Token) (left e : Shape) (z : List Token) (v : Option (Operator × List Token)) →
     ClimbSound read → 1 ≤ l → l ≤ k → k ≤ 12 → Derives k b left → Stops (right_level k) ts → operator_at ts ≡ v →
-    rest_of read l left ts v ≡ Some (e, z) → RestRead l b ts e z
+    climbed read l left ts v ≡ Some (e, z) → RestRead l b ts e z
 rest-sound read l k b ts left e z None ih one low high d stops is h =
     rest-ends l k b ts left e z low high d (record { stops = λ o rest found. absurd (let not_found = is in cc) }) h
 rest-sound read l k b ts left e z (Some o) ih one low high d stops is h =

@@ -7,7 +7,7 @@ use Rattle.c2po_lexer.specs.declared.token.Sign.TheVariants as sign
 use Rattle.c2po_lexer.specs.declared.token.What.{What}
 use Rattle.c2po_lexer.specs.declared.token.What.TheVariants as what
 use Rattle.c2po_lexer.specs.declared.token.Token.{Token}
-use Rattle.c2po_parse.specs.Tokens.{sign_number, is_sign, level_after, ends_operand, depth_after, is_separator}
+use Rattle.c2po_parse.specs.Tokens.{sign_index, is_sign, level_after, ends_operand, depth_after, is_separator}
 use Rattle.c2po_parse.specs.Fronts.{◌>>=◌, past, natural_in, natural_at, bounds_or, bounds_at, interval_at}
 use Rattle.c2po_parse.proofs.Walks.{bind-some, if-cases, ends_of, depth_of, IsPlain, Quiet}
 
@@ -23,18 +23,18 @@ signs = sign.Iff ∷ sign.Implies ∷ sign.Promises ∷ sign.Becomes ∷ sign.Eq
 sign_of : ℕ → Sign
 sign_of n = unwrap_or (slice_get signs n) sign.Iff
 
-sign_again : (s : Sign) → sign_of (sign_number s) ≡ s
+sign_again : (s : Sign) → sign_of (sign_index s) ≡ s
 unfolding signs sign_of
 sign_again sign.Iff = refl
 sign_again _ = refl
 
 pub is_sign-same : (s : Sign) (w : What) → is_sign s w ≡ true → w ≡ what.Sign s
 is_sign-same s (what.Sign r) h =
-    ap what.Sign (sym (sign_again r) ∙ ap sign_of (eqb-true (sign_number r) (sign_number s) h) ∙ sign_again s)
+    ap what.Sign (sym (sign_again r) ∙ ap sign_of (eqb-true (sign_index r) (sign_index s) h) ∙ sign_again s)
 is_sign-same s _ h = absurd (cc)
 
 pub is_sign-at : (s : Sign) (w : What) → w ≡ what.Sign s → is_sign s w ≡ true
-is_sign-at s w h = ap (is_sign s) h ∙ eq-eqb (sign_number s) (sign_number s) refl
+is_sign-at s w h = ap (is_sign s) h ∙ eq-eqb (sign_index s) (sign_index s) refl
 
 -- a sign at the front
 pub record Begins (s : Sign) (ts : List Token) (rest : List Token) : Type 0 where

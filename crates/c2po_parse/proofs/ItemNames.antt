@@ -3,7 +3,7 @@ use Rattle.std.specs.Prelude.{codes}
 use Rattle.std.proofs.lemmas.List.Sums.{AllPass-from_list_all}
 use Rattle.mltl_base.specs.Letters.{is_in_word}
 use Rattle.c2po_lexer.specs.declared.token.Token.{Token}
-use Rattle.c2po_lexer.specs.Tokens.{HasPlainName}
+use Rattle.c2po_lexer.specs.Tokens.{HasPlainLetters}
 use Rattle.c2po_ast.specs.ItemShape.{FieldShape, BodyShape, ItemShape, structure, input, define, formula, contract}
 use Rattle.c2po_ast.specs.Names.{IsPlainName, HasPlainNames, HasPlainType, ArePlainFields, ArePlain, IsPlainLabel, IsPlainBody, ArePlainItems}
 use Rattle.c2po_parse.proofs.Words.{PlainWords, word-plain}
@@ -42,4 +42,4 @@ items-plain (i ∷ is) h = (body-plain i.body h.0, items-plain is h.1)
 pub spec-names : (ts : List Token) (items : List ItemShape) → spec_of ts ≡ Ok items → PlainWords ts → ArePlainItems items
 spec-names ts items h words =
     items-plain items
-    (spec-have HasPlainName IsPlainName HasPlainType IsPlainLabel HasPlainNames word-plain (λ x h. h) bool_plain int_plain (λ k h. h) tt (λ x h. h) tree-names ts items h words)
+    (spec-have HasPlainLetters IsPlainName HasPlainType IsPlainLabel HasPlainNames word-plain (λ x h. h) bool_plain int_plain (λ k h. h) tt (λ x h. h) tree-names ts items h words)

@@ -11,7 +11,7 @@ use Rattle.c2po_lexer.specs.declared.token.Token.{Token}
 use Rattle.c2po_ast.specs.Shape.{Shape}
 use Rattle.c2po_ast.specs.ItemShape.{TypeShape, FieldShape, BodyShape, ItemShape, type_named, set_of, structure, input, define, formula, contract}
 use Rattle.c2po_parse.specs.Fronts.{◌>>=◌, past, name_at}
-use Rattle.c2po_parse.specs.Splitting.{tree_of, at_end}
+use Rattle.c2po_parse.specs.Splitting.{parsed_tree, at_end}
 use Rattle.c2po_parse.proofs.Walks.{bind-some, if-cases}
 use Rattle.c2po_parse.proofs.Heads.{past-begins}
 use Rattle.c2po_parse.proofs.Operators.{name_at-names}
@@ -20,8 +20,8 @@ use Rattle.c2po_parse.specs.declared.fault.ParseFault.{ParseFault}
 use Rattle.c2po_parse.specs.declared.fault.ParseFault.TheVariants.{TooManyTokens}
 use Rattle.c2po_parse.specs.declared.section.Section.{Section}
 use Rattle.c2po_parse.specs.declared.section.Section.TheVariants.{Struct, Input, Define, Output}
-use Rattle.c2po_parse.specs.Sections.{section_of, braces_after, Piece, item_of, left_over, is_end, chosen, pieces}
-use Rattle.c2po_parse.specs.Forms.{type_in, type_within, type_at, names_or, names_within, names_at, typed_at, fields_of, fields_or, fields_within, fields_at, struct_of, input_of, define_of, labelled, label_at, promise_at, contract_of, output_at, output_of, body_of}
+use Rattle.c2po_parse.specs.Sections.{section_of, braces_after, Statement, item_of, unended_piece, is_end, chosen, pieces}
+use Rattle.c2po_parse.specs.Forms.{type_in, type_within, type_at, names_or, names_within, names_at, typed_at, fields_for, fields_or, fields_within, fields_at, struct_item, input_of, define_of, labelled, label_at, promise_at, contract_of, output_at, output_item, body_of}
 use Rattle.c2po_parse.specs.Specification.{piece_body, with_line, piece_tree, first_or, piece_trees, spec_of}
 use Rattle.c2po_parse.proofs.Words.{AllHave, words-head, words-tail, words-cons, words-append, words-nil}
 
@@ -76,7 +76,7 @@ module _ (Has : What → Type 0) (IsName : List ℕ → Type 0) (IsType : TypeSh
     (word_named : (w : What) (x : List ℕ) → w ≡ what.Word x → Has w → IsName x)
     (type_is : (x : List ℕ) → IsName x → IsType (type_named x)) (bool_is : IsType (type_named (codes "bool"))) (int_is : IsType (type_named (codes "int")))
     (set_is : (k : TypeShape) → IsType k → IsType (set_of k)) (no_label : IsLabel None) (label_is : (x : List ℕ) → IsName x → IsLabel (Some x))
-    (tree-has : (ts : List Token) (e : Shape) → tree_of ts ≡ Some e → AllHave Has ts → HasTree e) where
+    (tree-has : (ts : List Token) (e : Shape) → parsed_tree ts ≡ Some e → AllHave Has ts → HasTree e) where
   abbrev Words : List Token → Type 0
   Words ts = AllHave Has ts
 
@@ -165,7 +165,7 @@ module _ (Has : What → Type 0) (IsName : List ℕ → Type 0) (IsType : TypeSh
       subst (λ (e : List (List ℕ) × TypeShape × List Token). TypedRead IsName IsType Has e.0 e.1 e.2) same
       (record { names = names.has; kind = kind.has; words = kind.words })
 
-  fields-has : (xs : List (List ℕ)) (k : TypeShape) → Names xs → IsType k → Fields (fields_of xs k)
+  fields-has : (xs : List (List ℕ)) (k : TypeShape) → Names xs → IsType k → Fields (fields_for xs k)
   fields-has [] k hs h = tt
   fields-has (x ∷ xs) k hs h = ((hs.0, h), fields-has xs k hs.1 h)
 
@@ -192,14 +192,14 @@ module _ (Has : What → Type 0) (IsName : List ℕ → Type 0) (IsType : TypeSh
   unfolding fields_within
   fields-names zero ts gs rest h words = absurd (cc)
   fields-names (suc n) ts gs rest h words =
-      let d = bind-some (typed_at ts) (λ d. past sign.Semicolon d.2 >>= λ us. fields_or (fields_within n) (fields_of d.0 d.1) us (past sign.RightCurly us)) (gs, rest) h in
-      let semi = bind-some (past sign.Semicolon d.0.2) (λ us. fields_or (fields_within n) (fields_of d.0.0 d.0.1) us (past sign.RightCurly us)) (gs, rest) d.2 in
+      let d = bind-some (typed_at ts) (λ d. past sign.Semicolon d.2 >>= λ us. fields_or (fields_within n) (fields_for d.0 d.1) us (past sign.RightCurly us)) (gs, rest) h in
+      let semi = bind-some (past sign.Semicolon d.0.2) (λ us. fields_or (fields_within n) (fields_for d.0.0 d.0.1) us (past sign.RightCurly us)) (gs, rest) d.2 in
       let typed = typed-names ts d.0 d.1 words in
-      more-fields n (fields_of d.0.0 d.0.1) semi.0 (past sign.RightCurly semi.0) gs rest (λ us es vs is has. fields-names n us es vs is has) refl
+      more-fields n (fields_for d.0.0 d.0.1) semi.0 (past sign.RightCurly semi.0) gs rest (λ us es vs is has. fields-names n us es vs is has) refl
       (fields-has d.0.0 d.0.1 typed.names typed.kind) semi.2 (past-words sign.Semicolon d.0.2 semi.0 semi.1 typed.words)
 
-  struct-names : (ts : List Token) (b : BodyShape) → struct_of ts ≡ Some b → Words ts → Body b
-  unfolding struct_of
+  struct-names : (ts : List Token) (b : BodyShape) → struct_item ts ≡ Some b → Words ts → Body b
+  unfolding struct_item
   struct-names ts b h words =
       let x = bind-some (name_at ts) (λ x. past sign.Colon x.1 >>= λ us. past sign.LeftCurly us >>= λ vs. fields_at vs >>= λ fs. at_end (structure x.0 fs.0) fs.1) b h in
       let colon = bind-some (past sign.Colon x.0.1) (λ us. past sign.LeftCurly us >>= λ vs. fields_at vs >>= λ fs. at_end (structure x.0.0 fs.0) fs.1) b x.2 in
@@ -222,9 +222,9 @@ module _ (Has : What → Type 0) (IsName : List ℕ → Type 0) (IsType : TypeSh
   define-names : (ts : List Token) (b : BodyShape) → define_of ts ≡ Some b → Words ts → Body b
   unfolding define_of
   define-names ts b h words =
-      let x = bind-some (name_at ts) (λ x. past sign.Becomes x.1 >>= λ us. tree_of us >>= λ e. Some (define x.0 e)) b h in
-      let becomes = bind-some (past sign.Becomes x.0.1) (λ us. tree_of us >>= λ e. Some (define x.0.0 e)) b x.2 in
-      let e = bind-some (tree_of becomes.0) (λ e. Some (define x.0.0 e)) b becomes.2 in
+      let x = bind-some (name_at ts) (λ x. past sign.Becomes x.1 >>= λ us. parsed_tree us >>= λ e. Some (define x.0 e)) b h in
+      let becomes = bind-some (past sign.Becomes x.0.1) (λ us. parsed_tree us >>= λ e. Some (define x.0.0 e)) b x.2 in
+      let e = bind-some (parsed_tree becomes.0) (λ e. Some (define x.0.0 e)) b becomes.2 in
       let name = name-words ts x.0.0 x.0.1 x.1 words in
       subst Body (same_Some (define x.0.0 e.0) b e.2)
       (name.has, tree-has becomes.0 e.0 e.1 (past-words sign.Becomes x.0.1 becomes.0 becomes.1 name.words))
@@ -253,11 +253,11 @@ module _ (Has : What → Type 0) (IsName : List ℕ → Type 0) (IsType : TypeSh
   contract-names : (engine : Engine) (label : Option (List ℕ)) (left right : List Token) (b : BodyShape) → contract_of engine label left right ≡ Some b →
       IsLabel label → Words left → Words right → Body b
   contract-names engine label left right b h has left_words right_words =
-      elim (if-cases (is_some (promise_at 0 0 right)) None (tree_of left >>= λ e. tree_of right >>= λ f. Some (contract engine label e f)) (Some b) h) [
+      elim (if-cases (is_some (promise_at 0 0 right)) None (parsed_tree left >>= λ e. parsed_tree right >>= λ f. Some (contract engine label e f)) (Some b) h) [
         | inl p ↦ absurd (let none = p.1 in cc)
         | inr p ↦
-            let e = bind-some (tree_of left) (λ e. tree_of right >>= λ f. Some (contract engine label e f)) b p.1 in
-            let f = bind-some (tree_of right) (λ f. Some (contract engine label e.0 f)) b e.2 in
+            let e = bind-some (parsed_tree left) (λ e. parsed_tree right >>= λ f. Some (contract engine label e f)) b p.1 in
+            let f = bind-some (parsed_tree right) (λ f. Some (contract engine label e.0 f)) b e.2 in
             subst Body (same_Some (contract engine label e.0 f.0) b f.2)
             (has, (tree-has left e.0 e.1 left_words, tree-has right f.0 f.1 right_words))
       ]
@@ -265,13 +265,13 @@ module _ (Has : What → Type 0) (IsName : List ℕ → Type 0) (IsType : TypeSh
   output_at-names : (engine : Engine) (label : Option (List ℕ)) (ts : List Token) (v : Option ℕ) (b : BodyShape) → output_at engine label ts v ≡ Some b →
       IsLabel label → Words ts → Body b
   output_at-names engine label ts None b h has words =
-      let e = bind-some (tree_of ts) (λ e. Some (formula engine label e)) b h in
+      let e = bind-some (parsed_tree ts) (λ e. Some (formula engine label e)) b h in
       subst Body (same_Some (formula engine label e.0) b e.2) (has, tree-has ts e.0 e.1 words)
   output_at-names engine label ts (Some n) b h has words =
       contract-names engine label (take n ts) (drop (n + 1) ts) b h has (take-words n ts words) (drop-words (n + 1) ts words)
 
-  output-names : (engine : Engine) (ts : List Token) (b : BodyShape) → output_of engine ts ≡ Some b → Words ts → Body b
-  unfolding output_of label_at
+  output-names : (engine : Engine) (ts : List Token) (b : BodyShape) → output_item engine ts ≡ Some b → Words ts → Body b
+  unfolding output_item label_at
   output-names engine ts b h words =
       let label = labelled-names ts (name_at ts >>= λ x. past sign.Colon x.1 >>= λ us. label_done x.0 us) refl words in
       output_at-names engine (label_at ts).0 (label_at ts).1 (promise_at 0 0 (label_at ts).1) b h label.has label.words
@@ -283,21 +283,21 @@ module _ (Has : What → Type 0) (IsName : List ℕ → Type 0) (IsType : TypeSh
   body-names (Output engine) ts b h words = output-names engine ts b h words
 
   -- pieces of such tokens
-  Pieces : List Piece → Type 0
+  Pieces : List Statement → Type 0
   Pieces [] = ⊤
   Pieces (p ∷ ps) = Words p.tokens × Pieces ps
 
-  left_over-has : (s : Option Section) (before : List Token) (ps : List Piece) → Words before → Pieces ps → Pieces (left_over s before ++ ps)
+  left_over-has : (s : Option Section) (before : List Token) (ps : List Statement) → Words before → Pieces ps → Pieces (unended_piece s before ++ ps)
   unfolding Pieces
   left_over-has s [] ps words rest = rest
   left_over-has s (t ∷ before) ps words rest = (words, rest)
 
-  left_over-alone : (s : Option Section) (before : List Token) → Words before → Pieces (left_over s before)
+  left_over-alone : (s : Option Section) (before : List Token) → Words before → Pieces (unended_piece s before)
   unfolding Pieces
   left_over-alone s [] words = tt
   left_over-alone s (t ∷ before) words = (words, tt)
 
-  chosen-has : (v : Option Section) (b : Bool) (f : Section → List Piece) (x y : List Piece) → ((next : Section) → Pieces (f next)) →
+  chosen-has : (v : Option Section) (b : Bool) (f : Section → List Statement) (x y : List Statement) → ((next : Section) → Pieces (f next)) →
       Pieces x → Pieces y → Pieces (chosen v b f x y)
   chosen-has (Some next) b f x y hf hx hy = hf next
   chosen-has None true f x y hf hx hy = hx
@@ -308,7 +308,7 @@ module _ (Has : What → Type 0) (IsName : List ℕ → Type 0) (IsType : TypeSh
   pieces-has s d before [] words rest = left_over-alone s before words
   pieces-has s d before (t ∷ ts) words rest =
       let tail = words-tail Has t ts rest in
-      chosen-has (section_of t.what) (is_end s d t.what) (λ next. left_over s before ++ pieces (Some next) 0 [] ts)
+      chosen-has (section_of t.what) (is_end s d t.what) (λ next. unended_piece s before ++ pieces (Some next) 0 [] ts)
       (item_of s t.line before ∷ pieces s 0 [] ts) (pieces s (braces_after t.what d) (before ++ t ∷ []) ts)
       (λ next. left_over-has s before (pieces (Some next) 0 [] ts) words (pieces-has (Some next) 0 [] ts (words-nil Has) tail))
       (words, pieces-has s 0 [] ts (words-nil Has) tail)
@@ -328,7 +328,7 @@ module _ (Has : What → Type 0) (IsName : List ℕ → Type 0) (IsType : TypeSh
       let same : made ≡ item = cc in
       subst (λ i. Body i.body) same (ih b refl)
 
-  piece_tree-has : (p : Piece) (item : ItemShape) → piece_tree p ≡ Ok item → Words p.tokens → Body item.body
+  piece_tree-has : (p : Statement) (item : ItemShape) → piece_tree p ≡ Ok item → Words p.tokens → Body item.body
   piece_tree-has p item h words =
       elim (if-cases (nat_lt 1024 (length p.tokens)) (Err (TooManyTokens p.line)) (with_line p.line (piece_body p.section p.ended p.tokens)) (Ok item) h) [
         | inl c ↦ absurd (let many = c.1 in cc)
@@ -342,7 +342,7 @@ module _ (Has : What → Type 0) (IsName : List ℕ → Type 0) (IsType : TypeSh
   first-names (Ok item) (Err fault) items hr ho h = absurd (cc)
   first-names (Ok item) (Ok is) items hr ho h = let same : item ∷ is ≡ items = cc in subst Items same (hr item refl, ho is refl)
 
-  trees-names : (ps : List Piece) (items : List ItemShape) → Pieces ps → piece_trees ps ≡ Ok items → Items items
+  trees-names : (ps : List Statement) (items : List ItemShape) → Pieces ps → piece_trees ps ≡ Ok items → Items items
   unfolding piece_trees Pieces
   trees-names [] items has h = let same : [] ≡ items = cc in subst Items same tt
   trees-names (p ∷ ps) items has h =

@@ -8,7 +8,7 @@ use Rattle.c2po_lexer.specs.declared.token.Keyword.TheVariants as keyword
 use Rattle.c2po_lexer.specs.declared.token.What.{What}
 use Rattle.c2po_lexer.specs.declared.token.What.TheVariants as what
 use Rattle.c2po_lexer.specs.declared.token.Token.{Token}
-use Rattle.c2po_lexer.specs.Tokens.{HasPlainName}
+use Rattle.c2po_lexer.specs.Tokens.{HasPlainLetters}
 use Rattle.mltl_base.specs.declared.operators.BetweenOp.{BetweenOp}
 use Rattle.c2po_ast.specs.declared.operator.Infix.{Infix}
 use Rattle.c2po_ast.specs.declared.operator.Infix.TheVariants.{Logic, Between, Compare, Arith}
@@ -18,7 +18,7 @@ use Rattle.mltl_base.specs.declared.operators.LogicOp.TheVariants as logic_op
 use Rattle.c2po_parse.specs.declared.operator.Operator.{Operator}
 use Rattle.c2po_parse.specs.declared.operator.Operator.TheVariants.{Binary, Field}
 use Rattle.c2po_parse.specs.Tokens.{is_sign, sign_level, word_level, token_level, ends_operand, depth_after, is_separator}
-use Rattle.c2po_parse.specs.Fronts.{◌>>=◌, word_in, name_at, interval_at, sign_infix, word_between, field_of, sign_operator, operator_in, operator_at, infix_level, level_of}
+use Rattle.c2po_parse.specs.Fronts.{◌>>=◌, word_in, name_at, interval_at, sign_infix, word_between, field_pick, sign_operator, operator_in, operator_at, infix_level, level_of}
 use Rattle.c2po_ast.specs.Names.{IsPlainName}
 use Rattle.c2po_parse.proofs.Words.{PlainWords, words-head, word-plain}
 use Rattle.c2po_parse.proofs.Walks.{bind-some, ends_of, depth_of, Quiet}
@@ -63,7 +63,7 @@ infix-is s op h = subst (InfixSign s) h (infix_sign s)
 
 -- a sign begins a picked field or is an operator by itself
 sign_operator-cases : (line : ℕ) (s : Sign) (ts : List Token) (r : Operator × List Token) → sign_operator line s ts ≡ Some r →
-    ((s ≡ sign.Dot) × (field_of ts ≡ Some r)) ⊎ ((op : Infix) × (sign_infix s ≡ Some op) × ((Binary line op, ts) ≡ r))
+    ((s ≡ sign.Dot) × (field_pick ts ≡ Some r)) ⊎ ((op : Infix) × (sign_infix s ≡ Some op) × ((Binary line op, ts) ≡ r))
 sign_operator-cases line sign.Dot ts r h = inl (refl, h)
 sign_operator-cases line sign.Iff ts r h = inr (Logic logic_op.Iff, refl, same_Some (Binary line (Logic logic_op.Iff), ts) r h)
 sign_operator-cases line sign.Implies ts r h = inr (Logic logic_op.Implies, refl, same_Some (Binary line (Logic logic_op.Implies), ts) r h)
@@ -153,7 +153,7 @@ name_at-names (t ∷ ts) x rest h =
 pub name_at-at : (t : Token) (x : List ℕ) (rest : List Token) → t.what ≡ what.Word x → name_at (t ∷ rest) ≡ Some (x, rest)
 name_at-at t x rest is = ap (λ w. word_in w rest) is
 
-field-reads : (n : Token) (x : List ℕ) (z : List Token) → n.what ≡ what.Word x → field_of (n ∷ z) ≡ Some (Field n.line x, z)
+field-reads : (n : Token) (x : List ℕ) (z : List Token) → n.what ≡ what.Word x → field_pick (n ∷ z) ≡ Some (Field n.line x, z)
 field-reads n x z is = rw is refl
 
 field-operator : (t n : Token) (x : List ℕ) → t.what ≡ what.Sign sign.Dot → n.what ≡ what.Word x → IsOperator t (n ∷ []) (Field n.line x)
@@ -167,11 +167,11 @@ field-operator t n x is named = record {
   quiet = (plain-of 12 false n (what.Word x) named refl refl, tt);
   ends = ap ends_operand named;
   depth = ap (λ w. depth_after w 0) named;
-  names = λ words. word-plain n.what x named (words-head HasPlainName n [] words);
+  names = λ words. word-plain n.what x named (words-head HasPlainLetters n [] words);
 }
 
 field_of-front : (t : Token) (ts : List Token) (o : Operator) (rest : List Token) → t.what ≡ what.Sign sign.Dot →
-    field_of ts ≡ Some (o, rest) → OperatorFront o (t ∷ ts) rest
+    field_pick ts ≡ Some (o, rest) → OperatorFront o (t ∷ ts) rest
 field_of-front t [] o rest is h = absurd (cc)
 field_of-front t (n ∷ ts) o rest is h =
     let p = bind-some (word_in n.what ts) (λ x. Some (Field n.line x.0, x.1)) (o, rest) h in

@@ -1,7 +1,7 @@
 use Rattle.std.proofs.Common.{◌≡◌, ℕ, suc, List, [], ◌∷◌, ◌++◌, Some}
 use Rattle.c2po_lexer.specs.declared.token.Sign.{Sign}
 use Rattle.c2po_lexer.specs.declared.token.Token.{Token}
-use Rattle.c2po_lexer.specs.Tokens.{HasPlainName}
+use Rattle.c2po_lexer.specs.Tokens.{HasPlainLetters}
 use Rattle.c2po_ast.specs.declared.operator.Infix.{Infix}
 use Rattle.c2po_ast.specs.declared.operator.Infix.TheVariants.{Logic, Between, Compare, Arith}
 use Rattle.c2po_ast.specs.declared.operator.Prefix.{Prefix}
@@ -16,7 +16,7 @@ use Rattle.c2po_ast.specs.Shape.{Shape, of_list}
 use Rattle.c2po_parse.specs.Tokens.{left_level, right_level}
 use Rattle.c2po_ast.specs.Parts.{joined, prefixed, enclosed, quantified, leaf}
 use Rattle.c2po_parse.specs.Fronts.{infix_level, prefix_level, closing}
-use Rattle.c2po_parse.specs.Splitting.{tree_of}
+use Rattle.c2po_parse.specs.Splitting.{parsed_tree}
 use Rattle.c2po_ast.specs.Names.{IsPlainName, HasPlainNames, HavePlainNames}
 use Rattle.c2po_parse.proofs.Words.{PlainWords, words-tail, words-left, words-right}
 use Rattle.c2po_parse.proofs.Starts.{AtomNames, BracketNames}
@@ -56,25 +56,25 @@ mutual
   derived-names : (k : ℕ) (c : List Token) (e : Shape) → Derives k c e → PlainWords c → HasPlainNames e
   derived-names _ _ _ (down k c e high d) words = derived-names (suc k) c e d words
   derived-names _ _ _ (rules.joins line op a t us b e f da o db) words =
-      joined-names line op e f (derived-names (left_level (infix_level op)) a e da (words-left HasPlainName a (t ∷ (us ++ b)) words))
-      (derived-names (right_level (infix_level op)) b f db (words-right HasPlainName us b (words-tail HasPlainName t (us ++ b) (words-right HasPlainName a (t ∷ (us ++ b)) words))))
+      joined-names line op e f (derived-names (left_level (infix_level op)) a e da (words-left HasPlainLetters a (t ∷ (us ++ b)) words))
+      (derived-names (right_level (infix_level op)) b f db (words-right HasPlainLetters us b (words-tail HasPlainLetters t (us ++ b) (words-right HasPlainLetters a (t ∷ (us ++ b)) words))))
   derived-names _ _ _ (picks line x a t us e d o) words =
-      (derived-names 11 a e d (words-left HasPlainName a (t ∷ us) words), o.names (words-tail HasPlainName t us (words-right HasPlainName a (t ∷ us) words)))
-  derived-names _ _ _ (behind p us c e is d) words = prefixed-names p e (derived-names (prefix_level p) c e d (words-right HasPlainName us c words))
+      (derived-names 11 a e d (words-left HasPlainLetters a (t ∷ us) words), o.names (words-tail HasPlainLetters t us (words-right HasPlainLetters a (t ∷ us) words)))
+  derived-names _ _ _ (behind p us c e is d) words = prefixed-names p e (derived-names (prefix_level p) c e d (words-right HasPlainLetters us c words))
   derived-names _ _ _ (alone line a us is) words = leaf-names line a (is.names words)
-  derived-names _ _ _ (inside us c t e is d close) words = derived-names 1 c e d (words-left HasPlainName c (t ∷ []) (words-right HasPlainName us (c ++ t ∷ []) words))
+  derived-names _ _ _ (inside us c t e is d close) words = derived-names 1 c e d (words-left HasPlainLetters c (t ∷ []) (words-right HasPlainLetters us (c ++ t ∷ []) words))
   derived-names _ _ _ (encloses b us c es is ds) words =
-      enclosed-names b es (is.names (words-left HasPlainName us c words)) (all-names (closing b) c es ds (words-right HasPlainName us c words))
+      enclosed-names b es (is.names (words-left HasPlainLetters us c words)) (all-names (closing b) c es ds (words-right HasPlainLetters us c words))
   derived-names _ _ _ (binds line q x n us c m vs d t s e is ds middle de close) words =
-      let rest = words-right HasPlainName us (c ++ m ∷ (vs ++ (d ++ t ∷ []))) words in
-      let body = words-right HasPlainName vs (d ++ t ∷ []) (words-tail HasPlainName m (vs ++ (d ++ t ∷ [])) (words-right HasPlainName c (m ∷ (vs ++ (d ++ t ∷ []))) rest)) in
-      quantified-names line q x s n e (is.names (words-left HasPlainName us (c ++ m ∷ (vs ++ (d ++ t ∷ []))) words))
-      (derived-names 1 c s ds (words-left HasPlainName c (m ∷ (vs ++ (d ++ t ∷ []))) rest)) (derived-names 1 d e de (words-left HasPlainName d (t ∷ []) body))
+      let rest = words-right HasPlainLetters us (c ++ m ∷ (vs ++ (d ++ t ∷ []))) words in
+      let body = words-right HasPlainLetters vs (d ++ t ∷ []) (words-tail HasPlainLetters m (vs ++ (d ++ t ∷ [])) (words-right HasPlainLetters c (m ∷ (vs ++ (d ++ t ∷ []))) rest)) in
+      quantified-names line q x s n e (is.names (words-left HasPlainLetters us (c ++ m ∷ (vs ++ (d ++ t ∷ []))) words))
+      (derived-names 1 c s ds (words-left HasPlainLetters c (m ∷ (vs ++ (d ++ t ∷ []))) rest)) (derived-names 1 d e de (words-left HasPlainLetters d (t ∷ []) body))
 
   all-names : (s : Sign) (c : List Token) (es : List Shape) → DerivesAll s c es → PlainWords c → HavePlainNames (of_list es)
-  all-names _ _ _ (last s c t e d close) words = (derived-names 1 c e d (words-left HasPlainName c (t ∷ []) words), tt)
+  all-names _ _ _ (last s c t e d close) words = (derived-names 1 c e d (words-left HasPlainLetters c (t ∷ []) words), tt)
   all-names _ _ _ (and_more s c t d e es dc comma ds) words =
-      (derived-names 1 c e dc (words-left HasPlainName c (t ∷ d) words), all-names s d es ds (words-tail HasPlainName t d (words-right HasPlainName c (t ∷ d) words)))
+      (derived-names 1 c e dc (words-left HasPlainLetters c (t ∷ d) words), all-names s d es ds (words-tail HasPlainLetters t d (words-right HasPlainLetters c (t ∷ d) words)))
 
-pub tree-names : (ts : List Token) (e : Shape) → tree_of ts ≡ Some e → PlainWords ts → HasPlainNames e
+pub tree-names : (ts : List Token) (e : Shape) → parsed_tree ts ≡ Some e → PlainWords ts → HasPlainNames e
 tree-names ts e h words = derived-names 1 ts e (tree-derives ts e h) words

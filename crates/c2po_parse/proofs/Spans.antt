@@ -7,26 +7,26 @@ use Rattle.c2po_ast.specs.ItemShape.{ItemShape}
 use Rattle.c2po_parse.specs.declared.fault.ParseFault.{ParseFault}
 use Rattle.c2po_parse.specs.declared.fault.ParseFault.TheVariants.{TooManyTokens, Grammar}
 use Rattle.c2po_parse.specs.declared.section.Section.{Section}
-use Rattle.c2po_parse.specs.Sections.{section_of, braces_after, Piece, item_of, left_over, is_end, chosen, pieces, depth_within, counted, piece_len, begins_item, ended_of, tail_of}
+use Rattle.c2po_parse.specs.Sections.{section_of, braces_after, Statement, item_of, unended_piece, is_end, chosen, pieces, depth_within, token_more, piece_len, begins_item, ended_of, tail_of}
 use Rattle.c2po_parse.specs.Specification.{piece_body, with_line, piece_tree, with_first, first_or, piece_trees, all_with, reads_on, spec_of}
 
 -- The first piece of a token list and those after it.
 
 -- the pieces from some tokens of one piece and what stands after them
-finish : Option Section → List Token → List Token → List Piece
-finish s before [] = left_over s before
-finish s before (t ∷ ts) = chosen (section_of t.what) true (λ next. left_over s before ++ pieces (Some next) 0 [] ts) (item_of s t.line before ∷ pieces s 0 [] ts) []
+finish : Option Section → List Token → List Token → List Statement
+finish s before [] = unended_piece s before
+finish s before (t ∷ ts) = chosen (section_of t.what) true (λ next. unended_piece s before ++ pieces (Some next) 0 [] ts) (item_of s t.line before ∷ pieces s 0 [] ts) []
 
 at-end : (s : Option Section) (d : ℕ) (before : List Token) (t : Token) (ts : List Token) → depth_within s d t.what ≡ None →
-    chosen (section_of t.what) (is_end s d t.what) (λ next. left_over s before ++ pieces (Some next) 0 [] ts) (item_of s t.line before ∷ pieces s 0 [] ts)
+    chosen (section_of t.what) (is_end s d t.what) (λ next. unended_piece s before ++ pieces (Some next) 0 [] ts) (item_of s t.line before ∷ pieces s 0 [] ts)
     (pieces s (braces_after t.what d) (before ++ t ∷ []) ts) ≡ finish s (before ++ []) (t ∷ ts) →
     pieces s d before (t ∷ ts) ≡ finish s (before ++ take (piece_len s d (t ∷ ts)) (t ∷ ts)) (drop (piece_len s d (t ∷ ts)) (t ∷ ts))
 unfolding pieces piece_len
 at-end s d before t ts ends h =
-    h ∙ ap (λ v. finish s (before ++ take (counted v (λ next. piece_len s next ts)) (t ∷ ts)) (drop (counted v (λ next. piece_len s next ts)) (t ∷ ts))) (sym ends)
+    h ∙ ap (λ v. finish s (before ++ take (token_more v (λ next. piece_len s next ts)) (t ∷ ts)) (drop (token_more v (λ next. piece_len s next ts)) (t ∷ ts))) (sym ends)
 
 goes-on : (s : Option Section) (d : ℕ) (before : List Token) (t : Token) (ts : List Token) → depth_within s d t.what ≡ Some (braces_after t.what d) →
-    chosen (section_of t.what) (is_end s d t.what) (λ next. left_over s before ++ pieces (Some next) 0 [] ts) (item_of s t.line before ∷ pieces s 0 [] ts)
+    chosen (section_of t.what) (is_end s d t.what) (λ next. unended_piece s before ++ pieces (Some next) 0 [] ts) (item_of s t.line before ∷ pieces s 0 [] ts)
     (pieces s (braces_after t.what d) (before ++ t ∷ []) ts) ≡ pieces s (braces_after t.what d) (before ++ t ∷ []) ts →
     ((us : List Token) → pieces s (braces_after t.what d) us ts ≡ finish s (us ++ take (piece_len s (braces_after t.what d) ts) ts) (drop (piece_len s (braces_after t.what d) ts) ts)) →
     pieces s d before (t ∷ ts) ≡ finish s (before ++ take (piece_len s d (t ∷ ts)) (t ∷ ts)) (drop (piece_len s d (t ∷ ts)) (t ∷ ts))
@@ -37,16 +37,16 @@ goes-on s d before t ts within h ih =
     h ∙ ih (before ++ t ∷ [])
     ∙ ap (λ us. finish s us (drop n ts)) (append_assoc before (t ∷ []) (take n ts))
     ∙ ap (λ m. finish s (before ++ take m (t ∷ ts)) (drop m (t ∷ ts))) (sym one_more)
-    ∙ ap (λ v. finish s (before ++ take (counted v (λ next. piece_len s next ts)) (t ∷ ts)) (drop (counted v (λ next. piece_len s next ts)) (t ∷ ts))) (sym within)
+    ∙ ap (λ v. finish s (before ++ take (token_more v (λ next. piece_len s next ts)) (t ∷ ts)) (drop (token_more v (λ next. piece_len s next ts)) (t ∷ ts))) (sym within)
 
 section-ends : (s : Option Section) (d : ℕ) (before : List Token) (t : Token) (ts : List Token) (next : Section) → section_of t.what ≡ Some next →
-    chosen (section_of t.what) (is_end s d t.what) (λ next. left_over s before ++ pieces (Some next) 0 [] ts) (item_of s t.line before ∷ pieces s 0 [] ts)
+    chosen (section_of t.what) (is_end s d t.what) (λ next. unended_piece s before ++ pieces (Some next) 0 [] ts) (item_of s t.line before ∷ pieces s 0 [] ts)
     (pieces s (braces_after t.what d) (before ++ t ∷ []) ts) ≡ finish s (before ++ []) (t ∷ ts)
 unfolding finish
 section-ends s d before t ts next begins = rw (begins, append-nil before) refl
 
 item-ends : (s : Option Section) (d : ℕ) (before : List Token) (t : Token) (ts : List Token) → section_of t.what ≡ None → is_end s d t.what ≡ true →
-    chosen (section_of t.what) (is_end s d t.what) (λ next. left_over s before ++ pieces (Some next) 0 [] ts) (item_of s t.line before ∷ pieces s 0 [] ts)
+    chosen (section_of t.what) (is_end s d t.what) (λ next. unended_piece s before ++ pieces (Some next) 0 [] ts) (item_of s t.line before ∷ pieces s 0 [] ts)
     (pieces s (braces_after t.what d) (before ++ t ∷ []) ts) ≡ finish s (before ++ []) (t ∷ ts)
 unfolding finish
 item-ends s d before t ts begins ends = rw (begins, ends, append-nil before) refl
@@ -74,12 +74,12 @@ pieces-span s d before (t ∷ ts) =
     span-step s d before t ts (section_of t.what) (is_end s d t.what) refl refl (λ us. pieces-span s (braces_after t.what d) us ts)
 
 -- the pieces after the first one
-abbrev pub others_of : Option Section → List Token → List Piece
+abbrev pub others_of : Option Section → List Token → List Statement
 others_of s [] = []
 others_of s (t ∷ ts) = chosen (section_of t.what) true (λ next. pieces (Some next) 0 [] ts) (pieces s 0 [] ts) []
 
 -- what stands in a section before an end
-abbrev pub piece_on : Option Section → ℕ → List Token → Bool → Piece
+abbrev pub piece_on : Option Section → ℕ → List Token → Bool → Statement
 piece_on s line tokens ended = record { section = s; line = line; tokens = tokens; ended = ended }
 
 behind-at : (s : Option Section) (t : Token) (piece : List Token) (u : Token) (us : List Token) (v : Option Section) → section_of u.what ≡ v →

@@ -28,7 +28,7 @@ use Rattle.c2po_ast.specs.Shape.{Shape, pick}
 use Rattle.c2po_parse.specs.Tokens.{is_sign, level_after, ends_operand, depth_after, is_separator, left_level, right_level, is_right_level, is_prefix_level}
 use Rattle.c2po_ast.specs.Parts.{joined, prefixed, enclosed, quantified, leaf}
 use Rattle.c2po_parse.specs.Fronts.{◌>>=◌, past, name_at, interval_at, word_window, word_quantifier, operator_at, named_or_called, bound_start, window_start, word_start, sign_start, start_in, start_at, middle_at, infix_level, level_of, prefix_level, closing}
-use Rattle.c2po_parse.specs.Splitting.{Cut, has_level, ends_expression, cut_first, cut_last, split_at, cut_inside, Reads, ReadsAll, at_end, sides, at_operators, at_prefixes, block, primary, split_step, more_or_end, elements_step, tree_within, trees_within}
+use Rattle.c2po_parse.specs.Splitting.{Cut, has_level, ends_expression, cut_first, cut_last, split_at, cut_inside, ReadsLevel, ReadsAll, at_end, sides, at_operators, at_prefixes, block, primary, split_step, more_or_end, elements_step, tree_within, trees_within}
 use Rattle.c2po_parse.proofs.Walks.{bind-some, ends_of, Quiet, Skips, cut_first-at, cut_first-none, cut_last-at, cut_last-none}
 use Rattle.c2po_parse.proofs.Heads.{past-at}
 use Rattle.c2po_parse.proofs.Operators.{IsOperator}
@@ -200,7 +200,7 @@ above : (a b : ℕ) → b < a → nat_le a b ≡ false
 above a b h = grind (arith, nat_tests)
 
 -- the step at a level of operators, of prefixes, and at the primaries
-at-operators : (read : Reads) (read_all : ReadsAll) (k : ℕ) (c : List Token) (e : Shape) (v : Option Cut) → k < 12 → is_prefix_level k ≡ false →
+at-operators : (read : ReadsLevel) (read_all : ReadsAll) (k : ℕ) (c : List Token) (e : Shape) (v : Option Cut) → k < 12 → is_prefix_level k ≡ false →
     split_at k c ≡ v → at_operators read k c v ≡ Some e → split_step read read_all k c ≡ Some e
 at-operators read read_all k c e v high flat is h =
     if-false (nat_le 12 k) (start_at c >>= λ s. primary read read_all s)
@@ -208,7 +208,7 @@ at-operators read read_all k c e v high flat is h =
     (if-false (is_prefix_level k) (at_prefixes read k c (start_at c)) (at_operators read k c (split_at k c)) (Some e) flat
     (ap (at_operators read k c) is ∙ h))
 
-at-prefixes : (read : Reads) (read_all : ReadsAll) (k : ℕ) (c : List Token) (e : Shape) (v : Option (Start × List Token)) → k < 12 →
+at-prefixes : (read : ReadsLevel) (read_all : ReadsAll) (k : ℕ) (c : List Token) (e : Shape) (v : Option (Start × List Token)) → k < 12 →
     is_prefix_level k ≡ true → start_at c ≡ v → at_prefixes read k c v ≡ Some e → split_step read read_all k c ≡ Some e
 at-prefixes read read_all k c e v high prefix is h =
     if-false (nat_le 12 k) (start_at c >>= λ s. primary read read_all s)
@@ -216,11 +216,11 @@ at-prefixes read read_all k c e v high prefix is h =
     (if-true (is_prefix_level k) (at_prefixes read k c (start_at c)) (at_operators read k c (split_at k c)) (Some e) prefix
     (ap (at_prefixes read k c) is ∙ h))
 
-at-primary : (read : Reads) (read_all : ReadsAll) (c : List Token) (e : Shape) (s : Start) (rest : List Token) → start_at c ≡ Some (s, rest) →
+at-primary : (read : ReadsLevel) (read_all : ReadsAll) (c : List Token) (e : Shape) (s : Start) (rest : List Token) → start_at c ≡ Some (s, rest) →
     primary read read_all (s, rest) ≡ Some e → split_step read read_all 12 c ≡ Some e
 at-primary read read_all c e s rest is h = bind-with (start_at c) (λ x. primary read read_all x) (s, rest) e is h
 
-some-passes-on : (read : Reads) (k : ℕ) (c : List Token) (e : Shape) (s : Start) (rest : List Token) → Begins (suc k) c → start_at c ≡ Some (s, rest) →
+some-passes-on : (read : ReadsLevel) (k : ℕ) (c : List Token) (e : Shape) (s : Start) (rest : List Token) → Begins (suc k) c → start_at c ≡ Some (s, rest) →
     read (suc k) c ≡ Some e → at_prefixes read k c (Some (s, rest)) ≡ Some e
 unfolding start_level
 some-passes-on read k c e (Before p) rest b is h =
@@ -235,7 +235,7 @@ some-passes-on read k c e (Open o) rest b is h = h
 some-passes-on read k c e (Bind line q x) rest b is h = h
 
 -- no prefix of this level is taken off
-passes-on : (read : Reads) (k : ℕ) (c : List Token) (e : Shape) (v : Option (Start × List Token)) → Begins (suc k) c → start_at c ≡ v →
+passes-on : (read : ReadsLevel) (k : ℕ) (c : List Token) (e : Shape) (v : Option (Start × List Token)) → Begins (suc k) c → start_at c ≡ v →
     read (suc k) c ≡ Some e → at_prefixes read k c v ≡ Some e
 passes-on read k c e None b is h = h
 passes-on read k c e (Some s) b is h = some-passes-on read k c e s.0 s.1 b is h

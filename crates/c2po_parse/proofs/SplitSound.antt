@@ -14,7 +14,7 @@ use Rattle.c2po_ast.specs.Shape.{Shape, pick}
 use Rattle.c2po_parse.specs.Tokens.{is_sign, token_level, level_after, left_level, right_level, is_prefix_level, is_right_level}
 use Rattle.c2po_ast.specs.Parts.{joined, prefixed, enclosed, quantified, leaf}
 use Rattle.c2po_parse.specs.Fronts.{◌>>=◌, past, operator_at, start_at, middle_at, infix_level, level_of, prefix_level, closing}
-use Rattle.c2po_parse.specs.Splitting.{Cut, has_level, ends_expression, cut_first, cut_last, split_at, cut_inside, Reads, ReadsAll, at_end, sides, at_operators, at_prefixes, block, primary, split_step, more_or_end, elements_step, tree_within, trees_within}
+use Rattle.c2po_parse.specs.Splitting.{Cut, has_level, ends_expression, cut_first, cut_last, split_at, cut_inside, ReadsLevel, ReadsAll, at_end, sides, at_operators, at_prefixes, block, primary, split_step, more_or_end, elements_step, tree_within, trees_within}
 use Rattle.c2po_parse.proofs.Walks.{bind-some, if-cases, Rejoins, cut_first-rejoins, cut_last-rejoins}
 use Rattle.c2po_parse.proofs.Heads.{past-begins}
 use Rattle.c2po_parse.proofs.Operators.{IsOperator, operator_at-front}
@@ -29,7 +29,7 @@ at_end-is a r [] h = (same_Some a r h, refl)
 at_end-is a r (t ∷ ts) h = absurd (cc)
 
 -- what is known of a reader of levels
-pub record Sound (read : Reads) : Type 0 where
+pub record Sound (read : ReadsLevel) : Type 0 where
   pub derives : (k : ℕ) (ts : List Token) (e : Shape) → 1 ≤ k → k ≤ 12 → read k ts ≡ Some e → Derives k ts e
 
 pub record SoundAll (read_all : ReadsAll) : Type 0 where
@@ -46,7 +46,7 @@ level-operator k false t us o low h is =
     sym is.level ∙ minus-or (is_sign sign.Minus t.what) (token_level t.what) k low (eqb-true (level_after false t.what) k h)
 
 -- the two sides of an operator
-sides-sound : (read : Reads) (k : ℕ) (left : List Token) (t : Token) (us right : List Token) (o : Operator) (e : Shape) → Sound read →
+sides-sound : (read : ReadsLevel) (k : ℕ) (left : List Token) (t : Token) (us right : List Token) (o : Operator) (e : Shape) → Sound read →
     level_of o ≡ k → IsOperator t us o → sides read k left (o, right) ≡ Some e → Derives k (left ++ t ∷ (us ++ right)) e
 sides-sound read k left t us right (Binary line op) e ih level is h =
     let l = infix_is_level op in
@@ -76,7 +76,7 @@ split_at-rejoins k ts c h = elim (if-cases (is_right_level k) (cut_first (has_le
   | inr p ↦ cut_last-rejoins (has_level k) false 0 ts c p.1
 ]
 
-operators-sound : (read : Reads) (k : ℕ) (ts : List Token) (v : Option Cut) (e : Shape) → Sound read → 1 ≤ k → k < 12 → split_at k ts ≡ v →
+operators-sound : (read : ReadsLevel) (k : ℕ) (ts : List Token) (v : Option Cut) (e : Shape) → Sound read → 1 ≤ k → k < 12 → split_at k ts ≡ v →
     at_operators read k ts v ≡ Some e → Derives k ts e
 operators-sound read k ts None e ih low high is h = down k ts e high (ih.derives (suc k) ts e (omega arith) (omega arith) h)
 operators-sound read k ts (Some c) e ih low high is h =
@@ -90,10 +90,10 @@ operators-sound read k ts (Some c) e ih low high is h =
     (sides-sound read k c.0 front.at front.front p.0.1 p.0.0 e ih level front.is p.2)
 
 -- a prefix is taken off, or the next level is read
-next-sound : (read : Reads) (k : ℕ) (ts : List Token) (e : Shape) → Sound read → 1 ≤ k → k < 12 → read (suc k) ts ≡ Some e → Derives k ts e
+next-sound : (read : ReadsLevel) (k : ℕ) (ts : List Token) (e : Shape) → Sound read → 1 ≤ k → k < 12 → read (suc k) ts ≡ Some e → Derives k ts e
 next-sound read k ts e ih low high h = down k ts e high (ih.derives (suc k) ts e (omega arith) (omega arith) h)
 
-some-prefix-sound : (read : Reads) (k : ℕ) (ts : List Token) (s : Start) (rest : List Token) (e : Shape) → Sound read → 1 ≤ k → k < 12 →
+some-prefix-sound : (read : ReadsLevel) (k : ℕ) (ts : List Token) (s : Start) (rest : List Token) (e : Shape) → Sound read → 1 ≤ k → k < 12 →
     start_at ts ≡ Some (s, rest) → at_prefixes read k ts (Some (s, rest)) ≡ Some e → Derives k ts e
 some-prefix-sound read k ts (Before p) rest e ih low high is h =
     elim (if-cases (nat_eq (prefix_level p) k) (read k rest >>= λ x. Some (prefixed p x)) (read (suc k) ts) (Some e) h) [
@@ -113,7 +113,7 @@ some-prefix-sound read k ts Round rest e ih low high is h = next-sound read k ts
 some-prefix-sound read k ts (Open b) rest e ih low high is h = next-sound read k ts e ih low high h
 some-prefix-sound read k ts (Bind line q x) rest e ih low high is h = next-sound read k ts e ih low high h
 
-prefixes-sound : (read : Reads) (k : ℕ) (ts : List Token) (v : Option (Start × List Token)) (e : Shape) → Sound read → 1 ≤ k → k < 12 →
+prefixes-sound : (read : ReadsLevel) (k : ℕ) (ts : List Token) (v : Option (Start × List Token)) (e : Shape) → Sound read → 1 ≤ k → k < 12 →
     start_at ts ≡ v → at_prefixes read k ts v ≡ Some e → Derives k ts e
 prefixes-sound read k ts None e ih low high is h = next-sound read k ts e ih low high h
 prefixes-sound read k ts (Some s) e ih low high is h = some-prefix-sound read k ts s.0 s.1 e ih low high is h
@@ -126,7 +126,7 @@ record IsBlock (ts : List Token) (e : Shape) : Type 0 where
   joined : ts ≡ inner ++ close ∷ []
   derives : Derives 1 inner e
 
-block-sound : (read : Reads) (ts : List Token) (e : Shape) → Sound read → block read ts ≡ Some e → IsBlock ts e
+block-sound : (read : ReadsLevel) (ts : List Token) (e : Shape) → Sound read → block read ts ≡ Some e → IsBlock ts e
 block-sound read ts e ih h =
     let c = bind-some (cut_inside ts) (λ c. past sign.RightRound c.1 >>= λ rest. read 1 c.0 >>= λ x. at_end x rest) e h in
     let r = bind-some (past sign.RightRound c.0.1) (λ rest. read 1 c.0.0 >>= λ x. at_end x rest) e c.2 in
@@ -142,7 +142,7 @@ block-sound read ts e ih h =
       derives = subst (Derives 1 c.0.0) end.0 (ih.derives 1 c.0.0 x.0 (omega arith) (omega arith) x.1);
     }
 
-primary-sound : (read : Reads) (read_all : ReadsAll) (ts : List Token) (s : Start) (rest : List Token) (e : Shape) → Sound read → SoundAll read_all →
+primary-sound : (read : ReadsLevel) (read_all : ReadsAll) (ts : List Token) (s : Start) (rest : List Token) (e : Shape) → Sound read → SoundAll read_all →
     start_at ts ≡ Some (s, rest) → primary read read_all (s, rest) ≡ Some e → Derives 12 ts e
 primary-sound read read_all ts (Leaf line a) rest e ih ihs is h =
     let front = start_at-front ts (Leaf line a) rest is in
@@ -178,7 +178,7 @@ primary-sound read read_all ts (Bind line q x) rest e ih ihs is h =
     (binds line q x m.0.0 front.front c.0.0 middle.at middle.front b.inner b.close s.0 y.0 front.is
     (ih.derives 1 c.0.0 s.0 (omega arith) (omega arith) s.1) middle.is b.derives b.is))
 
-step-sound : (read : Reads) (read_all : ReadsAll) (k : ℕ) (ts : List Token) (e : Shape) → Sound read → SoundAll read_all → 1 ≤ k → k ≤ 12 →
+step-sound : (read : ReadsLevel) (read_all : ReadsAll) (k : ℕ) (ts : List Token) (e : Shape) → Sound read → SoundAll read_all → 1 ≤ k → k ≤ 12 →
     split_step read read_all k ts ≡ Some e → Derives k ts e
 step-sound read read_all k ts e ih ihs low high h =
     elim (if-cases (nat_le 12 k) (start_at ts >>= λ s. primary read read_all s)
@@ -196,7 +196,7 @@ step-sound read read_all k ts e ih ihs low high h =
           ]
     ]
 
-elements-sound : (read : Reads) (read_all : ReadsAll) (s : Sign) (e : Shape) (a ts : List Token) (es : List Shape) (v : Option (List Token)) →
+elements-sound : (read : ReadsLevel) (read_all : ReadsAll) (s : Sign) (e : Shape) (a ts : List Token) (es : List Shape) (v : Option (List Token)) →
     SoundAll read_all → Derives 1 a e → past sign.Comma ts ≡ v → more_or_end read_all s e ts v ≡ Some es → DerivesAll s (a ++ ts) es
 elements-sound read read_all s e a ts es (Some rest) ihs d is h =
     let p = bind-some (read_all s rest) (λ fs. Some (e ∷ fs)) es h in
@@ -211,7 +211,7 @@ elements-sound read read_all s e a ts es None ihs d is h =
     subst (λ us. DerivesAll s (a ++ us) es) (sym (close.joined ∙ ap (λ us. close.at ∷ us) end.1))
     (subst (DerivesAll s (a ++ close.at ∷ [])) end.0 (last s a close.at e d close.is))
 
-steps-sound : (read : Reads) (read_all : ReadsAll) (s : Sign) (ts : List Token) (es : List Shape) → Sound read → SoundAll read_all →
+steps-sound : (read : ReadsLevel) (read_all : ReadsAll) (s : Sign) (ts : List Token) (es : List Shape) → Sound read → SoundAll read_all →
     elements_step read read_all s ts ≡ Some es → DerivesAll s ts es
 steps-sound read read_all s ts es ih ihs h =
     let c = bind-some (cut_inside ts) (λ c. read 1 c.0 >>= λ e. more_or_end read_all s e c.1 (past sign.Comma c.1)) es h in

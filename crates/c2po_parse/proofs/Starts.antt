@@ -19,8 +19,8 @@ use Rattle.c2po_ast.specs.declared.operator.Atom.TheVariants.{Number, Truth, Ref
 use Rattle.c2po_parse.specs.declared.operator.Start.{Start}
 use Rattle.c2po_parse.specs.declared.operator.Start.TheVariants.{Leaf, Before, Round, Open, Bind}
 use Rattle.c2po_parse.specs.Tokens.{word_level, level_after, ends_operand, depth_after, is_separator}
-use Rattle.c2po_parse.specs.Fronts.{◌>>=◌, past, name_at, natural_in, natural_at, interval_at, word_window, word_quantifier, named_or_called, bound_start, window_start, word_start, sign_start, start_in, start_at, number_at, middle_at}
-use Rattle.c2po_lexer.specs.Tokens.{HasPlainName}
+use Rattle.c2po_parse.specs.Fronts.{◌>>=◌, past, name_at, natural_in, natural_at, interval_at, word_window, word_quantifier, named_or_called, bound_start, window_start, word_start, sign_start, start_in, start_at, threshold_at, middle_at}
+use Rattle.c2po_lexer.specs.Tokens.{HasPlainLetters}
 use Rattle.c2po_ast.specs.Names.{IsPlainName}
 use Rattle.c2po_parse.proofs.Words.{PlainWords, words-head, words-tail, word-plain}
 use Rattle.c2po_parse.proofs.Walks.{bind-some, ends_of, depth_of, Quiet}
@@ -81,7 +81,7 @@ pub record StartFront (s : Start) (ts rest : List Token) : Type 0 where
 -- a beginning of one token
 one-start : (t : Token) (w : What) (s : Start) → t.what ≡ w → ((z : List Token) → (is_leaf s ≡ true → past sign.LeftRound z ≡ None) → start_in t.line w z ≡ Some (s, z)) →
     is_separator w ≡ false → level_after false w ≡ 0 → ends_operand w ≡ is_leaf s → depth_after w 0 ≡ opened s →
-    (HasPlainName w → StartNames s) → IsStart (t ∷ []) s
+    (HasPlainLetters w → StartNames s) → IsStart (t ∷ []) s
 unfolding start_at Quiet ends_of depth_of
 one-start t w s is reads apart level ends depth names = record {
   reads = λ z none. ap (λ v. start_in t.line v z) is ∙ reads z none;
@@ -89,13 +89,13 @@ one-start t w s is reads apart level ends depth names = record {
   ends = ap ends_operand is ∙ ends;
   depth = ap (λ v. depth_after v 0) is ∙ depth;
   some = omega arith;
-  names = λ words. names (subst HasPlainName is (words-head HasPlainName t [] words));
+  names = λ words. names (subst HasPlainLetters is (words-head HasPlainLetters t [] words));
 }
 
 one-front : (t : Token) (ts : List Token) (w : What) (s r : Start) (rest : List Token) → t.what ≡ w →
     ((z : List Token) → (is_leaf s ≡ true → past sign.LeftRound z ≡ None) → start_in t.line w z ≡ Some (s, z)) →
     is_separator w ≡ false → level_after false w ≡ 0 → ends_operand w ≡ is_leaf s → depth_after w 0 ≡ opened s →
-    (HasPlainName w → StartNames s) → ◌≡◌ {A = Option (Start × List Token)} (Some (s, ts)) (Some (r, rest)) → StartFront r (t ∷ ts) rest
+    (HasPlainLetters w → StartNames s) → ◌≡◌ {A = Option (Start × List Token)} (Some (s, ts)) (Some (r, rest)) → StartFront r (t ∷ ts) rest
 one-front t ts w s r rest is reads apart level ends depth names h =
     let same = some_pair_parts s r ts rest h in
     record {
@@ -113,7 +113,7 @@ call-start t o x is opens = record {
   ends = ap ends_operand opens;
   depth = rw (is, opens) refl;
   some = omega arith;
-  names = λ words. word-plain t.what x is (words-head HasPlainName t (o ∷ []) words);
+  names = λ words. word-plain t.what x is (words-head HasPlainLetters t (o ∷ []) words);
 }
 
 -- a name alone, or a call
@@ -222,7 +222,7 @@ bind-start t o n c k q x is word opens named colon =
       ends = ap ends_operand colon;
       depth = rw (is, opens, named, colon) refl;
       some = omega arith;
-      names = λ words. word-plain n.what x named (words-head HasPlainName n (c ∷ []) (words-tail HasPlainName o (n ∷ c ∷ []) (words-tail HasPlainName t (o ∷ n ∷ c ∷ []) words)));
+      names = λ words. word-plain n.what x named (words-head HasPlainLetters n (c ∷ []) (words-tail HasPlainLetters o (n ∷ c ∷ []) (words-tail HasPlainLetters t (o ∷ n ∷ c ∷ []) words)));
     }
 
 bind-front : (t : Token) (k : Keyword) (q : Quantifier) (ts : List Token) (s : Start) (rest : List Token) → t.what ≡ what.Reserved k →
@@ -297,7 +297,7 @@ pub record MiddleFront (q : Quantifier) (n : ℕ) (ts rest : List Token) : Type 
   pub joined : ts ≡ at ∷ (front ++ rest)
   pub is : IsMiddle q n at front
 
-plain-middle : (q : Quantifier) (r o : Token) → ((z : List Token) → number_at q z ≡ Some (0, z)) → r.what ≡ what.Sign sign.RightRound →
+plain-middle : (q : Quantifier) (r o : Token) → ((z : List Token) → threshold_at q z ≡ Some (0, z)) → r.what ≡ what.Sign sign.RightRound →
     o.what ≡ what.Sign sign.LeftRound → IsMiddle q 0 r (o ∷ [])
 unfolding middle_at Quiet ends_of depth_of
 plain-middle q r o number close opens = record {
@@ -332,7 +332,7 @@ counted-middle op m c n r o comma number close opens = record {
 abbrev turn : ℕ → List Token → Option (ℕ × List Token)
 turn m us = past sign.RightRound us >>= λ vs. past sign.LeftRound vs >>= λ ws. Some (m, ws)
 
-closing-front : (q : Quantifier) (m n : ℕ) (ts us rest : List Token) → ((z : List Token) → number_at q z ≡ Some (0, z)) →
+closing-front : (q : Quantifier) (m n : ℕ) (ts us rest : List Token) → ((z : List Token) → threshold_at q z ≡ Some (0, z)) →
     ◌≡◌ {A = Option (ℕ × List Token)} (Some (0, ts)) (Some (m, us)) →
     turn m us ≡ Some (n, rest) → MiddleFront q n ts rest
 closing-front q m n ts us rest number same h =

@@ -3,7 +3,7 @@ use Rattle.std.specs.Prelude.{All, ⊤}
 use Rattle.c2po_lexer.specs.declared.token.What.{What}
 use Rattle.c2po_lexer.specs.declared.token.What.TheVariants as what
 use Rattle.c2po_lexer.specs.declared.token.Token.{Token}
-use Rattle.c2po_lexer.specs.Tokens.{HasPlainName}
+use Rattle.c2po_lexer.specs.Tokens.{HasPlainLetters}
 use Rattle.c2po_ast.specs.Names.{IsPlainName}
 
 -- Token lists whose tokens all have something.
@@ -50,8 +50,8 @@ module _ (Has : What → Type 0) where
 
 -- those whose names are made of letters, digits and `_`
 abbrev pub PlainWords : List Token → Type 0
-PlainWords ts = AllHave HasPlainName ts
+PlainWords ts = AllHave HasPlainLetters ts
 
 -- a token that is a name
-pub word-plain : (w : What) (x : List ℕ) → w ≡ what.Word x → HasPlainName w → IsPlainName x
-word-plain w x is h = subst HasPlainName is h
+pub word-plain : (w : What) (x : List ℕ) → w ≡ what.Word x → HasPlainLetters w → IsPlainName x
+word-plain w x is h = subst HasPlainLetters is h

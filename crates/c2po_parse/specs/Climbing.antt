@@ -41,26 +41,26 @@ closed read ts = do
   Some (x.0, rest)
 
 -- a quantifier after its variable
-abbrev pub bound : Climbs → ℕ → Quantifier → List ℕ → List Token → Option (Shape × List Token)
-bound read line q x ts = do
+abbrev pub after_variable : Climbs → ℕ → Quantifier → List ℕ → List Token → Option (Shape × List Token)
+after_variable read line q x ts = do
   s ← read (Whole 1) ts
   m ← middle_at q s.1
   e ← closed read m.1
   Some (quantified line q x s.0 m.0 e.0, e.1)
 
 -- an operand after a prefix, which no operator of a tighter level takes
-abbrev pub before : Climbs → ℕ → Prefix → List Token → Option (Shape × List Token)
-before read level p ts =
+abbrev pub after_prefix : Climbs → ℕ → Prefix → List Token → Option (Shape × List Token)
+after_prefix read level p ts =
     if nat_le level (prefix_level p) then (read (Whole (prefix_level p)) ts >>= λ x. Some (prefixed p x.0, x.1))
     else None
 
 -- an operand, given how it begins and what follows that
 abbrev pub operand : Climbs → ℕ → Start × List Token → Option (Shape × List Token)
 operand read level (Leaf line a, rest) = Some (leaf line a, rest)
-operand read level (Before p, rest) = before read level p rest
+operand read level (Before p, rest) = after_prefix read level p rest
 operand read level (Round, rest) = closed read rest
 operand read level (Open b, rest) = read (Elements b []) rest
-operand read level (Bind line q x, rest) = bound read line q x rest
+operand read level (Bind line q x, rest) = after_variable read line q x rest
 
 -- an operator after an operand
 abbrev pub joins : Climbs → ℕ → Shape → Operator × List Token → Option (Shape × List Token)
@@ -70,9 +70,9 @@ joins read level left (Binary line op, rest) = do
 joins read level left (Field line x, rest) = read (Rest level (pick line left x)) rest
 
 -- an operand, joined by the operators of this level and above that follow it
-abbrev pub rest_of : Climbs → ℕ → Shape → List Token → Option (Operator × List Token) → Option (Shape × List Token)
-rest_of read level left ts None = Some (left, ts)
-rest_of read level left ts (Some o) = if nat_le level (level_of o.0) then joins read level left o else Some (left, ts)
+abbrev pub climbed : Climbs → ℕ → Shape → List Token → Option (Operator × List Token) → Option (Shape × List Token)
+climbed read level left ts None = Some (left, ts)
+climbed read level left ts (Some o) = if nat_le level (level_of o.0) then joins read level left o else Some (left, ts)
 
 -- after an element a comma leads to more of them, the closing sign ends them
 abbrev pub elements_of : Climbs → Bracket → List Shape → List Token → Option (List Token) → Option (Shape × List Token)
@@ -83,7 +83,7 @@ elements_of read b es ts None = past (closing b) ts >>= λ rest. Some (enclosed 
 abbrev pub climb_step : Climbs → Climbs
 climb_step read (Whole level) ts = read (Operand level) ts >>= λ x. read (Rest level x.0) x.1
 climb_step read (Operand level) ts = start_at ts >>= λ s. operand read level s
-climb_step read (Rest level left) ts = rest_of read level left ts (operator_at ts)
+climb_step read (Rest level left) ts = climbed read level left ts (operator_at ts)
 climb_step read (Elements b es) ts = do
   x ← read (Whole 1) ts
   elements_of read b (es ++ x.0 ∷ []) x.1 (past sign.Comma x.1)

@@ -10,7 +10,7 @@ use Rattle.c2po_ast.specs.ItemShape.{TypeShape, FieldShape, BodyShape, type_name
 use Rattle.c2po_ast.specs.ItemShape.{formula, contract}
 use Rattle.c2po_parse.specs.Tokens.{is_sign, depth_after}
 use Rattle.c2po_parse.specs.Fronts.{◌>>=◌, past, name_at}
-use Rattle.c2po_parse.specs.Splitting.{tree_of, at_end}
+use Rattle.c2po_parse.specs.Splitting.{parsed_tree, at_end}
 use Rattle.c2po_parse.specs.declared.section.Section.{Section}
 use Rattle.c2po_parse.specs.declared.section.Section.TheVariants.{Struct, Input, Define, Output}
 
@@ -77,8 +77,8 @@ typed_at ts = do
   Some (xs.0, k.0, k.1)
 
 -- a field for each name
-abbrev pub fields_of : List (List ℕ) → TypeShape → List FieldShape
-fields_of xs k = map (λ x. record { name = x; kind = k }) xs
+abbrev pub fields_for : List (List ℕ) → TypeShape → List FieldShape
+fields_for xs k = map (λ x. record { name = x; kind = k }) xs
 
 -- how fields are read up to the brace that closes them
 abbrev pub FieldsRead : Type 0
@@ -96,7 +96,7 @@ fields_within zero ts = None
 fields_within (suc n) ts = do
   d ← typed_at ts
   us ← past sign.Semicolon d.2
-  fields_or (fields_within n) (fields_of d.0 d.1) us (past sign.RightCurly us)
+  fields_or (fields_within n) (fields_for d.0 d.1) us (past sign.RightCurly us)
 
 -- fields after others
 abbrev pub fields_after : List FieldShape → Option (List FieldShape × List Token)
@@ -108,8 +108,8 @@ abbrev pub fields_at : List Token → Option (List FieldShape × List Token)
 fields_at ts = fields_within (length ts) ts
 
 -- name `:` `{` fields `}`
-unfoldable pub struct_of : List Token → Option BodyShape
-struct_of ts = do
+unfoldable pub struct_item : List Token → Option BodyShape
+struct_item ts = do
   x ← name_at ts
   us ← past sign.Colon x.1
   vs ← past sign.LeftCurly us
@@ -125,7 +125,7 @@ unfoldable pub define_of : List Token → Option BodyShape
 define_of ts = do
   x ← name_at ts
   us ← past sign.Becomes x.1
-  e ← tree_of us
+  e ← parsed_tree us
   Some (define x.0 e)
 
 -- a name and `:` at the front are a label
@@ -150,20 +150,20 @@ promise_at place depth (t ∷ ts) = if is_promise depth t.what then Some place
 -- a contract from its two sides, the right one without a `=>` outside brackets
 abbrev pub contract_of : Engine → Option (List ℕ) → List Token → List Token → Option BodyShape
 contract_of engine label left right = if is_some (promise_at 0 0 right) then None
-    else (tree_of left >>= λ e. tree_of right >>= λ f. Some (contract engine label e f))
+    else (parsed_tree left >>= λ e. parsed_tree right >>= λ f. Some (contract engine label e f))
 
 -- a formula, or a contract where there is one `=>` outside brackets
 abbrev pub output_at : Engine → Option (List ℕ) → List Token → Option ℕ → Option BodyShape
-output_at engine label ts None = tree_of ts >>= λ e. Some (formula engine label e)
+output_at engine label ts None = parsed_tree ts >>= λ e. Some (formula engine label e)
 output_at engine label ts (Some n) = contract_of engine label (take n ts) (drop (n + 1) ts)
 
 -- an optional label, and a formula or a contract
-unfoldable pub output_of : Engine → List Token → Option BodyShape
-output_of engine ts = let x = label_at ts in output_at engine x.0 x.1 (promise_at 0 0 x.1)
+unfoldable pub output_item : Engine → List Token → Option BodyShape
+output_item engine ts = let x = label_at ts in output_at engine x.0 x.1 (promise_at 0 0 x.1)
 
 -- the body of an item in a section
 abbrev pub body_of : Section → List Token → Option BodyShape
-body_of Struct ts = struct_of ts
+body_of Struct ts = struct_item ts
 body_of Input ts = input_of ts
 body_of Define ts = define_of ts
-body_of (Output engine) ts = output_of engine ts
+body_of (Output engine) ts = output_item engine ts

@@ -129,13 +129,13 @@ word_quantifier keyword.ForAtMost = Some (Count count_op.AtMost)
 word_quantifier _ = None
 
 -- the pick of the field whose name is at the front, and what follows it
-abbrev pub field_of : List Token → Option (Operator × List Token)
-field_of [] = None
-field_of (t ∷ ts) = word_in t.what ts >>= λ x. Some (Field t.line x.0, x.1)
+abbrev pub field_pick : List Token → Option (Operator × List Token)
+field_pick [] = None
+field_pick (t ∷ ts) = word_in t.what ts >>= λ x. Some (Field t.line x.0, x.1)
 
 -- the operator that a sign begins, given what follows the sign
 abbrev pub sign_operator : ℕ → Sign → List Token → Option (Operator × List Token)
-sign_operator line sign.Dot ts = field_of ts
+sign_operator line sign.Dot ts = field_pick ts
 sign_operator line s ts = sign_infix s >>= λ op. Some (Binary line op, ts)
 
 -- the operator that a token begins, given what follows the token: `U`, `R` and `S` take an interval with them, `.`
@@ -231,15 +231,15 @@ start_at [] = None
 start_at (t ∷ ts) = start_in t.line t.what ts
 
 -- the number after the set of a quantifier that counts; the others have 0
-abbrev pub number_at : Quantifier → List Token → Option (ℕ × List Token)
-number_at Each ts = Some (0, ts)
-number_at Exists ts = Some (0, ts)
-number_at (Count op) ts = past sign.Comma ts >>= λ us. natural_at us
+abbrev pub threshold_at : Quantifier → List Token → Option (ℕ × List Token)
+threshold_at Each ts = Some (0, ts)
+threshold_at Exists ts = Some (0, ts)
+threshold_at (Count op) ts = past sign.Comma ts >>= λ us. natural_at us
 
 -- the tokens between a quantifier's set and its body: the number where it counts, `)` and `(`
 unfoldable pub middle_at : Quantifier → List Token → Option (ℕ × List Token)
 middle_at q ts = do
-  n ← number_at q ts
+  n ← threshold_at q ts
   us ← past sign.RightRound n.1
   vs ← past sign.LeftRound us
   Some (n.0, vs)

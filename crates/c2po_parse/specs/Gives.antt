@@ -3,7 +3,7 @@ use Rattle.c2po_parse.specs.declared.tree_fault.TreeFault.{TreeFault}
 use Rattle.c2po_parse.specs.declared.tree_fault.TreeFault.TheVariants.{NoTree, Memory}
 
 -- What was read, as view sees it, is what there is to be read. Where there is something, it can only be out of memory.
-abbrev pub Gives : {X Y : Type 0} → (X → Y) → Result X TreeFault → Option Y → Type 0
-Gives view (Ok x) o = o ≡ Some (view x)
-Gives view (Err NoTree) o = o ≡ None
-Gives view (Err Memory) o = ⊤
+abbrev pub GivesTree : {X Y : Type 0} → (X → Y) → Result X TreeFault → Option Y → Type 0
+GivesTree view (Ok x) o = o ≡ Some (view x)
+GivesTree view (Err NoTree) o = o ≡ None
+GivesTree view (Err Memory) o = ⊤

@@ -29,7 +29,7 @@ braces_after (what.Sign sign.RightCurly) d = pred d
 braces_after _ d = d
 
 -- A piece between the ends: its section, if any, its line, its tokens, and whether a `;` ends it.
-pub record Piece : Type 0 where
+pub record Statement : Type 0 where
   pub section : Option Section
   pub line : ℕ
   pub tokens : List Token
@@ -41,13 +41,13 @@ line_or line [] = line
 line_or line (t ∷ ts) = t.line
 
 -- an item that a `;` on a line ends
-abbrev pub item_of : Option Section → ℕ → List Token → Piece
+abbrev pub item_of : Option Section → ℕ → List Token → Statement
 item_of section line tokens = record { section = section; line = line_or line tokens; tokens = tokens; ended = true }
 
 -- what no `;` ends, where there is anything
-abbrev pub left_over : Option Section → List Token → List Piece
-left_over section [] = []
-left_over section (t ∷ ts) = record { section = section; line = t.line; tokens = t ∷ ts; ended = false } ∷ []
+abbrev pub unended_piece : Option Section → List Token → List Statement
+unended_piece section [] = []
+unended_piece section (t ∷ ts) = record { section = section; line = t.line; tokens = t ∷ ts; ended = false } ∷ []
 
 -- whether a token other than a section's word ends an item
 abbrev pub is_end : Option Section → ℕ → What → Bool
@@ -61,10 +61,10 @@ chosen None false begins ends goes_on = goes_on
 
 -- The pieces of a token list after some tokens of the same piece, within a section or before the first one, with so
 -- many braces open.
-unfoldable pub pieces : Option Section → ℕ → List Token → List Token → List Piece
-pieces section depth before [] = left_over section before
+unfoldable pub pieces : Option Section → ℕ → List Token → List Token → List Statement
+pieces section depth before [] = unended_piece section before
 pieces section depth before (t ∷ ts) = chosen (section_of t.what) (is_end section depth t.what)
-    (λ next. left_over section before ++ pieces (Some next) 0 [] ts)
+    (λ next. unended_piece section before ++ pieces (Some next) 0 [] ts)
     (item_of section t.line before ∷ pieces section 0 [] ts)
     (pieces section (braces_after t.what depth) (before ++ t ∷ []) ts)
 
@@ -74,14 +74,14 @@ depth_within section depth w =
     chosen (section_of w) (is_end section depth w) (λ next. None) None (Some (braces_after w depth))
 
 -- one token more where the piece goes on
-abbrev pub counted : Option ℕ → (ℕ → ℕ) → ℕ
-counted None len = 0
-counted (Some depth) len = len depth + 1
+abbrev pub token_more : Option ℕ → (ℕ → ℕ) → ℕ
+token_more None len = 0
+token_more (Some depth) len = len depth + 1
 
 -- how many tokens there are before the end of a piece
 unfoldable pub piece_len : Option Section → ℕ → List Token → ℕ
 piece_len section depth [] = 0
-piece_len section depth (t ∷ ts) = counted (depth_within section depth t.what) (λ next. piece_len section next ts)
+piece_len section depth (t ∷ ts) = token_more (depth_within section depth t.what) (λ next. piece_len section next ts)
 
 -- whether the first token begins no section
 abbrev pub begins_item : List Token → Bool

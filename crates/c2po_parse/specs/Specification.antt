@@ -5,7 +5,7 @@ use Rattle.c2po_ast.specs.ItemShape.{BodyShape, ItemShape}
 use Rattle.c2po_parse.specs.declared.fault.ParseFault.{ParseFault}
 use Rattle.c2po_parse.specs.declared.fault.ParseFault.TheVariants.{TooManyTokens, Grammar}
 use Rattle.c2po_parse.specs.declared.section.Section.{Section}
-use Rattle.c2po_parse.specs.Sections.{Piece, pieces}
+use Rattle.c2po_parse.specs.Sections.{Statement, pieces}
 use Rattle.c2po_parse.specs.Forms.{body_of}
 
 -- The trees of a specification's items, or the fault of the first faulty item.
@@ -22,7 +22,7 @@ with_line line None = Err (Grammar line)
 with_line line (Some body) = Ok (record { line = line; body = body })
 
 -- the tree of a piece: too many tokens are the first fault, the want of a tree the second
-abbrev pub piece_tree : Piece → Result ItemShape ParseFault
+abbrev pub piece_tree : Statement → Result ItemShape ParseFault
 piece_tree p = if nat_lt 1024 (length p.tokens) then Err (TooManyTokens p.line)
     else with_line p.line (piece_body p.section p.ended p.tokens)
 
@@ -38,7 +38,7 @@ first_or (Err fault) others = Err fault
 first_or (Ok item) others = with_first item others
 
 -- the trees of pieces, or the first fault
-unfoldable pub piece_trees : List Piece → Result (List ItemShape) ParseFault
+unfoldable pub piece_trees : List Statement → Result (List ItemShape) ParseFault
 piece_trees [] = Ok []
 piece_trees (p ∷ ps) = first_or (piece_tree p) (piece_trees ps)
 

@@ -69,8 +69,8 @@ abbrev pub cut_inside : List Token → Option Cut
 cut_inside ts = cut_first ends_expression false 0 ts
 
 -- how a token list is read at a level
-abbrev pub Reads : Type 0
-Reads = ℕ → List Token → Option Shape
+abbrev pub ReadsLevel : Type 0
+ReadsLevel = ℕ → List Token → Option Shape
 
 -- how elements with commas between them are read, up to the sign that closes them
 abbrev pub ReadsAll : Type 0
@@ -82,7 +82,7 @@ at_end a [] = Some a
 at_end a (t ∷ ts) = None
 
 -- the two sides of an operator, or the operand before a picked field
-abbrev pub sides : Reads → ℕ → List Token → Operator × List Token → Option Shape
+abbrev pub sides : ReadsLevel → ℕ → List Token → Operator × List Token → Option Shape
 sides read level left (Binary line op, right) = do
   e ← read (left_level level) left
   f ← read (right_level level) right
@@ -90,18 +90,18 @@ sides read level left (Binary line op, right) = do
 sides read level left (Field line x, right) = read (left_level level) left >>= λ e. at_end (pick line e x) right
 
 -- an expression at a level of operators, split at one of them or read at the next level
-abbrev pub at_operators : Reads → ℕ → List Token → Option Cut → Option Shape
+abbrev pub at_operators : ReadsLevel → ℕ → List Token → Option Cut → Option Shape
 at_operators read level ts None = read (suc level) ts
 at_operators read level ts (Some c) = operator_at c.1 >>= λ o. sides read level c.0 o
 
 -- a leading prefix of the level is taken off
-abbrev pub at_prefixes : Reads → ℕ → List Token → Option (Start × List Token) → Option Shape
+abbrev pub at_prefixes : ReadsLevel → ℕ → List Token → Option (Start × List Token) → Option Shape
 at_prefixes read level ts (Some (Before p, rest)) =
     if nat_eq (prefix_level p) level then (read level rest >>= λ e. Some (prefixed p e)) else read (suc level) ts
 at_prefixes read level ts _ = read (suc level) ts
 
 -- an expression, `)` and nothing else
-abbrev pub block : Reads → List Token → Option Shape
+abbrev pub block : ReadsLevel → List Token → Option Shape
 block read ts = do
   c ← cut_inside ts
   rest ← past sign.RightRound c.1
@@ -109,7 +109,7 @@ block read ts = do
   at_end e rest
 
 -- the forms of the tightest level, level 12
-abbrev pub primary : Reads → ReadsAll → Start × List Token → Option Shape
+abbrev pub primary : ReadsLevel → ReadsAll → Start × List Token → Option Shape
 primary read read_all (Leaf line a, rest) = at_end (leaf line a) rest
 primary read read_all (Before p, rest) = None
 primary read read_all (Round, rest) = block read rest
@@ -122,7 +122,7 @@ primary read read_all (Bind line q x, rest) = do
   Some (quantified line q x s m.0 e)
 
 -- one step of the reading at a level
-abbrev pub split_step : Reads → ReadsAll → Reads
+abbrev pub split_step : ReadsLevel → ReadsAll → ReadsLevel
 split_step read read_all level ts =
     if nat_le 12 level then (start_at ts >>= λ s. primary read read_all s)
     else if is_prefix_level level then at_prefixes read level ts (start_at ts)
@@ -134,7 +134,7 @@ more_or_end read_all s e ts (Some rest) = read_all s rest >>= λ es. Some (e ∷
 more_or_end read_all s e ts None = past s ts >>= λ rest. at_end (e ∷ []) rest
 
 -- one step of the reading of elements with commas between them
-abbrev pub elements_step : Reads → ReadsAll → ReadsAll
+abbrev pub elements_step : ReadsLevel → ReadsAll → ReadsAll
 elements_step read read_all s ts = do
   c ← cut_inside ts
   e ← read 1 c.0
@@ -142,7 +142,7 @@ elements_step read read_all s ts = do
 
 -- with at most this many steps
 unfoldable mutual
-  pub tree_within : ℕ → Reads
+  pub tree_within : ℕ → ReadsLevel
   tree_within zero level ts = None
   tree_within (suc n) level ts = split_step (tree_within n) (trees_within n) level ts
 
@@ -151,5 +151,5 @@ unfoldable mutual
   trees_within (suc n) s ts = elements_step (tree_within n) (trees_within n) s ts
 
 -- The tree of a token list. Each step takes away a token or raises the level, so these steps are enough.
-unfoldable pub tree_of : List Token → Option Shape
-tree_of ts = tree_within (13 * length ts + 13) 1 ts
+unfoldable pub parsed_tree : List Token → Option Shape
+parsed_tree ts = tree_within (13 * length ts + 13) 1 ts

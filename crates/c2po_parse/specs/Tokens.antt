@@ -7,39 +7,39 @@ use Rattle.c2po_lexer.specs.declared.token.What.{What}
 use Rattle.c2po_lexer.specs.declared.token.What.TheVariants as what
 
 -- the place of a sign in the list of signs
-abbrev pub sign_number : Sign → ℕ
-sign_number sign.Iff = 0
-sign_number sign.Implies = 1
-sign_number sign.Promises = 2
-sign_number sign.Becomes = 3
-sign_number sign.EqualEqual = 4
-sign_number sign.NotEqual = 5
-sign_number sign.LessEqual = 6
-sign_number sign.GreaterEqual = 7
-sign_number sign.AndAnd = 8
-sign_number sign.OrOr = 9
-sign_number sign.LeftRound = 10
-sign_number sign.RightRound = 11
-sign_number sign.LeftCurly = 12
-sign_number sign.RightCurly = 13
-sign_number sign.LeftSquare = 14
-sign_number sign.RightSquare = 15
-sign_number sign.Comma = 16
-sign_number sign.Semicolon = 17
-sign_number sign.Colon = 18
-sign_number sign.Dot = 19
-sign_number sign.Bang = 20
-sign_number sign.Less = 21
-sign_number sign.Greater = 22
-sign_number sign.Plus = 23
-sign_number sign.Minus = 24
-sign_number sign.Star = 25
-sign_number sign.Slash = 26
-sign_number sign.Percent = 27
+abbrev pub sign_index : Sign → ℕ
+sign_index sign.Iff = 0
+sign_index sign.Implies = 1
+sign_index sign.Promises = 2
+sign_index sign.Becomes = 3
+sign_index sign.EqualEqual = 4
+sign_index sign.NotEqual = 5
+sign_index sign.LessEqual = 6
+sign_index sign.GreaterEqual = 7
+sign_index sign.AndAnd = 8
+sign_index sign.OrOr = 9
+sign_index sign.LeftRound = 10
+sign_index sign.RightRound = 11
+sign_index sign.LeftCurly = 12
+sign_index sign.RightCurly = 13
+sign_index sign.LeftSquare = 14
+sign_index sign.RightSquare = 15
+sign_index sign.Comma = 16
+sign_index sign.Semicolon = 17
+sign_index sign.Colon = 18
+sign_index sign.Dot = 19
+sign_index sign.Bang = 20
+sign_index sign.Less = 21
+sign_index sign.Greater = 22
+sign_index sign.Plus = 23
+sign_index sign.Minus = 24
+sign_index sign.Star = 25
+sign_index sign.Slash = 26
+sign_index sign.Percent = 27
 
 -- whether a token is this sign
 abbrev pub is_sign : Sign → What → Bool
-is_sign s (what.Sign r) = nat_eq (sign_number r) (sign_number s)
+is_sign s (what.Sign r) = nat_eq (sign_index r) (sign_index s)
 is_sign s _ = false
 
 -- The level of the operator between or after operands that a sign or a word is; 0 where it is none. Level 1 binds

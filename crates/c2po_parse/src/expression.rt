@@ -3,10 +3,10 @@
 ghost use Rattle.std.specs.Prelude.{◌≡◌, ◌+◌, ◌<◌, ◌≤◌, length, suc, map, MatchResult};
 ghost use Rattle.c2po_parse.specs.declared.tree_fault.TreeFault.TheVariants.{NoTree};
 ghost use Rattle.c2po_ast.specs.Shape.{shape};
-ghost use Rattle.c2po_parse.specs.Gives.{Gives};
+ghost use Rattle.c2po_parse.specs.Gives.{GivesTree};
 ghost use Rattle.c2po_parse.specs.Tokens.{right_level};
-ghost use Rattle.c2po_parse.specs.Splitting.{tree_of};
-ghost use Rattle.c2po_parse.specs.Climbing.{climb, climb_all, closed, bound, before, Whole, Operand, Rest, Elements};
+ghost use Rattle.c2po_parse.specs.Splitting.{parsed_tree};
+ghost use Rattle.c2po_parse.specs.Climbing.{climb, climb_all, closed, after_variable, after_prefix, Whole, Operand, Rest, Elements};
 
 use crate::front::{take_middle, take_operator, take_sign, take_start};
 use crate::node::{
@@ -47,7 +47,7 @@ fn whole(
     level: u8,
     tokens: &[Token],
 ) -> Result<(Expr, &[Token]), TreeFault>
-    ensures { Gives (λ x. (shape x.0, x.1.now)) result (climb room (Whole level) tokens.now) }
+    ensures { GivesTree (λ x. (shape x.0, x.1.now)) result (climb room (Whole level) tokens.now) }
 {
     let room = deeper(room)?;
     let (left, rest) = operand(alloc, room, level, tokens)?;
@@ -63,7 +63,7 @@ fn operand(
     level: u8,
     tokens: &[Token],
 ) -> Result<(Expr, &[Token]), TreeFault>
-    ensures { Gives (λ x. (shape x.0, x.1.now)) result (climb room (Operand level) tokens.now) }
+    ensures { GivesTree (λ x. (shape x.0, x.1.now)) result (climb room (Operand level) tokens.now) }
 {
     let room = deeper(room)?;
     let (start, rest) = take_start(tokens).ok_or(TreeFault::NoTree)?;
@@ -87,8 +87,8 @@ fn prefixed_operand(
     prefix: Prefix,
     tokens: &[Token],
 ) -> Result<(Expr, &[Token]), TreeFault>
-    ensures { Gives (λ x. (shape x.0, x.1.now)) result
-        (before (climb room) level prefix tokens.now) }
+    ensures { GivesTree (λ x. (shape x.0, x.1.now)) result
+        (after_prefix (climb room) level prefix tokens.now) }
 {
     let own = prefix_level_of(prefix);
     if own < level {
@@ -102,7 +102,7 @@ fn prefixed_operand(
 /// An expression up to its `)`.
 #[cycle(climbing)]
 fn in_brackets(alloc: Global, room: u32, tokens: &[Token]) -> Result<(Expr, &[Token]), TreeFault>
-    ensures { Gives (λ x. (shape x.0, x.1.now)) result (closed (climb room) tokens.now) }
+    ensures { GivesTree (λ x. (shape x.0, x.1.now)) result (closed (climb room) tokens.now) }
 {
     let (expr, rest) = whole(alloc, room, 1, tokens)?;
     let rest = take_sign(Sign::RightRound, rest).ok_or(TreeFault::NoTree)?;
@@ -119,8 +119,8 @@ fn quantified_operand(
     variable: Name,
     tokens: &[Token],
 ) -> Result<(Expr, &[Token]), TreeFault>
-    ensures { Gives (λ x. (shape x.0, x.1.now)) result
-        (bound (climb room) line quantifier variable tokens.now) }
+    ensures { GivesTree (λ x. (shape x.0, x.1.now)) result
+        (after_variable (climb room) line quantifier variable tokens.now) }
 {
     let (set, rest) = whole(alloc, room, 1, tokens)?;
     let (number, rest) = take_middle(quantifier, rest).ok_or(TreeFault::NoTree)?;
@@ -143,7 +143,7 @@ fn follow(
     left: Expr,
     tokens: &[Token],
 ) -> Result<(Expr, &[Token]), TreeFault>
-    ensures { Gives (λ x. (shape x.0, x.1.now)) result
+    ensures { GivesTree (λ x. (shape x.0, x.1.now)) result
         (climb room (Rest level (shape left)) tokens.now) }
 {
     let room = deeper(room)?;
@@ -177,7 +177,7 @@ fn elements(
     mut members: Vec<Expr>,
     tokens: &[Token],
 ) -> Result<(Expr, &[Token]), TreeFault>
-    ensures { Gives (λ x. (shape x.0, x.1.now)) result
+    ensures { GivesTree (λ x. (shape x.0, x.1.now)) result
         (climb room (Elements bracket (map shape members.items)) tokens.now) }
 {
     let room = deeper(room)?;
@@ -195,7 +195,7 @@ const ROOM: u32 = 4_097;
 
 /// An expression of all tokens, read by climbing.
 fn climbed(alloc: Global, tokens: &[Token]) -> Result<Expr, TreeFault>
-    ensures { Gives shape result (climb_all ROOM tokens.now) }
+    ensures { GivesTree shape result (climb_all ROOM tokens.now) }
 {
     let (expr, rest) = whole(alloc, ROOM, 1, tokens)?;
     match rest {
@@ -211,7 +211,7 @@ fn climbed(alloc: Global, tokens: &[Token]) -> Result<Expr, TreeFault>
 /// `NoTree` is answered exactly where the grammar has no tree for the tokens.
 pub fn read_expression(alloc: Global, tokens: &[Token]) -> Result<Expr, TreeFault>
     requires { length tokens.now ≤ MAX_ITEM_TOKENS }
-    ensures tree { Gives shape result (tree_of tokens.now) }
+    ensures tree { GivesTree shape result (parsed_tree tokens.now) }
 {
     climbed(alloc, tokens)
 }

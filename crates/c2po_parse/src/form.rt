@@ -2,10 +2,10 @@
 
 ghost use Rattle.std.specs.Prelude.{◌≡◌, ◌+◌, ◌≤◌, ◌<◌, ◌++◌, ◌∷◌, [], suc, length, codes, map, option_map, Some, MatchResult, IfSome};
 ghost use Rattle.c2po_parse.specs.declared.tree_fault.TreeFault.TheVariants.{NoTree};
-ghost use Rattle.c2po_parse.specs.Gives.{Gives};
+ghost use Rattle.c2po_parse.specs.Gives.{GivesTree};
 ghost use Rattle.c2po_ast.specs.ItemShape.{type_shape, field_shape, body_shape};
 ghost use Rattle.c2po_parse.specs.Splitting.{at_end};
-ghost use Rattle.c2po_parse.specs.Forms.{type_within, names_within, names_after, typed_at, fields_of, fields_within, fields_after, struct_of, input_of, define_of, label_at, contract_of, output_of, body_of};
+ghost use Rattle.c2po_parse.specs.Forms.{type_within, names_within, names_after, typed_at, fields_for, fields_within, fields_after, struct_item, input_of, define_of, label_at, contract_of, output_item, body_of};
 
 use crate::front::{take_name, take_sign};
 use crate::section::{Section, promise_place};
@@ -44,7 +44,7 @@ fn take_type(
     room: usize,
     tokens: &[Token],
 ) -> Result<(TypeTree, &[Token]), TreeFault>
-    ensures { Gives (λ x. (type_shape x.0, x.1.now)) result (type_within room tokens.now) }
+    ensures { GivesTree (λ x. (type_shape x.0, x.1.now)) result (type_within room tokens.now) }
 {
     let room = deeper(room)?;
     let [first, rest @ ..] = tokens else {
@@ -71,7 +71,7 @@ fn take_names<'a>(
     names: &mut List<Name>,
     tokens: &'a [Token],
 ) -> Result<&'a [Token], TreeFault>
-    ensures { Gives (λ rest. (names.new, rest.now)) result
+    ensures { GivesTree (λ rest. (names.new, rest.now)) result
         (names_after names.old (names_within room tokens.now)) }
 {
     let room = deeper(room)?;
@@ -88,7 +88,7 @@ fn take_typed(
     alloc: Global,
     tokens: &[Token],
 ) -> Result<(List<Name>, TypeTree, &[Token]), TreeFault>
-    ensures { Gives (λ x. (x.0, type_shape x.1, x.2.now)) result (typed_at tokens.now) }
+    ensures { GivesTree (λ x. (x.0, type_shape x.1, x.2.now)) result (typed_at tokens.now) }
 {
     let mut names = List::new(alloc);
     let rest = take_names(tokens.len(), &mut names, tokens)?;
@@ -104,8 +104,8 @@ fn add_fields(
     names: &[Name],
     kind: &TypeTree,
 ) -> Result<(), TreeFault>
-    ensures { Gives (λ _. map field_shape fields.new) result
-        (Some (map field_shape fields.old ++ fields_of names.now (type_shape kind.now))) }
+    ensures { GivesTree (λ _. map field_shape fields.new) result
+        (Some (map field_shape fields.old ++ fields_for names.now (type_shape kind.now))) }
 {
     for name in names {
         let field = FieldDecl {
@@ -125,7 +125,7 @@ fn take_fields<'a>(
     fields: &mut List<FieldDecl>,
     tokens: &'a [Token],
 ) -> Result<&'a [Token], TreeFault>
-    ensures { Gives (λ rest. (map field_shape fields.new, rest.now)) result
+    ensures { GivesTree (λ rest. (map field_shape fields.new, rest.now)) result
         (fields_after (map field_shape fields.old) (fields_within room tokens.now)) }
 {
     let room = deeper(room)?;
@@ -140,7 +140,7 @@ fn take_fields<'a>(
 
 /// A body where nothing is left of its tokens.
 fn whole_body(body: Body, rest: &[Token]) -> Result<Body, TreeFault>
-    ensures { Gives body_shape result (at_end (body_shape body) rest.now) }
+    ensures { GivesTree body_shape result (at_end (body_shape body) rest.now) }
 {
     match rest {
         [] => Ok(body),
@@ -149,9 +149,9 @@ fn whole_body(body: Body, rest: &[Token]) -> Result<Body, TreeFault>
 }
 
 /// A struct: its name, `:`, and its fields in braces.
-#[tactic(auto, unfolding(crate::specs::Forms::struct_of))]
+#[tactic(auto, unfolding(crate::specs::Forms::struct_item))]
 fn struct_body(alloc: Global, tokens: &[Token]) -> Result<Body, TreeFault>
-    ensures { Gives body_shape result (struct_of tokens.now) }
+    ensures { GivesTree body_shape result (struct_item tokens.now) }
 {
     let (name, rest) = take_name(tokens).ok_or(TreeFault::NoTree)?;
     let rest = take_sign(Sign::Colon, rest).ok_or(TreeFault::NoTree)?;
@@ -164,7 +164,7 @@ fn struct_body(alloc: Global, tokens: &[Token]) -> Result<Body, TreeFault>
 /// Signals: their names, `:`, and their type.
 #[tactic(auto, unfolding(crate::specs::Forms::input_of))]
 fn input_body(alloc: Global, tokens: &[Token]) -> Result<Body, TreeFault>
-    ensures { Gives body_shape result (input_of tokens.now) }
+    ensures { GivesTree body_shape result (input_of tokens.now) }
 {
     let (names, kind, rest) = take_typed(alloc, tokens)?;
     whole_body(Body::Input(names, kind), rest)
@@ -174,7 +174,7 @@ fn input_body(alloc: Global, tokens: &[Token]) -> Result<Body, TreeFault>
 #[tactic(auto, unfolding(crate::specs::Forms::define_of))]
 fn define_body(alloc: Global, tokens: &[Token]) -> Result<Body, TreeFault>
     requires { length tokens.now ≤ MAX_ITEM_TOKENS }
-    ensures { Gives body_shape result (define_of tokens.now) }
+    ensures { GivesTree body_shape result (define_of tokens.now) }
 {
     let (name, rest) = take_name(tokens).ok_or(TreeFault::NoTree)?;
     let rest = take_sign(Sign::Becomes, rest).ok_or(TreeFault::NoTree)?;
@@ -207,7 +207,7 @@ fn contract_body(
 ) -> Result<Body, TreeFault>
     requires left { length left.now ≤ MAX_ITEM_TOKENS }
     requires right { length right.now ≤ MAX_ITEM_TOKENS }
-    ensures { Gives body_shape result (contract_of engine label left.now right.now) }
+    ensures { GivesTree body_shape result (contract_of engine label left.now right.now) }
 {
     if promise_place(right).is_some() {
         return Err(TreeFault::NoTree);
@@ -218,10 +218,10 @@ fn contract_body(
 }
 
 /// An output: an optional label, and a formula or a contract.
-#[tactic(auto, unfolding(crate::specs::Forms::output_of))]
+#[tactic(auto, unfolding(crate::specs::Forms::output_item))]
 fn output_body(alloc: Global, engine: Engine, tokens: &[Token]) -> Result<Body, TreeFault>
     requires { length tokens.now ≤ MAX_ITEM_TOKENS }
-    ensures { Gives body_shape result (output_of engine tokens.now) }
+    ensures { GivesTree body_shape result (output_item engine tokens.now) }
 {
     let (label, rest) = take_label(tokens);
     match promise_place(rest) {
@@ -236,7 +236,7 @@ fn output_body(alloc: Global, engine: Engine, tokens: &[Token]) -> Result<Body, 
 /// The body of an item in a section.
 pub fn read_body(alloc: Global, section: Section, tokens: &[Token]) -> Result<Body, TreeFault>
     requires { length tokens.now ≤ MAX_ITEM_TOKENS }
-    ensures { Gives body_shape result (body_of section tokens.now) }
+    ensures { GivesTree body_shape result (body_of section tokens.now) }
 {
     match section {
         Section::Struct => struct_body(alloc, tokens),

@@ -1,7 +1,7 @@
 //! What a token list begins with.
 
 ghost use Rattle.std.specs.Prelude.{◌≡◌, ◌<◌, length, option_map, IfSome};
-ghost use Rattle.c2po_parse.specs.Fronts.{past, name_at, natural_at, interval_at, sign_infix, word_between, word_window, word_quantifier, field_of, operator_at, bound_start, window_start, start_at, number_at, middle_at, named_or_called, word_start, sign_start};
+ghost use Rattle.c2po_parse.specs.Fronts.{past, name_at, natural_at, interval_at, sign_infix, word_between, word_window, word_quantifier, field_pick, operator_at, bound_start, window_start, start_at, threshold_at, middle_at, named_or_called, word_start, sign_start};
 
 use crate::operator::{Atom, Bracket, Infix, Operator, Prefix, Quantifier, Start};
 use c2po_lexer::{Keyword, Sign, Token, What};
@@ -141,7 +141,7 @@ fn quantifier_of(word: Keyword) -> Option<Quantifier>
 
 /// The picked field after a `.`, and what follows it.
 fn take_field(tokens: &[Token]) -> Option<(Operator, &[Token])>
-    ensures { option_map (λ x. (x.0, x.1.now)) result ≡ field_of tokens.now }
+    ensures { option_map (λ x. (x.0, x.1.now)) result ≡ field_pick tokens.now }
 {
     match tokens {
         [
@@ -298,7 +298,7 @@ pub(crate) fn take_start(tokens: &[Token]) -> Option<(Start, &[Token])>
 
 /// The number of a counting quantifier, 0 for another one, and what follows it.
 fn take_number(quantifier: Quantifier, tokens: &[Token]) -> Option<(u64, &[Token])>
-    ensures { option_map (λ x. (x.0, x.1.now)) result ≡ number_at quantifier tokens.now }
+    ensures { option_map (λ x. (x.0, x.1.now)) result ≡ threshold_at quantifier tokens.now }
 {
     match quantifier {
         Quantifier::Each | Quantifier::Exists => Some((0, tokens)),

@@ -4,7 +4,7 @@ ghost use Rattle.std.specs.Prelude.{◌≡◌, ◌++◌, [], ◌∷◌, Some, ma
 ghost use Rattle.c2po_ast.specs.Shape.{shape, pick};
 ghost use Rattle.c2po_ast.specs.Parts.{joined, prefixed};
 ghost use Rattle.c2po_parse.specs.Fronts.{prefix_level, infix_level, closing, level_of};
-ghost use Rattle.c2po_parse.specs.Gives.{Gives};
+ghost use Rattle.c2po_parse.specs.Gives.{GivesTree};
 
 use crate::operator::{Bracket, Infix, Operator, Prefix};
 use crate::{Expr, Node, TreeFault};
@@ -21,7 +21,7 @@ pub fn join(
     left: Expr,
     right: Expr,
 ) -> Result<Expr, TreeFault>
-    ensures { Gives shape result (Some (joined line binary (shape left) (shape right))) }
+    ensures { GivesTree shape result (Some (joined line binary (shape left) (shape right))) }
 {
     let left = Box::new(alloc, left)?;
     let right = Box::new(alloc, right)?;
@@ -30,7 +30,7 @@ pub fn join(
 
 /// A field picked from an operand.
 pub fn pick_of(alloc: Global, line: u32, left: Expr, field: Name) -> Result<Expr, TreeFault>
-    ensures { Gives shape result (Some (pick line (shape left) field)) }
+    ensures { GivesTree shape result (Some (pick line (shape left) field)) }
 {
     let node = Node::Pick(Box::new(alloc, left)?, field);
     Ok(Expr { line, node })
@@ -38,7 +38,7 @@ pub fn pick_of(alloc: Global, line: u32, left: Expr, field: Name) -> Result<Expr
 
 /// An operand put into a box after a prefix.
 pub fn apply_prefix(alloc: Global, prefix: Prefix, operand: Expr) -> Result<Expr, TreeFault>
-    ensures { Gives shape result (Some (prefixed prefix (shape operand))) }
+    ensures { GivesTree shape result (Some (prefixed prefix (shape operand))) }
 {
     let operand = Box::new(alloc, operand)?;
     Ok(prefixed_by(prefix, operand))
@@ -46,7 +46,7 @@ pub fn apply_prefix(alloc: Global, prefix: Prefix, operand: Expr) -> Result<Expr
 
 /// Puts one more element after those before.
 pub fn add_member(elements: &mut Vec<Expr>, element: Expr) -> Result<(), TreeFault>
-    ensures { Gives (λ _. map shape elements.new.items) result
+    ensures { GivesTree (λ _. map shape elements.new.items) result
         (Some (map shape elements.old.items ++ shape element ∷ [])) }
 {
     // Brackets within one another have one element each, so the first is given no room to spare.

@@ -1,7 +1,7 @@
 //! The items of a specification, in the order of the text.
 
 ghost use Rattle.std.specs.Prelude.{◌≡◌, ◌≢◌, ◌<◌, ◌≤◌, ◌++◌, ◌∷◌, [], true, Ok, Err, length, map, All, IfOk, IfErr};
-ghost use Rattle.c2po_lexer.specs.Tokens.{HasPlainName};
+ghost use Rattle.c2po_lexer.specs.Tokens.{HasPlainLetters};
 ghost use Rattle.c2po_ast.specs.Names.{ArePlainItems};
 ghost use Rattle.c2po_ast.specs.ItemShape.{item_shape, body_shape, spec_shape};
 ghost use Rattle.c2po_parse.specs.Sections.{pieces, begins_item, ended_of, tail_of};
@@ -114,7 +114,7 @@ pub fn parse(alloc: Global, tokens: &Tokens) -> Result<SpecTree, ParseFault>
         → spec_of tokens.now ≡ Err fault) }
 
     // The names of the tree are in the tokens: where those are made of letters, digits and `_`, these are.
-    ensures names { All (λ token. HasPlainName token.what) tokens.now
+    ensures names { All (λ token. HasPlainLetters token.what) tokens.now
         → IfOk result (λ tree. ArePlainItems (spec_shape tree)) }
 {
     let mut items = List::new(alloc);

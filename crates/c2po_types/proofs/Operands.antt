@@ -13,9 +13,9 @@ use Rattle.mltl_base.specs.Tables.{Table}
 use Rattle.c2po_types.specs.declared.fault.TypeFault.TheVariants.{Memory}
 use Rattle.c2po_types.specs.Checking.{Checked, ◌>>=◌, Fails}
 use Rattle.c2po_types.proofs.Turns.{drop-first, fails-bind}
-use Rattle.c2po_types.specs.Kinds.{Placed, same_kind, fit, known_built, grouped}
+use Rattle.c2po_types.specs.Kinds.{Placed, same_kind, fit, known_built, set_of_elements}
 use Rattle.c2po_types.specs.Scopes.{Visible, meaning_of}
-use Rattle.c2po_types.specs.Expressions.{line_of, kind_of, kinds_of}
+use Rattle.c2po_types.specs.Expressions.{line_of, kind_of, operand_kinds}
 
 -- no operands fit any fields
 pub fit-end : (fs : Table Kind) (ps : List Placed) (n : ℕ) → length ps ≤ n → fit (drop n fs) (drop n ps) ≡ true
@@ -71,23 +71,23 @@ ahead-more ps p (Ok qs) = ap Ok (sym (append_assoc ps (p ∷ []) qs))
 ahead-more ps p (Err fault) = refl
 
 -- no operands are left
-pub kinds-end : (es : List Expr) (n : ℕ) (seen : Visible) (ps : List Placed) → length es ≤ n → ahead ps (kinds_of (shapes (drop n es)) seen) ≡ Ok ps
-kinds-end es n seen ps h = ap (λ rest. ahead ps (kinds_of (shapes rest) seen)) (drop_of_length-le es h) ∙ ap Ok (append-nil ps)
+pub kinds-end : (es : List Expr) (n : ℕ) (seen : Visible) (ps : List Placed) → length es ≤ n → ahead ps (operand_kinds (shapes (drop n es)) seen) ≡ Ok ps
+kinds-end es n seen ps h = ap (λ rest. ahead ps (operand_kinds (shapes rest) seen)) (drop_of_length-le es h) ∙ ap Ok (append-nil ps)
 
 -- one operand more
 pub kinds-more : (es : List Expr) (n : ℕ) (seen : Visible) (ps : List Placed) (e : Expr) (k : Kind) → n < length es → e ≡ get_or es n e → kind_of (shape e) seen ≡ Ok k
-    → ahead ps (kinds_of (shapes (drop n es)) seen) ≡ ahead (ps ++ (e.line, k) ∷ []) (kinds_of (shapes (drop (n + 1) es)) seen)
+    → ahead ps (operand_kinds (shapes (drop n es)) seen) ≡ ahead (ps ++ (e.line, k) ∷ []) (operand_kinds (shapes (drop (n + 1) es)) seen)
 kinds-more es n seen ps e k less here h =
-    ap (λ rest. ahead ps (kinds_of (shapes rest) seen)) (drop-first es n e less here)
-    ∙ ap (λ r. ahead ps (r >>= λ j. kinds_of (shapes (drop (n + 1) es)) seen >>= λ qs. Ok ((line_of (shape e), j) ∷ qs))) h
-    ∙ ap (λ line. ahead ps (kinds_of (shapes (drop (n + 1) es)) seen >>= λ qs. Ok ((line, k) ∷ qs))) (line_of-shape e)
-    ∙ ahead-more ps (e.line, k) (kinds_of (shapes (drop (n + 1) es)) seen)
+    ap (λ rest. ahead ps (operand_kinds (shapes rest) seen)) (drop-first es n e less here)
+    ∙ ap (λ r. ahead ps (r >>= λ j. operand_kinds (shapes (drop (n + 1) es)) seen >>= λ qs. Ok ((line_of (shape e), j) ∷ qs))) h
+    ∙ ap (λ line. ahead ps (operand_kinds (shapes (drop (n + 1) es)) seen >>= λ qs. Ok ((line, k) ∷ qs))) (line_of-shape e)
+    ∙ ahead-more ps (e.line, k) (operand_kinds (shapes (drop (n + 1) es)) seen)
 
 -- an operand with a fault
 pub kinds-fail : (es : List Expr) (n : ℕ) (seen : Visible) (ps : List Placed) (e : Expr) (fault : TypeFault) → n < length es → e ≡ get_or es n e → Fails fault (kind_of (shape e) seen)
-    → Fails fault (ahead ps (kinds_of (shapes (drop n es)) seen))
-kinds-fail es n seen ps e fault less here h = subst (λ rest. Fails fault (ahead ps (kinds_of (shapes rest) seen))) (sym (drop-first es n e less here))
-    (fails-ahead fault ps _ (fails-bind fault (kind_of (shape e) seen) (λ j. kinds_of (shapes (drop (n + 1) es)) seen >>= λ qs. Ok ((line_of (shape e), j) ∷ qs)) h))
+    → Fails fault (ahead ps (operand_kinds (shapes (drop n es)) seen))
+kinds-fail es n seen ps e fault less here h = subst (λ rest. Fails fault (ahead ps (operand_kinds (shapes rest) seen))) (sym (drop-first es n e less here))
+    (fails-ahead fault ps _ (fails-bind fault (kind_of (shape e) seen) (λ j. operand_kinds (shapes (drop (n + 1) es)) seen >>= λ qs. Ok ((line_of (shape e), j) ∷ qs)) h))
   where
     fails-ahead : (fault : TypeFault) (ps : List Placed) (m : Checked (List Placed)) → Fails fault m → Fails fault (ahead ps m)
     fails-ahead Memory ps m h = tt
@@ -95,22 +95,22 @@ kinds-fail es n seen ps e fault less here h = subst (λ rest. Fails fault (ahead
 
 -- braces and calls hold operands
 module _ (e : Expr) (es : Vec Expr Global) (inner : List Expr) (seen : Visible) (same : inner ≡ es.items) where
-  pub build-fails : (x : List ℕ) (fault : TypeFault) → e.node ≡ Build x es → Fails fault (kinds_of (shapes inner) seen) → Fails fault (kind_of (shape e) seen)
+  pub build-fails : (x : List ℕ) (fault : TypeFault) → e.node ≡ Build x es → Fails fault (operand_kinds (shapes inner) seen) → Fails fault (kind_of (shape e) seen)
   build-fails x fault node h = subst (λ s. Fails fault (kind_of s seen)) (sym (shape_of-Build e x es node))
-      (fails-bind fault (kinds_of (shapes es.items) seen) _ (subst (λ fs. Fails fault (kinds_of (shapes fs) seen)) same h))
+      (fails-bind fault (operand_kinds (shapes es.items) seen) _ (subst (λ fs. Fails fault (operand_kinds (shapes fs) seen)) same h))
 
-  pub group-fails : (fault : TypeFault) → e.node ≡ Group es → Fails fault (kinds_of (shapes inner) seen) → Fails fault (kind_of (shape e) seen)
+  pub group-fails : (fault : TypeFault) → e.node ≡ Group es → Fails fault (operand_kinds (shapes inner) seen) → Fails fault (kind_of (shape e) seen)
   group-fails fault node h = subst (λ s. Fails fault (kind_of s seen)) (sym (shape_of-Group e es node))
-      (fails-bind fault (kinds_of (shapes es.items) seen) _ (subst (λ fs. Fails fault (kinds_of (shapes fs) seen)) same h))
+      (fails-bind fault (operand_kinds (shapes es.items) seen) _ (subst (λ fs. Fails fault (operand_kinds (shapes fs) seen)) same h))
 
-  pub build-kind : (x : List ℕ) (ps qs : List Placed) → e.node ≡ Build x es → kinds_of (shapes inner) seen ≡ Ok qs
+  pub build-kind : (x : List ℕ) (ps qs : List Placed) → e.node ≡ Build x es → operand_kinds (shapes inner) seen ≡ Ok qs
       → ps ≡ qs → known_built e.line seen.declared ps (meaning_of x seen) ≡ kind_of (shape e) seen
   build-kind x ps qs node h p =
       ap (λ y. known_built e.line seen.declared y (meaning_of x seen)) p
       ∙ sym (ap (λ s. kind_of s seen) (shape_of-Build e x es node)
-      ∙ ap (λ r. r >>= λ ps. known_built e.line seen.declared ps (meaning_of x seen)) (ap (λ fs. kinds_of (shapes fs) seen) (sym same) ∙ h))
+      ∙ ap (λ r. r >>= λ ps. known_built e.line seen.declared ps (meaning_of x seen)) (ap (λ fs. operand_kinds (shapes fs) seen) (sym same) ∙ h))
 
-  pub group-kind : (ps qs : List Placed) → e.node ≡ Group es → kinds_of (shapes inner) seen ≡ Ok qs → ps ≡ qs → grouped e.line ps ≡ kind_of (shape e) seen
+  pub group-kind : (ps qs : List Placed) → e.node ≡ Group es → operand_kinds (shapes inner) seen ≡ Ok qs → ps ≡ qs → set_of_elements e.line ps ≡ kind_of (shape e) seen
   group-kind ps qs node h p =
-      ap (grouped e.line) p ∙ sym (ap (λ s. kind_of s seen) (shape_of-Group e es node)
-      ∙ ap (λ r. r >>= grouped e.line) (ap (λ fs. kinds_of (shapes fs) seen) (sym same) ∙ h))
+      ap (set_of_elements e.line) p ∙ sym (ap (λ s. kind_of s seen) (shape_of-Group e es node)
+      ∙ ap (λ r. r >>= set_of_elements e.line) (ap (λ fs. operand_kinds (shapes fs) seen) (sym same) ∙ h))

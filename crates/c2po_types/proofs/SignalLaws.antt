@@ -15,7 +15,7 @@ use Rattle.c2po_types.specs.declared.kind.Meaning.TheVariants.{Struct, Value}
 use Rattle.c2po_types.specs.declared.declarations.Declarations.{Declarations}
 use Rattle.c2po_types.specs.declared.fault.TypeFault.TheVariants.{Twice, Signals, Kind as Kinds}
 use Rattle.c2po_types.specs.Checking.{Checked, ◌>>=◌, in_turn}
-use Rattle.c2po_types.specs.Kinds.{plain, same_base, truth, whole, set_kind}
+use Rattle.c2po_types.specs.Kinds.{single_kind, same_base, truth, whole, set_kind}
 use Rattle.c2po_types.specs.Items.{Labels, new, with_field, signal_kind, struct_kind, type_kind, signal_truth, with_struct, with_signal, with_input, define_kind, with_value, with_label, formula_kind, contract_kind}
 use Rattle.c2po_unfold.specs.Environment.{value_of}
 use Rattle.c2po_unfold.specs.Values as values
@@ -96,7 +96,7 @@ is_truth-named : (line : ℕ) (d : Declarations) (x : List ℕ) (k : Kind) (b : 
 is_truth-named line d x k b h t = here (bytes_eq x (codes "int")) (bytes_eq x (codes "bool")) (λ i. not_bool x i) (entry_of x d.names) h
   where
     of-struct : (m : Option Meaning) → struct_kind line m ≡ Ok k → b ≡ false
-    of-struct (Some (Struct n)) e = absurd (let q : plain (base.Struct n) ≡ k = cc in let r : signal_truth line (plain (base.Struct n)) ≡ Ok b = ap (signal_truth line) q ∙ t in cc)
+    of-struct (Some (Struct n)) e = absurd (let q : single_kind (base.Struct n) ≡ k = cc in let r : signal_truth line (single_kind (base.Struct n)) ≡ Ok b = ap (signal_truth line) q ∙ t in cc)
     of-struct (Some (Value j)) e = absurd (cc)
     of-struct None e = absurd (cc)
 

@@ -8,8 +8,9 @@ use Rattle.c2po_types.specs.declared.kind.Kind.{Kind}
 use Rattle.c2po_types.specs.declared.fault.TypeFault.TheVariants as fault
 use Rattle.c2po_types.specs.Checking.{Checked, ◌>>=◌}
 use Rattle.c2po_types.specs.Kinds as kinds
-use Rattle.c2po_types.specs.Kinds.{Placed, whole, same_kind, expected, member_kind, known_value, known_built, grouped}
-use Rattle.c2po_types.specs.Kinds.{picked}
+use Rattle.c2po_types.specs.Kinds.{Placed, whole, same_kind, expected, member_kind, known_value, known_built}
+use Rattle.c2po_types.specs.Kinds.{set_of_elements}
+use Rattle.c2po_types.specs.Kinds.{picked_kind}
 use Rattle.c2po_types.specs.Scopes.{Visible, inside, meaning_of}
 
 -- the line of an expression
@@ -51,8 +52,8 @@ abbrev pub within_bounds : {X : Type 0} → ℕ → ℕ → ℕ → Checked X �
 within_bounds line a b rest = if nat_le a b && nat_le b MAX_BOUND then rest else Err (fault.Bounds line)
 
 -- a variable whose name nothing visible has
-abbrev pub fresh : {X : Type 0} → ℕ → Option X → Checked Kind → Checked Kind
-fresh line found rest = if is_some found then Err (fault.Twice line) else rest
+abbrev pub unseen : {X : Type 0} → ℕ → Option X → Checked Kind → Checked Kind
+unseen line found rest = if is_some found then Err (fault.Twice line) else rest
 
 -- the number of a counting quantifier within the limit
 abbrev pub few : ℕ → ℕ → Checked Kind → Checked Kind
@@ -63,9 +64,9 @@ abbrev mutual
   kind_of (number line n) seen = Ok whole
   kind_of (truth line b) seen = Ok kinds.truth
   kind_of (named line x) seen = known_value line (meaning_of x seen)
-  kind_of (build line x es) seen = kinds_of es seen >>= λ ps. known_built line seen.declared ps (meaning_of x seen)
-  kind_of (group line es) seen = kinds_of es seen >>= grouped line
-  kind_of (pick line e x) seen = kind_of e seen >>= picked line x seen.declared
+  kind_of (build line x es) seen = operand_kinds es seen >>= λ ps. known_built line seen.declared ps (meaning_of x seen)
+  kind_of (group line es) seen = operand_kinds es seen >>= set_of_elements line
+  kind_of (pick line e x) seen = kind_of e seen >>= picked_kind line x seen.declared
   kind_of (minus line e) seen = kind_of e seen >>= of_one line whole whole
   kind_of (negation line e) seen = kind_of e seen >>= of_one line kinds.truth kinds.truth
   kind_of (arith line op e f) seen = two (kind_of e seen) (kind_of f seen) >>= of_two line whole whole
@@ -79,19 +80,19 @@ abbrev mutual
     within_bounds line a b (of_two line kinds.truth kinds.truth ks)
   kind_of (each line x s e) seen = do
     k ← kind_of s seen >>= member_kind line
-    fresh line (meaning_of x seen) (kind_of e (inside x k seen) >>= of_one line kinds.truth kinds.truth)
+    unseen line (meaning_of x seen) (kind_of e (inside x k seen) >>= of_one line kinds.truth kinds.truth)
   kind_of (exists line x s e) seen = do
     k ← kind_of s seen >>= member_kind line
-    fresh line (meaning_of x seen) (kind_of e (inside x k seen) >>= of_one line kinds.truth kinds.truth)
+    unseen line (meaning_of x seen) (kind_of e (inside x k seen) >>= of_one line kinds.truth kinds.truth)
   kind_of (count line op x s n e) seen = do
     k ← kind_of s seen >>= member_kind line
-    fresh line (meaning_of x seen) (few line n (kind_of e (inside x k seen) >>= of_one line kinds.truth kinds.truth))
+    unseen line (meaning_of x seen) (few line n (kind_of e (inside x k seen) >>= of_one line kinds.truth kinds.truth))
 
-  pub kinds_of : Shapes → Visible → Checked (List Placed)
-  kinds_of none seen = Ok []
-  kinds_of (more e es) seen = do
+  pub operand_kinds : Shapes → Visible → Checked (List Placed)
+  operand_kinds none seen = Ok []
+  operand_kinds (more e es) seen = do
     k ← kind_of e seen
-    ps ← kinds_of es seen
+    ps ← operand_kinds es seen
     Ok ((line_of e, k) ∷ ps)
 
 -- an operator that wants operands of one kind and gives another, from the kind of its left operand and its right one
@@ -108,4 +109,4 @@ window_kind line a b e seen = do
 abbrev pub quantifier_kind : ℕ → List ℕ → Kind → ℕ → Shape → Visible → Checked Kind
 quantifier_kind line x s n e seen = do
   k ← member_kind line s
-  fresh line (meaning_of x seen) (few line n (kind_of e (inside x k seen) >>= of_one line kinds.truth kinds.truth))
+  unseen line (meaning_of x seen) (few line n (kind_of e (inside x k seen) >>= of_one line kinds.truth kinds.truth))

@@ -14,7 +14,7 @@ use Rattle.c2po_types.specs.declared.declarations.Declarations.{Declarations}
 use Rattle.c2po_types.specs.declared.fault.TypeFault.TheVariants as fault
 use Rattle.c2po_types.specs.Checking.{Checked, ◌>>=◌, in_turn}
 use Rattle.mltl_base.specs.Tables.{Table, entry_of, is_named}
-use Rattle.c2po_types.specs.Kinds.{plain, whole, truth, same_kind, set_kind}
+use Rattle.c2po_types.specs.Kinds.{single_kind, whole, truth, same_kind, set_kind}
 use Rattle.c2po_types.specs.Scopes.{outside}
 use Rattle.c2po_types.specs.Expressions.{kind_of, two, of_one, of_two}
 
@@ -28,7 +28,7 @@ new line x names rest = if is_named x names then Err (fault.Twice line) else res
 
 -- the kind of a struct that was declared
 abbrev pub struct_kind : ℕ → Option Meaning → Checked Kind
-struct_kind line (Some (Struct n)) = Ok (plain (base.Struct n))
+struct_kind line (Some (Struct n)) = Ok (single_kind (base.Struct n))
 struct_kind line _ = Err (fault.Unknown line)
 
 -- the kind that a type names

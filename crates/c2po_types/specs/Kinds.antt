@@ -13,16 +13,16 @@ use Rattle.mltl_base.specs.Tables.{Table, entry_of}
 use Rattle.c2po_types.specs.Checking.{Checked, ◌>>=◌}
 
 -- a kind that isn't a set
-abbrev pub plain : Base → Kind
-plain b = record { sets = 0; base = b }
+abbrev pub single_kind : Base → Kind
+single_kind b = record { sets = 0; base = b }
 
 -- the kind of integers
 abbrev pub whole : Kind
-whole = plain base.Int
+whole = single_kind base.Int
 
 -- the kind of Booleans, and so of formulas
 abbrev pub truth : Kind
-truth = plain base.Bool
+truth = single_kind base.Bool
 
 -- whether two kinds that are no sets are one
 abbrev pub same_base : Base → Base → Bool
@@ -75,17 +75,17 @@ fit (f ∷ fs) (p ∷ ps) = same_kind p.1 f.1 && fit fs ps
 abbrev pub built_from : ℕ → ℕ → List Placed → Option (Table Kind) → Checked Kind
 built_from line n ps None = Err (fault.Count line)
 built_from line n ps (Some fields) = if length ps == length fields
-    then expected line (fit fields ps) (plain (base.Struct n))
+    then expected line (fit fields ps) (single_kind (base.Struct n))
     else Err (fault.Count line)
 
 -- the kind of a call of the meaning of a name: only a struct can be called
-abbrev pub built : ℕ → Declarations → List Placed → Meaning → Checked Kind
-built line d ps (Value k) = Err (fault.Kind line)
-built line d ps (Struct n) = built_from line n ps (slice_get d.structs n)
+abbrev pub built_kind : ℕ → Declarations → List Placed → Meaning → Checked Kind
+built_kind line d ps (Value k) = Err (fault.Kind line)
+built_kind line d ps (Struct n) = built_from line n ps (slice_get d.structs n)
 
 -- the kind of a call of a name, which has to be known
 abbrev pub known_built : ℕ → Declarations → List Placed → Option Meaning → Checked Kind
-known_built line d ps m = known line m >>= built line d ps
+known_built line d ps m = known line m >>= built_kind line d ps
 
 -- the line of the first operand of another kind
 abbrev pub other_line : Kind → List Placed → Option ℕ
@@ -98,9 +98,9 @@ set_unless k None = Ok (set_kind k)
 set_unless k (Some line) = Err (fault.Kind line)
 
 -- a set of elements of one kind; the fault is at the first element of another kind than the first one's
-abbrev pub grouped : ℕ → List Placed → Checked Kind
-grouped line [] = Err (fault.Kind line)
-grouped line (p ∷ ps) = set_unless p.1 (other_line p.1 ps)
+abbrev pub set_of_elements : ℕ → List Placed → Checked Kind
+set_of_elements line [] = Err (fault.Kind line)
+set_of_elements line (p ∷ ps) = set_unless p.1 (other_line p.1 ps)
 
 -- the struct of a base kind
 abbrev pub struct_base : Base → Option ℕ
@@ -127,5 +127,5 @@ picked_of line x d None = Err (fault.Kind line)
 picked_of line x d (Some n) = picked_from line x (slice_get d.structs n)
 
 -- the kind of a field of a struct's value
-abbrev pub picked : ℕ → List ℕ → Declarations → Kind → Checked Kind
-picked line x d k = picked_of line x d (struct_of k)
+abbrev pub picked_kind : ℕ → List ℕ → Declarations → Kind → Checked Kind
+picked_kind line x d k = picked_of line x d (struct_of k)

@@ -5,7 +5,7 @@ ghost use Rattle.c2po_ast.specs.Shape.{shape, shapes};
 ghost use Rattle.c2po_types.specs.Checking.{Gives, GivesAs};
 ghost use Rattle.c2po_types.specs.Kinds as kinds;
 ghost use Rattle.c2po_types.specs.Scopes.{meaning_of, visible};
-ghost use Rattle.c2po_types.specs.Expressions.{kind_of as kind_in, kinds_of as kinds_in, infix_kind, quantifier_kind, window_kind, within_bounds};
+ghost use Rattle.c2po_types.specs.Expressions.{kind_of as kind_in, operand_kinds as kinds_in, infix_kind, quantifier_kind, window_kind, within_bounds};
 
 use crate::operand::{
     TRUTH, WHOLE, are_same, build, expect, gather, is_same, member_of, pick, value_of,

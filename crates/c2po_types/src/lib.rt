@@ -14,7 +14,6 @@
 //! ```
 #![tactic(auto)]
 
-pub mod checking;
 pub mod declarations;
 pub mod expression;
 pub mod fault;
@@ -25,10 +24,10 @@ pub mod names;
 pub mod operand;
 pub mod progress;
 pub mod scope;
+pub mod spec_check;
 pub mod steps;
 pub mod typed;
 
-pub use checking::check;
 pub use declarations::Declarations;
 pub use expression::kind_of;
 pub use fault::TypeFault;
@@ -36,4 +35,5 @@ pub use items::{check_contract, check_define, check_formula, declare_label};
 pub use kind::{Base, Kind, Meaning};
 pub use mltl_base::{NameTable, Signal};
 pub use scope::Scope;
+pub use spec_check::check;
 pub use typed::TypedSpec;

@@ -2,7 +2,7 @@
 
 ghost use Rattle.std.specs.Prelude.{◌≡◌, ◌&&◌, Ok, slice_get};
 ghost use Rattle.c2po_types.specs.Checking.{Gives};
-ghost use Rattle.c2po_types.specs.Kinds.{same_kind, set_kind, expected, member_kind, known_value, fit, built_from, known_built, other_line, grouped, struct_of, picked};
+ghost use Rattle.c2po_types.specs.Kinds.{same_kind, set_kind, expected, member_kind, known_value, fit, built_from, known_built, other_line, set_of_elements, struct_of, picked_kind};
 
 use crate::{Base, Declarations, Kind, Meaning, NameTable, TypeFault};
 use mltl_base::Name;
@@ -146,7 +146,7 @@ fn first_other(kind: Kind, operands: &[(u32, Kind)]) -> Option<u32>
 
 /// A set of operands.
 pub fn gather(line: u32, operands: &[(u32, Kind)]) -> Result<Kind, TypeFault>
-    ensures { Gives result (grouped line operands.now) }
+    ensures { Gives result (set_of_elements line operands.now) }
 {
     match operands {
         [] => Err(TypeFault::Kind(line)),
@@ -169,7 +169,7 @@ fn struct_number(kind: Kind) -> Option<u32>
 
 /// A field of a value.
 pub fn pick(line: u32, declared: &Declarations, field: &Name, kind: Kind) -> Result<Kind, TypeFault>
-    ensures { Gives result (picked line field.now declared.now kind) }
+    ensures { Gives result (picked_kind line field.now declared.now kind) }
 {
     let number = struct_number(kind).ok_or(TypeFault::Kind(line))?;
     let structs = declared.structs.as_slice();

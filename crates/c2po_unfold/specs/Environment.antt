@@ -8,8 +8,10 @@ use Rattle.mltl_base.specs.Formula.{atom}
 use Rattle.c2po_nodes.specs.Nodes.{number, formula}
 use Rattle.c2po_ast.specs.Shape as tree
 use Rattle.c2po_ast.specs.Shape.{Shape, Shapes}
-use Rattle.c2po_unfold.specs.Values.{Value, Values, leaf, none, more, number_value, truth_value, built, grouped, opposite}
-use Rattle.c2po_unfold.specs.Values.{inverted, computed, compared, connected_value, windowed_value, ranged_value, members}
+use Rattle.c2po_unfold.specs.Values.{Value, Values, leaf, none, more, number_value, truth_value, built, grouped}
+use Rattle.c2po_unfold.specs.Values.{opposite}
+use Rattle.c2po_unfold.specs.Values.{inverted, computed, compared, connected_value, windowed_value, ranged_value}
+use Rattle.c2po_unfold.specs.Values.{members}
 use Rattle.c2po_unfold.specs.Values.{picked, connected_all, counted}
 
 -- the meaning of a name: a struct with these fields, or a value

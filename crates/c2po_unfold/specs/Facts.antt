@@ -25,9 +25,9 @@ tree_fact (number a) = whole (range a)
 tree_fact (formula p) = truth (formula_fault p) (has_past p) (has_future p)
 
 -- the range of a result
-abbrev pub told : Result Range answer.NoRange → Ranged
-told (Ok r) = Ok r
-told (Err why) = Err (reason why)
+abbrev pub told_range : Result Range answer.NoRange → Ranged
+told_range (Ok r) = Ok r
+told_range (Err why) = Err (reason why)
 
 -- the fault of a result
 abbrev pub told_fault : Option answer.NoRange → Option NoRange

@@ -8,7 +8,7 @@ ghost use Rattle.mltl_base.specs.Atoms.{column, constant, is_true, negative};
 ghost use Rattle.mltl_base.specs.Formula.{atom, negation};
 ghost use Rattle.mltl_base.specs.Ranges.{negated, over};
 ghost use Rattle.c2po_nodes.specs.Faults.{or_later, tree_fault, why_none};
-ghost use Rattle.c2po_unfold.specs.Facts.{Tells, fact_view, fault_in, future_in, past_in, range_by, range_in, told, told_fault, whole};
+ghost use Rattle.c2po_unfold.specs.Facts.{Tells, fact_view, fault_in, future_in, past_in, range_by, range_in, told_range, told_fault, whole};
 ghost use Rattle.c2po_nodes.specs.Nodes.{Tree, arithmetic, comparison, connected, constant_formula, formula, formula_in, number, ranged, term_in, windowed};
 
 use mltl_base::range::{self, NoRange, Range};
@@ -75,7 +75,7 @@ pub enum Fact {
 
 /// Returns the range of an operand; any range where it isn't an integer.
 fn range_of(fact: &Fact) -> Result<Range, NoRange>
-    ensures { told result ≡ range_in (fact_view fact.now) }
+    ensures { told_range result ≡ range_in (fact_view fact.now) }
 {
     match fact {
         Fact::Number(range) => Ok(*range),
@@ -107,7 +107,7 @@ pub fn tenses_of(fact: &Fact) -> Tenses
 
 /// What is known of an integer with this range.
 fn number_fact(range: Result<Range, NoRange>) -> Fact
-    ensures { fact_view result ≡ Some (whole (told range)) }
+    ensures { fact_view result ≡ Some (whole (told_range range)) }
 {
     match range {
         Ok(range) => Fact::Number(range),
@@ -117,7 +117,7 @@ fn number_fact(range: Result<Range, NoRange>) -> Fact
 
 /// The range of a negation, where its operand has one.
 fn negated_range(a: Result<Range, NoRange>) -> Result<Range, NoRange>
-    ensures { told result ≡ over negated (told a) }
+    ensures { told_range result ≡ over negated (told_range a) }
 {
     range::negation(a?)
 }
@@ -128,7 +128,7 @@ fn computed_range(
     a: Result<Range, NoRange>,
     b: Result<Range, NoRange>,
 ) -> Result<Range, NoRange>
-    ensures { told result ≡ range_by op (told a) (told b) }
+    ensures { told_range result ≡ range_by op (told_range a) (told_range b) }
 {
     let a = a?;
     let b = b?;
@@ -143,7 +143,7 @@ fn computed_range(
 
 /// Why there is no range.
 fn why_none_of(range: Result<Range, NoRange>) -> Option<NoRange>
-    ensures { told_fault result ≡ why_none (told range) }
+    ensures { told_fault result ≡ why_none (told_range range) }
 {
     range.err()
 }

@@ -4,20 +4,20 @@
 //! says, and counts those that agree. Each difference is printed with the name and the line of its case.
 #![tactic(auto)]
 
-mod asked;
 mod files;
 mod host;
+mod moments;
 mod operands;
 mod outcome;
 mod piece;
 mod plain;
 mod print;
+mod request;
 mod scene;
 mod script;
 mod setting;
 mod step;
 mod tally;
-mod told;
 
 pub use host::host_of;
 pub use outcome::Outcome;

@@ -1,7 +1,7 @@
 //! Prints where a run differs from what its script expects.
 
-use crate::asked::Asked;
 use crate::outcome::{Outcome, Parts, parting};
+use crate::request::Asked;
 use crate::setting::Setting;
 use anyhow::Result;
 use std::alloc::{AllocError, Global};

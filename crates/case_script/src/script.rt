@@ -1,14 +1,14 @@
 //! A script, line by line.
 
-use crate::asked::Asked;
+use crate::moments::{Told, front_len, line_count, out_after};
 use crate::outcome::{Outcome, Parts};
 use crate::piece::Piece;
 use crate::print::{print_difference, print_untimely};
+use crate::request::Asked;
 use crate::scene::{Room, Scenes};
 use crate::setting::Setting;
 use crate::step::{Step, step_of};
 use crate::tally::Tally;
-use crate::told::{Told, front_len, line_count, out_after};
 use anyhow::{Context, Result, bail};
 use std::alloc::Global;
 use tool_io::Place;

@@ -16,7 +16,7 @@ use Rattle.mltl_base.specs.Reports.{Output, delay, of_words, words}
 use Rattle.mltl_base.proofs.Words.{words_begin, words_in_time}
 use Rattle.obs_verify.specs.WellFormed.{IsWellFormed}
 use Rattle.ft_engine.specs.declared.Ft.{Ft as FutureEngine}
-use Rattle.ft_engine.specs.Standing.{Stands, lowest_at, width_of}
+use Rattle.ft_engine.specs.Standing.{FtHasTaken, lowest_at, queue_width}
 use Rattle.contract_status.specs.Open.{ArePlaced, known_counts, known_counts_of, left_open, open_of}
 use Rattle.contract_status.proofs.Opening.{append_none, none_open}
 use Rattle.contract_status.proofs.Moving.{none_left}
@@ -78,10 +78,10 @@ placed_after_row program rows row = record {
         rw (first, same_before rows before row last rest) refl
 
 -- in a drained program each next time is at least n less the width of each instruction that its output reports
-pub drained_wide : (program : Program) (rows : List Row) (k g : ℕ) (output : Out) → IsWellFormed program → slice_get program.outs k ≡ Some output → Contains (reported output) g → length rows ≤ slice_index (known_counts_of program rows) k + width_of program g
+pub drained_wide : (program : Program) (rows : List Row) (k g : ℕ) (output : Out) → IsWellFormed program → slice_get program.outs k ≡ Some output → Contains (reported output) g → length rows ≤ slice_index (known_counts_of program rows) k + queue_width program g
 drained_wide program rows k g output formed there among =
     let here : slice_index (reported output) among.0 ≡ g = get_or_default (reported output) among.0 0 g among.1 ∙ among.2 in
-    let covered : delay (output_of program output) ≤ width_of program g = subst (λ i. delay (output_of program output) ≤ width_of program i) here (delay_covered program k output among.0 (named program k output formed there) there among.1) in
+    let covered : delay (output_of program output) ≤ queue_width program g = subst (λ i. delay (output_of program output) ≤ queue_width program i) here (delay_covered program k output among.0 (named program k output formed there) there among.1) in
     omega (arith, covered, count_at program rows k output there, words_in_time rows (output_of program output))
 
 -- the entries that an output reads from its next time on are kept
@@ -94,14 +94,14 @@ future_named fts pts g (Contract Ft l r name) names (suc (suc j), inside, is) = 
 future_named fts pts g (Formula Pt i name) names among = absurd (omega (arith, among.1))
 future_named fts pts g (Contract Pt l r name) names among = absurd (omega (arith, among.1))
 
-pub entries_kept : (program : Program) (rows : List Row) (ft : FutureEngine) (next_times : List ℕ) (k g : ℕ) (output : Out) → IsWellFormed program → Stands program rows ft → ArePlaced program rows next_times → slice_get program.outs k ≡ Some output → Contains (reported output) g
+pub entries_kept : (program : Program) (rows : List Row) (ft : FutureEngine) (next_times : List ℕ) (k g : ℕ) (output : Out) → IsWellFormed program → FtHasTaken program rows ft → ArePlaced program rows next_times → slice_get program.outs k ≡ Some output → Contains (reported output) g
     → lowest_at ft g ≤ slice_index next_times k
 entries_kept program rows ft next_times k g output formed stands placed there among =
     let here : slice_index (reported output) among.0 ≡ g = get_or_default (reported output) among.0 0 g among.1 ∙ among.2 in
     let exists : g < length program.ft = future_named (length program.ft) (length program.pt) g output (named program k output formed there) among in
     subst (λ i. lowest_at ft i ≤ slice_index next_times k) here (entry_kept program rows ft next_times k output among.0 formed stands placed there among.1 (rw here exists))
 
-pub entries_kept_after_row : (program : Program) (rows : List Row) (row : Row) (ft : FutureEngine) (k g : ℕ) (output : Out) → IsWellFormed program → Stands program (rows ++ row ∷ []) ft → slice_get program.outs k ≡ Some output → Contains (reported output) g
+pub entries_kept_after_row : (program : Program) (rows : List Row) (row : Row) (ft : FutureEngine) (k g : ℕ) (output : Out) → IsWellFormed program → FtHasTaken program (rows ++ row ∷ []) ft → slice_get program.outs k ≡ Some output → Contains (reported output) g
     → lowest_at ft g ≤ slice_index (known_counts_of program rows) k
 entries_kept_after_row program rows row ft k g output formed stands there among =
     entries_kept program (rows ++ row ∷ []) ft (known_counts_of program rows) k g output formed stands (placed_after_row program rows row) there among

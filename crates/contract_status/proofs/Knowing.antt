@@ -59,7 +59,7 @@ pub formula_past : (program : Program) (i : ℕ) → IsPast (plain (formula_at p
 formula_past program i = past_after (atoms program.bz) [] program.pt past_none i
 
 -- a run of the future engine
-pub future_shows : (program : Program) (rows : List Row) (ft : Ft) (i from : ℕ) (seen : Seen) → future.Stands program rows ft → i < future.instruction_count ft → future.lowest_at ft i ≤ from
+pub future_shows : (program : Program) (rows : List Row) (ft : Ft) (i from : ℕ) (seen : Seen) → future.FtHasTaken program rows ft → i < future.instruction_count ft → future.lowest_at ft i ≤ from
     → future.ShowsFrom ft i from seen → ShowsVerdicts (known_verdicts program rows future_engine i) from seen
 future_shows program rows ft i from (Run last value) stands exists kept shows =
     let inside : i < length program.ft = omega (arith, stands.count) in
@@ -78,7 +78,7 @@ future_shows program rows ft i from Nothing stands exists kept shows =
     omega (arith, stands.frontiers i inside, shows)
 
 -- the last row's verdict of the past engine
-pub past_shows : (program : Program) (rows : List Row) (pt : Pt) (i from : ℕ) (value : Bool) → past.Stands program rows pt → i < past.instruction_count pt → length rows ≤ from + 1 → from < length rows
+pub past_shows : (program : Program) (rows : List Row) (pt : Pt) (i from : ℕ) (value : Bool) → past.PtHasTaken program rows pt → i < past.instruction_count pt → length rows ≤ from + 1 → from < length rows
     → value ≡ past.now_at pt i → IsLongestStretch (known_verdicts program rows past_engine i) from from value
 past_shows program rows pt i from value stands exists late early is =
     let inside : i < length program.pt = omega (arith, stands.count) in
@@ -89,7 +89,7 @@ past_shows program rows pt i from value stands exists late early is =
         alike = λ t low high.
             let here : t ≡ length rows - 1 = omega arith in
             past_known rows (plain (formula_at program past_engine i)) (formula_past program i) t (omega arith)
-            ∙ ap Some (ap (past.meaning_of program rows i) here ∙ sym (stands.now i inside (omega arith)) ∙ sym is);
+            ∙ ap Some (ap (past.formula_meaning program rows i) here ∙ sym (stands.now i inside (omega arith)) ∙ sym is);
       };
       ends = λ same.
           omega (arith, slice_get_within (known_verdicts program rows past_engine i) (from + 1) value same, verdicts_fit rows (plain (formula_at program past_engine i)));

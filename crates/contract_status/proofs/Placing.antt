@@ -54,7 +54,7 @@ reader_of program k output there =
     ∙ ap reported (get_or_from_slice_get program.outs k output output there)
 
 covered : (program : Program) (k : ℕ) (output : out.Out) (i j : ℕ) → slice_get program.outs k ≡ Some output → i < length (reported output) → j < length (reported output)
-    → slice_index (worst_delays program.ft) (slice_index (reported output) j) ≤ future.width_of program (slice_index (reported output) i)
+    → slice_index (worst_delays program.ft) (slice_index (reported output) j) ≤ future.queue_width program (slice_index (reported output) i)
 covered program k output i j there first second =
     let reads : List (List ℕ) = readers program.ft program.outs in
     let reader = reader_of program k output there in
@@ -64,7 +64,7 @@ covered program k output i j there first second =
 
 -- so it covers the delay of the output
 pub delay_covered : (program : Program) (k : ℕ) (output : out.Out) (i : ℕ) → NamesInstructions (length program.ft) (length program.pt) output → slice_get program.outs k ≡ Some output → i < length (reported output)
-    → delay (output_of program output) ≤ future.width_of program (slice_index (reported output) i)
+    → delay (output_of program output) ≤ future.queue_width program (slice_index (reported output) i)
 delay_covered program k (out.TheVariants.Formula engine.TheVariants.Ft g name) i names there inside =
     omega (arith, covered program k (out.TheVariants.Formula engine.TheVariants.Ft g name) i 0 there inside (omega arith), worst_of_formula program g names)
 delay_covered program k (out.TheVariants.Contract engine.TheVariants.Ft l r name) i names there inside =
@@ -106,7 +106,7 @@ next_time_recent program rows next_times k output placed there = elim (last_row 
 ]
 
 -- the verdicts of an instruction from the next time of an output that reports it on are kept
-pub entry_kept : (program : Program) (rows : List Row) (ft : FutureEngine) (next_times : List ℕ) (k : ℕ) (output : out.Out) (i : ℕ) → IsWellFormed program → future.Stands program rows ft → ArePlaced program rows next_times
+pub entry_kept : (program : Program) (rows : List Row) (ft : FutureEngine) (next_times : List ℕ) (k : ℕ) (output : out.Out) (i : ℕ) → IsWellFormed program → future.FtHasTaken program rows ft → ArePlaced program rows next_times
     → slice_get program.outs k ≡ Some output → i < length (reported output) → slice_index (reported output) i < length program.ft → future.lowest_at ft (slice_index (reported output) i) ≤ slice_index next_times k
 entry_kept program rows ft next_times k output i formed stands placed there inside exists =
     omega (arith, stands.lows (slice_index (reported output) i) exists, delay_covered program k output i (named program k output formed there) there inside, next_time_recent program rows next_times k output placed there)

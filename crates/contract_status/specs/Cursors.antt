@@ -24,7 +24,7 @@ pub record IsCursor (program : Program) (rows : List Row) (next_times : List ℕ
 -- a cursor of outputs at these next times, over engines that have taken n rows
 abbrev pub FitsCursor : Program → ℕ → Ft → Pt → List ℕ → Cursor → Type 0
 FitsCursor program n ft pt next_times cursor =
-    (rows : List Row) → future.Stands program rows ft → past.Stands program rows pt → length rows ≡ n
+    (rows : List Row) → future.FtHasTaken program rows ft → past.PtHasTaken program rows pt → length rows ≡ n
     → AreKnown program rows next_times → IsCursor program rows next_times cursor
 
 -- the same of both engines at once

@@ -14,8 +14,8 @@ use Rattle.contract_status.specs.Open.{ArePlaced, GivesFirst, IsGiven}
 -- both engines of the program have taken these rows, n in number, and each output has its next time
 pub record StandFor (program : Program) (rows : List Row) (n : ℕ) (ft : Ft) (pt : Pt)
     (next_times : List ℕ) : Type 0 where
-  pub future : future.Stands program rows ft
-  pub past : past.Stands program rows pt
+  pub future : future.FtHasTaken program rows ft
+  pub past : past.PtHasTaken program rows pt
   pub placed : ArePlaced program rows next_times
   pub count : length rows ≡ n
 

@@ -23,8 +23,8 @@ use Rattle.contract_status.specs.Open.{known_counts_of}
 
 -- both engines of the program have taken these rows
 pub record HaveTaken (program : Program) (rows : List Row) (engines : Engines) : Type 0 where
-  pub future : future.Stands program rows engines.ft.now
-  pub past : past.Stands program rows engines.pt.now
+  pub future : future.FtHasTaken program rows engines.ft.now
+  pub past : past.PtHasTaken program rows engines.pt.now
   pub count : length rows ≡ engines.rows
 
 -- an instruction exists, and its verdicts can be read from this time on: of the past engine only those of the last row

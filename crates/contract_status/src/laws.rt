@@ -10,7 +10,7 @@ ghost use Rattle.mltl_base.specs.Queues.{reported};
 ghost use Rattle.mltl_base.specs.Reports.{Output, of_row};
 ghost use Rattle.obs_verify.specs.WellFormed.{IsWellFormed};
 ghost use Rattle.ft_engine.specs.declared.Ft.{Ft};
-ghost use Rattle.ft_engine.specs.Standing.{Stands, lowest_at, width_of};
+ghost use Rattle.ft_engine.specs.Standing.{FtHasTaken, lowest_at, queue_width};
 ghost use Rattle.contract_status.specs.Open.{ArePlaced, known_counts, known_counts_of, left_open, open_of};
 
 /// Nothing is open in the one style exactly where nothing is in the other.
@@ -44,7 +44,7 @@ pub fn drained_places_are_known_counts()
 pub fn drained_places_are_wide()
     ensures { (program : Observer) (rows : List Row) (k g : ℕ) (output : Reported) →
         IsWellFormed program → slice_get program.outs k ≡ Some output → Contains (reported output) g
-        → length rows ≤ slice_index (known_counts_of program rows) k + width_of program g }
+        → length rows ≤ slice_index (known_counts_of program rows) k + queue_width program g }
 {}
 
 /// The engine keeps the verdicts that an output reads: from its next time on, and so, where nothing was open before a row,
@@ -53,10 +53,10 @@ pub fn drained_places_are_wide()
 pub fn reads_are_kept()
     ensures placed { (program : Observer) (rows : List Row) (ft : Ft) (next_times : List ℕ)
         (k g : ℕ) (output : Reported) →
-        IsWellFormed program → Stands program rows ft → ArePlaced program rows next_times
+        IsWellFormed program → FtHasTaken program rows ft → ArePlaced program rows next_times
         → slice_get program.outs k ≡ Some output → Contains (reported output) g → lowest_at ft g ≤ slice_index next_times k }
     ensures after_row { (program : Observer) (rows : List Row) (row : Row) (ft : Ft)
         (k g : ℕ) (output : Reported) →
-        IsWellFormed program → Stands program (rows ++ row ∷ []) ft
+        IsWellFormed program → FtHasTaken program (rows ++ row ∷ []) ft
         → slice_get program.outs k ≡ Some output → Contains (reported output) g → lowest_at ft g ≤ slice_index (known_counts_of program rows) k }
 {}

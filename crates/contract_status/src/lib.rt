@@ -3,10 +3,10 @@
 
 mod cursor;
 mod engines;
+mod first_report;
 pub mod laws;
 mod line;
 mod outs;
-mod telling;
 
 pub use cursor::Cursor;
 pub use line::{line_of, put_line};

@@ -2,7 +2,7 @@
 
 use crate::cursor::Cursor;
 use crate::engines::Engines;
-use crate::telling::tell_first;
+use crate::first_report::tell_first;
 use fixed_list::Fixed;
 use ft_engine::Ft;
 use mltl_base::{Report, Style};

@@ -13,7 +13,7 @@ use Rattle.c2po_nodes.proofs.Places.{at_push, get_left}
 use Rattle.core_graph.specs.declared.vertex.Vertex.{Vertex}
 use Rattle.core_graph.specs.declared.vertex.Operands.{Operands}
 use Rattle.core_graph.specs.declared.vertex.Operands.TheVariants.{Zero, One, Two}
-use Rattle.core_graph.specs.Trees.{Label, Tree, root, completed, is_core_label, is_core_tree}
+use Rattle.core_graph.specs.Trees.{Label, LabelTree, root, completed, is_core_label, is_core_tree}
 use Rattle.core_graph.specs.Vertices.{label_of, operands_of, tree_over, tree_at, trees, IsForest}
 use Rattle.core_graph.specs.Walks.{trees_of}
 use Rattle.core_graph.specs.Listings.{is_in, is_vertex_in, count_in, AreOnce}
@@ -23,7 +23,7 @@ use Rattle.core_graph.proofs.Walking.{trees_push}
 use Rattle.mltl_base.proofs.Members.{all_from_each}
 
 -- a vertex is of the part of its tree
-label_root : (ts : List Tree) (l : Label) (o : Operands) → root (tree_over ts l o) ≡ l
+label_root : (ts : List LabelTree) (l : Label) (o : Operands) → root (tree_over ts l o) ≡ l
 label_root ts l Zero = refl
 label_root ts l (One a) = refl
 label_root ts l (Two a b) = refl
@@ -71,7 +71,7 @@ pub map_kept : {Y : Type 0} (f : ℕ → Y) (xs : List ℕ) (i x : ℕ) (y : Y) 
 map_kept f xs i x y old new l e h g q = g ∙ (ap (λ ys. ys ++ y ∷ []) h ∙ (ap (λ z. map f (take i xs) ++ z ∷ []) q ∙ sym (map_more f xs i x l e)))
 
 -- the members of a part
-map_filter : (p : Tree → Bool) (f : ℕ → Tree) (xs : List ℕ) → map f (filter (λ n. p (f n)) xs) ≡ filter p (map f xs)
+map_filter : (p : LabelTree → Bool) (f : ℕ → LabelTree) (xs : List ℕ) → map f (filter (λ n. p (f n)) xs) ≡ filter p (map f xs)
 map_filter p f [] = refl
 map_filter p f (x ∷ xs) = one_filter (p (f x)) (map_filter p f xs)
   where

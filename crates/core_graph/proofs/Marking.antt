@@ -7,7 +7,7 @@ use Rattle.c2po_nodes.specs.declared.nodes.Plain.{Plain}
 use Rattle.c2po_nodes.specs.declared.nodes.Plain.TheVariants.{Truth}
 use Rattle.core_graph.specs.declared.vertex.Operands.{Operands}
 use Rattle.core_graph.specs.declared.vertex.Operands.TheVariants.{Zero, One, Two}
-use Rattle.core_graph.specs.Vertices.{AreBelow}
+use Rattle.core_graph.specs.Vertices.{OperandsAreBelow}
 use Rattle.core_graph.specs.Reached.{IsMarked, IsOperand, marked_nodes}
 
 -- a marked node is there
@@ -29,7 +29,7 @@ pub written : (n : ℕ) (xs more : List Bool) → length xs ≡ n → take n (xs
 written n xs more e = take-append-le n xs more (omega (arith, e)) ∙ take_all n xs (omega (arith, e))
 
 -- an operand is below what all are below
-pub operand_below : (n i : ℕ) (o : Operands) → AreBelow i o → IsOperand n o → n < i
+pub operand_below : (n i : ℕ) (o : Operands) → OperandsAreBelow i o → IsOperand n o → n < i
 operand_below n i Zero h p = absurd p
 operand_below n i (One a) h p = subst (λ k. k < i) (sym p) h
 operand_below n i (Two a b) h p = elim p [

@@ -20,7 +20,7 @@ use Rattle.c2po_nodes.proofs.Pushing as pushing
 use Rattle.core_graph.specs.declared.vertex.Vertex.{Vertex}
 use Rattle.core_graph.specs.declared.vertex.Vertex.TheVariants as vertex
 use Rattle.core_graph.specs.Trees.{negative_sign, load_sign, sign, one, two, leaf, truth_in}
-use Rattle.core_graph.specs.Vertices.{arith_sign, tree_at, tree_of, trees, Has, Grows}
+use Rattle.core_graph.specs.Vertices.{arith_sign, tree_at, vertex_tree, trees, Has, Grows}
 use Rattle.core_graph.specs.Images.{of_term, of_core}
 use Rattle.core_graph.specs.Reading.{Represents, AreRead}
 use Rattle.core_graph.proofs.Outputs.{number_there, formula_there}
@@ -81,30 +81,30 @@ module _ {E : Type 0} (columns : List ℕ) (old : List Vertex) (before : List Pl
       IfOk result (λ n. Represents columns new n (plain.tree_of (plain.trees before) (Truth v)))
   truth_stands v h = subst (λ p. IfOk result (λ n. Has new n (of_core (core p)))) (sym (constant_over columns v)) h
 
-  pub number_stands : (m : ℤ) → IfOk result (λ n. Has new n (tree_of (trees old) (vertex.Const m))) → IfOk result (λ n. Represents columns new n (plain.tree_of (plain.trees before) (Number m)))
+  pub number_stands : (m : ℤ) → IfOk result (λ n. Has new n (vertex_tree (trees old) (vertex.Const m))) → IfOk result (λ n. Represents columns new n (plain.tree_of (plain.trees before) (Number m)))
   unfolding term_over
   number_stands m h = h
 
-  pub signal_stands : (s : ℕ) → IfOk result (λ n. Has new n (tree_of (trees old) (vertex.Column (slice_index columns s)))) → IfOk result (λ n. Represents columns new n (plain.tree_of (plain.trees before) (Signal s)))
+  pub signal_stands : (s : ℕ) → IfOk result (λ n. Has new n (vertex_tree (trees old) (vertex.Column (slice_index columns s)))) → IfOk result (λ n. Represents columns new n (plain.tree_of (plain.trees before) (Signal s)))
   unfolding term_over
   signal_stands s h = h
 
-  pub flag_stands : (s atom : ℕ) (mid : List Vertex) → Has mid atom (leaf (truth_in (slice_index columns s))) → IfOk result (λ n. Has new n (tree_of (trees mid) (vertex.Load atom))) →
+  pub flag_stands : (s atom : ℕ) (mid : List Vertex) → Has mid atom (leaf (truth_in (slice_index columns s))) → IfOk result (λ n. Has new n (vertex_tree (trees mid) (vertex.Load atom))) →
       IfOk result (λ n. Represents columns new n (plain.tree_of (plain.trees before) (Flag s)))
   unfolding core formula_over atom_over
   flag_stands s atom mid g h = subst (λ t. IfOk result (λ n. Has new n (one (sign load_sign) t))) g.is h
 
-  pub minus_stands : (a : ℕ) → plain.IsNumber (slice_get (plain.trees before) a) → IfOk result (λ n. Has new n (tree_of (trees old) (vertex.Neg (slice_index ids a)))) →
+  pub minus_stands : (a : ℕ) → plain.IsNumber (slice_get (plain.trees before) a) → IfOk result (λ n. Has new n (vertex_tree (trees old) (vertex.Neg (slice_index ids a)))) →
       IfOk result (λ n. Represents columns new n (plain.tree_of (plain.trees before) (Minus a)))
   unfolding term_over
   minus_stands a k h = subst (λ t. IfOk result (λ n. Has new n (one (sign negative_sign) t))) (number_there columns old before ids r a k).is h
 
   pub arith_stands : (op : arith_op.ArithOp) (a b : ℕ) → plain.IsNumber (slice_get (plain.trees before) a) → plain.IsNumber (slice_get (plain.trees before) b) →
-      IfOk result (λ n. Has new n (tree_of (trees old) (vertex.Arith op (slice_index ids a) (slice_index ids b)))) →
+      IfOk result (λ n. Has new n (vertex_tree (trees old) (vertex.Arith op (slice_index ids a) (slice_index ids b)))) →
       IfOk result (λ n. Represents columns new n (plain.tree_of (plain.trees before) (Arith op a b)))
   arith_stands op a b k l h =
-      let x : Term = plain.term_at (plain.trees before) a in
-      let y : Term = plain.term_at (plain.trees before) b in
+      let x : Term = plain.node_term (plain.trees before) a in
+      let y : Term = plain.node_term (plain.trees before) b in
       let tree : two (sign (arith_sign op)) (tree_at (trees old) (slice_index ids a)) (tree_at (trees old) (slice_index ids b)) ≡ of_term (term_over columns (plain.arithmetic op x y))
       = ap₂ (two (sign (arith_sign op))) (number_there columns old before ids r a k).is (number_there columns old before ids r b l).is
       ∙ (sym (arithmetic_image op (term_over columns x) (term_over columns y)) ∙ ap of_term (sym (arithmetic_over columns op x y))) in
@@ -115,8 +115,8 @@ module _ {E : Type 0} (columns : List ℕ) (old : List Vertex) (before : List Pl
       IfOk result (λ n. Represents columns new n (plain.tree_of (plain.trees before) (Compare op a b)))
   unfolding core formula_over
   compare_stands op a b k l h =
-      let x : Term = plain.term_at (plain.trees before) a in
-      let y : Term = plain.term_at (plain.trees before) b in
+      let x : Term = plain.node_term (plain.trees before) a in
+      let y : Term = plain.node_term (plain.trees before) b in
       subst (λ t. IfOk result (λ n. Has new n (of_core (core_atom t)))) (sym (comparison_over columns op x y))
       (h (term_over columns x) (term_over columns y) (number_there columns old before ids r a k) (number_there columns old before ids r b l))
 
@@ -124,14 +124,14 @@ module _ {E : Type 0} (columns : List ℕ) (old : List Vertex) (before : List Pl
       ((p : Core) → Has old (slice_index ids a) (of_core p) → IfOk result (λ n. Has new n (of_core (neg p)))) →
       IfOk result (λ n. Represents columns new n (plain.tree_of (plain.trees before) (Not a)))
   unfolding core formula_over
-  not_stands a k h = h (core (formula_over columns (plain.formula_at (plain.trees before) a))) (formula_there columns old before ids r a k)
+  not_stands a k h = h (core (formula_over columns (plain.node_formula (plain.trees before) a))) (formula_there columns old before ids r a k)
 
   pub logic_stands : (op : logic.LogicOp) (a b : ℕ) → plain.IsFormula (slice_get (plain.trees before) a) → plain.IsFormula (slice_get (plain.trees before) b) →
       ((p q : Formula) → Has old (slice_index ids a) (of_core (core p)) → Has old (slice_index ids b) (of_core (core q)) → IfOk result (λ n. Has new n (of_core (core (plain.connected op p q))))) →
       IfOk result (λ n. Represents columns new n (plain.tree_of (plain.trees before) (Logic op a b)))
   logic_stands op a b k l h =
-      let p : Formula = plain.formula_at (plain.trees before) a in
-      let q : Formula = plain.formula_at (plain.trees before) b in
+      let p : Formula = plain.node_formula (plain.trees before) a in
+      let q : Formula = plain.node_formula (plain.trees before) b in
       subst (λ f. IfOk result (λ n. Has new n (of_core (core f)))) (sym (connected_over columns op p q))
       (h (formula_over columns p) (formula_over columns q) (formula_there columns old before ids r a k) (formula_there columns old before ids r b l))
 
@@ -139,7 +139,7 @@ module _ {E : Type 0} (columns : List ℕ) (old : List Vertex) (before : List Pl
       ((p : Formula) → Has old (slice_index ids a) (of_core (core p)) → IfOk result (λ n. Has new n (of_core (core (plain.windowed op i p))))) →
       IfOk result (λ n. Represents columns new n (plain.tree_of (plain.trees before) (Window op i a)))
   window_stands op i a k h =
-      let p : Formula = plain.formula_at (plain.trees before) a in
+      let p : Formula = plain.node_formula (plain.trees before) a in
       subst (λ f. IfOk result (λ n. Has new n (of_core (core f)))) (sym (windowed_over columns op i p))
       (h (formula_over columns p) (formula_there columns old before ids r a k))
 
@@ -147,8 +147,8 @@ module _ {E : Type 0} (columns : List ℕ) (old : List Vertex) (before : List Pl
       ((p q : Formula) → Has old (slice_index ids a) (of_core (core p)) → Has old (slice_index ids b) (of_core (core q)) → IfOk result (λ n. Has new n (of_core (core (plain.ranged op i p q))))) →
       IfOk result (λ n. Represents columns new n (plain.tree_of (plain.trees before) (Between op i a b)))
   between_stands op i a b k l h =
-      let p : Formula = plain.formula_at (plain.trees before) a in
-      let q : Formula = plain.formula_at (plain.trees before) b in
+      let p : Formula = plain.node_formula (plain.trees before) a in
+      let q : Formula = plain.node_formula (plain.trees before) b in
       subst (λ f. IfOk result (λ n. Has new n (of_core (core f)))) (sym (ranged_over columns op i p q))
       (h (formula_over columns p) (formula_over columns q) (formula_there columns old before ids r a k) (formula_there columns old before ids r b l))
 

@@ -27,7 +27,7 @@ use Rattle.core_graph.specs.Vertices.{tree_at, trees, Has}
 use Rattle.core_graph.specs.Images.{of_term, of_core}
 use Rattle.core_graph.specs.Reading.{Represents, AreRead}
 use Rattle.core_graph.specs.Walks.{trees_of}
-use Rattle.core_graph.specs.Listings.{asks, NamesNodes, roots_by, roots_of, places_for, out_of}
+use Rattle.core_graph.specs.Listings.{asks, NamesNodes, roots_by, roots_of, places_for, placed_out}
 
 -- the vertex of a formula, and of a whole number
 module _ (columns : List ℕ) (vertices : List Vertex) (nodes : List Plain) (ids : List ℕ) (r : AreRead columns vertices nodes ids) where
@@ -45,7 +45,7 @@ module _ (columns : List ℕ) (vertices : List Vertex) (nodes : List Plain) (ids
   formula_case n (Some (plain.number a)) e h = absurd h
   formula_case n (Some (plain.formula p)) e h = id_at n (plain.formula p) e
 
-  pub formula_there : (n : ℕ) → plain.IsFormula (slice_get (plain.trees nodes) n) → Has vertices (slice_index ids n) (of_core (core (formula_over columns (plain.formula_at (plain.trees nodes) n))))
+  pub formula_there : (n : ℕ) → plain.IsFormula (slice_get (plain.trees nodes) n) → Has vertices (slice_index ids n) (of_core (core (formula_over columns (plain.node_formula (plain.trees nodes) n))))
   formula_there n h = formula_case n (slice_get (plain.trees nodes) n) refl h
 
   number_case : (n : ℕ) (o : Option plain.Tree) → slice_get (plain.trees nodes) n ≡ o → plain.IsNumber o → Has vertices (slice_index ids n) (of_term (term_over columns (plain.term_in o)))
@@ -53,7 +53,7 @@ module _ (columns : List ℕ) (vertices : List Vertex) (nodes : List Plain) (ids
   number_case n (Some (plain.formula p)) e h = absurd h
   number_case n (Some (plain.number a)) e h = id_at n (plain.number a) e
 
-  pub number_there : (n : ℕ) → plain.IsNumber (slice_get (plain.trees nodes) n) → Has vertices (slice_index ids n) (of_term (term_over columns (plain.term_at (plain.trees nodes) n)))
+  pub number_there : (n : ℕ) → plain.IsNumber (slice_get (plain.trees nodes) n) → Has vertices (slice_index ids n) (of_term (term_over columns (plain.node_term (plain.trees nodes) n)))
   number_there n h = number_case n (slice_get (plain.trees nodes) n) refl h
 
   formula_within : (n : ℕ) (o : Option plain.Tree) → slice_get (plain.trees nodes) n ≡ o → plain.IsFormula o → n < length ids
@@ -97,13 +97,13 @@ module _ (columns : List ℕ) (vertices : List Vertex) (nodes : List Plain) (ids
   roots_by_are p (Formula e n name) h = go (asks p e)
     where
       go : (b : Bool) → trees_of vertices (if b then slice_index ids n ∷ [] else [])
-          ≡ map of_core (if b then core (formula_over columns (plain.formula_at (plain.trees nodes) n)) ∷ [] else [])
+          ≡ map of_core (if b then core (formula_over columns (plain.node_formula (plain.trees nodes) n)) ∷ [] else [])
       go true = ap (λ t. t ∷ []) (formula_there n h).is
       go false = refl
   roots_by_are p (Contract e n m name) h = go (asks p e)
     where
       go : (b : Bool) → trees_of vertices (if b then slice_index ids n ∷ slice_index ids m ∷ [] else [])
-          ≡ map of_core (if b then core (formula_over columns (plain.formula_at (plain.trees nodes) n)) ∷ core (formula_over columns (plain.formula_at (plain.trees nodes) m)) ∷ [] else [])
+          ≡ map of_core (if b then core (formula_over columns (plain.node_formula (plain.trees nodes) n)) ∷ core (formula_over columns (plain.node_formula (plain.trees nodes) m)) ∷ [] else [])
       go true = ap₂ (λ t u. t ∷ u ∷ []) (formula_there n h.0).is (formula_there m h.1).is
       go false = refl
 
@@ -121,16 +121,16 @@ module _ (columns : List ℕ) (vertices : List Vertex) (nodes : List Plain) (ids
   module _ (all : List Asked) (ft pt : List ℕ) (place : (e : Engine) (p : Core) (n : ℕ) → listed same p (subformulas e all) ≡ true → Has vertices n (of_core p) → slice_index (places_for e ft pt) n ≡ place_of same p (subformulas e all)) where
     out_is : (o : PlainOut) → NamesFormulas (plain.trees nodes) o →
         Each (λ p. listed same p (subformulas (asked_by (plain.trees nodes) o).engine all) ≡ true) (cores_of_output (asked_over columns (asked_by (plain.trees nodes) o)).output) →
-        out_of ids ft pt o ≡ out_by (subformulas (asked_by (plain.trees nodes) o).engine all) (asked_by (plain.trees nodes) o).engine (asked_by (plain.trees nodes) o).name (asked_over columns (asked_by (plain.trees nodes) o)).output
+        placed_out ids ft pt o ≡ out_by (subformulas (asked_by (plain.trees nodes) o).engine all) (asked_by (plain.trees nodes) o).engine (asked_by (plain.trees nodes) o).name (asked_over columns (asked_by (plain.trees nodes) o)).output
     out_is (Formula e n name) h l =
-        ap (λ k. out.Formula e k name) (place e (core (formula_over columns (plain.formula_at (plain.trees nodes) n))) (slice_index ids n) l.0 (formula_there n h))
+        ap (λ k. out.Formula e k name) (place e (core (formula_over columns (plain.node_formula (plain.trees nodes) n))) (slice_index ids n) l.0 (formula_there n h))
     out_is (Contract e n m name) h l =
-        ap₂ (λ j k. out.Contract e j k name) (place e (core (formula_over columns (plain.formula_at (plain.trees nodes) n))) (slice_index ids n) l.0 (formula_there n h.0))
-        (place e (core (formula_over columns (plain.formula_at (plain.trees nodes) m))) (slice_index ids m) l.1.0 (formula_there m h.1))
+        ap₂ (λ j k. out.Contract e j k name) (place e (core (formula_over columns (plain.node_formula (plain.trees nodes) n))) (slice_index ids n) l.0 (formula_there n h.0))
+        (place e (core (formula_over columns (plain.node_formula (plain.trees nodes) m))) (slice_index ids m) l.1.0 (formula_there m h.1))
 
     pub outs_are : (outs : List PlainOut) → Each (NamesFormulas (plain.trees nodes)) outs →
         Each (λ a. Each (λ p. listed same p (subformulas a.engine all) ≡ true) (cores_of_output a.output)) (map (asked_over columns) (map (asked_by (plain.trees nodes)) outs)) →
-        map (out_of ids ft pt) outs ≡ map (λ a. out_by (subformulas a.engine all) a.engine a.name a.output) (map (asked_over columns) (map (asked_by (plain.trees nodes)) outs))
+        map (placed_out ids ft pt) outs ≡ map (λ a. out_by (subformulas a.engine all) a.engine a.name a.output) (map (asked_over columns) (map (asked_by (plain.trees nodes)) outs))
     outs_are [] h l = refl
     outs_are (o ∷ outs) h l = ap₂ ◌∷◌ (out_is o h.0 l.0) (outs_are outs h.1 l.1)
 

@@ -17,10 +17,10 @@ use Rattle.mltl_base.proofs.Sameness.{same_sound, same_self, same_expression_sou
 use Rattle.core_graph.specs.declared.vertex.Vertex.{Vertex}
 use Rattle.core_graph.specs.declared.vertex.Vertex.TheVariants.{Column, Const, Neg, Arith, IsTrue, Eq, Lt, Le, True, Load, Not, And, Until, Since}
 use Rattle.core_graph.specs.declared.vertex.Operands.TheVariants.{Zero, One, Two}
-use Rattle.core_graph.specs.Trees.{negative_sign, plus_sign, minus_sign, times_sign, quotient_sign, remainder_sign, equal_sign, less_sign, at_most_sign, different_sign, greater_sign, at_least_sign, true_sign, load_sign, not_sign, and_sign, sign_number, Label, sign, in_column, truth_in, number, until_in, since_in, Tree, leaf, one, two, same_tree, is_core_tree}
+use Rattle.core_graph.specs.Trees.{negative_sign, plus_sign, minus_sign, times_sign, quotient_sign, remainder_sign, equal_sign, less_sign, at_most_sign, different_sign, greater_sign, at_least_sign, true_sign, load_sign, not_sign, and_sign, sign_number, Label, sign, in_column, truth_in, number, until_in, since_in, LabelTree, leaf, one, two, same_tree, is_core_tree}
 use Rattle.core_graph.specs.Vertices.{operands_of, label_of, tree_at, trees, Has, IsForest}
 use Rattle.core_graph.specs.Images.{of_term, of_atom, of_expression, of_core}
-use Rattle.core_graph.specs.Walks.{trees_of, IsClosed}
+use Rattle.core_graph.specs.Walks.{trees_of, HasItsOperands}
 use Rattle.core_graph.specs.Listings.{IsListing, vertex_at, bz_op_of, ft_op_of, pt_op_of}
 use Rattle.core_graph.proofs.Forests.{one_vertex, is_leaf, is_one, is_two, IsOne, IsTwo, one_place}
 use Rattle.core_graph.proofs.Sameness.{same_expression_image, same_core_image}
@@ -31,7 +31,7 @@ mapped_get f None y e = cc
 mapped_get f (Some x) y e = (x, refl, cc)
 
 -- a vertex of a listed tree has the tree's place
-module _ {X : Type 0} (alike : X → X → Bool) (sound : (x y : X) → alike x y ≡ true → x ≡ y) (self : (x : X) → alike x x ≡ true) (image : X → Tree) where
+module _ {X : Type 0} (alike : X → X → Bool) (sound : (x y : X) → alike x y ≡ true → x ≡ y) (self : (x : X) → alike x x ≡ true) (image : X → LabelTree) where
   pub place_is : (vertices : List Vertex) (ids places : List ℕ) (xs : List X) → IsForest vertices → IsListing vertices (map image xs) ids places →
       (x : X) (n : ℕ) → listed alike x xs ≡ true → Has vertices n (image x) → slice_index places n ≡ place_of alike x xs
   place_is vertices ids places xs f l x n h g =
@@ -75,13 +75,13 @@ leaf_vertex vertices n l vertex e o f h =
     let p = is_leaf vertices n l f h in
     one_vertex (vertex_at vertices n) vertex (p.0 ∙ sym e) (p.1 ∙ sym o)
 
-one_of : (vertices : List Vertex) (n : ℕ) (l : Label) (t : Tree) (make : ℕ → Vertex) → ((a : ℕ) → label_of (make a) ≡ l) → ((a : ℕ) → operands_of (make a) ≡ One a) →
+one_of : (vertices : List Vertex) (n : ℕ) (l : Label) (t : LabelTree) (make : ℕ → Vertex) → ((a : ℕ) → label_of (make a) ≡ l) → ((a : ℕ) → operands_of (make a) ≡ One a) →
     IsForest vertices → Has vertices n (one l t) → (a : ℕ) × (vertex_at vertices n ≡ make a) × Has vertices a t
 one_of vertices n l t make e o f h =
     let p : IsOne vertices n l t = is_one vertices n l t f h in
     (p.operand, one_vertex (vertex_at vertices n) (make p.operand) (p.label ∙ sym (e p.operand)) (p.operands ∙ sym (o p.operand)), p.has)
 
-two_of : (vertices : List Vertex) (n : ℕ) (l : Label) (t u : Tree) (make : ℕ → ℕ → Vertex) → ((a b : ℕ) → label_of (make a b) ≡ l) → ((a b : ℕ) → operands_of (make a b) ≡ Two a b) →
+two_of : (vertices : List Vertex) (n : ℕ) (l : Label) (t u : LabelTree) (make : ℕ → ℕ → Vertex) → ((a b : ℕ) → label_of (make a b) ≡ l) → ((a b : ℕ) → operands_of (make a b) ≡ Two a b) →
     IsForest vertices → Has vertices n (two l t u) → (a b : ℕ) × (vertex_at vertices n ≡ make a b) × Has vertices a t × Has vertices b u
 two_of vertices n l t u make e o f h =
     let p : IsTwo vertices n l t u = is_two vertices n l t u f h in
@@ -112,19 +112,19 @@ all_had (And a b) = refl
 all_had (Until i a b) = refl
 all_had (Since i a b) = refl
 
-none_of : (vertices : List Vertex) (n : ℕ) (l : Label) (t u : Tree) → is_had l ≡ false → IsForest vertices → Has vertices n (two l t u) → ⊥
+none_of : (vertices : List Vertex) (n : ℕ) (l : Label) (t u : LabelTree) → is_had l ≡ false → IsForest vertices → Has vertices n (two l t u) → ⊥
 none_of vertices n l t u e f h =
     let p : IsTwo vertices n l t u = is_two vertices n l t u f h in
     true≢false (sym (all_had (vertex_at vertices n)) ∙ (ap is_had p.label ∙ e))
 
 -- instructions of the Booleanizer
-pub record IsBz (vertices : List Vertex) (done : List Tree) (es : List Expression) (ids places : List ℕ) : Type 0 where
+pub record IsBz (vertices : List Vertex) (done : List LabelTree) (es : List Expression) (ids places : List ℕ) : Type 0 where
   pub forest : IsForest vertices
-  pub closed : IsClosed done
+  pub closed : HasItsOperands done
   pub part : filter is_expression_tree done ≡ map of_expression es
   pub listing : IsListing vertices (map of_expression es) ids places
 
-module _ (vertices : List Vertex) (done : List Tree) (es : List Expression) (ids places : List ℕ) (b : IsBz vertices done es ids places) where
+module _ (vertices : List Vertex) (done : List LabelTree) (es : List Expression) (ids places : List ℕ) (b : IsBz vertices done es ids places) where
   listed_tree : (e : Expression) → listed same_expression e es ≡ true → listed same_tree (of_expression e) done ≡ true
   listed_tree e h = listed_both same_expression of_expression is_expression_tree same_expression_image expression_within e done es b.part ∙ h
 
@@ -187,14 +187,14 @@ module _ (vertices : List Vertex) (done : List Tree) (es : List Expression) (ids
       b.listing.in_order b.listing.within bz_is
 
 -- instructions of an engine, whose atoms are listed for the Booleanizer
-pub record IsEngine (vertices : List Vertex) (done : List Tree) (ps : List Core) (ids places : List ℕ) (es : List Expression) (loads : List ℕ) : Type 0 where
+pub record IsEngine (vertices : List Vertex) (done : List LabelTree) (ps : List Core) (ids places : List ℕ) (es : List Expression) (loads : List ℕ) : Type 0 where
   pub forest : IsForest vertices
-  pub closed : IsClosed done
+  pub closed : HasItsOperands done
   pub part : filter is_core_tree done ≡ map of_core ps
   pub listing : IsListing vertices (map of_core ps) ids places
   pub loaded : (a : Atom) (n : ℕ) → listed same (catom a) ps ≡ true → Has vertices n (of_atom a) → slice_index loads n ≡ place_of same_expression (truth a) es
 
-module _ (vertices : List Vertex) (done : List Tree) (ps : List Core) (ids places : List ℕ) (es : List Expression) (loads : List ℕ) (g : IsEngine vertices done ps ids places es loads) where
+module _ (vertices : List Vertex) (done : List LabelTree) (ps : List Core) (ids places : List ℕ) (es : List Expression) (loads : List ℕ) (g : IsEngine vertices done ps ids places es loads) where
   core_tree : (p : Core) → listed same p ps ≡ true → listed same_tree (of_core p) done ≡ true
   core_tree p h = listed_both same of_core is_core_tree same_core_image core_within p done ps g.part ∙ h
 

@@ -16,8 +16,8 @@ use Rattle.mltl_base.specs.Reports as report
 use Rattle.c2po_nodes.specs.Outputs.{asked_by, asked_over, NamesFormulas}
 use Rattle.c2po_nodes.proofs.Places.{get_left, get_last}
 use Rattle.c2po_nodes.proofs.Pushing.{length-trees, trees_more}
-use Rattle.core_graph.specs.Vertices.{AreBelow}
-use Rattle.core_graph.specs.Listings.{asked_from}
+use Rattle.core_graph.specs.Vertices.{OperandsAreBelow}
+use Rattle.core_graph.specs.Listings.{asked_of_nodes}
 use Rattle.core_graph.specs.Reached.{AreOver, AreReached, IsMarked, IsOperand, NamesMarked, marked_nodes, named_by, node_operands}
 use Rattle.core_graph.proofs.Marking.{length-marked, marked_at, marked_within, operand_below}
 
@@ -36,7 +36,7 @@ formula_inside ts a h = go (slice_get ts a) refl h
     go None e h = absurd h
     go (Some t) e h = slice_get_within ts a t e
 
-formed_below : (signals : ℕ) (ts : List Tree) (node : Plain) → IsFormed signals ts node → AreBelow (length ts) (node_operands node)
+formed_below : (signals : ℕ) (ts : List Tree) (node : Plain) → IsFormed signals ts node → OperandsAreBelow (length ts) (node_operands node)
 formed_below signals ts (Truth v) h = tt
 formed_below signals ts (Flag s) h = tt
 formed_below signals ts (Number n) h = tt
@@ -56,15 +56,15 @@ pub over_sound : (signals : ℕ) (nodes : List Plain) → AreSound signals nodes
 over_sound signals nodes sound = record {
   before = λ i node e.
       let inside : i < length nodes = slice_get_within nodes i node e in
-      subst (λ n. AreBelow n (node_operands node)) (count_before nodes i (omega arith)) (formed_below signals (trees (take i nodes)) node (sound.formed i node e));
+      subst (λ n. OperandsAreBelow n (node_operands node)) (count_before nodes i (omega arith)) (formed_below signals (trees (take i nodes)) node (sound.formed i node e));
 }
 
-out_below : (nodes : List Plain) (out : PlainOut) → NamesFormulas (trees nodes) out → AreBelow (length nodes) (named_by out)
+out_below : (nodes : List Plain) (out : PlainOut) → NamesFormulas (trees nodes) out → OperandsAreBelow (length nodes) (named_by out)
 out_below nodes (Formula e a name) h = subst (λ n. a < n) (length-trees nodes) (formula_inside (trees nodes) a h)
 out_below nodes (Contract e a b name) h =
     (subst (λ n. a < n) (length-trees nodes) (formula_inside (trees nodes) a h.0), subst (λ n. b < n) (length-trees nodes) (formula_inside (trees nodes) b h.1))
 
-pub outs_below : (nodes : List Plain) (outs : List PlainOut) → All (NamesFormulas (trees nodes)) outs → All (λ out. AreBelow (length nodes) (named_by out)) outs
+pub outs_below : (nodes : List Plain) (outs : List PlainOut) → All (NamesFormulas (trees nodes)) outs → All (λ out. OperandsAreBelow (length nodes) (named_by out)) outs
 outs_below nodes outs h = λ k d l. out_below nodes (get_or outs k d) (h k d l)
 
 -- a node over other nodes, whose operands unfold to the same
@@ -182,9 +182,9 @@ module _ (signals : ℕ) (nodes : List Plain) (outs : List PlainOut) (marks : Li
   asked_one (Contract e a b name) m =
       ap₂ (λ o p. record { engine = e; name = name; output = report.contract (formula_in o) (formula_in p) }) (same_marked a (m a (inl refl))) (same_marked b (m b (inr refl)))
 
-  asked_each : (columns : List ℕ) (some : List PlainOut) → Each (NamesMarked marks) some → asked_from columns (marked_nodes marks nodes) some ≡ asked_from columns nodes some
+  asked_each : (columns : List ℕ) (some : List PlainOut) → Each (NamesMarked marks) some → asked_of_nodes columns (marked_nodes marks nodes) some ≡ asked_of_nodes columns nodes some
   asked_each columns [] h = refl
   asked_each columns (out ∷ some) h = ap₂ ◌∷◌ (ap (asked_over columns) (asked_one out h.0)) (asked_each columns some h.1)
 
-  pub marked_asked : (columns : List ℕ) → asked_from columns (marked_nodes marks nodes) outs ≡ asked_from columns nodes outs
+  pub marked_asked : (columns : List ℕ) → asked_of_nodes columns (marked_nodes marks nodes) outs ≡ asked_of_nodes columns nodes outs
   marked_asked columns = asked_each columns outs (each_from_all (NamesMarked marks) outs reached.named)

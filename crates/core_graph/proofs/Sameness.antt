@@ -9,7 +9,7 @@ use Rattle.mltl_base.specs.Formula.{Core, ctrue, catom, cnot, cand, cuntil, csin
 use Rattle.mltl_base.specs.Programs.{Expression, whole, truth}
 use Rattle.mltl_base.specs.Subformulas.{same_interval, same_term, same_atom, same_expression, same}
 use Rattle.mltl_base.proofs.Sameness.{same_interval_sound}
-use Rattle.core_graph.specs.Trees.{Sign, negative_sign, plus_sign, minus_sign, times_sign, quotient_sign, remainder_sign, equal_sign, less_sign, at_most_sign, different_sign, greater_sign, at_least_sign, true_sign, load_sign, not_sign, and_sign, sign_number, Label, sign, in_column, truth_in, number, until_in, since_in, same_label, root, Tree, leaf, one, two, same_tree}
+use Rattle.core_graph.specs.Trees.{Sign, negative_sign, plus_sign, minus_sign, times_sign, quotient_sign, remainder_sign, equal_sign, less_sign, at_most_sign, different_sign, greater_sign, at_least_sign, true_sign, load_sign, not_sign, and_sign, sign_number, Label, sign, in_column, truth_in, number, until_in, since_in, same_label, root, LabelTree, leaf, one, two, same_tree}
 use Rattle.core_graph.specs.Images.{of_term, of_atom, of_expression, of_core}
 
 abbrev sign_at : ℕ → Sign
@@ -57,7 +57,7 @@ same_label_self (number n) = (Decides-int_eq n n).1 refl
 same_label_self (until_in i) = same_interval_self i
 same_label_self (since_in i) = same_interval_self i
 
-pub same_tree_sound : (t u : Tree) → same_tree t u ≡ true → t ≡ u
+pub same_tree_sound : (t u : LabelTree) → same_tree t u ≡ true → t ≡ u
 unfolding same_tree
 same_tree_sound (leaf l) (leaf m) e = ap leaf (same_label_sound l m e)
 same_tree_sound (one l t) (one m u) e =
@@ -72,7 +72,7 @@ same_tree_sound (two l t u) (two m v w) e =
     λ k. two (a k) (b k) (d k)
 same_tree_sound _ _ e = cc
 
-pub same_tree_self : (t : Tree) → same_tree t t ≡ true
+pub same_tree_self : (t : LabelTree) → same_tree t t ≡ true
 unfolding same_tree
 same_tree_self (leaf l) = same_label_self l
 same_tree_self (one l t) = and_from _ _ (same_label_self l) (same_tree_self t)
@@ -127,14 +127,14 @@ no_whole_atom (different a b) = refl
 no_whole_atom (greater a b) = refl
 no_whole_atom (at_least a b) = refl
 
-pub not_same : (f : Tree → Bool) (t u : Tree) → f t ≡ true → f u ≡ false → same_tree t u ≡ false
+pub not_same : (f : LabelTree → Bool) (t u : LabelTree) → f t ≡ true → f u ≡ false → same_tree t u ≡ false
 not_same f t u e n = go (same_tree t u) refl
   where
     go : (b : Bool) → same_tree t u ≡ b → b ≡ false
     go false h = refl
     go true h = absurd (true≢false (sym e ∙ (ap f (same_tree_sound t u h) ∙ n)))
 
-pub not_same_back : (f : Tree → Bool) (t u : Tree) → f t ≡ false → f u ≡ true → same_tree t u ≡ false
+pub not_same_back : (f : LabelTree → Bool) (t u : LabelTree) → f t ≡ false → f u ≡ true → same_tree t u ≡ false
 not_same_back f t u n e = go (same_tree t u) refl
   where
     go : (b : Bool) → same_tree t u ≡ b → b ≡ false

@@ -10,9 +10,9 @@ use Rattle.c2po_nodes.proofs.Places.{at_push, get_left}
 use Rattle.core_graph.specs.declared.vertex.Vertex.{Vertex}
 use Rattle.core_graph.specs.declared.vertex.Operands.{Operands}
 use Rattle.core_graph.specs.declared.vertex.Operands.TheVariants.{Zero, One, Two}
-use Rattle.core_graph.specs.Trees.{Label, Tree, one, two, same_tree, add_tree}
-use Rattle.core_graph.specs.Vertices.{label_of, operands_of, tree_at, tree_over, tree_of, trees, Has, AreBelow, IsForest}
-use Rattle.core_graph.specs.Walks.{trees_of, HasOperands, IsClosed, IsWalk, AreDone, IsFirstOpen, Descends, IsStack, finish, height, open_count, work}
+use Rattle.core_graph.specs.Trees.{Label, LabelTree, one, two, same_tree, add_tree}
+use Rattle.core_graph.specs.Vertices.{label_of, operands_of, tree_at, tree_over, vertex_tree, trees, Has, OperandsAreBelow, IsForest}
+use Rattle.core_graph.specs.Walks.{trees_of, HasOperands, HasItsOperands, IsWalk, AreDone, IsFirstIncomplete, Descends, IsStack, finish, height, open_count, work}
 use Rattle.core_graph.proofs.Forests.{tree_here, one_place}
 use Rattle.core_graph.proofs.Sameness.{same_tree_sound, same_tree_self}
 use Rattle.core_graph.proofs.Orders.{closed_nil, closed_push, tree_again, one_first, left_first, right_next, over_operands}
@@ -21,12 +21,12 @@ pub trees_push : (vertices : List Vertex) (ids : List ℕ) (n : ℕ) → trees_o
 trees_push vertices ids n = map-append (tree_at (trees vertices)) ids (n ∷ [])
 
 -- the latest that waits is finished first
-pub finish_push : (ts : List Tree) (t : Tree) (us : List Tree) → finish (ts ++ t ∷ []) us ≡ finish ts (add_tree t us)
+pub finish_push : (ts : List LabelTree) (t : LabelTree) (us : List LabelTree) → finish (ts ++ t ∷ []) us ≡ finish ts (add_tree t us)
 unfolding finish
 finish_push [] t us = refl
 finish_push (v ∷ ts) t us = ap (add_tree v) (finish_push ts t us)
 
-finish_trees : (vertices : List Vertex) (below : List ℕ) (n : ℕ) (us : List Tree) →
+finish_trees : (vertices : List Vertex) (below : List ℕ) (n : ℕ) (us : List LabelTree) →
     finish (trees_of vertices (below ++ n ∷ [])) us ≡ finish (trees_of vertices below) (add_tree (tree_at (trees vertices) n) us)
 finish_trees vertices below n us = ap (λ ts. finish ts us) (trees_push vertices below n) ∙ finish_push (trees_of vertices below) (tree_at (trees vertices) n) us
 
@@ -66,7 +66,7 @@ height_below n (m ∷ k ∷ ns) d =
     omega arith
 
 -- an operand that is open comes first without a change of what is complete at the end
-operand_below : (done : List Bool) (o : Operands) (n top : ℕ) → AreBelow top o → IsFirstOpen done o n → n < top
+operand_below : (done : List Bool) (o : Operands) (n top : ℕ) → OperandsAreBelow top o → IsFirstIncomplete done o n → n < top
 operand_below done Zero n top b h = absurd h
 operand_below done (One a) n top b h = let e : n ≡ a = h.0 in omega arith
 operand_below done (Two a b) n top l h = elim h [
@@ -74,7 +74,7 @@ operand_below done (Two a b) n top l h = elim h [
   | inr p ↦ let e : n ≡ b = p.0 in let k : b < top = l.1 in omega arith
 ]
 
-operand_open : (done : List Bool) (o : Operands) (n : ℕ) → IsFirstOpen done o n → slice_get done n ≡ Some false
+operand_open : (done : List Bool) (o : Operands) (n : ℕ) → IsFirstIncomplete done o n → slice_get done n ≡ Some false
 operand_open done Zero n h = absurd h
 operand_open done (One a) n h = ap (slice_get done) h.0 ∙ h.1
 operand_open done (Two a b) n h = elim h [
@@ -88,7 +88,7 @@ told_at vertices order done n b w l e =
     same_Some (listed same_tree (tree_at (trees vertices) n) (trees_of vertices order)) b
     (sym (w.told n (tree_at (trees vertices) n) (record { within = l; is = refl })) ∙ e)
 
-first_changes_nothing : (vertices : List Vertex) (order : List ℕ) (done : List Bool) (l : Label) (o : Operands) (n top : ℕ) → IsWalk vertices order done → AreBelow top o → top < length vertices → IsFirstOpen done o n →
+first_changes_nothing : (vertices : List Vertex) (order : List ℕ) (done : List Bool) (l : Label) (o : Operands) (n top : ℕ) → IsWalk vertices order done → OperandsAreBelow top o → top < length vertices → IsFirstIncomplete done o n →
     add_tree (tree_over (trees vertices) l o) (add_tree (tree_at (trees vertices) n) (trees_of vertices order)) ≡ add_tree (tree_over (trees vertices) l o) (trees_of vertices order)
 first_changes_nothing vertices order done l Zero n top w b k h = absurd h
 first_changes_nothing vertices order done l (One a) n top w b k h =
@@ -114,7 +114,7 @@ pub record IsAt (vertices : List Vertex) (order : List ℕ) (done : List Bool) (
   pub there : slice_get vertices top ≡ Some vertex
 
 pub operand_stack : (vertices : List Vertex) (order : List ℕ) (done : List Bool) (stack : List ℕ) (top : ℕ) (vertex : Vertex) (below : List ℕ) (n : ℕ) (new : List ℕ) →
-    IsAt vertices order done stack top vertex below → IsFirstOpen done (operands_of vertex) n → new ≡ stack ++ n ∷ [] → IsStack vertices done new
+    IsAt vertices order done stack top vertex below → IsFirstIncomplete done (operands_of vertex) n → new ≡ stack ++ n ∷ [] → IsStack vertices done new
 operand_stack vertices order done stack top vertex below n new s h e =
     let lower : n < top = operand_below done (operands_of vertex) n top (s.forest.over top vertex s.there) h in
     let before : Descends (length vertices) (below ++ top ∷ []) = subst (Descends (length vertices)) s.latest s.waiting.descends in
@@ -131,12 +131,12 @@ top_within : (vertices : List Vertex) (order : List ℕ) (done : List Bool) (sta
 top_within vertices order done stack top vertex below s = slice_get_within vertices top vertex s.there
 
 pub operand_goal : (vertices : List Vertex) (order : List ℕ) (done : List Bool) (stack : List ℕ) (top : ℕ) (vertex : Vertex) (below : List ℕ) (n : ℕ) (new : List ℕ) →
-    IsAt vertices order done stack top vertex below → IsFirstOpen done (operands_of vertex) n → new ≡ stack ++ n ∷ [] →
+    IsAt vertices order done stack top vertex below → IsFirstIncomplete done (operands_of vertex) n → new ≡ stack ++ n ∷ [] →
     finish (trees_of vertices new) (trees_of vertices order) ≡ finish (trees_of vertices stack) (trees_of vertices order)
 operand_goal vertices order done stack top vertex below n new s h e =
-    let ts : List Tree = trees_of vertices order in
-    let here : tree_at (trees vertices) top ≡ tree_of (trees vertices) vertex = tree_here vertices top vertex s.forest s.there in
-    let same : add_tree (tree_of (trees vertices) vertex) (add_tree (tree_at (trees vertices) n) ts) ≡ add_tree (tree_of (trees vertices) vertex) ts
+    let ts : List LabelTree = trees_of vertices order in
+    let here : tree_at (trees vertices) top ≡ vertex_tree (trees vertices) vertex = tree_here vertices top vertex s.forest s.there in
+    let same : add_tree (vertex_tree (trees vertices) vertex) (add_tree (tree_at (trees vertices) n) ts) ≡ add_tree (vertex_tree (trees vertices) vertex) ts
     = first_changes_nothing vertices order done (label_of vertex) (operands_of vertex) n top s.walk (s.forest.over top vertex s.there) (top_within vertices order done stack top vertex below s) h in
     let turned : add_tree (tree_at (trees vertices) top) (add_tree (tree_at (trees vertices) n) ts) ≡ add_tree (tree_at (trees vertices) top) ts
     = subst (λ t. add_tree t (add_tree (tree_at (trees vertices) n) ts) ≡ add_tree t ts) (sym here) same in
@@ -148,7 +148,7 @@ operand_goal vertices order done stack top vertex below n new s h e =
     ∙ (sym (finish_trees vertices below top ts) ∙ ap (λ ns. finish (trees_of vertices ns) ts) (sym s.latest))))))
 
 pub operand_less : (vertices : List Vertex) (order : List ℕ) (done : List Bool) (stack : List ℕ) (top : ℕ) (vertex : Vertex) (below : List ℕ) (n : ℕ) (new : List ℕ) →
-    IsAt vertices order done stack top vertex below → IsFirstOpen done (operands_of vertex) n → new ≡ stack ++ n ∷ [] → work done new < work done stack
+    IsAt vertices order done stack top vertex below → IsFirstIncomplete done (operands_of vertex) n → new ≡ stack ++ n ∷ [] → work done new < work done stack
 operand_less vertices order done stack top vertex below n new s h e =
     let lower : n < top = operand_below done (operands_of vertex) n top (s.forest.over top vertex s.there) h in
     let high : height stack ≡ suc top = ap height s.latest ∙ height_push below top in
@@ -156,7 +156,7 @@ operand_less vertices order done stack top vertex below n new s h e =
     omega arith
 
 -- a vertex whose operands are complete
-listed_other : (u t : Tree) (ts : List Tree) → same_tree u t ≡ false → listed same_tree u (ts ++ t ∷ []) ≡ listed same_tree u ts
+listed_other : (u t : LabelTree) (ts : List LabelTree) → same_tree u t ≡ false → listed same_tree u (ts ++ t ∷ []) ≡ listed same_tree u ts
 unfolding listed
 listed_other u t [] e = ap (λ b. b || false) e
 listed_other u t (v ∷ ts) e = ap (λ b. same_tree u v || b) (listed_other u t ts e)
@@ -173,7 +173,7 @@ set_other (x ∷ done) zero (suc m) b d = refl
 set_other (x ∷ done) (suc n) zero b d = refl
 set_other (x ∷ done) (suc n) (suc m) b d = set_other done n m b (λ e. d (ap suc e))
 
-operands_listed : (vertices : List Vertex) (order : List ℕ) (done : List Bool) (l : Label) (o : Operands) (top : ℕ) → IsWalk vertices order done → AreBelow top o → top < length vertices → AreDone done o →
+operands_listed : (vertices : List Vertex) (order : List ℕ) (done : List Bool) (l : Label) (o : Operands) (top : ℕ) → IsWalk vertices order done → OperandsAreBelow top o → top < length vertices → AreDone done o →
     HasOperands (trees_of vertices order) (tree_over (trees vertices) l o)
 operands_listed vertices order done l Zero top w b k h = tt
 operands_listed vertices order done l (One a) top w b k h = told_at vertices order done a true w (omega arith) h
@@ -201,7 +201,7 @@ top_absent : (vertices : List Vertex) (order : List ℕ) (done : List Bool) (sta
 top_absent vertices order done stack top vertex below s =
     told_at vertices order done top false s.walk (top_within vertices order done stack top vertex below s) (top_open vertices order done stack top vertex below s)
 
-other_tree : (vertices : List Vertex) (n m : ℕ) (t u : Tree) → IsForest vertices → Has vertices n t → Has vertices m u → n ≢ m → same_tree t u ≡ false
+other_tree : (vertices : List Vertex) (n m : ℕ) (t u : LabelTree) → IsForest vertices → Has vertices n t → Has vertices m u → n ≢ m → same_tree t u ≡ false
 other_tree vertices n m t u f h g d = go (same_tree t u) refl
   where
     go : (b : Bool) → same_tree t u ≡ b → b ≡ false
@@ -212,8 +212,8 @@ pub complete_walk : (vertices : List Vertex) (order : List ℕ) (done : List Boo
     IsAt vertices order done stack top vertex below → AreDone done (operands_of vertex) → new ≡ order ++ top ∷ [] → marks ≡ set done top true → IsWalk vertices new marks
 complete_walk vertices order done stack top vertex below new marks s h e m =
     let inside : top < length vertices = top_within vertices order done stack top vertex below s in
-    let ts : List Tree = trees_of vertices order in
-    let t : Tree = tree_at (trees vertices) top in
+    let ts : List LabelTree = trees_of vertices order in
+    let t : LabelTree = tree_at (trees vertices) top in
     let has : Has vertices top t = record { within = inside; is = refl } in
     let grown : trees_of vertices (order ++ top ∷ []) ≡ ts ++ t ∷ [] = trees_push vertices order top in
     let counted : length done ≡ length vertices = s.walk.count in
@@ -235,7 +235,7 @@ complete_walk vertices order done stack top vertex below new marks s h e m =
             ∙ (s.walk.told n u g
             ∙ ap Some (sym (ap (λ us. listed same_tree u us) grown ∙ listed_other u t ts (other_tree vertices n top u t s.forest g has d))))
       ];
-      closed = subst IsClosed (sym grown) (closed_push t ts s.walk.closed (all_listed vertices order done stack top vertex below s h));
+      closed = subst HasItsOperands (sym grown) (closed_push t ts s.walk.closed (all_listed vertices order done stack top vertex below s h));
     } in
     subst (λ o. IsWalk vertices o marks) (sym e) (subst (λ d. IsWalk vertices (order ++ top ∷ []) d) (sym m) whole)
 
@@ -257,8 +257,8 @@ pub complete_goal : (vertices : List Vertex) (order : List ℕ) (done : List Boo
     IsAt vertices order done stack top vertex below → AreDone done (operands_of vertex) → new ≡ order ++ top ∷ [] →
     finish (trees_of vertices below) (trees_of vertices new) ≡ finish (trees_of vertices stack) (trees_of vertices order)
 complete_goal vertices order done stack top vertex below new s h e =
-    let ts : List Tree = trees_of vertices order in
-    let t : Tree = tree_at (trees vertices) top in
+    let ts : List LabelTree = trees_of vertices order in
+    let t : LabelTree = tree_at (trees vertices) top in
     let last : add_tree t ts ≡ ts ++ t ∷ []
     = over_operands t ts s.walk.closed (all_listed vertices order done stack top vertex below s h) (top_absent vertices order done stack top vertex below s) in
     ap (λ ns. finish (trees_of vertices below) (trees_of vertices ns)) e
@@ -321,11 +321,11 @@ start_stack vertices done stack root e l h = subst (IsStack vertices done) (sym 
     alone zero n g = subst (λ k. slice_get done k ≡ Some false) (same_Some root n g) h
     alone (suc i) n g = cc
 
-pub start_goal : (vertices : List Vertex) (stack : List ℕ) (root : ℕ) (ts : List Tree) → stack ≡ root ∷ [] → finish (trees_of vertices stack) ts ≡ add_tree (tree_at (trees vertices) root) ts
+pub start_goal : (vertices : List Vertex) (stack : List ℕ) (root : ℕ) (ts : List LabelTree) → stack ≡ root ∷ [] → finish (trees_of vertices stack) ts ≡ add_tree (tree_at (trees vertices) root) ts
 unfolding finish
 start_goal vertices stack root ts e = ap (λ ns. finish (trees_of vertices ns) ts) e
 
-pub end_goal : (vertices : List Vertex) (stack : List ℕ) (ts : List Tree) → stack ≡ [] → finish (trees_of vertices stack) ts ≡ ts
+pub end_goal : (vertices : List Vertex) (stack : List ℕ) (ts : List LabelTree) → stack ≡ [] → finish (trees_of vertices stack) ts ≡ ts
 unfolding finish
 end_goal vertices stack ts e = ap (λ ns. finish (trees_of vertices ns) ts) e
 
@@ -334,7 +334,7 @@ pub done_already : (vertices : List Vertex) (order : List ℕ) (done : List Bool
 done_already vertices order done root w l h =
     sym (tree_again (tree_at (trees vertices) root) (trees_of vertices order) w.closed (told_at vertices order done root true w l h))
 
-pub below_length : (n m : ℕ) (o : Operands) → n < m → AreBelow n o → AreBelow m o
+pub below_length : (n m : ℕ) (o : Operands) → n < m → OperandsAreBelow n o → OperandsAreBelow m o
 below_length n m Zero l h = tt
 below_length n m (One a) l h = omega arith
 below_length n m (Two a b) l h = let left : a < n = h.0 in let right : b < n = h.1 in (omega arith, omega arith)

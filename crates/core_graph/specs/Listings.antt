@@ -21,7 +21,7 @@ use Rattle.c2po_nodes.specs.Outputs.{asked_by, asked_over}
 use Rattle.core_graph.specs.declared.vertex.Vertex.{Vertex}
 use Rattle.core_graph.specs.declared.vertex.Vertex.TheVariants.{Column, Const, Neg, Arith, IsTrue, Eq, Lt, Le, True}
 use Rattle.core_graph.specs.declared.vertex.Vertex.TheVariants.{Load, Not, And, Until, Since}
-use Rattle.core_graph.specs.Trees.{Tree, completed, is_core_tree}
+use Rattle.core_graph.specs.Trees.{LabelTree, completed, is_core_tree}
 use Rattle.core_graph.specs.Vertices.{is_formula}
 use Rattle.core_graph.specs.Walks.{trees_of}
 
@@ -32,7 +32,7 @@ asks Ft e = same_engine e engine.Ft
 asks Pt e = same_engine e engine.Pt
 
 -- the tree becomes an instruction of the part
-abbrev pub is_in : Part → Tree → Bool
+abbrev pub is_in : Part → LabelTree → Bool
 is_in Bz t = not (is_core_tree t)
 is_in Ft t = is_core_tree t
 is_in Pt t = is_core_tree t
@@ -44,7 +44,7 @@ is_vertex_in Ft vertex = is_formula vertex
 is_vertex_in Pt vertex = is_formula vertex
 
 -- how many of the trees become instructions of the part
-abbrev pub count_in : Part → List Tree → ℕ
+abbrev pub count_in : Part → List LabelTree → ℕ
 count_in part ts = length (filter (is_in part) ts)
 
 -- the output names the first n nodes
@@ -62,19 +62,19 @@ abbrev pub roots_of : Part → List ℕ → List PlainOut → List ℕ
 roots_of part ids outs = flat_map (roots_by part ids) outs
 
 -- the trees of the instructions of a part, in order
-abbrev pub listed_trees : List Vertex → Part → List ℕ → List PlainOut → List Tree
+abbrev pub listed_trees : List Vertex → Part → List ℕ → List PlainOut → List LabelTree
 listed_trees vertices part ids outs = filter (is_in part) (completed (trees_of vertices (roots_of part ids outs)))
 
 -- what the outputs over some nodes ask for, over columns
-abbrev pub asked_from : List ℕ → List Plain → List PlainOut → List Asked
-asked_from columns nodes outs = map (asked_over columns) (map (asked_by (plain.trees nodes)) outs)
+abbrev pub asked_of_nodes : List ℕ → List Plain → List PlainOut → List Asked
+asked_of_nodes columns nodes outs = map (asked_over columns) (map (asked_by (plain.trees nodes)) outs)
 
 -- no number occurs twice
 pub record AreOnce (ids : List ℕ) : Type 0 where
   pub once : (i j n : ℕ) → slice_get ids i ≡ Some n → slice_get ids j ≡ Some n → i ≡ j
 
 -- the vertices of a part in order, and the place of each in that order
-pub record IsListing (vertices : List Vertex) (listed : List Tree) (ids places : List ℕ) : Type 0 where
+pub record IsListing (vertices : List Vertex) (listed : List LabelTree) (ids places : List ℕ) : Type 0 where
   pub few : length ids ≤ MAX_INSTRUCTIONS
   pub count : length places ≡ length vertices
   pub within : (i n : ℕ) → slice_get ids i ≡ Some n → n < length vertices
@@ -127,9 +127,9 @@ places_for engine.Ft ft pt = ft
 places_for engine.Pt ft pt = pt
 
 -- an output by the places of its vertices
-abbrev pub out_of : List ℕ → List ℕ → List ℕ → PlainOut → out.Out
-out_of ids ft pt (Formula e a name) =
+abbrev pub placed_out : List ℕ → List ℕ → List ℕ → PlainOut → out.Out
+placed_out ids ft pt (Formula e a name) =
     out.TheVariants.Formula e (slice_index (places_for e ft pt) (slice_index ids a)) name
-out_of ids ft pt (Contract e a b name) =
+placed_out ids ft pt (Contract e a b name) =
     out.TheVariants.Contract e (slice_index (places_for e ft pt) (slice_index ids a))
     (slice_index (places_for e ft pt) (slice_index ids b)) name

@@ -9,7 +9,7 @@ use Rattle.c2po_nodes.specs.declared.nodes.PlainOut.{PlainOut}
 use Rattle.c2po_nodes.specs.declared.nodes.PlainOut.TheVariants.{Formula, Contract}
 use Rattle.core_graph.specs.declared.vertex.Operands.{Operands}
 use Rattle.core_graph.specs.declared.vertex.Operands.TheVariants.{Zero, One, Two}
-use Rattle.core_graph.specs.Vertices.{AreBelow}
+use Rattle.core_graph.specs.Vertices.{OperandsAreBelow}
 
 -- the operands of a node, which are earlier nodes
 abbrev pub node_operands : Plain → Operands
@@ -38,7 +38,7 @@ IsOperand n (Two a b) = (n ≡ a) ⊎ (n ≡ b)
 
 -- the operands of each node come before it
 pub record AreOver (nodes : List Plain) : Type 0 where
-  pub before : (i : ℕ) (node : Plain) → slice_get nodes i ≡ Some node → AreBelow i (node_operands node)
+  pub before : (i : ℕ) (node : Plain) → slice_get nodes i ≡ Some node → OperandsAreBelow i (node_operands node)
 
 -- node n is marked
 abbrev pub IsMarked : List Bool → ℕ → Type 0
@@ -63,7 +63,7 @@ pub record MarksBelow (m : ℕ) (operands : Operands) (old new : List Bool) : Ty
   pub only : (n : ℕ) → IsMarked new n → IsMarked old n ⊎ (IsMarked old m × IsOperand n operands)
 
 -- node n is named by an output
-pub record IsNamed (outs : List PlainOut) (n : ℕ) : Type 0 where
+pub record IsRoot (outs : List PlainOut) (n : ℕ) : Type 0 where
   pub place : ℕ
   pub out : PlainOut
   pub found : slice_get outs place ≡ Some out
@@ -83,7 +83,7 @@ pub record AreReached (nodes : List Plain) (outs : List PlainOut) (marks : List 
   pub named : All (NamesMarked marks) outs
   pub closed : (m : ℕ) (node : Plain) → IsMarked marks m → slice_get nodes m ≡ Some node → (n : ℕ)
       → IsOperand n (node_operands node) → IsMarked marks n
-  pub only : (n : ℕ) → IsMarked marks n → IsNamed outs n ⊎ IsBelow nodes marks n
+  pub only : (n : ℕ) → IsMarked marks n → IsRoot outs n ⊎ IsBelow nodes marks n
 
 -- the nodes, with true in the place of each that isn't marked
 abbrev pub marked_nodes : List Bool → List Plain → List Plain

@@ -34,10 +34,10 @@ pub data Label : Type 0 where
   since_in : Interval → Label
 
 -- a tree of labels: an expression or a core formula
-pub data Tree : Type 0 where
-  leaf : Label → Tree
-  one : Label → Tree → Tree
-  two : Label → Tree → Tree → Tree
+pub data LabelTree : Type 0 where
+  leaf : Label → LabelTree
+  one : Label → LabelTree → LabelTree
+  two : Label → LabelTree → LabelTree → LabelTree
 
 -- a number for each sign, no two alike
 abbrev pub sign_number : Sign → ℕ
@@ -69,20 +69,20 @@ same_label (since_in i) (since_in j) = same_interval i j
 same_label _ _ = false
 
 -- the two trees are one
-unfoldable pub same_tree : Tree → Tree → Bool
+unfoldable pub same_tree : LabelTree → LabelTree → Bool
 same_tree (leaf l) (leaf m) = same_label l m
 same_tree (one l t) (one m u) = same_label l m && same_tree t u
 same_tree (two l t u) (two m v w) = same_label l m && (same_tree t v && same_tree u w)
 same_tree _ _ = false
 
 -- the list with the subtrees of a tree that aren't listed: operands first, from left to right
-unfoldable pub add_tree : Tree → List Tree → List Tree
+unfoldable pub add_tree : LabelTree → List LabelTree → List LabelTree
 add_tree (leaf l) ts = add_new same_tree (leaf l) ts
 add_tree (one l t) ts = add_new same_tree (one l t) (add_tree t ts)
 add_tree (two l t u) ts = add_new same_tree (two l t u) (add_tree u (add_tree t ts))
 
 -- all subtrees of the roots, in order of first completion
-abbrev pub completed : List Tree → List Tree
+abbrev pub completed : List LabelTree → List LabelTree
 completed roots = fold (λ ts t. add_tree t ts) [] roots
 
 -- the sign is one of a core formula, not of an expression
@@ -101,11 +101,11 @@ is_core_label (since_in i) = true
 is_core_label _ = false
 
 -- the label of the root of a tree
-abbrev pub root : Tree → Label
+abbrev pub root : LabelTree → Label
 root (leaf l) = l
 root (one l t) = l
 root (two l t u) = l
 
 -- the tree is one of a core formula, not of an expression
-abbrev pub is_core_tree : Tree → Bool
+abbrev pub is_core_tree : LabelTree → Bool
 is_core_tree t = is_core_label (root t)

@@ -10,7 +10,8 @@ use Rattle.core_graph.specs.declared.vertex.Operands.{Operands}
 use Rattle.core_graph.specs.declared.vertex.Operands.TheVariants.{Zero, One, Two}
 use Rattle.core_graph.specs.Trees.{Sign, negative_sign, plus_sign, minus_sign, times_sign, quotient_sign}
 use Rattle.core_graph.specs.Trees.{remainder_sign, equal_sign, less_sign, at_most_sign, true_sign, load_sign, not_sign}
-use Rattle.core_graph.specs.Trees.{and_sign, Label, sign, in_column, truth_in, number, until_in, since_in, Tree, leaf}
+use Rattle.core_graph.specs.Trees.{and_sign, Label, sign, in_column, truth_in, number, until_in, since_in, LabelTree}
+use Rattle.core_graph.specs.Trees.{leaf}
 use Rattle.core_graph.specs.Trees.{one, two, is_core_label}
 
 -- the operands of a vertex
@@ -60,44 +61,44 @@ abbrev pub is_formula : Vertex → Bool
 is_formula vertex = is_core_label (label_of vertex)
 
 -- the tree of vertex n: of a vertex that isn't there nothing is asked
-abbrev pub tree_at : List Tree → ℕ → Tree
+abbrev pub tree_at : List LabelTree → ℕ → LabelTree
 tree_at earlier n = slice_index_or earlier n (leaf (sign true_sign))
 
 -- the tree of a label over the trees of its operands
-abbrev pub tree_over : List Tree → Label → Operands → Tree
+abbrev pub tree_over : List LabelTree → Label → Operands → LabelTree
 tree_over earlier l Zero = leaf l
 tree_over earlier l (One a) = one l (tree_at earlier a)
 tree_over earlier l (Two a b) = two l (tree_at earlier a) (tree_at earlier b)
 
 -- the tree that a vertex unfolds to, over those of the vertices before it
-abbrev pub tree_of : List Tree → Vertex → Tree
-tree_of earlier vertex = tree_over earlier (label_of vertex) (operands_of vertex)
+abbrev pub vertex_tree : List LabelTree → Vertex → LabelTree
+vertex_tree earlier vertex = tree_over earlier (label_of vertex) (operands_of vertex)
 
 -- the trees that the vertices unfold to, in order
-unfoldable pub trees : List Vertex → List Tree
-trees vertices = fold (λ earlier vertex. earlier ++ tree_of earlier vertex ∷ []) [] vertices
+unfoldable pub trees : List Vertex → List LabelTree
+trees vertices = fold (λ earlier vertex. earlier ++ vertex_tree earlier vertex ∷ []) [] vertices
 
 -- vertex n is there, and unfolds to a tree
-pub record Has (vertices : List Vertex) (n : ℕ) (tree : Tree) : Type 0 where
+pub record Has (vertices : List Vertex) (n : ℕ) (tree : LabelTree) : Type 0 where
   pub within : n < length vertices
   pub is : tree_at (trees vertices) n ≡ tree
 
 -- the operands come before index n
-abbrev pub AreBelow : ℕ → Operands → Type 0
-AreBelow n Zero = ⊤
-AreBelow n (One a) = a < n
-AreBelow n (Two a b) = (a < n) × (b < n)
+abbrev pub OperandsAreBelow : ℕ → Operands → Type 0
+OperandsAreBelow n Zero = ⊤
+OperandsAreBelow n (One a) = a < n
+OperandsAreBelow n (Two a b) = (a < n) × (b < n)
 
 -- operands come before the vertices that use them, and no vertex occurs twice
 pub record IsForest (vertices : List Vertex) : Type 0 where
-  pub over : (i : ℕ) (vertex : Vertex) → slice_get vertices i ≡ Some vertex → AreBelow i (operands_of vertex)
+  pub over : (i : ℕ) (vertex : Vertex) → slice_get vertices i ≡ Some vertex → OperandsAreBelow i (operands_of vertex)
   pub once : (i j : ℕ) (vertex : Vertex) → slice_get vertices i ≡ Some vertex → slice_get vertices j ≡ Some vertex
       → i ≡ j
 
 -- the new list is a forest, and has what the old one has
 pub record Grows (old new : List Vertex) : Type 0 where
   pub forest : IsForest new
-  pub kept : (n : ℕ) (tree : Tree) → Has old n tree → Has new n tree
+  pub kept : (n : ℕ) (tree : LabelTree) → Has old n tree → Has new n tree
 
 -- the new list is the old one, or has a new vertex last
 abbrev pub IsAdded : List Vertex → List Vertex → Vertex → Type 0

@@ -6,30 +6,30 @@ use Rattle.mltl_base.specs.Subformulas.{listed}
 use Rattle.core_graph.specs.declared.vertex.Vertex.{Vertex}
 use Rattle.core_graph.specs.declared.vertex.Operands.{Operands}
 use Rattle.core_graph.specs.declared.vertex.Operands.TheVariants.{Zero, One, Two}
-use Rattle.core_graph.specs.Trees.{Tree, leaf, one, two, same_tree, add_tree}
+use Rattle.core_graph.specs.Trees.{LabelTree, leaf, one, two, same_tree, add_tree}
 use Rattle.core_graph.specs.Vertices.{tree_at, trees, Has}
 
 -- the trees of numbered vertices
-abbrev pub trees_of : List Vertex → List ℕ → List Tree
+abbrev pub trees_of : List Vertex → List ℕ → List LabelTree
 trees_of vertices ids = map (tree_at (trees vertices)) ids
 
 -- the operands of a tree are listed
-abbrev pub HasOperands : List Tree → Tree → Type 0
+abbrev pub HasOperands : List LabelTree → LabelTree → Type 0
 HasOperands ts (leaf l) = ⊤
 HasOperands ts (one l t) = listed same_tree t ts ≡ true
 HasOperands ts (two l t u) = (listed same_tree t ts ≡ true) × (listed same_tree u ts ≡ true)
 
 -- each tree of the list has its operands in it
-pub record IsClosed (ts : List Tree) : Type 0 where
-  pub operands : (t : Tree) → listed same_tree t ts ≡ true → HasOperands ts t
+pub record HasItsOperands (ts : List LabelTree) : Type 0 where
+  pub operands : (t : LabelTree) → listed same_tree t ts ≡ true → HasOperands ts t
 
 -- vertices that are complete, in order, and for each vertex whether it is
 pub record IsWalk (vertices : List Vertex) (order : List ℕ) (done : List Bool) : Type 0 where
   pub count : length done ≡ length vertices
   pub within : (i n : ℕ) → slice_get order i ≡ Some n → n < length vertices
-  pub told : (n : ℕ) (t : Tree) → Has vertices n t
+  pub told : (n : ℕ) (t : LabelTree) → Has vertices n t
       → slice_get done n ≡ Some (listed same_tree t (trees_of vertices order))
-  pub closed : IsClosed (trees_of vertices order)
+  pub closed : HasItsOperands (trees_of vertices order)
 
 -- all operands are complete
 abbrev pub AreDone : List Bool → Operands → Type 0
@@ -38,10 +38,10 @@ AreDone done (One a) = slice_get done a ≡ Some true
 AreDone done (Two a b) = (slice_get done a ≡ Some true) × (slice_get done b ≡ Some true)
 
 -- vertex n is the first operand that isn't complete
-abbrev pub IsFirstOpen : List Bool → Operands → ℕ → Type 0
-IsFirstOpen done Zero n = ⊥
-IsFirstOpen done (One a) n = (n ≡ a) × (slice_get done a ≡ Some false)
-IsFirstOpen done (Two a b) n =
+abbrev pub IsFirstIncomplete : List Bool → Operands → ℕ → Type 0
+IsFirstIncomplete done Zero n = ⊥
+IsFirstIncomplete done (One a) n = (n ≡ a) × (slice_get done a ≡ Some false)
+IsFirstIncomplete done (Two a b) n =
     ((n ≡ a) × (slice_get done a ≡ Some false))
     ⊎ ((n ≡ b) × (slice_get done a ≡ Some true) × (slice_get done b ≡ Some false))
 
@@ -56,7 +56,7 @@ pub record IsStack (vertices : List Vertex) (done : List Bool) (stack : List ℕ
   pub waits : (i n : ℕ) → slice_get stack i ≡ Some n → slice_get done n ≡ Some false
 
 -- what is complete once all that wait are
-unfoldable pub finish : List Tree → List Tree → List Tree
+unfoldable pub finish : List LabelTree → List LabelTree → List LabelTree
 finish [] ts = ts
 finish (t ∷ above) ts = add_tree t (finish above ts)
 

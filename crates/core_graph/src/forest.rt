@@ -1,7 +1,7 @@
 //! Vertices in one list, each once, after its operands.
 
 ghost use Rattle.std.specs.Prelude.{◌≡◌, ◌<◌, [], length, slice_get, Some, OnOk, IfOk};
-ghost use Rattle.core_graph.specs.Vertices.{AreBelow, Grows, Has, IsAdded, IsForest, operands_of, tree_of, trees};
+ghost use Rattle.core_graph.specs.Vertices.{OperandsAreBelow, Grows, Has, IsAdded, IsForest, operands_of, vertex_tree, trees};
 
 use crate::keyed::Keyed;
 use crate::vertex::Vertex;
@@ -52,9 +52,9 @@ impl Forest {
     /// The number of a vertex, which is added where it isn't there.
     pub fn share(&mut self, vertex: Vertex) -> Result<usize, AllocError>
         requires forest { IsForest self.old }
-        requires below { AreBelow (length self.old) (operands_of vertex) }
+        requires below { OperandsAreBelow (length self.old) (operands_of vertex) }
         ensures grows { OnOk result (Grows self.old self.new) }
-        ensures has { IfOk result (λ n. Has self.new n (tree_of (trees self.old) vertex)) }
+        ensures has { IfOk result (λ n. Has self.new n (vertex_tree (trees self.old) vertex)) }
     {
         self.insert(vertex)
     }

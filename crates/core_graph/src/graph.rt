@@ -8,14 +8,14 @@ ghost use Rattle.core_graph.specs.Limits.{AreFew, AreMany};
 ghost use Rattle.c2po_nodes.specs.declared.nodes.Plain.{Plain as Node};
 ghost use Rattle.core_graph.specs.Vertices.{IsForest};
 ghost use Rattle.core_graph.specs.Reading.{AreRead};
-ghost use Rattle.core_graph.specs.Listings.{NamesNodes, asked_from};
+ghost use Rattle.core_graph.specs.Listings.{NamesNodes, asked_of_nodes};
 
 use crate::forest::Forest;
 use crate::keyed::Keyed;
 use crate::listing::list;
+use crate::node_vertices::read;
 use crate::ops::{bz_ops, ft_ops, numbered_outs, pt_ops};
 use crate::reach::reached;
-use crate::reading::read;
 use c2po_nodes::{Expanded, Plain, PlainOut};
 use mltl_base::{Columns, Graph, Part};
 use std::alloc::{AllocError, Global};
@@ -71,10 +71,10 @@ fn graph_of(
     requires nodes { AreSound (length columns.now) nodes.now }
     requires outs { All (NamesFormulas (trees nodes.now)) outs.now }
     ensures graph { IfOk result
-        (λ graph. IsGraphOf (asked_from columns.now nodes.now outs.now) graph) }
-    ensures few { OnOk result (AreFew (asked_from columns.now nodes.now outs.now)) }
+        (λ graph. IsGraphOf (asked_of_nodes columns.now nodes.now outs.now) graph) }
+    ensures few { OnOk result (AreFew (asked_of_nodes columns.now nodes.now outs.now)) }
     ensures too_many { result ≡ Err GraphFault.TooManyNodes
-        → AreMany (asked_from columns.now nodes.now outs.now) }
+        → AreMany (asked_of_nodes columns.now nodes.now outs.now) }
 {
     let marks = reached(alloc, nodes, outs)?;
     let mut forest = Forest::new(alloc, Keyed::by(&marks, nodes));
@@ -94,13 +94,13 @@ fn graph_in(
     requires named { All (NamesNodes (length ids.now)) outs.now }
     ensures graph { (columns : Seq ℕ) (nodes : Seq Node) →
         AreRead columns forest.now nodes ids.now → All (NamesFormulas (trees nodes)) outs.now →
-        IfOk result (λ graph. IsGraphOf (asked_from columns nodes outs.now) graph) }
+        IfOk result (λ graph. IsGraphOf (asked_of_nodes columns nodes outs.now) graph) }
     ensures few { (columns : Seq ℕ) (nodes : Seq Node) →
         AreRead columns forest.now nodes ids.now → All (NamesFormulas (trees nodes)) outs.now →
-        OnOk result (AreFew (asked_from columns nodes outs.now)) }
+        OnOk result (AreFew (asked_of_nodes columns nodes outs.now)) }
     ensures too_many { (columns : Seq ℕ) (nodes : Seq Node) →
         AreRead columns forest.now nodes ids.now → All (NamesFormulas (trees nodes)) outs.now →
-        result ≡ Err GraphFault.TooManyNodes → AreMany (asked_from columns nodes outs.now) }
+        result ≡ Err GraphFault.TooManyNodes → AreMany (asked_of_nodes columns nodes outs.now) }
 {
     let bz = list(alloc, forest, outs, ids, Part::Bz)?;
     let ft = list(alloc, forest, outs, ids, Part::Ft)?;

@@ -10,9 +10,9 @@ mod forest;
 mod graph;
 mod keyed;
 mod listing;
+mod node_vertices;
 mod ops;
 mod reach;
-mod reading;
 mod vertex;
 mod walk;
 

@@ -1,8 +1,8 @@
 //! Instructions and outputs from listed vertices.
 
 ghost use Rattle.std.specs.Prelude.{◌≡◌, ℕ, ◌<◌, length, map, All, IfOk};
-ghost use Rattle.core_graph.specs.Vertices.{AreBelow, IsForest, operands_of};
-ghost use Rattle.core_graph.specs.Listings.{NamesNodes, arith_op, bz_op_of, ft_op_of, vertex_at, out_of, places_for, pt_op_of};
+ghost use Rattle.core_graph.specs.Vertices.{OperandsAreBelow, IsForest, operands_of};
+ghost use Rattle.core_graph.specs.Listings.{NamesNodes, arith_op, bz_op_of, ft_op_of, vertex_at, placed_out, places_for, pt_op_of};
 
 use crate::forest::Forest;
 use crate::listing::Listing;
@@ -72,7 +72,7 @@ pub fn pt_ops(
 
 /// The instruction of an expression. No core formula is listed for the Booleanizer.
 fn bz_op(vertex: Vertex, places: &[u32]) -> BzOp
-    requires { AreBelow (length places.now) (operands_of vertex) }
+    requires { OperandsAreBelow (length places.now) (operands_of vertex) }
     ensures { result ≡ bz_op_of places.now vertex }
 {
     match vertex {
@@ -102,8 +102,8 @@ fn arith_op(op: ArithOp, a: u32, b: u32) -> BzOp
 
 /// The instruction of a core formula of the future. No other vertex is listed for the engine.
 fn ft_op(vertex: Vertex, loads: &[u32], places: &[u32]) -> FtOp
-    requires loads { AreBelow (length loads.now) (operands_of vertex) }
-    requires places { AreBelow (length places.now) (operands_of vertex) }
+    requires loads { OperandsAreBelow (length loads.now) (operands_of vertex) }
+    requires places { OperandsAreBelow (length places.now) (operands_of vertex) }
     ensures { result ≡ ft_op_of loads.now places.now vertex }
 {
     match vertex {
@@ -117,8 +117,8 @@ fn ft_op(vertex: Vertex, loads: &[u32], places: &[u32]) -> FtOp
 
 /// The instruction of a core formula of the past. No other vertex is listed for the engine.
 fn pt_op(vertex: Vertex, loads: &[u32], places: &[u32]) -> PtOp
-    requires loads { AreBelow (length loads.now) (operands_of vertex) }
-    requires places { AreBelow (length places.now) (operands_of vertex) }
+    requires loads { OperandsAreBelow (length loads.now) (operands_of vertex) }
+    requires places { OperandsAreBelow (length places.now) (operands_of vertex) }
     ensures { result ≡ pt_op_of loads.now places.now vertex }
 {
     match vertex {
@@ -141,7 +141,7 @@ pub fn numbered_outs(
     requires named { All (NamesNodes (length ids.now)) outs.now }
     requires ft { All (λ n. n < length ft.now) ids.now }
     requires pt { All (λ n. n < length pt.now) ids.now }
-    ensures { IfOk result (λ new. new ≡ map (out_of ids.now ft.now pt.now) outs.now) }
+    ensures { IfOk result (λ new. new ≡ map (placed_out ids.now ft.now pt.now) outs.now) }
 {
     let mut new = List::new(alloc);
     for out in outs {
@@ -156,7 +156,7 @@ fn numbered(out: &PlainOut, ids: &[usize], ft: &[u32], pt: &[u32]) -> Out
     requires named { NamesNodes (length ids.now) out.now }
     requires ft { All (λ n. n < length ft.now) ids.now }
     requires pt { All (λ n. n < length pt.now) ids.now }
-    ensures { result ≡ out_of ids.now ft.now pt.now out.now }
+    ensures { result ≡ placed_out ids.now ft.now pt.now out.now }
 {
     match out {
         PlainOut::Formula(engine, formula, name) => {

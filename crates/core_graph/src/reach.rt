@@ -2,8 +2,8 @@
 
 ghost use Rattle.std.specs.Prelude.{◌≡◌, ◌⊎◌, ℕ, ◌<◌, length, All, Some, slice_get, IfOk};
 ghost use Rattle.c2po_nodes.specs.declared.nodes.Plain.{Plain as Node};
-ghost use Rattle.core_graph.specs.Vertices.{AreBelow};
-ghost use Rattle.core_graph.specs.Reached.{AreOver, AreReached, IsBelow, IsMarked, IsNamed, IsOperand, Marks, MarksBelow, NamesMarked, marked_nodes, named_by, node_operands};
+ghost use Rattle.core_graph.specs.Vertices.{OperandsAreBelow};
+ghost use Rattle.core_graph.specs.Reached.{AreOver, AreReached, IsBelow, IsMarked, IsRoot, IsOperand, Marks, MarksBelow, NamesMarked, marked_nodes, named_by, node_operands};
 
 use crate::vertex::Operands;
 use c2po_nodes::{Plain, PlainOut};
@@ -12,7 +12,7 @@ use std::alloc::{AllocError, Global};
 /// For each node whether outputs reach it: one pass over the outputs, and one over the nodes from the last.
 pub fn reached(alloc: Global, nodes: &[Plain], outs: &[PlainOut]) -> Result<Vec<bool>, AllocError>
     requires over { AreOver nodes.now }
-    requires named { All (λ out. AreBelow (length nodes.now) (named_by out)) outs.now }
+    requires named { All (λ out. OperandsAreBelow (length nodes.now) (named_by out)) outs.now }
     ensures { IfOk result (λ marks. AreReached nodes.now outs.now marks.items) }
 {
     let mut marks = vec![in alloc; false; nodes.len()]?;
@@ -25,7 +25,7 @@ fn mark_reached(marks: &mut [bool], nodes: &[Plain], outs: &[PlainOut])
     requires count { length marks.old ≡ length nodes.now }
     requires none { (n : ℕ) → ¬ IsMarked marks.old n }
     requires over { AreOver nodes.now }
-    requires named { All (λ out. AreBelow (length nodes.now) (named_by out)) outs.now }
+    requires named { All (λ out. OperandsAreBelow (length nodes.now) (named_by out)) outs.now }
     ensures { AreReached nodes.now outs.now marks.new }
 {
     mark_named(marks, outs);
@@ -47,10 +47,10 @@ pub fn marked_node(marks: &[bool], nodes: &[Plain], i: usize) -> Plain
 
 /// Marks the nodes that outputs name.
 fn mark_named(marks: &mut [bool], outs: &[PlainOut])
-    requires { All (λ out. AreBelow (length marks.old) (named_by out)) outs.now }
+    requires { All (λ out. OperandsAreBelow (length marks.old) (named_by out)) outs.now }
     ensures count { length marks.new ≡ length marks.old }
     ensures named { All (NamesMarked marks.new) outs.now }
-    ensures only { (n : ℕ) → IsMarked marks.new n → IsMarked marks.old n ⊎ IsNamed outs.now n }
+    ensures only { (n : ℕ) → IsMarked marks.new n → IsMarked marks.old n ⊎ IsRoot outs.now n }
 {
     for out in outs {
         mark(marks, named_by(out));
@@ -79,7 +79,7 @@ fn mark_operands(marks: &mut [bool], nodes: &[Plain])
 /// Marks the operands of node `i`, if it is marked itself.
 fn mark_below(marks: &mut [bool], i: usize, node: Plain)
     requires there { i < length marks.old }
-    requires below { AreBelow (length marks.old) (node_operands node) }
+    requires below { OperandsAreBelow (length marks.old) (node_operands node) }
     ensures { MarksBelow i (node_operands node) marks.old marks.new }
 {
     if marks[i] {
@@ -89,7 +89,7 @@ fn mark_below(marks: &mut [bool], i: usize, node: Plain)
 
 /// Marks operands.
 fn mark(marks: &mut [bool], operands: Operands)
-    requires { AreBelow (length marks.old) operands }
+    requires { OperandsAreBelow (length marks.old) operands }
     ensures { Marks operands marks.old marks.new }
 {
     match operands {

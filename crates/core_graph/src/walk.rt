@@ -5,10 +5,10 @@
 ghost use Rattle.std.specs.Prelude.{◌≡◌, ℕ, ◌<◌, ◌≤◌, Err, [], ◌∷◌, ◌++◌, List, length, All, MatchOption, OnOk, IfOk};
 ghost use Rattle.mltl_base.specs.declared.limits.TheConstants.{MAX_INSTRUCTIONS};
 ghost use Rattle.core_graph.specs.CountedWalks.{IsCountedWalk};
-ghost use Rattle.core_graph.specs.Vertices.{AreBelow, IsForest, operands_of, tree_at, trees};
+ghost use Rattle.core_graph.specs.Vertices.{OperandsAreBelow, IsForest, operands_of, tree_at, trees};
 ghost use Rattle.core_graph.specs.Listings.{count_in};
 ghost use Rattle.core_graph.specs.Trees.{add_tree, completed};
-ghost use Rattle.core_graph.specs.Walks.{AreDone, IsFirstOpen, IsStack, finish, trees_of, work};
+ghost use Rattle.core_graph.specs.Walks.{AreDone, IsFirstIncomplete, IsStack, finish, trees_of, work};
 
 use crate::forest::Forest;
 use crate::graph::GraphFault;
@@ -58,8 +58,8 @@ pub fn completion(
 
 /// The first operand that isn't complete.
 fn first_open(operands: Operands, done: &[bool]) -> Option<usize>
-    requires { AreBelow (length done.now) operands }
-    ensures { MatchOption result (AreDone done.now operands) (IsFirstOpen done.now operands) }
+    requires { OperandsAreBelow (length done.now) operands }
+    ensures { MatchOption result (AreDone done.now operands) (IsFirstIncomplete done.now operands) }
 {
     match operands {
         Operands::Zero => None,

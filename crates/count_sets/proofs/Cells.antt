@@ -7,7 +7,7 @@ use Rattle.count_sets.specs.declared.gate.Gate.TheVariants.{Body, Both, Either}
 use Rattle.count_sets.specs.declared.table.Plan.{Plan}
 use Rattle.count_sets.specs.Counting.{body, both, either, least}
 use Rattle.count_sets.specs.Gates.{IsOver, IsNetwork}
-use Rattle.count_sets.specs.Tables.{UnfoldsTo, IsTable}
+use Rattle.count_sets.specs.Tables.{UnfoldsTo, IsGateRow}
 use Rattle.count_sets.proofs.Unfolding.{stands_more, stands_new, stands_both, stands_either, network_push}
 use Rattle.count_sets.proofs.Thresholds.{least_none, least_above, least_more}
 
@@ -26,14 +26,14 @@ pub record Before (plan : Plan) (k first start with j : ℕ) (gates : List Gate)
   pub size : length gates + 2 * first ≡ start + 1 + 2 * j
   pub last : (i : ℕ) → first ≤ i → i + 1 ≡ j → get_or row i 0 + 1 ≡ length gates
 
-row_zero : (plan : Plan) (k : ℕ) (gates : List Gate) (row : List ℕ) → IsTable plan k gates row → plan.lowest + k ≤ plan.bodies → (i : ℕ) → i ≡ 0 → UnfoldsTo gates (get_or row i 0) (least i (k + 1))
+row_zero : (plan : Plan) (k : ℕ) (gates : List Gate) (row : List ℕ) → IsGateRow plan k gates row → plan.lowest + k ≤ plan.bodies → (i : ℕ) → i ≡ 0 → UnfoldsTo gates (get_or row i 0) (least i (k + 1))
 row_zero plan k gates row t h i e =
     let old : UnfoldsTo gates (get_or row 0 0) (least 0 k) = t.cells 0 (omega arith) (omega arith) in
     let same : least 0 k ≡ least 0 (k + 1) = least_none k ∙ sym (least_none (k + 1)) in
     subst (λ x. UnfoldsTo gates (get_or row x 0) (least x (k + 1))) (sym e)
     (subst (λ f. UnfoldsTo gates (get_or row 0 0) f) same old)
 
-filling_start : (plan : Plan) (k first : ℕ) (gates : List Gate) (row : List ℕ) → IsTable plan k gates row → first ≡ max ((plan.lowest + k + 1) - plan.bodies) 1 → Filling plan k first gates row
+filling_start : (plan : Plan) (k first : ℕ) (gates : List Gate) (row : List ℕ) → IsGateRow plan k gates row → first ≡ max ((plan.lowest + k + 1) - plan.bodies) 1 → Filling plan k first gates row
 filling_start plan k first gates row t e = record {
   width = t.width;
   done = λ i lt le band.
@@ -87,7 +87,7 @@ filled_cells plan k j gates row f e i low band = elim (cases_lt i j) [
 
 -- a body's gate comes, and the row begins
 pub begun : (plan : Plan) (k first with fewer : ℕ) (gates new : List Gate) (row : List ℕ)
-    → IsTable plan k gates row → k < plan.bodies → plan.lowest ≤ plan.bodies → plan.lowest ≤ plan.highest → 1 ≤ plan.highest
+    → IsGateRow plan k gates row → k < plan.bodies → plan.lowest ≤ plan.bodies → plan.lowest ≤ plan.highest → 1 ≤ plan.highest
     → first ≡ max ((plan.lowest + k + 1) - plan.bodies) 1 → new ≡ gates ++ Body k ∷ [] → with ≡ length gates
     → fewer ≡ get_or row (first - 1) 0
     → Before plan k first (length gates) with first new row fewer
@@ -163,7 +163,7 @@ pub ended : (plan : Plan) (k first start with j : ℕ) (gates : List Gate) (row 
     → first ≡ max ((plan.lowest + k + 1) - plan.bodies) 1 → j ≡ min (k + 1) plan.highest + 1
     → k < plan.bodies → plan.lowest ≤ plan.bodies → plan.lowest ≤ plan.highest → 1 ≤ plan.highest
     → start ≤ 2 + k * (1 + 2 * plan.highest)
-    → IsTable plan (k + 1) gates row
+    → IsGateRow plan (k + 1) gates row
 ended plan k first start with j gates row fewer b e at within asked order some small = record {
   width = b.filling.width;
   cells = filled_cells plan k j gates row b.filling at;

@@ -6,7 +6,7 @@ use Rattle.count_sets.specs.declared.gate.Gate.TheVariants.{Truth, Both, Not}
 use Rattle.count_sets.specs.declared.table.Plan.{Plan}
 use Rattle.count_sets.specs.Counting.{Counted, truth, both, negation, least}
 use Rattle.count_sets.specs.Gates.{last_formula, IsNetwork}
-use Rattle.count_sets.specs.Tables.{UnfoldsTo, IsTable}
+use Rattle.count_sets.specs.Tables.{UnfoldsTo, IsGateRow}
 use Rattle.count_sets.proofs.Unfolding.{stands_more, stands_new, stands_both, stands_not, network_nil, network_push, last_from_stands}
 use Rattle.count_sets.proofs.Thresholds.{least_none, least_above}
 
@@ -37,7 +37,7 @@ first_cells highest (suc j) le =
     let kept : get_or (set row 0 1) (suc j) 0 ≡ 0 = get_or-set_other {A = ℕ} row 0 (suc j) 1 0 apart ∙ old in
     rw (kept, least_above (suc j) 0 (omega arith)) no_stands
 
-first_row : (plan : Plan) → IsTable plan 0 (Truth false ∷ Truth true ∷ []) (set (replicate (plan.highest + 1) 0) 0 1)
+first_row : (plan : Plan) → IsGateRow plan 0 (Truth false ∷ Truth true ∷ []) (set (replicate (plan.highest + 1) 0) 0 1)
 first_row plan = record {
   width = length-set {A = ℕ} (replicate (plan.highest + 1) 0) 0 1 ∙ length-replicate {A = ℕ} (plan.highest + 1) 0;
   cells = λ j le band. first_cells plan.highest j le;
@@ -49,16 +49,16 @@ first_row plan = record {
 pub started : (plan : Plan) (empty one gates : List Gate) (row : List ℕ) (none whole : ℕ)
     → empty ≡ [] → one ≡ empty ++ Truth false ∷ [] → none ≡ length empty → gates ≡ one ++ Truth true ∷ [] → whole ≡ length one
     → row ≡ replicate (plan.highest + 1) none
-    → IsTable plan 0 gates (set row 0 whole)
+    → IsGateRow plan 0 gates (set row 0 whole)
 started plan empty one gates row none whole z a b d e f =
     let single : one ≡ Truth false ∷ [] = rw z at a in
     let both_gates : gates ≡ Truth false ∷ Truth true ∷ [] = rw single at d in
     let first : none ≡ 0 = rw z at b in
     let second : whole ≡ 1 = rw single at e in
     let cells : row ≡ replicate (plan.highest + 1) 0 = rw first at f in
-    subst (λ gs. IsTable plan 0 gs (set row 0 whole)) (sym both_gates)
-    (subst (λ y. IsTable plan 0 (Truth false ∷ Truth true ∷ []) (set row 0 y)) (sym second)
-    (subst (λ r. IsTable plan 0 (Truth false ∷ Truth true ∷ []) (set r 0 1)) (sym cells) (first_row plan)))
+    subst (λ gs. IsGateRow plan 0 gs (set row 0 whole)) (sym both_gates)
+    (subst (λ y. IsGateRow plan 0 (Truth false ∷ Truth true ∷ []) (set row 0 y)) (sym second)
+    (subst (λ r. IsGateRow plan 0 (Truth false ∷ Truth true ∷ []) (set r 0 1)) (sym cells) (first_row plan)))
 
 -- a Not after the gates is the last one
 pub not_last : (gates new : List Gate) (a : ℕ) (p : Counted) → UnfoldsTo gates a p → new ≡ gates ++ Not a ∷ [] → last_formula new ≡ Some (negation p)
@@ -89,7 +89,7 @@ both_formed n gates mid new a b c p q h s t e at f =
     subst (λ gs. IsNetwork n gs) (sym f) (network_push n mid (Both a c) formed (omega (arith, s.within, size), omega (arith, size, at)))
 
 -- the last row ends with its highest cell
-pub row_last : (plan : Plan) (n m : ℕ) (gates : List Gate) (row : List ℕ) → IsTable plan n gates row → plan.bodies ≡ n → plan.highest ≡ m → plan.lowest ≤ m → 1 ≤ n → m ≤ n → last_formula gates ≡ Some (least m n)
+pub row_last : (plan : Plan) (n m : ℕ) (gates : List Gate) (row : List ℕ) → IsGateRow plan n gates row → plan.bodies ≡ n → plan.highest ≡ m → plan.lowest ≤ m → 1 ≤ n → m ≤ n → last_formula gates ≡ Some (least m n)
 row_last plan n m gates row t e f low pos le =
     let s : UnfoldsTo gates (get_or row m 0) (least m n) = t.cells m (omega arith) (omega arith) in
     let at : min n plan.highest ≡ m = omega arith in
@@ -109,7 +109,7 @@ false_stands empty gates none z e place =
     subst (λ gs. UnfoldsTo gs none (truth false)) (sym single) (subst (λ i. UnfoldsTo (Truth false ∷ []) i (truth false)) (sym first) (truth_stands false))
 
 -- what is read from a row stands
-pub cell_stands : (plan : Plan) (n : ℕ) (gates : List Gate) (row : List ℕ) (j x : ℕ) → IsTable plan n gates row → j ≤ plan.highest → plan.lowest + n ≤ j + plan.bodies → x ≡ get_or row j x → UnfoldsTo gates x (least j n)
+pub cell_stands : (plan : Plan) (n : ℕ) (gates : List Gate) (row : List ℕ) (j x : ℕ) → IsGateRow plan n gates row → j ≤ plan.highest → plan.lowest + n ≤ j + plan.bodies → x ≡ get_or row j x → UnfoldsTo gates x (least j n)
 cell_stands plan n gates row j x t le band read =
     let inside : j < length row = omega (arith, t.width) in
     let same : x ≡ get_or row j 0 = get_or_read row j x inside read 0 in

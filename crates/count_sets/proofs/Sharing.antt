@@ -8,7 +8,7 @@ use Rattle.count_sets.specs.declared.gate.Gate.{Gate}
 use Rattle.count_sets.specs.declared.gate.Gate.TheVariants.{Truth, Body, Both, Either, Not}
 use Rattle.count_sets.specs.declared.table.Plan.{Plan}
 use Rattle.count_sets.specs.Gates.{IsNetwork, IsOver, IsShared}
-use Rattle.count_sets.specs.Tables.{IsRising}
+use Rattle.count_sets.specs.Tables.{GatesRise}
 use Rattle.count_sets.proofs.Unfolding.{network_push}
 use Rattle.count_sets.proofs.Cells.{Before}
 
@@ -60,7 +60,7 @@ same_body : (k b : ℕ) → Body k ≡ Body b → k ≡ b
 same_body k b e = cc
 
 pub shares_begun : (plan : Plan) (k first fewer : ℕ) (gates new : List Gate) (row : List ℕ)
-    → IsRising plan k gates row → plan.lowest ≤ plan.highest → 1 ≤ plan.highest → k < plan.bodies → plan.lowest ≤ plan.bodies
+    → GatesRise plan k gates row → plan.lowest ≤ plan.highest → 1 ≤ plan.highest → k < plan.bodies → plan.lowest ≤ plan.bodies
     → first ≡ max ((plan.lowest + k + 1) - plan.bodies) 1 → new ≡ gates ++ Body k ∷ [] → fewer ≡ get_or row (first - 1) 0
     → Shares plan k (length gates) first new row fewer
 shares_begun plan k first fewer gates new row s order some next asked e f h =
@@ -191,7 +191,7 @@ shares_stepped plan k first start with j gates new row fewer same gate b s at e 
     (subst (λ x. Shares plan k start (j + 1) more (set row j x) same) (sym number) whole)
 
 pub shares_ended : (plan : Plan) (k start j : ℕ) (gates : List Gate) (row : List ℕ) (fewer : ℕ)
-    → Shares plan k start j gates row fewer → j ≡ min (k + 1) plan.highest + 1 → IsRising plan (k + 1) gates row
+    → Shares plan k start j gates row fewer → j ≡ min (k + 1) plan.highest + 1 → GatesRise plan (k + 1) gates row
 shares_ended plan k start j gates row fewer s at = record {
   shared = s.shared;
   bodies = s.bodies;
@@ -220,11 +220,11 @@ no_nots zero a e = cc
 no_nots (suc zero) a e = cc
 no_nots (suc (suc i)) a e = cc
 
-pub rising_start : (plan : Plan) (empty one gates : List Gate) (row : List ℕ) → empty ≡ [] → one ≡ empty ++ Truth false ∷ [] → gates ≡ one ++ Truth true ∷ [] → IsRising plan 0 gates row
+pub rising_start : (plan : Plan) (empty one gates : List Gate) (row : List ℕ) → empty ≡ [] → one ≡ empty ++ Truth false ∷ [] → gates ≡ one ++ Truth true ∷ [] → GatesRise plan 0 gates row
 rising_start plan empty one gates row z a d =
     let single : one ≡ Truth false ∷ [] = rw z at a in
     let two : gates ≡ Truth false ∷ Truth true ∷ [] = rw single at d in
-    subst (λ gs. IsRising plan 0 gs row) (sym two) (record {
+    subst (λ gs. GatesRise plan 0 gs row) (sym two) (record {
       shared = both_shared;
       bodies = λ i b e. absurd (no_bodies i b e);
       nots = no_nots;

@@ -7,32 +7,32 @@ use Rattle.count_sets.specs.declared.gate.Gate.TheVariants.{Truth, Body, Both, E
 use Rattle.count_sets.specs.Counting.{Counted, truth, body, both, either, negation}
 
 -- the formula of gate i
-abbrev pub formula_at : List Counted → ℕ → Counted
-formula_at formulas i = slice_index_or formulas i (truth false)
+abbrev pub formula_of_gate : List Counted → ℕ → Counted
+formula_of_gate gate_formulas i = slice_index_or gate_formulas i (truth false)
 
 -- what a gate represents, over the formulas of the gates before it
-abbrev pub formula_of : List Counted → Gate → Counted
-formula_of earlier (Truth v) = truth v
-formula_of earlier (Body i) = body i
-formula_of earlier (Both a b) = both (formula_at earlier a) (formula_at earlier b)
-formula_of earlier (Either a b) = either (formula_at earlier a) (formula_at earlier b)
-formula_of earlier (Not a) = negation (formula_at earlier a)
+abbrev pub gate_meaning : List Counted → Gate → Counted
+gate_meaning earlier (Truth v) = truth v
+gate_meaning earlier (Body i) = body i
+gate_meaning earlier (Both a b) = both (formula_of_gate earlier a) (formula_of_gate earlier b)
+gate_meaning earlier (Either a b) = either (formula_of_gate earlier a) (formula_of_gate earlier b)
+gate_meaning earlier (Not a) = negation (formula_of_gate earlier a)
 
 -- the formulas that the gates unfold to, in order
-unfoldable pub formulas : List Gate → List Counted
-formulas gates = fold (λ earlier gate. earlier ++ formula_of earlier gate ∷ []) [] gates
+unfoldable pub gate_formulas : List Gate → List Counted
+gate_formulas gates = fold (λ earlier gate. earlier ++ gate_meaning earlier gate ∷ []) [] gates
 
 -- whether body or gate i holds
-abbrev pub truth_at : List Bool → ℕ → Bool
-truth_at truths i = slice_index_or truths i false
+abbrev pub gate_holds : List Bool → ℕ → Bool
+gate_holds truths i = slice_index_or truths i false
 
 -- what comes out of a gate, given whether each body and each gate before it holds
 abbrev pub gate_truth : List Bool → List Bool → Gate → Bool
 gate_truth bodies earlier (Truth v) = v
-gate_truth bodies earlier (Body i) = truth_at bodies i
-gate_truth bodies earlier (Both a b) = truth_at earlier a && truth_at earlier b
-gate_truth bodies earlier (Either a b) = truth_at earlier a || truth_at earlier b
-gate_truth bodies earlier (Not a) = not (truth_at earlier a)
+gate_truth bodies earlier (Body i) = gate_holds bodies i
+gate_truth bodies earlier (Both a b) = gate_holds earlier a && gate_holds earlier b
+gate_truth bodies earlier (Either a b) = gate_holds earlier a || gate_holds earlier b
+gate_truth bodies earlier (Not a) = not (gate_holds earlier a)
 
 -- what comes out of the gates, in order
 unfoldable pub truths : List Bool → List Gate → List Bool
@@ -40,7 +40,7 @@ truths bodies gates = fold (λ earlier gate. earlier ++ gate_truth bodies earlie
 
 -- the formula of the last gate
 abbrev pub last_formula : List Gate → Option Counted
-last_formula gates = slice_get (formulas gates) (length gates - 1)
+last_formula gates = slice_get (gate_formulas gates) (length gates - 1)
 
 -- whether the last gate holds
 abbrev pub last_truth : List Bool → List Gate → Option Bool

@@ -5,7 +5,7 @@ use Rattle.count_sets.specs.declared.gate.Gate.{Gate}
 use Rattle.count_sets.specs.declared.gate.Gate.TheVariants.{Body, Not}
 use Rattle.count_sets.specs.declared.table.Plan.{Plan}
 use Rattle.count_sets.specs.Counting.{Counted, least}
-use Rattle.count_sets.specs.Gates.{formulas, formula_at, IsNetwork, IsShared}
+use Rattle.count_sets.specs.Gates.{gate_formulas, formula_of_gate, IsNetwork, IsShared}
 
 -- a plan of thresholds that a table can hold: the lowest is within the bodies, the highest is not below it and at least
 -- 1, and the numbers of gates have 32 bits
@@ -18,10 +18,10 @@ pub record IsPlan (plan : Plan) : Type 0 where
 -- gate i is there and unfolds to a formula
 pub record UnfoldsTo (gates : List Gate) (i : ℕ) (formula : Counted) : Type 0 where
   pub within : i < length gates
-  pub is : formula_at (formulas gates) i ≡ formula
+  pub is : formula_of_gate (gate_formulas gates) i ≡ formula
 
 -- row k of the table: cell j is the gate of `least j k`, wherever a later row of the plan asks for it
-pub record IsTable (plan : Plan) (k : ℕ) (gates : List Gate) (row : List ℕ) : Type 0 where
+pub record IsGateRow (plan : Plan) (k : ℕ) (gates : List Gate) (row : List ℕ) : Type 0 where
   pub width : length row ≡ plan.highest + 1
   pub cells : (j : ℕ) → j ≤ plan.highest → plan.lowest + k ≤ j + plan.bodies
       → UnfoldsTo gates (slice_index row j) (least j k)
@@ -30,7 +30,7 @@ pub record IsTable (plan : Plan) (k : ℕ) (gates : List Gate) (row : List ℕ) 
   pub last : 0 < k → slice_index row (min k plan.highest) + 1 ≡ length gates
 
 -- no gate of the table occurs twice, since the cells of a row are in order
-pub record IsRising (plan : Plan) (k : ℕ) (gates : List Gate) (row : List ℕ) : Type 0 where
+pub record GatesRise (plan : Plan) (k : ℕ) (gates : List Gate) (row : List ℕ) : Type 0 where
   pub shared : IsShared gates
   pub bodies : (i b : ℕ) → slice_get gates i ≡ Some (Body b) → b < k
   pub nots : (i a : ℕ) → ¬ (slice_get gates i ≡ Some (Not a))

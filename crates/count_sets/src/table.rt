@@ -1,7 +1,7 @@
 //! The table of thresholds: the gate of "at least j of the first k bodies" in row k and column j.
 
 ghost use Rattle.std.specs.Prelude.{◌≡◌, ℕ, ◌+◌, ◌*◌, ◌^◌, ◌<◌, ◌≤◌, [], ◌∷◌, ◌++◌, length, OnOk, IfOk};
-ghost use Rattle.count_sets.specs.Tables.{IsPlan, IsRising, IsTable};
+ghost use Rattle.count_sets.specs.Tables.{IsPlan, GatesRise, IsGateRow};
 
 use crate::gate::Gate;
 use mltl_base::List;
@@ -50,10 +50,10 @@ impl Table {
         requires next { k < plan.bodies }
         requires plan { IsPlan plan }
         requires room { length self.old.gates + 2 * plan.highest + 1 < 2 ^ 32 }
-        requires table { IsTable plan k self.old.gates self.old.row.items }
-        requires rising { IsRising plan k self.old.gates self.old.row.items }
-        ensures table { OnOk result (IsTable plan (k + 1) self.new.gates self.new.row.items) }
-        ensures rising { OnOk result (IsRising plan (k + 1) self.new.gates self.new.row.items) }
+        requires table { IsGateRow plan k self.old.gates self.old.row.items }
+        requires rising { GatesRise plan k self.old.gates self.old.row.items }
+        ensures table { OnOk result (IsGateRow plan (k + 1) self.new.gates self.new.row.items) }
+        ensures rising { OnOk result (GatesRise plan (k + 1) self.new.gates self.new.row.items) }
     {
         let first = (plan.lowest + k + 1).saturating_sub(plan.bodies).max(1);
         let end = (k + 1).min(plan.highest) + 1;
@@ -74,9 +74,9 @@ impl Table {
         requires plan { IsPlan plan }
         requires room { plan.bodies * (1 + 2 * plan.highest) < 2 ^ 31 }
         ensures table { IfOk result (λ table.
-            IsTable plan plan.bodies table.gates table.row.items) }
+            IsGateRow plan plan.bodies table.gates table.row.items) }
         ensures rising { IfOk result (λ table.
-            IsRising plan plan.bodies table.gates table.row.items) }
+            GatesRise plan plan.bodies table.gates table.row.items) }
     {
         let mut gates = List::new(alloc);
         let no = add(&mut gates, Gate::Truth(false))?;

@@ -11,10 +11,10 @@ use Rattle.mltl_base.specs.Seats.{AreSeated, part}
 use Rattle.mltl_base.proofs.Seats.{each_more, length-part, seated_more}
 use Rattle.ft_engine.specs.declared.engine.Ft.{Ft}
 use Rattle.ft_engine.specs.declared.queue.Queue.{Queue}
-use Rattle.ft_engine.specs.Plans.{IsPaced, IsPlaced, IsPlannedFor, IsSeated, Plan, plan_of}
-use Rattle.ft_engine.specs.Queues.{AreSound, IsAhead, first_read_of, no_queue, op_at, queue_at}
-use Rattle.ft_engine.specs.Standing.{Stands}
-use Rattle.ft_engine.specs.Tables.{HaveVerdicts, IsScanned, Table, known_table}
+use Rattle.ft_engine.specs.Plans.{IsPaced, ReadsNextAt, IsPlannedFor, IsSeated, Plan, plan_of}
+use Rattle.ft_engine.specs.Queues.{QueuesAreSound, IsAhead, first_read_of, no_queue, op_at, queue_at}
+use Rattle.ft_engine.specs.Standing.{FtHasTaken}
+use Rattle.ft_engine.specs.Tables.{HaveVerdicts, IsScanned, VerdictTable, known_table}
 use Rattle.ft_engine.proofs.Standings.{paced_sound, program_planned, stands_with}
 use Rattle.ft_engine.proofs.Tabled.{nothing}
 
@@ -27,7 +27,7 @@ pub record IsFresh (op : FtOp) (slots : ℕ) (queue : Queue) : Type 0 where
   pub size : queue.seat.size ≡ slots
 
 -- an until begins at the lower end of its window
-first_placed : (plan : Plan) (i : ℕ) (op : FtOp) (queue : Queue) → IsSeated plan i op → frontier_of queue.ring ≡ 0 → queue.reads_at ≡ first_read_of op → IsPlaced plan i op queue 0
+first_placed : (plan : Plan) (i : ℕ) (op : FtOp) (queue : Queue) → IsSeated plan i op → frontier_of queue.ring ≡ 0 → queue.reads_at ≡ first_read_of op → ReadsNextAt plan i op queue 0
 first_placed plan i True queue s f p = tt
 first_placed plan i (Load k) queue s f p = tt
 first_placed plan i (Not g) queue s f p = tt
@@ -45,7 +45,7 @@ first_ahead plan i (And l r) queues queue s f = omega (arith, f l s.0)
 first_ahead plan i (Until l r window) queues queue s f = omega (arith, f l s.0)
 
 -- and nothing was scanned
-first_scanned : (op : FtOp) (table : Table) (queue : Queue) → frontier_of queue.ring ≡ 0 → queue.reads_at ≡ first_read_of op → IsScanned op table queue
+first_scanned : (op : FtOp) (table : VerdictTable) (queue : Queue) → frontier_of queue.ring ≡ 0 → queue.reads_at ≡ first_read_of op → IsScanned op table queue
 first_scanned True table queue f p = tt
 first_scanned (Load k) table queue f p = tt
 first_scanned (Not g) table queue f p = tt
@@ -110,7 +110,7 @@ module _ (ops : List FtOp) (sizes : List ℕ) (queues : List Queue) (slab : List
   }
 
   -- and have no verdicts
-  made_table : (table : Table) → ((i : ℕ) → table i ≡ []) → HaveVerdicts ops table queues slab
+  made_table : (table : VerdictTable) → ((i : ℕ) → table i ≡ []) → HaveVerdicts ops table queues slab
   made_table table none = record {
     verdicts = λ i h.
         let frontier = (started.fresh i (omega arith)).frontier in
@@ -122,7 +122,7 @@ module _ (ops : List FtOp) (sizes : List ℕ) (queues : List Queue) (slab : List
 
 -- new queues stand for no rows
 pub made_stands : (program : Program) (ft : Ft) → RunsFuture program → length ft.queues ≡ length program.ft
-    → Started program.ft program.sizes.ft ft.queues (length ft.slab) (length program.ft) → length ft.slab ≡ sum program.sizes.ft → Stands program [] ft
+    → Started program.ft program.sizes.ft ft.queues (length ft.slab) (length program.ft) → length ft.slab ≡ sum program.sizes.ft → FtHasTaken program [] ft
 made_stands program ft runs same_length started total =
     let queues : List Queue = ft.queues in
     let slab : List Slot = ft.slab in
@@ -133,7 +133,7 @@ made_stands program ft runs same_length started total =
 
 -- and so each ring has its part of the slab
 pub made_sound : (program : Program) (queues : List Queue) (slab : List Slot) → RunsFuture program → length queues ≡ length program.ft
-    → Started program.ft program.sizes.ft queues (length slab) (length program.ft) → AreSound queues slab
+    → Started program.ft program.sizes.ft queues (length slab) (length program.ft) → QueuesAreSound queues slab
 made_sound program queues slab runs same_length started =
     paced_sound (plan_of program.ft program.outs) program.ft queues slab 0
     (made_paced program.ft program.sizes.ft queues slab same_length started (plan_of program.ft program.outs) (program_planned program runs))

@@ -11,9 +11,9 @@ use Rattle.scq_ring.specs.declared.Slot.{Slot}
 use Rattle.mltl_base.specs.declared.seat.Seat.{Seat}
 use Rattle.ft_engine.specs.declared.engine.Ft.{Ft}
 use Rattle.ft_engine.specs.declared.queue.Queue.{Queue}
-use Rattle.ft_engine.specs.Queues.{AreSound, KeepsSeats, no_queue, op_at, queue_at}
+use Rattle.ft_engine.specs.Queues.{QueuesAreSound, KeepsSeats, no_queue, op_at, queue_at}
 use Rattle.ft_engine.specs.Restarts.{IsEmptied}
-use Rattle.ft_engine.specs.Standing.{Stands, slot_total, slots_at}
+use Rattle.ft_engine.specs.Standing.{FtHasTaken, slot_total, slots_at}
 use Rattle.ft_engine.proofs.Making.{Started, made_sound, made_stands}
 
 -- one more queue that begins again
@@ -47,7 +47,7 @@ as_restarted {ops} {ops'} {old} {old'} {new} {new'} same_ops same_old same_new a
     (subst (λ (qs : List Queue). AreRestarted ops qs new') same_old (subst (λ (qs : List Queue). AreRestarted ops old qs) same_new again))
 
 -- the queues of an engine that stands for some rows, once they begin again, are as those that are new
-pub restarted : (program : Program) (rows : List Row) (ft : Ft) (queues : List Queue) → Stands program rows ft → AreRestarted program.ft ft.queues queues → Started program.ft program.sizes.ft queues (length ft.slab) (length program.ft)
+pub restarted : (program : Program) (rows : List Row) (ft : Ft) (queues : List Queue) → FtHasTaken program rows ft → AreRestarted program.ft ft.queues queues → Started program.ft program.sizes.ft queues (length ft.slab) (length program.ft)
 unfolding slots_at
 restarted program rows ft queues stands again =
     let laid = stands.paced.laid in
@@ -64,11 +64,11 @@ restarted program rows ft queues stands again =
       };
     }
 
-pub reset_sound : (program : Program) (rows : List Row) (old : Ft) (queues : List Queue) → RunsFuture program → Stands program rows old → AreRestarted program.ft old.queues queues → AreSound queues old.slab
+pub reset_sound : (program : Program) (rows : List Row) (old : Ft) (queues : List Queue) → RunsFuture program → FtHasTaken program rows old → AreRestarted program.ft old.queues queues → QueuesAreSound queues old.slab
 reset_sound program rows old queues runs stands again =
     made_sound program queues old.slab runs (again.seats.same_length ∙ stands.paced.same_length) (restarted program rows old queues stands again)
 
-pub reset_stands : (program : Program) (rows : List Row) (old new : Ft) → RunsFuture program → Stands program rows old → AreRestarted program.ft old.queues new.queues → new.slab ≡ old.slab → Stands program [] new
+pub reset_stands : (program : Program) (rows : List Row) (old new : Ft) → RunsFuture program → FtHasTaken program rows old → AreRestarted program.ft old.queues new.queues → new.slab ≡ old.slab → FtHasTaken program [] new
 unfolding slot_total
 reset_stands program rows old new runs stands again same =
     let slab : length new.slab ≡ length old.slab = ap (λ (xs : List Slot). length xs) same in

@@ -22,8 +22,8 @@ use Rattle.mltl_base.proofs.Seats.{length-part}
 use Rattle.ft_engine.specs.declared.engine.Ft.{Ft}
 use Rattle.ft_engine.specs.declared.queue.Queue.{Queue}
 use Rattle.ft_engine.specs.Plans.{IsPaced, IsPlannedFor, IsSeated, Plan, plan_of}
-use Rattle.ft_engine.specs.Queues.{AreSound, IsAhead, op_at, queue_at, reads_from, work_before, work_of}
-use Rattle.ft_engine.specs.Standing.{ReadsFrom, ShowsFrom, Stands, frontier_at, instruction_count, kept_verdict, lowest_at, place_of, slot_total, slots_at, width_of}
+use Rattle.ft_engine.specs.Queues.{QueuesAreSound, IsAhead, op_at, queue_at, reads_from, work_before, work_of}
+use Rattle.ft_engine.specs.Standing.{ReadsFrom, ShowsFrom, FtHasTaken, frontier_at, instruction_count, kept_verdict, lowest_at, next_read, slot_total, slots_at, queue_width}
 use Rattle.ft_engine.specs.Tables.{HaveVerdicts, known_table}
 use Rattle.ft_engine.proofs.Planning.{planned_for}
 
@@ -54,7 +54,7 @@ best_of_formula program i h =
 
 -- where an instruction is ahead of its operands, it reads on from n less the width of each
 reads_kept : (program : Program) (queues : List Queue) (n i : ℕ) (op : FtOp) (queue : Queue) → IsSeated (plan_of program.ft program.outs) i op
-    → ((g : ℕ) → g < i → n ≤ frontier_of (queue_at queues g).ring + slice_index (worst_delays program.ft) g) → IsAhead queues op queue → ReadsFrom op (λ g. n - width_of program g) (reads_from op queue)
+    → ((g : ℕ) → g < i → n ≤ frontier_of (queue_at queues g).ring + slice_index (worst_delays program.ft) g) → IsAhead queues op queue → ReadsFrom op (λ g. n - queue_width program g) (reads_from op queue)
 reads_kept program queues n i True queue s frontier a = tt
 reads_kept program queues n i (Load k) queue s frontier a = tt
 reads_kept program queues n i (Not g) queue s frontier a = omega (arith, frontier g s.0, s.3)
@@ -62,12 +62,12 @@ reads_kept program queues n i (And l r) queue s frontier a = (omega (arith, fron
 reads_kept program queues n i (Until l r window) queue s frontier a = (omega (arith, frontier l s.0, frontier r s.1, s.6), omega (arith, frontier l s.0, frontier r s.1, s.7))
 
 -- queues that are on plan have their parts of the slab
-pub paced_sound : (plan : Plan) (ops : List FtOp) (queues : List Queue) (slab : List Slot) (n : ℕ) → IsPaced plan ops queues slab n → AreSound queues slab
+pub paced_sound : (plan : Plan) (ops : List FtOp) (queues : List Queue) (slab : List Slot) (n : ℕ) → IsPaced plan ops queues slab n → QueuesAreSound queues slab
 paced_sound plan ops queues slab n p = record { within = p.laid.within; belongs = λ j h. (p.paced j h).belongs }
 
 pub stands_with : (program : Program) (rows : List Row) (ft : Ft) → RunsFuture program → IsPaced (plan_of program.ft program.outs) program.ft ft.queues ft.slab (length rows)
-    → HaveVerdicts program.ft (known_table rows (atoms program.bz) program.ft) ft.queues ft.slab → length ft.slab ≡ sum program.sizes.ft → Stands program rows ft
-unfolding instruction_count frontier_at lowest_at kept_verdict slot_total slots_at place_of
+    → HaveVerdicts program.ft (known_table rows (atoms program.bz) program.ft) ft.queues ft.slab → length ft.slab ≡ sum program.sizes.ft → FtHasTaken program rows ft
+unfolding instruction_count frontier_at lowest_at kept_verdict slot_total slots_at next_read
 stands_with program rows ft r paced table total =
     let queues : List Queue = ft.queues in
     let planned = program_planned program r in
@@ -91,7 +91,7 @@ stands_with program rows ft r paced table total =
     }
 
 -- the slots of an engine that has taken rows are those of the program
-pub total_of : (program : Program) (rows : List Row) (ft : Ft) → Stands program rows ft → length ft.slab ≡ sum program.sizes.ft
+pub total_of : (program : Program) (rows : List Row) (ft : Ft) → FtHasTaken program rows ft → length ft.slab ≡ sum program.sizes.ft
 unfolding slot_total
 total_of program rows ft s = s.total
 

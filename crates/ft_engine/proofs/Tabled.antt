@@ -9,7 +9,7 @@ use Rattle.mltl_base.specs.declared.operators.FtOp.{FtOp}
 use Rattle.mltl_base.specs.declared.operators.FtOp.TheVariants.{True, Load, Not, And, Until}
 use Rattle.mltl_base.specs.Atoms.{Row, Atom, holds, is_true}
 use Rattle.mltl_base.specs.Formula.{Core, Formula, plain}
-use Rattle.mltl_base.specs.Programs.{core_at, formula_of, formulas}
+use Rattle.mltl_base.specs.Programs.{core_at, op_formula, formulas}
 use Rattle.mltl_base.specs.Verdicts.{Known, verdicts, kleene_over, kleene, IsLongestKnown}
 use Rattle.mltl_base.specs.Settled.{IsPrefix}
 use Rattle.mltl_base.proofs.Leaves.{truth_verdicts, atom_verdicts}
@@ -17,7 +17,7 @@ use Rattle.mltl_base.proofs.Longest.{verdicts_longest}
 use Rattle.mltl_base.proofs.Prefixes.{verdicts_begin}
 use Rattle.ft_engine.specs.Queues.{op_at}
 use Rattle.ft_engine.specs.Plans.{Plan, IsPlanned}
-use Rattle.ft_engine.specs.Tables.{Extends, IsTable, known_table, truth_at, value_of}
+use Rattle.ft_engine.specs.Tables.{Extends, IsTable, known_table, truth_at, kleene_value}
 use Rattle.ft_engine.proofs.Unfolded.{seated_before, unfolds_at}
 
 -- a list of all n values is the longest
@@ -60,19 +60,19 @@ truth_of_last rows row loaded k = ap (λ (r : Row). holds (get_or loaded k (is_t
 module _ (longest : (rows : List Row) (p : Formula) → IsLongestKnown (kleene rows p) (length rows) (verdicts rows p)) where
   -- the values of an instruction over the known verdicts of its operands
   value_longest : (rows : List Row) (loaded : List Atom) (all : List Core) (op : FtOp)
-      → IsLongestKnown (value_of op (truth_at rows loaded) (length rows) (λ i. verdicts rows (plain (core_at all i)))) (length rows) (verdicts rows (plain (formula_of loaded all op)))
+      → IsLongestKnown (kleene_value op (truth_at rows loaded) (length rows) (λ i. verdicts rows (plain (core_at all i)))) (length rows) (verdicts rows (plain (op_formula loaded all op)))
   unfolding plain verdicts kleene_over
   value_longest rows loaded all True = subst (IsLongestKnown _ (length rows)) (sym (truth_verdicts rows)) (all_known _ (length rows) (map (λ r. true) rows) (length-map rows (λ r. true)) (λ t h. in_time t (length rows) (Some true) None h ∙ sym (mapped (λ r. true) rows t h)))
   value_longest rows loaded all (Load k) = subst (IsLongestKnown _ (length rows)) (sym (atom_verdicts rows (get_or loaded k (is_true 0)))) (all_known _ (length rows) (map (holds (get_or loaded k (is_true 0))) rows) (length-map rows (holds (get_or loaded k (is_true 0)))) (λ t h. in_time t (length rows) (Some (truth_at rows loaded t k)) None h ∙ sym (mapped (holds (get_or loaded k (is_true 0))) rows t h)))
-  value_longest rows loaded all (Not g) = longest rows (plain (formula_of loaded all (Not g)))
-  value_longest rows loaded all (And l r) = longest rows (plain (formula_of loaded all (And l r)))
-  value_longest rows loaded all (Until l r window) = longest rows (plain (formula_of loaded all (Until l r window)))
+  value_longest rows loaded all (Not g) = longest rows (plain (op_formula loaded all (Not g)))
+  value_longest rows loaded all (And l r) = longest rows (plain (op_formula loaded all (And l r)))
+  value_longest rows loaded all (Until l r window) = longest rows (plain (op_formula loaded all (Until l r window)))
 
   pub known_is_table : (plan : Plan) (rows : List Row) (loaded : List Atom) (ops : List FtOp) → ((i : ℕ) → i < length ops → IsPlanned plan i (op_at ops i))
       → IsTable ops (truth_at rows loaded) (length rows) (known_table rows loaded ops)
   known_is_table plan rows loaded ops planned = record {
     each = λ i h.
-        subst (λ (p : Core). IsLongestKnown (value_of (op_at ops i) (truth_at rows loaded) (length rows) (known_table rows loaded ops)) (length rows) (verdicts rows (plain p)))
+        subst (λ (p : Core). IsLongestKnown (kleene_value (op_at ops i) (truth_at rows loaded) (length rows) (known_table rows loaded ops)) (length rows) (verdicts rows (plain p)))
         (sym (unfolds_at loaded ops (λ j j_in. seated_before plan j (op_at ops j) (planned j j_in).seated) i h))
         (value_longest rows loaded (formulas loaded ops) (op_at ops i));
   }

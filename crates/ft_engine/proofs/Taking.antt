@@ -12,15 +12,15 @@ use Rattle.scq_ring.specs.declared.Slot.{Slot}
 use Rattle.ft_engine.specs.declared.engine.Ft.{Ft}
 use Rattle.ft_engine.specs.declared.queue.Queue.{Queue}
 use Rattle.ft_engine.specs.Plans.{IsPaced, Plan, plan_of}
-use Rattle.ft_engine.specs.Standing.{Stands}
-use Rattle.ft_engine.specs.Tables.{AgreeOnLoads, HaveVerdicts, IsTable, Loads, Table, TakesRow, known_table, truth_at}
+use Rattle.ft_engine.specs.Standing.{FtHasTaken}
+use Rattle.ft_engine.specs.Tables.{AgreeOnLoads, HaveVerdicts, IsTable, Loads, VerdictTable, QueuesTake, known_table, truth_at}
 use Rattle.ft_engine.proofs.Standings.{program_planned, stands_with, total_of}
 use Rattle.ft_engine.proofs.Tabled.{extends, is_table, truth_of_last}
 
 -- queues have taken a row after n others
 pub record TookRow (plan : Plan) (ops : List FtOp) (numbers : List ℤ) (n : ℕ) (queues : List Queue) (slab : List Slot) (queues' : List Queue) (slab' : List Slot) : Type 0 where
   pub paced : IsPaced plan ops queues slab n → IsPaced plan ops queues' slab' (n + 1)
-  pub verdicts : (truth : Loads) (old new : Table) → TakesRow plan truth n ops queues slab old new → AgreeOnLoads ops (truth n) numbers → HaveVerdicts ops new queues' slab'
+  pub verdicts : (truth : Loads) (old new : VerdictTable) → QueuesTake plan truth n ops queues slab old new → AgreeOnLoads ops (truth n) numbers → HaveVerdicts ops new queues' slab'
 
 pub paced_as : (plan : Plan) (ops ops' : List FtOp) (queues queues' : List Queue) (slab slab' : List Slot) (n : ℕ) → ops ≡ ops' → queues ≡ queues' → slab ≡ slab' → IsPaced plan ops' queues' slab' n → IsPaced plan ops queues slab n
 paced_as plan ops ops' queues queues' slab slab' n same_ops same_queues same_slab p =
@@ -46,14 +46,14 @@ agree_last program rows row numbers runs given = λ i i_in k v is gives.
 
 pub row_stands : (program : Program) (rows : List Row) (row : Row) (old new : Ft) (numbers : List ℤ) → RunsFuture program → length rows < 2 ^ 40 → numbers ≡ numbers_on row program.bz
     → TookRow (plan_of program.ft program.outs) program.ft numbers (length rows) old.queues old.slab new.queues new.slab
-    → length new.slab ≡ length old.slab → Stands program rows old → Stands program (rows ++ row ∷ []) new
+    → length new.slab ≡ length old.slab → FtHasTaken program rows old → FtHasTaken program (rows ++ row ∷ []) new
 row_stands program rows row old new numbers runs few given took long stands =
     let plan : Plan = plan_of program.ft program.outs in
     let loaded : List Atom = atoms program.bz in
     let more : List Row = rows ++ row ∷ [] in
     let size : length more ≡ length rows + 1 = length_push rows row in
-    let before : Table = known_table rows loaded program.ft in
-    let after : Table = known_table more loaded program.ft in
+    let before : VerdictTable = known_table rows loaded program.ft in
+    let after : VerdictTable = known_table more loaded program.ft in
     let table : IsTable program.ft (truth_at more loaded) (length rows + 1) after =
     subst (λ (m : ℕ). IsTable program.ft (truth_at more loaded) m after) size (is_table plan more loaded program.ft (program_planned program runs).planned) in
     stands_with program more new runs

@@ -12,7 +12,7 @@ use Rattle.scq_ring.specs.declared.Slot.{Slot}
 use Rattle.scq_ring.specs.Runs.{Belongs, frontier_of, verdict_at}
 use Rattle.ft_engine.specs.Decisions.{Shown, GoesOn, Decides}
 use Rattle.ft_engine.specs.Scans.{Scan}
-use Rattle.ft_engine.specs.Tables.{Extends, HasVerdicts, Table}
+use Rattle.ft_engine.specs.Tables.{Extends, HasVerdicts, VerdictTable}
 use Rattle.ft_engine.proofs.Going.{Written, goes_further, stays}
 
 -- what isn't known at an index is no value
@@ -99,7 +99,7 @@ settled_at_once old old_slots old_vs ring slots vs values n upto v longest exten
     (omega arith)
 
 -- a scan over what was known is one over what is known
-pub scan_kept : (i : Interval) (old new : Table) (l r t reads_at : ℕ) → Extends old new → Scan i (slice_get (old l)) (slice_get (old r)) t reads_at reads_at → Scan i (slice_get (new l)) (slice_get (new r)) t reads_at reads_at
+pub scan_kept : (i : Interval) (old new : VerdictTable) (l r t reads_at : ℕ) → Extends old new → Scan i (slice_get (old l)) (slice_get (old r)) t reads_at reads_at → Scan i (slice_get (new l)) (slice_get (new r)) t reads_at reads_at
 scan_kept i old new l r t reads_at extends s = record {
   reach = s.reach;
   order = s.order;

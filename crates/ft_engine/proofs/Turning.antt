@@ -9,9 +9,9 @@ use Rattle.scq_ring.specs.Runs.{frontier_of}
 use Rattle.mltl_base.specs.Seats.{part}
 use Rattle.mltl_base.proofs.Seats.{Stepped, before_kept, each_kept, each_on, here_kept, node_before, other_kept, own_long, part_in_front, seat_stays, seated_on, sizes_are}
 use Rattle.ft_engine.specs.declared.queue.Queue.{Queue}
-use Rattle.ft_engine.specs.Plans.{IsPlaced, IsPlanned, IsReady, IsSeated, Paced, Plan}
+use Rattle.ft_engine.specs.Plans.{ReadsNextAt, IsPlanned, IsReadyForRow, IsSeated, Paced, Plan}
 use Rattle.ft_engine.specs.Queues.{AreLaid, IsAhead, KeepsSeats, no_queue, op_at, queue_at, reads_from, size_in, work_of}
-use Rattle.ft_engine.specs.Tables.{Extends, HasVerdicts, IsScanned, IsTable, IsTold, Loads, Table}
+use Rattle.ft_engine.specs.Tables.{Extends, HasVerdicts, IsScanned, IsTable, KnowsVerdicts, Loads, VerdictTable}
 
 -- the first i instructions have taken n + 1 rows, the others n
 pub record Turned (plan : Plan) (ops : List FtOp) (queues : List Queue) (slab : List Slot) (n i : ℕ) : Type 0 where
@@ -19,10 +19,10 @@ pub record Turned (plan : Plan) (ops : List FtOp) (queues : List Queue) (slab : 
   pub planned : (j : ℕ) → j < length ops → IsPlanned plan j (op_at ops j)
   pub laid : AreLaid queues slab
   pub done : (j : ℕ) → j < i → Paced plan j (queue_at queues j) (part slab (queue_at queues j).seat) (n + 1)
-  pub done_placed : (j : ℕ) → j < i → IsPlaced plan j (op_at ops j) (queue_at queues j) (n + 1)
+  pub done_placed : (j : ℕ) → j < i → ReadsNextAt plan j (op_at ops j) (queue_at queues j) (n + 1)
   pub done_ahead : (j : ℕ) → j < i → IsAhead queues (op_at ops j) (queue_at queues j)
   pub todo : (j : ℕ) → i ≤ j → j < length queues → Paced plan j (queue_at queues j) (part slab (queue_at queues j).seat) n
-  pub todo_placed : (j : ℕ) → i ≤ j → j < length queues → IsPlaced plan j (op_at ops j) (queue_at queues j) n
+  pub todo_placed : (j : ℕ) → i ≤ j → j < length queues → ReadsNextAt plan j (op_at ops j) (queue_at queues j) n
 
 -- an instruction that is ahead of some queues is ahead of others with the same frontiers before it, where it reads from the same time
 pub ahead_same : (plan : Plan) (i : ℕ) (op : FtOp) (queues queues' : List Queue) (queue queue' : Queue) → IsSeated plan i op
@@ -35,7 +35,7 @@ ahead_same plan i (And l r) queues queues' queue queue' s same e h = omega (arit
 ahead_same plan i (Until l r window) queues queues' queue queue' s same e h = omega (arith, same l s.0, same r s.1)
 
 -- the first i instructions have the verdicts of the newer table, the others those of the older one
-pub record Retold (ops : List FtOp) (old new : Table) (queues : List Queue) (slab : List Slot) (i : ℕ) : Type 0 where
+pub record Retold (ops : List FtOp) (old new : VerdictTable) (queues : List Queue) (slab : List Slot) (i : ℕ) : Type 0 where
   pub done : (j : ℕ) → j < i → HasVerdicts (queue_at queues j).ring (part slab (queue_at queues j).seat) (new j)
   pub done_scanned : (j : ℕ) → j < i → IsScanned (op_at ops j) new (queue_at queues j)
   pub todo : (j : ℕ) → i ≤ j → j < length queues → HasVerdicts (queue_at queues j).ring (part slab (queue_at queues j).seat) (old j)
@@ -52,14 +52,14 @@ module _ (queues : List Queue) (slab : List Slot) (i : ℕ) (new : Queue) (own :
 
   -- one more instruction has taken the row
   pub turned_on : (plan : Plan) (ops : List FtOp) (n : ℕ) → Turned plan ops queues slab n i → i < length queues
-      → Paced plan i new own (n + 1) → IsPlaced plan i (op_at ops i) new (n + 1) → IsAhead queues (op_at ops i) new
+      → Paced plan i new own (n + 1) → ReadsNextAt plan i (op_at ops i) new (n + 1) → IsAhead queues (op_at ops i) new
       → Turned plan ops queues' slab' n (i + 1)
   turned_on plan ops n t i_in paced placed ahead = record {
     same_length = st.same_length ∙ t.same_length;
     planned = t.planned;
     laid = seated_on st t.laid;
     done = λ j h. each_kept st (λ k m xs. Paced plan k m xs (n + 1)) j (omega arith) (λ other. t.done j (omega arith)) paced;
-    done_placed = λ j h. each_on st (λ k m. IsPlaced plan k (op_at ops k) m (n + 1)) j (λ other. t.done_placed j (omega arith)) placed;
+    done_placed = λ j h. each_on st (λ k m. ReadsNextAt plan k (op_at ops k) m (n + 1)) j (λ other. t.done_placed j (omega arith)) placed;
     done_ahead = λ j h. elim (cases_eq j i) [
       | inl same ↦
           subst (λ (k : ℕ). IsAhead queues' (op_at ops k) (queue_at queues' k)) (sym same)
@@ -70,11 +70,11 @@ module _ (queues : List Queue) (slab : List Slot) (i : ℕ) (new : Queue) (own :
           (t.planned j (omega (arith, t.same_length))).seated (λ g g_in. let apart : g ≢ i = omega arith in ap (λ (m : Queue). frontier_of m.ring) (st.others g apart)) (ap (λ (m : Queue). reads_from (op_at ops j) m) (st.others j other)) (t.done_ahead j (omega arith))
     ];
     todo = λ j from h. let other : j ≢ i = omega arith in other_kept st (λ m xs. Paced plan j m xs n) j other (omega (arith, st.same_length)) (t.todo j (omega arith) (omega (arith, st.same_length)));
-    todo_placed = λ j from h. let other : j ≢ i = omega arith in subst (λ (m : Queue). IsPlaced plan j (op_at ops j) m n) (sym (st.others j other)) (t.todo_placed j (omega arith) (omega (arith, st.same_length)));
+    todo_placed = λ j from h. let other : j ≢ i = omega arith in subst (λ (m : Queue). ReadsNextAt plan j (op_at ops j) m n) (sym (st.others j other)) (t.todo_placed j (omega arith) (omega (arith, st.same_length)));
   }
 
   -- one more instruction is told
-  pub retold_on : (ops : List FtOp) (older newer : Table) → Retold ops older newer queues slab i → i < length queues
+  pub retold_on : (ops : List FtOp) (older newer : VerdictTable) → Retold ops older newer queues slab i → i < length queues
       → HasVerdicts new.ring own (newer i) → IsScanned (op_at ops i) newer new → Retold ops older newer queues' slab' (i + 1)
   retold_on ops older newer t i_in has scanned = record {
     done = λ j h. each_kept st (λ k m xs. HasVerdicts m.ring xs (newer k)) j (omega arith) (λ other. t.done j (omega arith)) has;
@@ -96,7 +96,7 @@ module _ (plan : Plan) (ops : List FtOp) (queues : List Queue) (slab : List Slot
       own_long before rest low high queue turned.laid queues_are slab_is some queue_is low_is ∙ ap (λ (m : Queue). m.seat.size) queue_is ∙ ap (λ (m : Seat). m.size) (seats.seat (length before))
 
   -- what the instruction meets
-  pub ready_here : n < 2 ^ 40 → length before < length ops → IsReady plan n (op_at ops (length before)) before low queue (take queue.seat.size high)
+  pub ready_here : n < 2 ^ 40 → length before < length ops → IsReadyForRow plan n (op_at ops (length before)) before low queue (take queue.seat.size high)
   ready_here few in_ops = record {
     planned = turned.planned (length before) in_ops;
     operands = record {
@@ -104,7 +104,7 @@ module _ (plan : Plan) (ops : List FtOp) (queues : List Queue) (slab : List Slot
       each = λ j h. before_kept before rest low high queue turned.laid queues_are slab_is some queue_is low_is (λ m xs. Paced plan j m xs (n + 1)) j h (turned.done j h);
     };
     paced = here_kept before rest low high queue turned.laid queues_are slab_is some queue_is low_is (λ m xs. Paced plan (length before) m xs n) (turned.todo (length before) (omega arith) (omega (arith, sizes_are before rest low high queue turned.laid queues_are slab_is some queue_is low_is)));
-    placed = subst (λ (m : Queue). IsPlaced plan (length before) (op_at ops (length before)) m n) (sym queue_is) (turned.todo_placed (length before) (omega arith) (omega (arith, sizes_are before rest low high queue turned.laid queues_are slab_is some queue_is low_is)));
+    placed = subst (λ (m : Queue). ReadsNextAt plan (length before) (op_at ops (length before)) m n) (sym queue_is) (turned.todo_placed (length before) (omega arith) (omega (arith, sizes_are before rest low high queue turned.laid queues_are slab_is some queue_is low_is)));
     few = few;
   }
 
@@ -113,8 +113,8 @@ module _ (plan : Plan) (ops : List FtOp) (queues : List Queue) (slab : List Slot
   frontiers_before g h = ap (λ (m : Queue). frontier_of m.ring) (node_before before rest low high queue turned.laid queues_are slab_is some queue_is low_is g h)
 
   -- and what it is told
-  pub told_here : (truth : Loads) (old new : Table) → n < 2 ^ 40 → length before < length ops → IsTable ops truth (n + 1) new → Extends old new → Retold ops old new queues slab (length before)
-      → IsTold plan truth n (op_at ops (length before)) before low queue (take queue.seat.size high) old new
+  pub told_here : (truth : Loads) (old new : VerdictTable) → n < 2 ^ 40 → length before < length ops → IsTable ops truth (n + 1) new → Extends old new → Retold ops old new queues slab (length before)
+      → KnowsVerdicts plan truth n (op_at ops (length before)) before low queue (take queue.seat.size high) old new
   told_here truth old new few in_ops table extends retold = record {
     ready = ready_here few in_ops;
     longest = table.each (length before) in_ops;

@@ -14,7 +14,7 @@ pub record Shown (ring : Ring) (slots : List Slot) (known : Known) : Type 0 wher
   pub ends : (t : ℕ) → frontier_of ring ≤ t → known t ≡ None
 
 -- an operand can be read from a time on
-pub record IsReadable (operand : Operand) (from : ℕ) : Type 0 where
+pub record CanBeReadFrom (operand : Operand) (from : ℕ) : Type 0 where
   pub belongs : Belongs operand.ring.now operand.slots.now
   pub kept : low_of operand.ring.now ≤ from
 
@@ -48,9 +48,9 @@ IsStretch value from (Run end v) = (t : ℕ) → from ≤ t → t ≤ end → va
 IsStretch value from Nothing = value from ≡ None
 
 -- a run takes in its first time and ends before `end`
-abbrev pub IsWithin : ℕ → ℕ → Seen → Type 0
-IsWithin from end (Run upto v) = (from ≤ upto) × (upto < end)
-IsWithin from end Nothing = ⊤
+abbrev pub RunEndsBefore : ℕ → ℕ → Seen → Type 0
+RunEndsBefore from end (Run upto v) = (from ≤ upto) × (upto < end)
+RunEndsBefore from end Nothing = ⊤
 
 -- nothing is shown only where the first operand that ends has ended
 abbrev pub IsStoppedAfter : ℕ → ℕ → Seen → Type 0

@@ -56,12 +56,12 @@ pub record IsPlannedFor (plan : Plan) (ops : List FtOp) (size : ℕ → ℕ) : T
   pub sizes : (i : ℕ) → i < length ops → size i ≡ plan.widest i - plan.best i + 1
 
 -- where an until reads next, after n rows
-abbrev pub IsPlaced : Plan → ℕ → FtOp → Queue → ℕ → Type 0
-IsPlaced plan i True queue n = ⊤
-IsPlaced plan i (Load k) queue n = ⊤
-IsPlaced plan i (Not g) queue n = ⊤
-IsPlaced plan i (And l r) queue n = ⊤
-IsPlaced plan i (Until l r window) queue n =
+abbrev pub ReadsNextAt : Plan → ℕ → FtOp → Queue → ℕ → Type 0
+ReadsNextAt plan i True queue n = ⊤
+ReadsNextAt plan i (Load k) queue n = ⊤
+ReadsNextAt plan i (Not g) queue n = ⊤
+ReadsNextAt plan i (And l r) queue n = ⊤
+ReadsNextAt plan i (Until l r window) queue n =
     (frontier_of queue.ring + window.lo ≤ queue.reads_at)
     × (n + window.hi ≤ queue.reads_at + plan.worst i)
     × (queue.reads_at ≤ window.lo + (n - plan.best i))
@@ -80,7 +80,7 @@ pub record Paced (plan : Plan) (i : ℕ) (queue : Queue) (slots : List Slot) (n 
 pub record IsOnPlan (plan : Plan) (op : FtOp) (before : List Queue) (queue : Queue) (slots : List Slot) (n : ℕ) :
     Type 0 where
   pub paced : Paced plan (length before) queue slots n
-  pub placed : IsPlaced plan (length before) op queue n
+  pub placed : ReadsNextAt plan (length before) op queue n
   pub ahead : IsAhead before op queue
 
 -- the first i instructions have taken n rows
@@ -89,17 +89,17 @@ pub record ArePaced (plan : Plan) (queues : List Queue) (slab : List Slot) (n i 
   pub each : (j : ℕ) → j < i → Paced plan j (queue_at queues j) (part slab (queue_at queues j).seat) n
 
 -- what an instruction meets that takes row n, after those before it
-pub record IsReady (plan : Plan) (n : ℕ) (op : FtOp) (before : List Queue) (earlier : List Slot) (queue : Queue)
+pub record IsReadyForRow (plan : Plan) (n : ℕ) (op : FtOp) (before : List Queue) (earlier : List Slot) (queue : Queue)
     (own : List Slot) : Type 0 where
   pub planned : IsPlanned plan (length before) op
   pub operands : ArePaced plan before earlier (n + 1) (length before)
   pub paced : Paced plan (length before) queue own n
-  pub placed : IsPlaced plan (length before) op queue n
+  pub placed : ReadsNextAt plan (length before) op queue n
   pub few : n < MAX_MISSION
 
 -- by some plan, an instruction is to take a row, after those before it
 abbrev pub CanTakeRow : FtOp → List Queue → List Slot → Queue → List Slot → Type 0
-CanTakeRow op before earlier queue own = (plan : Plan) × (n : ℕ) × IsReady plan n op before earlier queue own
+CanTakeRow op before earlier queue own = (plan : Plan) × (n : ℕ) × IsReadyForRow plan n op before earlier queue own
 
 -- all instructions have taken n rows
 pub record IsPaced (plan : Plan) (ops : List FtOp) (queues : List Queue) (slab : List Slot) (n : ℕ) : Type 0 where
@@ -107,5 +107,5 @@ pub record IsPaced (plan : Plan) (ops : List FtOp) (queues : List Queue) (slab :
   pub planned : (i : ℕ) → i < length ops → IsPlanned plan i (op_at ops i)
   pub laid : AreLaid queues slab
   pub paced : (i : ℕ) → i < length queues → Paced plan i (queue_at queues i) (part slab (queue_at queues i).seat) n
-  pub placed : (i : ℕ) → i < length queues → IsPlaced plan i (op_at ops i) (queue_at queues i) n
+  pub placed : (i : ℕ) → i < length queues → ReadsNextAt plan i (op_at ops i) (queue_at queues i) n
   pub ahead : (i : ℕ) → i < length queues → IsAhead queues (op_at ops i) (queue_at queues i)

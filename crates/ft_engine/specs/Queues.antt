@@ -24,7 +24,7 @@ abbrev pub AreLaid : List Queue → List Slot → Type 0
 AreLaid queues slab = AreSeated no_queue (λ queue. queue.seat) queues (length slab) (length queues)
 
 -- each ring has its part of the slab
-pub record AreSound (queues : List Queue) (slab : List Slot) : Type 0 where
+pub record QueuesAreSound (queues : List Queue) (slab : List Slot) : Type 0 where
   pub within : (j : ℕ) → j < length queues
       → (queue_at queues j).seat.start + (queue_at queues j).seat.size ≤ length slab
   pub belongs : (j : ℕ) → j < length queues

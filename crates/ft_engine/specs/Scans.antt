@@ -1,5 +1,6 @@
 -- What an until knows of its operands between two decisions.
-use Rattle.std.specs.Prelude.{◌≡◌, ℕ, ◌+◌, ◌*◌, ◌-◌, ◌<◌, ◌≤◌, ◌⊎◌, max, min, true, false, List, Some, None, nat_lt, if◌then◌else◌}
+use Rattle.std.specs.Prelude.{◌≡◌, ℕ, ◌+◌, ◌*◌, ◌-◌, ◌<◌, ◌≤◌, ◌⊎◌, max, min, true, false, List, Some, None, nat_lt}
+use Rattle.std.specs.Prelude.{if◌then◌else◌}
 use Rattle.mltl_base.specs.declared.limits.TheConstants.{TIME_END}
 use Rattle.mltl_base.specs.declared.interval.Interval.{Interval}
 use Rattle.mltl_base.specs.Verdicts.{Known, k_until}
@@ -10,7 +11,7 @@ use Rattle.ft_engine.specs.declared.until.Reading.{Reading}
 use Rattle.ft_engine.specs.declared.until.Turn.{Turn}
 use Rattle.ft_engine.specs.declared.until.Turn.TheVariants.{Look, Decide, Stop}
 use Rattle.ft_engine.specs.declared.until.Until.{Until}
-use Rattle.ft_engine.specs.Decisions.{Decides, IsReadable, ShownBy, operand_runs}
+use Rattle.ft_engine.specs.Decisions.{Decides, CanBeReadFrom, ShownBy, operand_runs}
 
 -- From the lower end of the window of time t on, the right operand is false before `seen`, and the left one true before
 -- `reads_at`.
@@ -22,8 +23,8 @@ pub record Scan (i : Interval) (p q : Known) (t reads_at seen : ℕ) : Type 0 wh
 
 -- an until whose queue ends at time t can be taken on from its reading time
 pub record CanScan (until : Until) (t reads_at : ℕ) : Type 0 where
-  pub left : IsReadable until.left reads_at
-  pub right : IsReadable until.right reads_at
+  pub left : CanBeReadFrom until.left reads_at
+  pub right : CanBeReadFrom until.right reads_at
   pub right_in_time : frontier_of until.right.ring.now ≤ TIME_END
   pub ordered : until.window.lo ≤ until.window.hi
   pub reach : t + until.window.lo ≤ reads_at
@@ -109,14 +110,14 @@ steps_after until t (Decide upto value next) = 1 + steps_left until (upto + 1) n
 steps_after until t Stop = 0
 
 -- what a turn finds out about the until at time t
-abbrev pub Finds : Interval → Known → Known → ℕ → ℕ → Turn → Type 0
-Finds i p q t reads_at (Look next) = Scan i p q t next.reads_at next.seen
-Finds i p q t reads_at (Decide upto value next) =
+abbrev pub FindsOut : Interval → Known → Known → ℕ → ℕ → Turn → Type 0
+FindsOut i p q t reads_at (Look next) = Scan i p q t next.reads_at next.seen
+FindsOut i p q t reads_at (Decide upto value next) =
     ((x : ℕ) → t ≤ x → x ≤ upto → k_until i p q x ≡ Some value) × Scan i p q (upto + 1) next.reads_at next.seen
-Finds i p q t reads_at Stop = (k_until i p q t ≡ None) × ((p reads_at ≡ None) ⊎ (q reads_at ≡ None))
+FindsOut i p q t reads_at Stop = (k_until i p q t ≡ None) × ((p reads_at ≡ None) ⊎ (q reads_at ≡ None))
 
 -- where it was scanned up to what is read, over what the operands show
 abbrev pub TurnFinds : Until → ℕ → Reading → Turn → Type 0
 TurnFinds until t at turn =
     (p q : Known) → ShownBy until.left p → ShownBy until.right q → Scan until.window p q t at.reads_at at.seen
-    → Finds until.window p q t at.reads_at turn
+    → FindsOut until.window p q t at.reads_at turn

@@ -5,7 +5,7 @@ use Rattle.scq_ring.specs.declared.Ring.{Ring}
 use Rattle.scq_ring.specs.declared.Slot.{Slot}
 use Rattle.scq_ring.specs.Runs.{Alternate, Belongs, Spans}
 use Rattle.ft_engine.specs.declared.queue.Queue.{Queue}
-use Rattle.ft_engine.specs.Queues.{AreSound}
+use Rattle.ft_engine.specs.Queues.{QueuesAreSound}
 
 -- that runs follow one another without a gap has one proof at most
 pub Spans-prop : (low : ℕ) (runs : List Slot) (end : ℕ) → IsProp (Spans low runs end)
@@ -22,5 +22,5 @@ pub Belongs-prop : (ring : Ring) (slots : List Slot) → IsProp (Belongs ring sl
 Belongs-prop ring slots = hlevel (props, Spans-prop, Alternate-prop)
 
 -- that each ring of the queues has its own slots has one proof at most
-pub AreSound-prop : (queues : List Queue) (slab : List Slot) → IsProp (AreSound queues slab)
+pub AreSound-prop : (queues : List Queue) (slab : List Slot) → IsProp (QueuesAreSound queues slab)
 AreSound-prop queues slab = hlevel (props, Belongs-prop)

@@ -49,8 +49,8 @@ ShowsFrom ft i from (Run end v) = IsLongestRun (frontier_at ft i) (kept_verdict 
 ShowsFrom ft i from Nothing = frontier_at ft i ≤ from
 
 -- where an instruction of these reads its operands next
-unfoldable pub place_of : List FtOp → Ft → ℕ → ℕ
-place_of ops ft i = reads_from (op_at ops i) (queue_at ft.queues i)
+unfoldable pub next_read : List FtOp → Ft → ℕ → ℕ
+next_read ops ft i = reads_from (op_at ops i) (queue_at ft.queues i)
 
 -- the reading time lies at or past so early a time of each operand
 abbrev pub ReadsFrom : FtOp → (ℕ → ℕ) → ℕ → Type 0
@@ -65,11 +65,11 @@ abbrev pub known_of : Program → List Row → ℕ → List Bool
 known_of program rows i = verdicts rows (plain (formula_at program future i))
 
 -- the greatest worst delay among instruction i and all operands of all its readers
-abbrev pub width_of : Program → ℕ → ℕ
-width_of program i = widest (worst_delays program.ft) (readers program.ft program.outs) i
+abbrev pub queue_width : Program → ℕ → ℕ
+queue_width program i = widest (worst_delays program.ft) (readers program.ft program.outs) i
 
 -- the engine has taken the rows of this program
-pub record Stands (program : Program) (rows : List Row) (ft : Ft) : Type 0 where
+pub record FtHasTaken (program : Program) (rows : List Row) (ft : Ft) : Type 0 where
   pub paced : IsPaced (plan_of program.ft program.outs) program.ft ft.queues ft.slab (length rows)
   pub table : HaveVerdicts program.ft (known_table rows (atoms program.bz) program.ft) ft.queues ft.slab
   -- the frontier is the number of known verdicts, and each verdict from the low time on is kept
@@ -83,11 +83,11 @@ pub record Stands (program : Program) (rows : List Row) (ft : Ft) : Type 0 where
   pub at_most : (i : ℕ) → i < length program.ft → frontier_at ft i ≤ length rows - bpd (formula_at program future i)
   -- an instruction reads on from the least frontier of its operands, at least, and so from n less the width of each
   pub ahead : (i : ℕ) → i < length program.ft
-      → ReadsAhead (op_at program.ft i) (frontier_at ft) (place_of program.ft ft i)
+      → ReadsAhead (op_at program.ft i) (frontier_at ft) (next_read program.ft ft i)
   pub reads : (i : ℕ) → i < length program.ft
-      → ReadsFrom (op_at program.ft i) (λ g. length rows - width_of program g) (place_of program.ft ft i)
+      → ReadsFrom (op_at program.ft i) (λ g. length rows - queue_width program g) (next_read program.ft ft i)
   -- the low time is 0 or at most n - 1 less the width, and the slots are those of the program
-  pub lows : (i : ℕ) → i < length program.ft → lowest_at ft i ≤ length rows - 1 - width_of program i
+  pub lows : (i : ℕ) → i < length program.ft → lowest_at ft i ≤ length rows - 1 - queue_width program i
   pub sizes : (i : ℕ) → i < length program.ft → slots_at ft i ≡ slice_index program.sizes.ft i
   -- together they are as many, and none is left over
   pub total : slot_total ft ≡ sum program.sizes.ft

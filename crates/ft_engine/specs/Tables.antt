@@ -16,18 +16,18 @@ use Rattle.mltl_base.specs.Seats.{part}
 use Rattle.ft_engine.specs.declared.queue.Queue.{Queue}
 use Rattle.ft_engine.specs.Queues.{op_at, queue_at}
 use Rattle.ft_engine.specs.Scans.{Scan}
-use Rattle.ft_engine.specs.Plans.{Plan, IsPaced, IsReady}
+use Rattle.ft_engine.specs.Plans.{Plan, IsPaced, IsReadyForRow}
 
 -- the known verdicts of each instruction, from time 0 on
-abbrev pub Table : Type 0
-Table = ℕ → List Bool
+abbrev pub VerdictTable : Type 0
+VerdictTable = ℕ → List Bool
 
 -- the values of atoms by time and number
 abbrev pub Loads : Type 0
 Loads = ℕ → ℕ → Bool
 
 -- the known verdicts of the formula that each instruction unfolds to
-abbrev pub known_table : List Row → List Atom → List FtOp → Table
+abbrev pub known_table : List Row → List Atom → List FtOp → VerdictTable
 known_table rows loaded ops i = verdicts rows (plain (core_at (formulas loaded ops) i))
 
 -- the values of the atoms that instructions load, by row
@@ -35,19 +35,19 @@ abbrev pub truth_at : List Row → List Atom → Loads
 truth_at rows loaded t k = holds (slice_index_or loaded k (is_true 0)) (slice_index_or rows t [])
 
 -- the strong Kleene value of an instruction by time after n rows, over what is known of its operands
-abbrev pub value_of : FtOp → Loads → ℕ → Table → Known
-value_of True truth n table t = if nat_lt t n then Some true else None
-value_of (Load k) truth n table t = if nat_lt t n then Some (truth t k) else None
-value_of (Not g) truth n table t = k_negation (slice_get (table g)) t
-value_of (And l r) truth n table t = k_conjunction (slice_get (table l)) (slice_get (table r)) t
-value_of (Until l r window) truth n table t = k_until window (slice_get (table l)) (slice_get (table r)) t
+abbrev pub kleene_value : FtOp → Loads → ℕ → VerdictTable → Known
+kleene_value True truth n table t = if nat_lt t n then Some true else None
+kleene_value (Load k) truth n table t = if nat_lt t n then Some (truth t k) else None
+kleene_value (Not g) truth n table t = k_negation (slice_get (table g)) t
+kleene_value (And l r) truth n table t = k_conjunction (slice_get (table l)) (slice_get (table r)) t
+kleene_value (Until l r window) truth n table t = k_until window (slice_get (table l)) (slice_get (table r)) t
 
 -- each instruction has the longest list of values that are known after n rows
-pub record IsTable (ops : List FtOp) (truth : Loads) (n : ℕ) (table : Table) : Type 0 where
-  pub each : (i : ℕ) → i < length ops → IsLongestKnown (value_of (op_at ops i) truth n table) n (table i)
+pub record IsTable (ops : List FtOp) (truth : Loads) (n : ℕ) (table : VerdictTable) : Type 0 where
+  pub each : (i : ℕ) → i < length ops → IsLongestKnown (kleene_value (op_at ops i) truth n table) n (table i)
 
 -- what was known stays
-pub record Extends (old new : Table) : Type 0 where
+pub record Extends (old new : VerdictTable) : Type 0 where
   pub each : (i t : ℕ) (v : Bool) → slice_get (old i) t ≡ Some v → slice_get (new i) t ≡ Some v
 
 -- the queue's frontier is the number of verdicts, and it has them from its low time on
@@ -56,7 +56,7 @@ pub record HasVerdicts (ring : Ring) (slots : List Slot) (verdicts : List Bool) 
   pub kept : (t : ℕ) → low_of ring ≤ t → t < frontier_of ring → slice_get verdicts t ≡ Some (verdict_at ring slots t)
 
 -- an until has scanned its operands up to its reading time
-abbrev pub IsScanned : FtOp → Table → Queue → Type 0
+abbrev pub IsScanned : FtOp → VerdictTable → Queue → Type 0
 IsScanned True table queue = ⊤
 IsScanned (Load k) table queue = ⊤
 IsScanned (Not g) table queue = ⊤
@@ -65,15 +65,16 @@ IsScanned (Until l r window) table queue =
     Scan window (slice_get (table l)) (slice_get (table r)) (frontier_of queue.ring) queue.reads_at queue.reads_at
 
 -- the queue of the instruction after these has its verdicts, and an until has scanned its operands as far as it reads
-pub record IsUpToDate (op : FtOp) (table : Table) (before : List Queue) (queue : Queue) (own : List Slot) : Type 0 where
+pub record IsUpToDate (op : FtOp) (table : VerdictTable) (before : List Queue) (queue : Queue)
+    (own : List Slot) : Type 0 where
   pub verdicts : HasVerdicts queue.ring own (table (length before))
   pub scanned : IsScanned op table queue
 
 -- what an instruction meets that takes row n: its operands have the verdicts after that row, and it has those before
-pub record IsTold (plan : Plan) (truth : Loads) (n : ℕ) (op : FtOp) (before : List Queue) (earlier : List Slot)
-    (queue : Queue) (own : List Slot) (old new : Table) : Type 0 where
-  pub ready : IsReady plan n op before earlier queue own
-  pub longest : IsLongestKnown (value_of op truth (n + 1) new) (n + 1) (new (length before))
+pub record KnowsVerdicts (plan : Plan) (truth : Loads) (n : ℕ) (op : FtOp) (before : List Queue) (earlier : List Slot)
+    (queue : Queue) (own : List Slot) (old new : VerdictTable) : Type 0 where
+  pub ready : IsReadyForRow plan n op before earlier queue own
+  pub longest : IsLongestKnown (kleene_value op truth (n + 1) new) (n + 1) (new (length before))
   pub extends : Extends old new
   pub operands : (j : ℕ) → j < length before
       → HasVerdicts (queue_at before j).ring (part earlier (queue_at before j).seat) (new j)
@@ -81,14 +82,14 @@ pub record IsTold (plan : Plan) (truth : Loads) (n : ℕ) (op : FtOp) (before : 
   pub scanned : IsScanned op old queue
 
 -- all queues have their verdicts
-pub record HaveVerdicts (ops : List FtOp) (table : Table) (queues : List Queue) (slab : List Slot) : Type 0 where
+pub record HaveVerdicts (ops : List FtOp) (table : VerdictTable) (queues : List Queue) (slab : List Slot) : Type 0 where
   pub verdicts : (i : ℕ) → i < length queues
       → HasVerdicts (queue_at queues i).ring (part slab (queue_at queues i).seat) (table i)
   pub scanned : (i : ℕ) → i < length queues → IsScanned (op_at ops i) table (queue_at queues i)
 
 -- what a row meets: the queues after n rows with the verdicts of the older table, and the table after one row more
-pub record TakesRow (plan : Plan) (truth : Loads) (n : ℕ) (ops : List FtOp) (queues : List Queue) (slab : List Slot)
-    (old new : Table) : Type 0 where
+pub record QueuesTake (plan : Plan) (truth : Loads) (n : ℕ) (ops : List FtOp) (queues : List Queue) (slab : List Slot)
+    (old new : VerdictTable) : Type 0 where
   pub few : n < MAX_MISSION
   pub paced : IsPaced plan ops queues slab n
   pub table : IsTable ops truth (n + 1) new

@@ -4,7 +4,7 @@ ghost use Rattle.std.specs.Prelude.{◌≡◌, ℕ, ◌+◌, ◌-◌, ◌*◌, �
 ghost use Rattle.mltl_base.specs.declared.limits.TheConstants.{TIME_END};
 ghost use Rattle.mltl_base.specs.Verdicts.{Known, k_conjunction};
 ghost use Rattle.scq_ring.specs.Runs.{Belongs, frontier_of};
-ghost use Rattle.ft_engine.specs.Decisions.{Decides, GoesAsFar, GoesOn, IsReadable, IsStoppedAfter, IsStretch, IsWithin, ShownBy, TakesOne, operand_runs};
+ghost use Rattle.ft_engine.specs.Decisions.{Decides, GoesAsFar, GoesOn, CanBeReadFrom, IsStoppedAfter, IsStretch, RunEndsBefore, ShownBy, TakesOne, operand_runs};
 
 use crate::operand::{Near, Operand};
 use mltl_base::steps::Steps;
@@ -20,8 +20,8 @@ pub fn and_row<L: Ledger>(
     steps: &mut Steps<L>,
 )
     requires belongs { Belongs own.old own_slots.old }
-    requires left { IsReadable left (frontier_of own.old) }
-    requires right { IsReadable right (frontier_of own.old) }
+    requires left { CanBeReadFrom left (frontier_of own.old) }
+    requires right { CanBeReadFrom right (frontier_of own.old) }
     requires in_time { max (frontier_of left.ring.now) (frontier_of right.ring.now) ≤ TIME_END }
     ensures goes_on { GoesOn own.old own_slots.old own.new own_slots.new }
     ensures as_far { GoesAsFar left.entry right.entry own.old own.new }
@@ -48,11 +48,11 @@ fn conjunction_from<L: Ledger>(
     near: &mut Near,
     steps: &mut Steps<L>,
 ) -> Seen
-    requires left { IsReadable left from }
-    requires right { IsReadable right from }
+    requires left { CanBeReadFrom left from }
+    requires right { CanBeReadFrom right from }
     ensures counted { steps.new ≤ steps.old + 2 }
     ensures takes { TakesOne left.entry right.entry from result }
-    ensures within { IsWithin from
+    ensures within { RunEndsBefore from
         (max (frontier_of left.entry.ring.now) (frontier_of right.entry.ring.now)) result }
     ensures enough { IsStoppedAfter
         (min (frontier_of left.entry.ring.now) (frontier_of right.entry.ring.now)) from result }

@@ -2,7 +2,7 @@
 
 ghost use Rattle.std.specs.Prelude.{◌≡◌};
 ghost use Rattle.obs_verify.specs.Running.{RunsFuture};
-ghost use Rattle.ft_engine.specs.Queues.{AreSound};
+ghost use Rattle.ft_engine.specs.Queues.{QueuesAreSound};
 ghost use Rattle.ft_engine.specs.Sound.{AreSound-prop};
 
 use crate::queue::{Queue, first_read, operand};
@@ -23,7 +23,7 @@ use std::sync::ledger::{Blank, Ledger};
 pub struct Ft {
     queues: Fixed<Queue>,
     slab: Fixed<Slot>,
-    ghost sound: { AreSound queues slab } by { AreSound-prop queues slab },
+    ghost sound: { QueuesAreSound queues slab } by { AreSound-prop queues slab },
 }
 
 impl Ft {
@@ -32,11 +32,11 @@ impl Ft {
     ghost use Rattle.mltl_base.specs.Atoms.{Row};
     ghost use Rattle.booleanizer.specs.Evaluation.{numbers_on};
     ghost use Rattle.ft_engine.specs.Running.{row_work};
-    ghost use Rattle.ft_engine.specs.Standing.{ShowsFrom, Stands, frontier_at, instruction_count, kept_verdict, lowest_at};
+    ghost use Rattle.ft_engine.specs.Standing.{ShowsFrom, FtHasTaken, frontier_at, instruction_count, kept_verdict, lowest_at};
 
     /// The engine of a program, before the first row. It takes all its memory at once.
     pub fn make(alloc: Global, checked: &Checked) -> Result<Ft, AllocError>
-        ensures stands { IfOk result (Stands checked.now []) }
+        ensures stands { IfOk result (FtHasTaken checked.now []) }
     {
         let program = program_of(checked);
         let ops = program.ft.as_slice();
@@ -59,8 +59,8 @@ impl Ft {
 
     /// Stands for no rows again, in the memory that it has.
     pub fn reset(&mut self, checked: &Checked)
-        requires stands { (rows : List Row) × Stands checked.now rows self.old }
-        ensures stands { Stands checked.now [] self.new }
+        requires stands { (rows : List Row) × FtHasTaken checked.now rows self.old }
+        ensures stands { FtHasTaken checked.now [] self.new }
     {
         let program = program_of(checked);
         restart(program.ft.as_slice(), self.queues.as_mut_slice());
@@ -69,11 +69,11 @@ impl Ft {
     /// Takes the row that the Booleanizer took last. It does not allocate.
     pub fn row<L: Ledger>(&mut self, checked: &Checked, bz: &Bz, steps: &mut Steps<L>)
         requires given { (row : Row) × (bz.now ≡ numbers_on row checked.now.bz) }
-        requires stands { (rows : List Row) × Stands checked.now rows self.old
+        requires stands { (rows : List Row) × FtHasTaken checked.now rows self.old
             × (length rows < MAX_MISSION) }
         ensures stands { (rows : List Row) (row : Row) → length rows < MAX_MISSION
-            → bz.now ≡ numbers_on row checked.now.bz → Stands checked.now rows self.old
-            → Stands checked.now (rows ++ row ∷ []) self.new }
+            → bz.now ≡ numbers_on row checked.now.bz → FtHasTaken checked.now rows self.old
+            → FtHasTaken checked.now (rows ++ row ∷ []) self.new }
         ensures counted { steps.new ≤ steps.old + row_work checked.now }
     {
         let program = program_of(checked);

@@ -4,7 +4,7 @@ ghost use Rattle.std.specs.Prelude.{◌≡◌, ℕ, ◌+◌, ◌-◌, ◌*◌, �
 ghost use Rattle.mltl_base.specs.declared.limits.TheConstants.{TIME_END};
 ghost use Rattle.mltl_base.specs.Verdicts.{Known, k_negation};
 ghost use Rattle.scq_ring.specs.Runs.{Belongs, frontier_of};
-ghost use Rattle.ft_engine.specs.Decisions.{Decides, GoesOn, IsReadable, ShownBy, operand_runs};
+ghost use Rattle.ft_engine.specs.Decisions.{Decides, GoesOn, CanBeReadFrom, ShownBy, operand_runs};
 
 use crate::operand::Operand;
 use mltl_base::steps::Steps;
@@ -19,7 +19,7 @@ pub fn not_row<L: Ledger>(
     steps: &mut Steps<L>,
 )
     requires belongs { Belongs own.old own_slots.old }
-    requires operand { IsReadable operand (frontier_of own.old) }
+    requires operand { CanBeReadFrom operand (frontier_of own.old) }
     requires in_time { frontier_of operand.ring.now ≤ TIME_END }
     ensures goes_on { GoesOn own.old own_slots.old own.new own_slots.new }
     ensures frontier { frontier_of own.new

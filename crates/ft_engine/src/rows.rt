@@ -3,9 +3,9 @@
 ghost use Rattle.std.specs.Prelude.{◌≡◌, ℕ, ◌+◌, ◌^◌, ◌<◌, ◌≤◌, length};
 ghost use Rattle.mltl_base.specs.declared.limits.TheConstants.{MAX_MISSION};
 ghost use Rattle.mltl_base.specs.declared.operators.FtOp.TheVariants.{Load as loads};
-ghost use Rattle.ft_engine.specs.Plans.{CanTakeRow, IsOnPlan, IsPaced, IsReady, Plan};
+ghost use Rattle.ft_engine.specs.Plans.{CanTakeRow, IsOnPlan, IsPaced, IsReadyForRow, Plan};
 ghost use Rattle.ft_engine.specs.Queues.{KeepsSeats, op_at, size_in, work_before, work_of};
-ghost use Rattle.ft_engine.specs.Tables.{AgreeOnLoads, Agrees, HaveVerdicts, IsTold, IsUpToDate, Loads, Table, TakesRow};
+ghost use Rattle.ft_engine.specs.Tables.{AgreeOnLoads, Agrees, HaveVerdicts, KnowsVerdicts, IsUpToDate, Loads, VerdictTable, QueuesTake};
 
 use crate::conjunction::and_row;
 use crate::negation::not_row;
@@ -31,11 +31,11 @@ fn step<L: Ledger>(
     requires ready { CanTakeRow op before.now earlier.now queue.old own.old }
     ensures seat { queue.new.seat ≡ queue.old.seat }
     ensures pace { (plan : Plan) (n : ℕ)
-        → IsReady plan n op before.now earlier.now queue.old own.old
+        → IsReadyForRow plan n op before.now earlier.now queue.old own.old
         → IsOnPlan plan op before.now queue.new own.new (n + 1) }
     ensures counted { steps.new ≤ steps.old + work_of (size_in before.now) op (length own.old) }
-    ensures verdicts { (plan : Plan) (truth : Loads) (n : ℕ) (old new : Table)
-        → IsTold plan truth n op before.now earlier.now queue.old own.old old new
+    ensures verdicts { (plan : Plan) (truth : Loads) (n : ℕ) (old new : VerdictTable)
+        → KnowsVerdicts plan truth n op before.now earlier.now queue.old own.old old new
         → Agrees op (truth n) bz.now → IsUpToDate op new before.now queue.new own.new }
 {
     let next = queue.ring.frontier();
@@ -77,8 +77,8 @@ pub fn row_of<L: Ledger>(
         → IsPaced plan ops.now queues.new slab.new (n + 1) }
     ensures counted { steps.new
         ≤ steps.old + work_before ops.now (size_in queues.old) (length ops.now) }
-    ensures verdicts { (plan : Plan) (truth : Loads) (n : ℕ) (old new : Table)
-        → TakesRow plan truth n ops.now queues.old slab.old old new
+    ensures verdicts { (plan : Plan) (truth : Loads) (n : ℕ) (old new : VerdictTable)
+        → QueuesTake plan truth n ops.now queues.old slab.old old new
         → AgreeOnLoads ops.now (truth n) bz.now → HaveVerdicts ops.now new queues.new slab.new }
 {
     for i in 0..ops.len() {

@@ -11,7 +11,7 @@ use Rattle.mltl_base.specs.Atoms.{Row}
 use Rattle.mltl_base.specs.Formula.{Core, ctrue, catom, cnot, cand, cuntil, csince, plain, core}
 use Rattle.mltl_base.specs.Verdicts.{known_front}
 use Rattle.mltl_base.specs.Reports.{Output, formula, contract, word_of, status, words, of_words, of_row, reports_after, reports}
-use Rattle.mltl_base.specs.Programs.{Expression, atom_of, expressions, atoms, core_at, formulas, past_formulas, cores_of, output_of, outputs, name_of, output_names}
+use Rattle.mltl_base.specs.Programs.{Expression, atom_of, expressions, atoms, core_at, formulas, past_formulas, cores_of, output_of, outputs, out_name, output_names}
 use Rattle.mltl_base.specs.Subformulas.{same, place_of, Asked, cores_of_output, formulas_of, same_engine, all_cores, cores_for, subformulas, bz_expressions, bz_list, ft_list, pt_list, out_by, out_list, core_output, IsOfTense, IsTensed, HasListsOf}
 use Rattle.mltl_base.proofs.CoreVerdicts.{core_verdicts}
 use Rattle.mltl_base.proofs.Sameness.{same_sound, same_self}
@@ -123,11 +123,11 @@ pub outputs_unfold : (program : Program) (outs : List Asked) → program.bz ≡ 
 outputs_unfold program outs b f p o t =
     rw o (outs_unfold program outs outs (cores_listed program outs b f p t) (all_listed outs))
 
-named : (ps : List Core) (e : Engine) (name : List ℕ) (o : Output) → name_of (out_by ps e name o) ≡ name
+named : (ps : List Core) (e : Engine) (name : List ℕ) (o : Output) → out_name (out_by ps e name o) ≡ name
 named ps e name (formula p) = refl
 named ps e name (contract p q) = refl
 
-outs_named : (all outs : List Asked) → map name_of (map (λ a. out_by (subformulas a.engine all) a.engine a.name a.output) outs) ≡ map (λ a. a.name) outs
+outs_named : (all outs : List Asked) → map out_name (map (λ a. out_by (subformulas a.engine all) a.engine a.name a.output) outs) ≡ map (λ a. a.name) outs
 outs_named all [] = refl
 outs_named all (a ∷ outs) = ap₂ ◌∷◌ (named (subformulas a.engine all) a.engine a.name a.output) (outs_named all outs)
 

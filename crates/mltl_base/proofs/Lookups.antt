@@ -12,7 +12,7 @@ use Rattle.std.proofs.lemmas.Bool.{eq-eqb, ne_eqb}
 use Rattle.std.proofs.lemmas.List.{length_push}
 use Rattle.std.proofs.lemmas.Map.Text.{is_eq-slice_cmp}
 use Rattle.std.proofs.lemmas.Slice.Eq.{bytes_eq-Decides}
-use Rattle.mltl_base.specs.Entries.{AreBelow, AreNumbered, entries_from, name_of, number_in}
+use Rattle.mltl_base.specs.Entries.{AreBelow, AreNumbered, entries_from, entry_name, entry_number}
 use Rattle.mltl_base.specs.Tables.{Table, entry_of}
 
 -- the order of names finds what equality finds
@@ -24,14 +24,14 @@ found_by_order name (e ∷ numbers) =
     ∙ ap (cond (bytes_eq name e.0.items) (Some e.1)) (found_by_order name numbers)
 
 -- an entry by its number, among those from number m on
-at_number : {V : Type 0} (name : List ℕ) (m n : ℕ) (entries : Table V) → number_in name m entries ≡ Some n →
+at_number : {V : Type 0} (name : List ℕ) (m n : ℕ) (entries : Table V) → entry_number name m entries ≡ Some n →
     (m ≤ n) × (entry_of name entries ≡ option_map (λ (e : List ℕ × V). e.1) (slice_get entries (n - m)))
 at_number name m n [] h = cc
 at_number {V} name m n (e ∷ entries) h = here (bytes_eq name e.0) (at_number name (m + 1) n entries) h
   where
     here : (b : Bool) →
-        (number_in name (m + 1) entries ≡ Some n → (m + 1 ≤ n) × (entry_of name entries ≡ option_map (λ (e : List ℕ × V). e.1) (slice_get entries (n - (m + 1))))) →
-        cond b (Some m) (number_in name (m + 1) entries) ≡ Some n →
+        (entry_number name (m + 1) entries ≡ Some n → (m + 1 ≤ n) × (entry_of name entries ≡ option_map (λ (e : List ℕ × V). e.1) (slice_get entries (n - (m + 1))))) →
+        cond b (Some m) (entry_number name (m + 1) entries) ≡ Some n →
         (m ≤ n) × (cond b (Some e.1) (entry_of name entries) ≡ option_map (λ (e : List ℕ × V). e.1) (slice_get (e ∷ entries) (n - m)))
     here true rest h =
         let same : m ≡ n = cc in
@@ -43,12 +43,12 @@ at_number {V} name m n (e ∷ entries) h = here (bytes_eq name e.0) (at_number n
         let next : suc (n - (m + 1)) ≡ n - m = omega arith in
         (omega arith, p.1 ∙ ap (λ k. option_map (λ (e : List ℕ × V). e.1) (slice_get (e ∷ entries) k)) next)
 
-pub no_number : {V : Type 0} (name : List ℕ) (m : ℕ) (entries : Table V) → is_some (number_in name m entries) ≡ is_some (entry_of name entries)
+pub no_number : {V : Type 0} (name : List ℕ) (m : ℕ) (entries : Table V) → is_some (entry_number name m entries) ≡ is_some (entry_of name entries)
 no_number name m [] = refl
 no_number {V} name m (e ∷ entries) = here (bytes_eq name e.0) (no_number name (m + 1) entries)
   where
-    here : (b : Bool) → is_some (number_in name (m + 1) entries) ≡ is_some (entry_of name entries) →
-        is_some (cond b (Some m) (number_in name (m + 1) entries)) ≡ is_some (cond b (Some e.1) (entry_of name entries))
+    here : (b : Bool) → is_some (entry_number name (m + 1) entries) ≡ is_some (entry_of name entries) →
+        is_some (cond b (Some m) (entry_number name (m + 1) entries)) ≡ is_some (cond b (Some e.1) (entry_of name entries))
     here true rest = refl
     here false rest = rest
 
@@ -102,33 +102,33 @@ not_found name numbers values known h =
 
 -- one more value
 values_more : {A V : Type 0} (m : ℕ) (numbers : List (Vec ℕ A × ℕ)) (values : List V) (v : V) →
-    entries_from m numbers (values ++ v ∷ []) ≡ entries_from m numbers values ++ (name_of (m + length values) numbers, v) ∷ []
-values_more m numbers [] v = let e : m ≡ m + 0 = omega arith in ap (λ (n : ℕ). (name_of n numbers, v) ∷ []) e
+    entries_from m numbers (values ++ v ∷ []) ≡ entries_from m numbers values ++ (entry_name (m + length values) numbers, v) ∷ []
+values_more m numbers [] v = let e : m ≡ m + 0 = omega arith in ap (λ (n : ℕ). (entry_name n numbers, v) ∷ []) e
 values_more m numbers (w ∷ values) v =
     let e : m + 1 + length values ≡ m + suc (length values) = omega arith in
-    ap (λ es. (name_of m numbers, w) ∷ es) (values_more (m + 1) numbers values v ∙ ap (λ (n : ℕ). entries_from (m + 1) numbers values ++ (name_of n numbers, v) ∷ []) e)
+    ap (λ es. (entry_name m numbers, w) ∷ es) (values_more (m + 1) numbers values v ∙ ap (λ (n : ℕ). entries_from (m + 1) numbers values ++ (entry_name n numbers, v) ∷ []) e)
 
 -- other names for the same numbers
-values_same : {A V : Type 0} (m : ℕ) (old new : List (Vec ℕ A × ℕ)) (values : List V) → ((n : ℕ) → n < m + length values → name_of n new ≡ name_of n old) →
+values_same : {A V : Type 0} (m : ℕ) (old new : List (Vec ℕ A × ℕ)) (values : List V) → ((n : ℕ) → n < m + length values → entry_name n new ≡ entry_name n old) →
     entries_from m new values ≡ entries_from m old values
 values_same m old new [] same = refl
 values_same m old new (v ∷ values) same =
     let rest = values_same (m + 1) old new values (λ n l. same n (omega arith)) in
-    ap (λ (x : List ℕ). (x, v) ∷ entries_from (m + 1) new values) (same m (omega arith)) ∙ ap (λ es. (name_of m old, v) ∷ es) rest
+    ap (λ (x : List ℕ). (x, v) ∷ entries_from (m + 1) new values) (same m (omega arith)) ∙ ap (λ es. (entry_name m old, v) ∷ es) rest
 
 number_more : {V : Type 0} (name : List ℕ) (m : ℕ) (entries : Table V) (e : List ℕ × V) →
-    number_in name m (entries ++ e ∷ []) ≡ cond (is_some (number_in name m entries)) (number_in name m entries) (cond (bytes_eq name e.0) (Some (m + length entries)) None)
+    entry_number name m (entries ++ e ∷ []) ≡ cond (is_some (entry_number name m entries)) (entry_number name m entries) (cond (bytes_eq name e.0) (Some (m + length entries)) None)
 number_more name m [] e = let same : m ≡ m + 0 = omega arith in ap (λ (n : ℕ). cond (bytes_eq name e.0) (Some n) None) same
 number_more {V} name m (d ∷ entries) e = here (bytes_eq name d.0) (number_more name (m + 1) entries e)
   where
     here : (b : Bool) →
-        number_in name (m + 1) (entries ++ e ∷ []) ≡ cond (is_some (number_in name (m + 1) entries)) (number_in name (m + 1) entries) (cond (bytes_eq name e.0) (Some (m + 1 + length entries)) None) →
-        cond b (Some m) (number_in name (m + 1) (entries ++ e ∷ []))
-        ≡ cond (is_some (cond b (Some m) (number_in name (m + 1) entries))) (cond b (Some m) (number_in name (m + 1) entries)) (cond (bytes_eq name e.0) (Some (m + suc (length entries))) None)
+        entry_number name (m + 1) (entries ++ e ∷ []) ≡ cond (is_some (entry_number name (m + 1) entries)) (entry_number name (m + 1) entries) (cond (bytes_eq name e.0) (Some (m + 1 + length entries)) None) →
+        cond b (Some m) (entry_number name (m + 1) (entries ++ e ∷ []))
+        ≡ cond (is_some (cond b (Some m) (entry_number name (m + 1) entries))) (cond b (Some m) (entry_number name (m + 1) entries)) (cond (bytes_eq name e.0) (Some (m + suc (length entries))) None)
     here true rest = refl
     here false rest =
         let same : m + 1 + length entries ≡ m + suc (length entries) = omega arith in
-        rest ∙ ap (λ (n : ℕ). cond (is_some (number_in name (m + 1) entries)) (number_in name (m + 1) entries) (cond (bytes_eq name e.0) (Some n) None)) same
+        rest ∙ ap (λ (n : ℕ). cond (is_some (entry_number name (m + 1) entries)) (entry_number name (m + 1) entries) (cond (bytes_eq name e.0) (Some n) None)) same
 
 -- the numbers after a new name got one that is past theirs
 module _ {A : Type 0} (key : Vec ℕ A) (n : ℕ) where
@@ -164,30 +164,30 @@ module _ {A : Type 0} (key : Vec ℕ A) (n : ℕ) where
       here rest all Equal = (omega arith, all.1)
       here rest all Greater = (all.0, rest)
 
-  put_name : (numbers : List (Vec ℕ A × ℕ)) → AreBelow n numbers → lookup (λ k. bytes_eq key.items k.items) numbers ≡ None → name_of n (put numbers) ≡ key.items
+  put_name : (numbers : List (Vec ℕ A × ℕ)) → AreBelow n numbers → lookup (λ k. bytes_eq key.items k.items) numbers ≡ None → entry_name n (put numbers) ≡ key.items
   put_name [] h none = ap (λ b. cond b key.items []) (eq-eqb n n refl)
   put_name (e ∷ numbers) h none =
       let absent = not_first e numbers none in
       here (put_name numbers h.1 absent.1) (no_equal e.0 absent.0) (slice_cmp nat_cmp key.items e.0.items) refl
     where
-      here : name_of n (put numbers) ≡ key.items → (slice_cmp nat_cmp key.items e.0.items ≡ Equal → ⊥) → (o : Ordering) → slice_cmp nat_cmp key.items e.0.items ≡ o →
-          name_of n (match_ordering o ((key, n) ∷ e ∷ numbers) ((e.0, n) ∷ numbers) (e ∷ put numbers)) ≡ key.items
-      here rest other Less is = ap (λ b. cond b key.items (name_of n (e ∷ numbers))) (eq-eqb n n refl)
+      here : entry_name n (put numbers) ≡ key.items → (slice_cmp nat_cmp key.items e.0.items ≡ Equal → ⊥) → (o : Ordering) → slice_cmp nat_cmp key.items e.0.items ≡ o →
+          entry_name n (match_ordering o ((key, n) ∷ e ∷ numbers) ((e.0, n) ∷ numbers) (e ∷ put numbers)) ≡ key.items
+      here rest other Less is = ap (λ b. cond b key.items (entry_name n (e ∷ numbers))) (eq-eqb n n refl)
       here rest other Equal is = absurd (other is)
       here rest other Greater is =
           let l : e.1 < n = h.0 in
           let no : (e.1 == n) ≡ false = ne_eqb e.1 n (λ s. omega arith) in
-          ap (λ b. cond b e.0.items (name_of n (put numbers))) no ∙ rest
+          ap (λ b. cond b e.0.items (entry_name n (put numbers))) no ∙ rest
 
-  put_others : (numbers : List (Vec ℕ A × ℕ)) (m : ℕ) → m < n → lookup (λ k. bytes_eq key.items k.items) numbers ≡ None → name_of m (put numbers) ≡ name_of m numbers
+  put_others : (numbers : List (Vec ℕ A × ℕ)) (m : ℕ) → m < n → lookup (λ k. bytes_eq key.items k.items) numbers ≡ None → entry_name m (put numbers) ≡ entry_name m numbers
   put_others [] m l none = let no : (n == m) ≡ false = ne_eqb n m (λ s. omega arith) in ap (λ b. cond b key.items []) no
   put_others (e ∷ numbers) m l none =
       let absent = not_first e numbers none in
       here (put_others numbers m l absent.1) (no_equal e.0 absent.0) (slice_cmp nat_cmp key.items e.0.items) refl
     where
-      here : name_of m (put numbers) ≡ name_of m numbers → (slice_cmp nat_cmp key.items e.0.items ≡ Equal → ⊥) → (o : Ordering) → slice_cmp nat_cmp key.items e.0.items ≡ o →
-          name_of m (match_ordering o ((key, n) ∷ e ∷ numbers) ((e.0, n) ∷ numbers) (e ∷ put numbers)) ≡ name_of m (e ∷ numbers)
-      here rest other Less is = let no : (n == m) ≡ false = ne_eqb n m (λ s. omega arith) in ap (λ b. cond b key.items (name_of m (e ∷ numbers))) no
+      here : entry_name m (put numbers) ≡ entry_name m numbers → (slice_cmp nat_cmp key.items e.0.items ≡ Equal → ⊥) → (o : Ordering) → slice_cmp nat_cmp key.items e.0.items ≡ o →
+          entry_name m (match_ordering o ((key, n) ∷ e ∷ numbers) ((e.0, n) ∷ numbers) (e ∷ put numbers)) ≡ entry_name m (e ∷ numbers)
+      here rest other Less is = let no : (n == m) ≡ false = ne_eqb n m (λ s. omega arith) in ap (λ b. cond b key.items (entry_name m (e ∷ numbers))) no
       here rest other Equal is = absurd (other is)
       here rest other Greater is = ap (cond (e.1 == m) e.0.items) rest
 
@@ -226,26 +226,26 @@ module _ {A V : Type 0} (key : Vec ℕ A) (v : V) (numbers : List (Vec ℕ A × 
   entries_more =
       let whole : 0 + length values ≡ length values = omega arith in
       values_more 0 put_last values v
-      ∙ (ap (λ (n : ℕ). entries_from 0 put_last values ++ (name_of n put_last, v) ∷ []) whole
-      ∙ (ap (λ es. es ++ (name_of (length values) put_last, v) ∷ []) (values_same 0 numbers put_last values (λ n l. put_others key (length values) numbers n (omega arith) none))
+      ∙ (ap (λ (n : ℕ). entries_from 0 put_last values ++ (entry_name n put_last, v) ∷ []) whole
+      ∙ (ap (λ es. es ++ (entry_name (length values) put_last, v) ∷ []) (values_same 0 numbers put_last values (λ n l. put_others key (length values) numbers n (omega arith) none))
       ∙ ap (λ (x : List ℕ). entries_from 0 numbers values ++ (x, v) ∷ []) (put_name key (length values) numbers known.below none)))
 
   pub numbered_more : AreNumbered put_last (values ++ v ∷ [])
   numbered_more = record {
     below = subst (λ n. AreBelow n put_last) (sym (length_push values v)) (put_below key (length values) numbers known.below);
     found = λ name. put_found key (length values) name numbers none ∙ (ap (cond (bytes_eq name key.items) (Some (length values))) (known.found name)
-        ∙ (turned name (bytes_eq name key.items) refl ∙ (sym (number_more name 0 (entries_from 0 numbers values) (key.items, v)) ∙ ap (number_in name 0) (sym entries_more))));
+        ∙ (turned name (bytes_eq name key.items) refl ∙ (sym (number_more name 0 (entries_from 0 numbers values) (key.items, v)) ∙ ap (entry_number name 0) (sym entries_more))));
   }
     where
       turned : (name : List ℕ) (b : Bool) → bytes_eq name key.items ≡ b →
-          cond b (Some (length values)) (number_in name 0 (entries_from 0 numbers values))
-          ≡ cond (is_some (number_in name 0 (entries_from 0 numbers values))) (number_in name 0 (entries_from 0 numbers values)) (cond b (Some (0 + length (entries_from 0 numbers values))) None)
+          cond b (Some (length values)) (entry_number name 0 (entries_from 0 numbers values))
+          ≡ cond (is_some (entry_number name 0 (entries_from 0 numbers values))) (entry_number name 0 (entries_from 0 numbers values)) (cond b (Some (0 + length (entries_from 0 numbers values))) None)
       turned name true e =
           let same : name ≡ key.items = (bytes_eq-Decides name key.items).0 e in
-          let absent : number_in name 0 (entries_from 0 numbers values) ≡ None = sym (known.found name) ∙ (ap (λ (x : List ℕ). lookup (λ k. bytes_eq x k.items) numbers) same ∙ none) in
+          let absent : entry_number name 0 (entries_from 0 numbers values) ≡ None = sym (known.found name) ∙ (ap (λ (x : List ℕ). lookup (λ k. bytes_eq x k.items) numbers) same ∙ none) in
           let size : length values ≡ 0 + length (entries_from 0 numbers values) = omega (arith, length-entries 0 numbers values) in
           ap Some size ∙ ap (λ o. cond (is_some o) o (Some (0 + length (entries_from 0 numbers values)))) (sym absent)
-      turned name false e = other (number_in name 0 (entries_from 0 numbers values))
+      turned name false e = other (entry_number name 0 (entries_from 0 numbers values))
         where
           other : (o : Option ℕ) → o ≡ cond (is_some o) o None
           other None = refl

@@ -9,7 +9,7 @@ use Rattle.mltl_base.specs.declared.program.Program.{Program}
 use Rattle.mltl_base.specs.Formula.{Formula, Core, plain, core}
 use Rattle.mltl_base.specs.Reports.{Output, formula, contract}
 use Rattle.mltl_base.specs.Programs.{Expression, expressions, cores_of}
-use Rattle.mltl_base.specs.Subformulas.{same, place_of, add_subformulas, add_expressions, Asked, cores_of_output, formulas_of, same_engine, all_cores, cores_for, subformulas, bz_expressions, bz_instruction, ft_instruction, pt_instruction, out_by, core_output, asked_by, unfolded_outputs, IsOfTense, IsTensed, HasListsOf}
+use Rattle.mltl_base.specs.Subformulas.{same, place_of, add_subformulas, add_expressions, Asked, cores_of_output, formulas_of, same_engine, all_cores, cores_for, subformulas, bz_expressions, bz_instruction, ft_instruction, pt_instruction, out_by, core_output, asked_of_program, unfolded_outputs, IsOfTense, IsTensed, HasListsOf}
 use Rattle.mltl_base.proofs.CoreForms.{core_again}
 use Rattle.mltl_base.proofs.Tenses.{core_stays_future, core_stays_past}
 use Rattle.mltl_base.proofs.Unfolding.{Has, Each}
@@ -21,16 +21,16 @@ abbrev pub core_asked : Asked → Asked
 core_asked a = record { engine = a.engine; name = a.name; output = core_output a.output }
 
 by_output : (program : Program) (ps : List Core) (a : Asked) → cores_of program a.engine ≡ ps → Each (Has ps) (cores_of_output a.output) →
-    asked_by program (out_by ps a.engine a.name a.output) ≡ core_asked a
+    asked_of_program program (out_by ps a.engine a.name a.output) ≡ core_asked a
 by_output program ps a q h = go a.output (output_unfolds program ps a.engine a.name a.output q h) refl
   where
     go : (o : Output) → Rattle.mltl_base.specs.Programs.output_of program (out_by ps a.engine a.name o) ≡ core_output a.output → o ≡ o →
-        asked_by program (out_by ps a.engine a.name o) ≡ core_asked a
+        asked_of_program program (out_by ps a.engine a.name o) ≡ core_asked a
     go (formula p) e r = ap (λ (x : Output). let y : Asked = record { engine = a.engine; name = a.name; output = x } in y) e
     go (contract p s) e r = ap (λ (x : Output). let y : Asked = record { engine = a.engine; name = a.name; output = x } in y) e
 
 by_outputs : (program : Program) (all outs : List Asked) → ((e : Engine) → cores_of program e ≡ subformulas e all) → Each (λ a. Each (Has (subformulas a.engine all)) (cores_of_output a.output)) outs →
-    map (asked_by program) (map (λ a. out_by (subformulas a.engine all) a.engine a.name a.output) outs) ≡ map core_asked outs
+    map (asked_of_program program) (map (λ a. out_by (subformulas a.engine all) a.engine a.name a.output) outs) ≡ map core_asked outs
 by_outputs program all [] q h = refl
 by_outputs program all (a ∷ outs) q h =
     ap₂ ◌∷◌ (by_output program (subformulas a.engine all) a (q a.engine) h.0) (by_outputs program all outs q h.1)

@@ -5,7 +5,7 @@ use Rattle.std.proofs.Common.{◌≡◌, suc, Bool, true, false, if◌then◌els
 use Rattle.std.proofs.lemmas.Option.{get_or_from_slice_get}
 use Rattle.mltl_base.specs.Atoms.{Atom, is_true}
 use Rattle.mltl_base.specs.Formula.{Core, ctrue, catom, cnot, cand, cuntil, csince}
-use Rattle.mltl_base.specs.Programs.{Expression, truth, core_at, formula_of, past_formula_of, formulas_after, past_formulas_after, formulas, past_formulas}
+use Rattle.mltl_base.specs.Programs.{Expression, truth, core_at, op_formula, past_formula_of, formulas_after, past_formulas_after, formulas, past_formulas}
 use Rattle.mltl_base.specs.Subformulas.{same_expression, same, listed, place_of, add_new, add_subformulas, ft_instruction, pt_instruction}
 use Rattle.mltl_base.proofs.Sameness.{same_sound, same_self}
 use Rattle.mltl_base.proofs.Listing.{added_has, added_keeps, place_append, place_get}
@@ -105,7 +105,7 @@ IsPtHead loaded es (cuntil i p q) = ⊥
 IsPtHead loaded es _ = ⊤
 
 ft_unfolds : (loaded : List Atom) (es : List Expression) (before rest : List Core) (p : Core) → HasOperands before p → IsFtHead loaded es p →
-    formula_of loaded before (ft_instruction es (before ++ rest) p) ≡ p
+    op_formula loaded before (ft_instruction es (before ++ rest) p) ≡ p
 ft_unfolds loaded es before rest ctrue h g = refl
 ft_unfolds loaded es before rest (catom a) h g = ap catom g
 ft_unfolds loaded es before rest (cnot p) h g = ap cnot (core_at_place p before rest h)
@@ -127,7 +127,7 @@ ft_after : (loaded : List Atom) (es : List Expression) (all before ps : List Cor
 unfolding formulas_after
 ft_after loaded es all before [] e h g = sym (append-nil before)
 ft_after loaded es all before (p ∷ ps) e h g =
-    let here : formula_of loaded before (ft_instruction es all p) ≡ p = rw e (ft_unfolds loaded es before (p ∷ ps) p h.0 g.0) in
+    let here : op_formula loaded before (ft_instruction es all p) ≡ p = rw e (ft_unfolds loaded es before (p ∷ ps) p h.0 g.0) in
     let next : before ++ p ∷ ps ≡ (before ++ p ∷ []) ++ ps = sym (append_assoc before (p ∷ []) ps) in
     ap (λ (c : Core). formulas_after loaded (before ++ c ∷ []) (map (ft_instruction es all) ps)) here
     ∙ (ft_after loaded es all (before ++ p ∷ []) ps (e ∙ next) h.1 g.1 ∙ sym next)

@@ -11,6 +11,6 @@ reason Divisor = divisor
 reason Wide = wide
 
 -- a result is the range that is defined, or the reason why there is none
-abbrev pub Tells : Result Range answer.NoRange → Ranged → Type 0
-Tells (Ok range) defined = defined ≡ Ok range
-Tells (Err why) defined = defined ≡ Err (reason why)
+abbrev pub IsRangeOf : Result Range answer.NoRange → Ranged → Type 0
+IsRangeOf (Ok range) defined = defined ≡ Ok range
+IsRangeOf (Err why) defined = defined ≡ Err (reason why)

@@ -7,19 +7,19 @@ use Rattle.std.specs.declared.vec.Vec.{Vec}
 use Rattle.mltl_base.specs.Tables.{Table}
 
 -- the name that has a number
-abbrev pub name_of : {A : Type 0} → ℕ → List (Vec ℕ A × ℕ) → List ℕ
-name_of n [] = []
-name_of n (e ∷ numbers) = if e.1 == n then e.0.items else name_of n numbers
+abbrev pub entry_name : {A : Type 0} → ℕ → List (Vec ℕ A × ℕ) → List ℕ
+entry_name n [] = []
+entry_name n (e ∷ numbers) = if e.1 == n then e.0.items else entry_name n numbers
 
 -- the values with their names, the first of which has number n
 abbrev pub entries_from : {A V : Type 0} → ℕ → List (Vec ℕ A × ℕ) → List V → Table V
 entries_from n numbers [] = []
-entries_from n numbers (v ∷ values) = (name_of n numbers, v) ∷ entries_from (n + 1) numbers values
+entries_from n numbers (v ∷ values) = (entry_name n numbers, v) ∷ entries_from (n + 1) numbers values
 
 -- the number of a name's entry, where the first entry has number n
-abbrev pub number_in : {V : Type 0} → List ℕ → ℕ → Table V → Option ℕ
-number_in name n [] = None
-number_in name n (e ∷ entries) = if bytes_eq name e.0 then Some n else number_in name (n + 1) entries
+abbrev pub entry_number : {V : Type 0} → List ℕ → ℕ → Table V → Option ℕ
+entry_number name n [] = None
+entry_number name n (e ∷ entries) = if bytes_eq name e.0 then Some n else entry_number name (n + 1) entries
 
 -- each number is below n
 abbrev pub AreBelow : {A : Type 0} → ℕ → List (Vec ℕ A × ℕ) → Type 0
@@ -29,5 +29,5 @@ AreBelow n (e ∷ numbers) = (e.1 < n) × AreBelow n numbers
 -- each name has the number of its entry
 pub record AreNumbered {A V : Type 0} (numbers : List (Vec ℕ A × ℕ)) (values : List V) : Type 0 where
   pub below : AreBelow (length values) numbers
-  pub found : (name : List ℕ) → lookup (λ key. bytes_eq name key.items) numbers ≡ number_in name 0
+  pub found : (name : List ℕ) → lookup (λ key. bytes_eq name key.items) numbers ≡ entry_number name 0
       (entries_from 0 numbers values)

@@ -24,10 +24,10 @@ pub data Expression : Type 0 where
   truth : Atom → Expression
 
 -- the integer at an index, else 0
-abbrev pub term_of : Option Expression → Term
-term_of (Some (whole e)) = e
-term_of (Some (truth a)) = constant (pos 0)
-term_of None = constant (pos 0)
+abbrev pub expression_term : Option Expression → Term
+expression_term (Some (whole e)) = e
+expression_term (Some (truth a)) = constant (pos 0)
+expression_term None = constant (pos 0)
 
 -- the Boolean at an index, else that of column 0
 abbrev pub atom_of : Option Expression → Atom
@@ -37,7 +37,7 @@ atom_of None = is_true 0
 
 -- the integer of instruction n, over those before
 abbrev pub term_at : List Expression → ℕ → Term
-term_at before n = term_of (slice_get before n)
+term_at before n = expression_term (slice_get before n)
 
 -- the expression of an instruction, over those of the instructions before it
 abbrev pub expression_of : List Expression → bz.BzOp → Expression
@@ -72,12 +72,12 @@ abbrev pub core_at : List Core → ℕ → Core
 core_at before n = slice_index_or before n ctrue
 
 -- the formula of an ft instruction, over the atoms that are loaded and the formulas of the instructions before it
-abbrev pub formula_of : List Atom → List Core → ft.FtOp → Core
-formula_of loaded before ft.TheVariants.True = ctrue
-formula_of loaded before (ft.TheVariants.Load a) = catom (slice_index_or loaded a (is_true 0))
-formula_of loaded before (ft.TheVariants.Not a) = cnot (core_at before a)
-formula_of loaded before (ft.TheVariants.And a b) = cand (core_at before a) (core_at before b)
-formula_of loaded before (ft.TheVariants.Until a b i) = cuntil i (core_at before a) (core_at before b)
+abbrev pub op_formula : List Atom → List Core → ft.FtOp → Core
+op_formula loaded before ft.TheVariants.True = ctrue
+op_formula loaded before (ft.TheVariants.Load a) = catom (slice_index_or loaded a (is_true 0))
+op_formula loaded before (ft.TheVariants.Not a) = cnot (core_at before a)
+op_formula loaded before (ft.TheVariants.And a b) = cand (core_at before a) (core_at before b)
+op_formula loaded before (ft.TheVariants.Until a b i) = cuntil i (core_at before a) (core_at before b)
 
 -- the formula of a pt instruction, in the same way
 abbrev pub past_formula_of : List Atom → List Core → pt.PtOp → Core
@@ -90,7 +90,7 @@ past_formula_of loaded before (pt.TheVariants.Since a b i) = csince i (core_at b
 -- the formulas of further ft instructions, after those before
 unfoldable pub formulas_after : List Atom → List Core → List ft.FtOp → List Core
 formulas_after loaded before [] = before
-formulas_after loaded before (op ∷ ops) = formulas_after loaded (before ++ formula_of loaded before op ∷ []) ops
+formulas_after loaded before (op ∷ ops) = formulas_after loaded (before ++ op_formula loaded before op ∷ []) ops
 
 -- the formulas of further pt instructions, after those before
 unfoldable pub past_formulas_after : List Atom → List Core → List pt.PtOp → List Core
@@ -122,9 +122,9 @@ output_of program (out.TheVariants.Contract engine i j name) =
     contract (plain (formula_at program engine i)) (plain (formula_at program engine j))
 
 -- the name of an output
-abbrev pub name_of : out.Out → List ℕ
-name_of (out.TheVariants.Formula engine i name) = name
-name_of (out.TheVariants.Contract engine i j name) = name
+abbrev pub out_name : out.Out → List ℕ
+out_name (out.TheVariants.Formula engine i name) = name
+out_name (out.TheVariants.Contract engine i j name) = name
 
 -- the outputs of a program with their formulas
 abbrev pub outputs : Program → List Output
@@ -132,7 +132,7 @@ outputs program = map (output_of program) program.outs
 
 -- the names of the outputs of a program
 abbrev pub output_names : Program → List (List ℕ)
-output_names program = map name_of program.outs
+output_names program = map out_name program.outs
 
 -- what an instruction requires of a row: a Boolean is 0 or 1, an integer has 32 bits with a sign
 abbrev pub FitsRow : Row → bz.BzOp → Type 0

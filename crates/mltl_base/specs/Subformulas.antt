@@ -229,15 +229,15 @@ core_output (formula p) = formula (plain (core p))
 core_output (contract p q) = contract (plain (core p)) (plain (core q))
 
 -- an output of a program as one of a specification, by the formulas that its instructions unfold to
-abbrev pub asked_by : Program → out.Out → Asked
-asked_by program (out.TheVariants.Formula engine i name) =
+abbrev pub asked_of_program : Program → out.Out → Asked
+asked_of_program program (out.TheVariants.Formula engine i name) =
     record { engine = engine; name = name; output = output_of program (out.TheVariants.Formula engine i name) }
-asked_by program (out.TheVariants.Contract engine i j name) =
+asked_of_program program (out.TheVariants.Contract engine i j name) =
     record { engine = engine; name = name; output = output_of program (out.TheVariants.Contract engine i j name) }
 
 -- the outputs of a program as those of a specification
 abbrev pub unfolded_outputs : Program → List Asked
-unfolded_outputs program = map (asked_by program) program.outs
+unfolded_outputs program = map (asked_of_program program) program.outs
 
 -- no formula mixes tenses: one of the future engine has no operator of the past, and the other way round
 abbrev pub IsOfTense : Engine → Formula → Type 0

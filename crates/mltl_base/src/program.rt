@@ -1,7 +1,7 @@
 //! Observer programs and their parts.
 
 ghost use Rattle.std.specs.Prelude.{◌≡◌};
-ghost use Rattle.mltl_base.specs.Programs.{name_of};
+ghost use Rattle.mltl_base.specs.Programs.{out_name};
 
 use crate::{BzOp, Engine, FtOp, List, Name, PtOp};
 
@@ -16,7 +16,7 @@ pub enum Out {
 impl Out {
     /// The name under which it is reported.
     pub fn name(&self) -> &Name
-        ensures name { result.now ≡ name_of self.now }
+        ensures name { result.now ≡ out_name self.now }
     {
         match self {
             Out::Formula(_, _, name) | Out::Contract(_, _, _, name) => name,

@@ -2,7 +2,7 @@
 
 ghost use Rattle.std.specs.Prelude.{◌≡◌, ◌≢◌, ◌≤ℤ◌, neg_ℤ, ◌+ℤ◌, ◌-ℤ◌, ◌*ℤ◌, int_div, pos, Ok, true, false, IfOk, IfErr};
 ghost use Rattle.mltl_base.specs.Ranges.{Range as Values, divided, divides, in_word as within_word, left_over, lessened, multiplied, negated, over_divisor, range_from, signal_range, summed};
-ghost use Rattle.mltl_base.specs.Answers.{Tells};
+ghost use Rattle.mltl_base.specs.Answers.{IsRangeOf};
 ghost use Rattle.mltl_base.specs.declared.range.NoRange.TheVariants.{Divisor as not_one};
 
 use std::marker::Model;
@@ -80,21 +80,21 @@ pub fn constant(n: i64) -> Range
 
 /// The range of a negation.
 pub fn negation(a: Range) -> Result<Range, NoRange>
-    ensures { Tells result (within_word (negated a)) }
+    ensures { IsRangeOf result (within_word (negated a)) }
 {
     in_word(opposite(a.greatest()), opposite(a.least()))
 }
 
 /// The range of a sum.
 pub fn sum(a: Range, b: Range) -> Result<Range, NoRange>
-    ensures { Tells result (within_word (summed a b)) }
+    ensures { IsRangeOf result (within_word (summed a b)) }
 {
     in_word(plus(a.least(), b.least()), plus(a.greatest(), b.greatest()))
 }
 
 /// The range of a difference.
 pub fn difference(a: Range, b: Range) -> Result<Range, NoRange>
-    ensures { Tells result (within_word (lessened a b)) }
+    ensures { IsRangeOf result (within_word (lessened a b)) }
 {
     in_word(
         minus(a.least(), b.greatest()),
@@ -104,7 +104,7 @@ pub fn difference(a: Range, b: Range) -> Result<Range, NoRange>
 
 /// The range of a product.
 pub fn product(a: Range, b: Range) -> Result<Range, NoRange>
-    ensures { Tells result (within_word (multiplied a b)) }
+    ensures { IsRangeOf result (within_word (multiplied a b)) }
 {
     let least_least = times(a.least(), b.least());
     let least_greatest = times(a.least(), b.greatest());
@@ -122,7 +122,7 @@ pub fn product(a: Range, b: Range) -> Result<Range, NoRange>
 
 /// The range of a quotient.
 pub fn quotient(a: Range, b: Range) -> Result<Range, NoRange>
-    ensures { Tells result (over_divisor divided (Ok a) (Ok b)) }
+    ensures { IsRangeOf result (over_divisor divided (Ok a) (Ok b)) }
 {
     let divisor = divisor_of(b)?;
     let (low, high) = (over(a.least(), divisor), over(a.greatest(), divisor));
@@ -131,7 +131,7 @@ pub fn quotient(a: Range, b: Range) -> Result<Range, NoRange>
 
 /// The range of a remainder.
 pub fn remainder(a: Range, b: Range) -> Result<Range, NoRange>
-    ensures { Tells result (over_divisor left_over (Ok a) (Ok b)) }
+    ensures { IsRangeOf result (over_divisor left_over (Ok a) (Ok b)) }
 {
     let most = i128::from(divisor_of(b)?.unsigned_abs() - 1);
     if a.least() >= 0 {
@@ -159,7 +159,7 @@ fn divisor_of(b: Range) -> Result<i64, NoRange>
 fn in_word(least: i128, greatest: i128) -> Result<Range, NoRange>
     requires { least ≤ℤ greatest }
     ensures { (range : Values) →
-        range.least ≡ least → range.greatest ≡ greatest → Tells result (within_word range) }
+        range.least ≡ least → range.greatest ≡ greatest → IsRangeOf result (within_word range) }
 {
     if LEAST <= least && greatest <= GREATEST {
         Ok(Range {

@@ -12,7 +12,7 @@ use Rattle.mltl_base.specs.Reports.{Output, formula, contract, word_of, status, 
 use Rattle.mltl_base.proofs.Telling.{reports_push}
 use Rattle.mltl_oracle.specs.declared.formula.Output.{Output as Out}
 use Rattle.mltl_oracle.specs.declared.formula.Formula.{Formula as Tree}
-use Rattle.mltl_oracle.specs.Shapes.{formula_of, output_of}
+use Rattle.mltl_oracle.specs.Shapes.{as_formula, as_output}
 use Rattle.mltl_base.specs.Verdicts.{verdicts, known_front}
 use Rattle.mltl_oracle.specs.Telling.{is_told, of_outputs}
 use Rattle.mltl_oracle.specs.Computing.{ComputesOutput}
@@ -66,16 +66,16 @@ due_end Runs k t ws told due l h = sym (append-nil told) ∙ (ap (λ us. told ++
 
 -- output by output
 outputs_at : (style : Style) (k : ℕ) (outs : List Out) (o : Out) (before now : List Row) → k < length outs → o ≡ get_or outs k o →
-    of_outputs style k (map output_of (drop k outs)) before now
-    ≡ of_words style k (length (words before (output_of o))) (drop (length (words before (output_of o))) (words now (output_of o))) ++ of_outputs style (suc k) (map output_of (drop (suc k) outs)) before now
+    of_outputs style k (map as_output (drop k outs)) before now
+    ≡ of_words style k (length (words before (as_output o))) (drop (length (words before (as_output o))) (words now (as_output o))) ++ of_outputs style (suc k) (map as_output (drop (suc k) outs)) before now
 unfolding of_outputs
 outputs_at style k outs o before now l e =
     let s : k + 1 ≡ suc k = omega arith in
-    ap (λ os. of_outputs style k (map output_of os) before now) (drop_more outs k o l ∙ (ap (λ n. get_or outs k o ∷ drop n outs) s ∙ ap (λ p. p ∷ drop (suc k) outs) (sym e)))
+    ap (λ os. of_outputs style k (map as_output os) before now) (drop_more outs k o l ∙ (ap (λ n. get_or outs k o ∷ drop n outs) s ∙ ap (λ p. p ∷ drop (suc k) outs) (sym e)))
 
 pub row_more : (style : Style) (k : ℕ) (outs : List Out) (o : Out) (before now : List Row) (old all : List Word) (m : ℕ) (told new due : List Report) → k < length outs → o ≡ get_or outs k o →
-    old ≡ words before (output_of o) → all ≡ words now (output_of o) → m ≡ length old → new ≡ told ++ of_words style k m (drop m all) →
-    IsDue told due (of_outputs style k (map output_of (drop k outs)) before now) → IsDue new due (of_outputs style (k + 1) (map output_of (drop (k + 1) outs)) before now)
+    old ≡ words before (as_output o) → all ≡ words now (as_output o) → m ≡ length old → new ≡ told ++ of_words style k m (drop m all) →
+    IsDue told due (of_outputs style k (map as_output (drop k outs)) before now) → IsDue new due (of_outputs style (k + 1) (map as_output (drop (k + 1) outs)) before now)
 row_more style k outs o before now old all m told new due l e f g n q h =
     let s : k + 1 ≡ suc k = omega arith in
     record {
@@ -83,10 +83,10 @@ row_more style k outs o before now old all m told new due l e f g n q h =
           rw (s, q, n, f, g) (append_assoc told _ _ ∙ (ap (λ rest. told ++ rest) (sym (outputs_at style k outs o before now l e)) ∙ h.whole));
     }
 
-pub row_end : (style : Style) (k : ℕ) (outs : List Out) (before now : List Row) (told due : List Report) → length outs ≤ k → IsDue told due (of_outputs style k (map output_of (drop k outs)) before now) → told ≡ due
+pub row_end : (style : Style) (k : ℕ) (outs : List Out) (before now : List Row) (told due : List Report) → length outs ≤ k → IsDue told due (of_outputs style k (map as_output (drop k outs)) before now) → told ≡ due
 unfolding of_outputs
 row_end style k outs before now told due l h =
-    sym (append-nil told) ∙ (ap (λ os. told ++ of_outputs style k (map output_of os) before now) (sym (drop_all k outs l)) ∙ h.whole)
+    sym (append-nil told) ∙ (ap (λ os. told ++ of_outputs style k (map as_output os) before now) (sym (drop_all k outs l)) ∙ h.whole)
 
 -- row by row
 one_row : (style : Style) (k : ℕ) (outs : List Output) (rows : List Row) (r : Row) → of_outputs style k outs rows (rows ++ r ∷ []) ≡ of_row style k outs rows r
@@ -127,12 +127,12 @@ due_step style k t ws w told now due true l r e q h =
 due_step style k t ws w told now due false l r e q h = rw q (due_kept style k t ws w told due l e h)
 
 -- the words of an output, from the verdicts of its formulas
-pub formula_words : (p : Tree) (rows : List Row) (vs : List Bool) → vs ≡ verdicts rows (formula_of p) → words rows (formula (formula_of p)) ≡ map word_of vs
+pub formula_words : (p : Tree) (rows : List Row) (vs : List Bool) → vs ≡ verdicts rows (as_formula p) → words rows (formula (as_formula p)) ≡ map word_of vs
 unfolding words
 formula_words p rows vs e = rw e refl
 
-pub contract_words : (p q : Tree) (rows : List Row) (ps qs : List Bool) → ps ≡ verdicts rows (formula_of p) → qs ≡ verdicts rows (formula_of q) →
-    words rows (contract (formula_of p) (formula_of q)) ≡ known_front (λ t. status (slice_get ps t) (slice_get qs t)) (length rows)
+pub contract_words : (p q : Tree) (rows : List Row) (ps qs : List Bool) → ps ≡ verdicts rows (as_formula p) → qs ≡ verdicts rows (as_formula q) →
+    words rows (contract (as_formula p) (as_formula q)) ≡ known_front (λ t. status (slice_get ps t) (slice_get qs t)) (length rows)
 unfolding words
 contract_words p q rows ps qs e f = rw (e, f) refl
 
@@ -146,7 +146,7 @@ pub output_first : (n : ℕ) (rows : List Row) (o : Output) → ComputesOutput r
 output_first n rows (formula p) h = computes_first n rows p h
 output_first n rows (contract p q) h = (computes_first n rows p h.0, computes_first n rows q h.1)
 
-pub outputs_first : (n : ℕ) (rows : List Row) (outs : List Out) → All (λ o. ComputesOutput rows (output_of o)) outs →
-    All (λ o. ComputesOutput (take n rows) (output_of o) × ComputesOutput (take (n + 1) rows) (output_of o)) outs
+pub outputs_first : (n : ℕ) (rows : List Row) (outs : List Out) → All (λ o. ComputesOutput rows (as_output o)) outs →
+    All (λ o. ComputesOutput (take n rows) (as_output o) × ComputesOutput (take (n + 1) rows) (as_output o)) outs
 outputs_first n rows outs h k d l =
-    (output_first n rows (output_of (get_or outs k d)) (h k d l), output_first (n + 1) rows (output_of (get_or outs k d)) (h k d l))
+    (output_first n rows (as_output (get_or outs k d)) (h k d l), output_first (n + 1) rows (as_output (get_or outs k d)) (h k d l))

@@ -16,10 +16,10 @@ use Rattle.mltl_base.proofs.Settling.{verdicts_right}
 use Rattle.mltl_base.proofs.Unique.{known_only}
 use Rattle.mltl_base.proofs.Leaves as leaves
 use Rattle.mltl_oracle.specs.declared.formula.Formula.{Formula as Tree}
-use Rattle.mltl_oracle.specs.Shapes.{of_truth, formula_of, logic, window, between}
+use Rattle.mltl_oracle.specs.Shapes.{truth_formula, as_formula, logic, window_formula, between}
 use Rattle.mltl_oracle.specs.Computing.{k_logic, k_window, k_between, ComputesAll, ComputesAtom}
 
-pub truth_verdicts : (b : Bool) (rows : List Row) → verdicts rows (of_truth b) ≡ map (λ r. b) rows
+pub truth_verdicts : (b : Bool) (rows : List Row) → verdicts rows (truth_formula b) ≡ map (λ r. b) rows
 truth_verdicts true rows = leaves.truth_verdicts rows
 truth_verdicts false rows = leaves.falsity_verdicts rows
 
@@ -27,29 +27,29 @@ pub atom_verdicts : (a : Atom) (rows : List Row) → verdicts rows (atom a) ≡ 
 atom_verdicts a rows = leaves.atom_verdicts rows a
 
 -- the operands are reached through pointers: u and v are what these point to
-pub not_verdicts : (p u : Tree) (rows : List Row) (ps : List Bool) → ps ≡ verdicts rows (formula_of u) → u ≡ p →
-    verdicts rows (negation (formula_of p)) ≡ known_front (k_negation (slice_get ps)) (length rows)
+pub not_verdicts : (p u : Tree) (rows : List Row) (ps : List Bool) → ps ≡ verdicts rows (as_formula u) → u ≡ p →
+    verdicts rows (negation (as_formula p)) ≡ known_front (k_negation (slice_get ps)) (length rows)
 unfolding verdicts kleene_over
 not_verdicts p u rows ps e g = rw (e, g) refl
 
-pub logic_verdicts : (op : logic_op.LogicOp) (p q u v : Tree) (rows : List Row) (ps qs : List Bool) → ps ≡ verdicts rows (formula_of u) → qs ≡ verdicts rows (formula_of v) → u ≡ p → v ≡ q →
-    verdicts rows (logic op (formula_of p) (formula_of q)) ≡ known_front (k_logic op (slice_get ps) (slice_get qs)) (length rows)
+pub logic_verdicts : (op : logic_op.LogicOp) (p q u v : Tree) (rows : List Row) (ps qs : List Bool) → ps ≡ verdicts rows (as_formula u) → qs ≡ verdicts rows (as_formula v) → u ≡ p → v ≡ q →
+    verdicts rows (logic op (as_formula p) (as_formula q)) ≡ known_front (k_logic op (slice_get ps) (slice_get qs)) (length rows)
 unfolding verdicts kleene_over
 logic_verdicts logic_op.TheVariants.And p q u v rows ps qs e f g h = rw (e, f, g, h) refl
 logic_verdicts logic_op.TheVariants.Or p q u v rows ps qs e f g h = rw (e, f, g, h) refl
 logic_verdicts logic_op.TheVariants.Implies p q u v rows ps qs e f g h = rw (e, f, g, h) refl
 logic_verdicts logic_op.TheVariants.Iff p q u v rows ps qs e f g h = rw (e, f, g, h) refl
 
-pub window_verdicts : (op : window_op.WindowOp) (i : Interval) (p u : Tree) (rows : List Row) (ps : List Bool) → ps ≡ verdicts rows (formula_of u) → u ≡ p →
-    verdicts rows (window op i (formula_of p)) ≡ known_front (k_window op i (slice_get ps)) (length rows)
+pub window_verdicts : (op : window_op.WindowOp) (i : Interval) (p u : Tree) (rows : List Row) (ps : List Bool) → ps ≡ verdicts rows (as_formula u) → u ≡ p →
+    verdicts rows (window_formula op i (as_formula p)) ≡ known_front (k_window op i (slice_get ps)) (length rows)
 unfolding verdicts kleene_over
 window_verdicts window_op.TheVariants.F i p u rows ps e g = rw (e, g) refl
 window_verdicts window_op.TheVariants.G i p u rows ps e g = rw (e, g) refl
 window_verdicts window_op.TheVariants.O i p u rows ps e g = rw (e, g) refl
 window_verdicts window_op.TheVariants.H i p u rows ps e g = rw (e, g) refl
 
-pub between_verdicts : (op : between_op.BetweenOp) (i : Interval) (p q u v : Tree) (rows : List Row) (ps qs : List Bool) → ps ≡ verdicts rows (formula_of u) → qs ≡ verdicts rows (formula_of v) → u ≡ p → v ≡ q →
-    verdicts rows (between op i (formula_of p) (formula_of q)) ≡ known_front (k_between op i (slice_get ps) (slice_get qs)) (length rows)
+pub between_verdicts : (op : between_op.BetweenOp) (i : Interval) (p q u v : Tree) (rows : List Row) (ps qs : List Bool) → ps ≡ verdicts rows (as_formula u) → qs ≡ verdicts rows (as_formula v) → u ≡ p → v ≡ q →
+    verdicts rows (between op i (as_formula p) (as_formula q)) ≡ known_front (k_between op i (slice_get ps) (slice_get qs)) (length rows)
 unfolding verdicts kleene_over
 between_verdicts between_op.TheVariants.U i p q u v rows ps qs e f g h = rw (e, f, g, h) refl
 between_verdicts between_op.TheVariants.R i p q u v rows ps qs e f g h = rw (e, f, g, h) refl
@@ -113,7 +113,7 @@ ok_same (Ok vs) x y h e = h ∙ sym e
 ok_same (Err w) x y h e = tt
 
 -- a truth for each row
-pub truth_replicated : (b : Bool) (rows : List Row) → verdicts rows (of_truth b) ≡ replicate (length rows) b
+pub truth_replicated : (b : Bool) (rows : List Row) → verdicts rows (truth_formula b) ≡ replicate (length rows) b
 truth_replicated b rows = truth_verdicts b rows ∙ go rows
   where
     go : (rows : List Row) → map (λ r. b) rows ≡ replicate (length rows) b

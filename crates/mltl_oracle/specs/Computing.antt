@@ -21,29 +21,29 @@ use Rattle.mltl_base.specs.Verdicts.{Known, k_negation, k_conjunction, k_disjunc
 use Rattle.mltl_base.specs.Verdicts.{k_finally, k_globally, k_until, k_release, k_once, k_historically, k_since}
 
 -- the result of an arithmetic operator between two numbers
-abbrev pub result_of : arith_op.ArithOp → ℤ → ℤ → ℤ
-result_of arith_op.TheVariants.Add x y = x +ℤ y
-result_of arith_op.TheVariants.Sub x y = x -ℤ y
-result_of arith_op.TheVariants.Mul x y = x *ℤ y
-result_of arith_op.TheVariants.Div x y = int_div x y
-result_of arith_op.TheVariants.Rem x y = int_rem x y
+abbrev pub arithmetic_result : arith_op.ArithOp → ℤ → ℤ → ℤ
+arithmetic_result arith_op.TheVariants.Add x y = x +ℤ y
+arithmetic_result arith_op.TheVariants.Sub x y = x -ℤ y
+arithmetic_result arith_op.TheVariants.Mul x y = x *ℤ y
+arithmetic_result arith_op.TheVariants.Div x y = int_div x y
+arithmetic_result arith_op.TheVariants.Rem x y = int_rem x y
 
 -- the result has 64 bits with a sign, and a divisor isn't 0
-abbrev pub CanCompute : arith_op.ArithOp → ℤ → ℤ → Type 0
-CanCompute arith_op.TheVariants.Add x y = FitsSigned w64 (x +ℤ y)
-CanCompute arith_op.TheVariants.Sub x y = FitsSigned w64 (x -ℤ y)
-CanCompute arith_op.TheVariants.Mul x y = FitsSigned w64 (x *ℤ y)
-CanCompute arith_op.TheVariants.Div x y = (y ≢ pos 0) × FitsSigned w64 (int_div x y)
-CanCompute arith_op.TheVariants.Rem x y = y ≢ pos 0
+abbrev pub HasResult : arith_op.ArithOp → ℤ → ℤ → Type 0
+HasResult arith_op.TheVariants.Add x y = FitsSigned w64 (x +ℤ y)
+HasResult arith_op.TheVariants.Sub x y = FitsSigned w64 (x -ℤ y)
+HasResult arith_op.TheVariants.Mul x y = FitsSigned w64 (x *ℤ y)
+HasResult arith_op.TheVariants.Div x y = (y ≢ pos 0) × FitsSigned w64 (int_div x y)
+HasResult arith_op.TheVariants.Rem x y = y ≢ pos 0
 
 -- a comparison of two numbers
-abbrev pub compares : compare_op.CompareOp → ℤ → ℤ → Bool
-compares compare_op.TheVariants.Eq x y = int_eq x y
-compares compare_op.TheVariants.Ne x y = not (int_eq x y)
-compares compare_op.TheVariants.Lt x y = int_lt x y
-compares compare_op.TheVariants.Le x y = int_le x y
-compares compare_op.TheVariants.Gt x y = int_lt y x
-compares compare_op.TheVariants.Ge x y = int_le y x
+abbrev pub comparison_holds : compare_op.CompareOp → ℤ → ℤ → Bool
+comparison_holds compare_op.TheVariants.Eq x y = int_eq x y
+comparison_holds compare_op.TheVariants.Ne x y = not (int_eq x y)
+comparison_holds compare_op.TheVariants.Lt x y = int_lt x y
+comparison_holds compare_op.TheVariants.Le x y = int_le x y
+comparison_holds compare_op.TheVariants.Gt x y = int_lt y x
+comparison_holds compare_op.TheVariants.Ge x y = int_le y x
 
 -- each part of the expression can be computed on the row
 abbrev pub Computes : Row → Term → Type 0
@@ -51,15 +51,15 @@ Computes row (column c) = ⊤
 Computes row (constant n) = ⊤
 Computes row (negative a) = Computes row a × FitsSigned w64 (neg_ℤ (value a row))
 Computes row (plus a b) =
-    Computes row a × Computes row b × CanCompute arith_op.TheVariants.Add (value a row) (value b row)
+    Computes row a × Computes row b × HasResult arith_op.TheVariants.Add (value a row) (value b row)
 Computes row (minus a b) =
-    Computes row a × Computes row b × CanCompute arith_op.TheVariants.Sub (value a row) (value b row)
+    Computes row a × Computes row b × HasResult arith_op.TheVariants.Sub (value a row) (value b row)
 Computes row (times a b) =
-    Computes row a × Computes row b × CanCompute arith_op.TheVariants.Mul (value a row) (value b row)
+    Computes row a × Computes row b × HasResult arith_op.TheVariants.Mul (value a row) (value b row)
 Computes row (quotient a b) =
-    Computes row a × Computes row b × CanCompute arith_op.TheVariants.Div (value a row) (value b row)
+    Computes row a × Computes row b × HasResult arith_op.TheVariants.Div (value a row) (value b row)
 Computes row (remainder a b) =
-    Computes row a × Computes row b × CanCompute arith_op.TheVariants.Rem (value a row) (value b row)
+    Computes row a × Computes row b × HasResult arith_op.TheVariants.Rem (value a row) (value b row)
 
 -- each part of the two sides of a comparison can be computed on the row
 abbrev pub ComputesAtom : Row → Atom → Type 0
@@ -72,9 +72,9 @@ ComputesAtom row (greater a b) = Computes row a × Computes row b
 ComputesAtom row (at_least a b) = Computes row a × Computes row b
 
 -- a known verdict, or its negation
-abbrev pub seen : Bool → List Bool → Known
-seen true vs t = k_not (slice_get vs t)
-seen false vs t = slice_get vs t
+abbrev pub known_verdict : Bool → List Bool → Known
+known_verdict true vs t = k_not (slice_get vs t)
+known_verdict false vs t = slice_get vs t
 
 -- the Kleene value of an operator without time, over what is known of its operands
 abbrev pub k_logic : logic_op.LogicOp → Known → Known → Known

@@ -3,7 +3,7 @@
 ghost use Rattle.mltl_base.specs.Kleene.{k_every_in};
 ghost use Rattle.mltl_base.specs.Meaning.{within as lies_within};
 ghost use Rattle.mltl_base.specs.Verdicts.{k_finally, k_globally, k_historically, k_once, k_since, k_until};
-ghost use Rattle.mltl_oracle.specs.Computing.{seen as seen_at};
+ghost use Rattle.mltl_oracle.specs.Computing.{known_verdict as seen_at};
 ghost use Rattle.std.specs.Prelude.{◌≡◌, suc, ◌+◌, ◌^◌, ◌<◌, slice_get};
 
 use crate::kleene::{and, not, or};

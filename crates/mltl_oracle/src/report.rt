@@ -3,7 +3,7 @@
 ghost use Rattle.mltl_base.specs.Reports.{goes_on, of_words, reports as reports_of, status, same_word, word_of, words as words_of};
 ghost use Rattle.mltl_base.specs.Verdicts.{known_front};
 ghost use Rattle.mltl_oracle.specs.Computing.{ComputesBoth, ComputesOutput};
-ghost use Rattle.mltl_oracle.specs.Shapes.{output_of};
+ghost use Rattle.mltl_oracle.specs.Shapes.{as_output};
 ghost use Rattle.mltl_base.specs.declared.report.Word.{Word as Said};
 ghost use Rattle.mltl_oracle.specs.declared.verdict.Fault.TheVariants.{Memory as NoMemory};
 ghost use Rattle.mltl_oracle.specs.Telling.{is_told, of_outputs};
@@ -17,8 +17,8 @@ use std::alloc::Global;
 
 /// The words of an output that are known after the rows.
 pub fn words(alloc: Global, rows: &[List<i64>], output: &Output) -> Result<List<Word>, Fault>
-    ensures known { IfOk result (λ ws. ws ≡ words_of rows.now (output_of output.now)) }
-    ensures cause { ComputesOutput rows.now (output_of output.now) →
+    ensures known { IfOk result (λ ws. ws ≡ words_of rows.now (as_output output.now)) }
+    ensures cause { ComputesOutput rows.now (as_output output.now) →
         IfErr result (λ why. why ≡ NoMemory) }
 {
     match output {
@@ -42,8 +42,8 @@ pub fn reports(
     rows: &[List<i64>],
 ) -> Result<List<Report>, Fault>
     requires few { length outs.now ≤ 2 ^ 32 }
-    ensures told { IfOk result (λ told. told ≡ reports_of style (map output_of outs.now) rows.now) }
-    ensures cause { All (λ o. ComputesOutput rows.now (output_of o)) outs.now →
+    ensures told { IfOk result (λ told. told ≡ reports_of style (map as_output outs.now) rows.now) }
+    ensures cause { All (λ o. ComputesOutput rows.now (as_output o)) outs.now →
         IfErr result (λ why. why ≡ NoMemory) }
 {
     let mut told = List::new(alloc);
@@ -64,8 +64,8 @@ fn report_row(
 ) -> Result<(), Fault>
     requires few { length outs.now ≤ 2 ^ 32 }
     ensures told { OnOk result
-        (told.new ≡ told.old ++ of_outputs style 0 (map output_of outs.now) before.now now.now) }
-    ensures cause { All (λ o. ComputesBoth before.now now.now (output_of o)) outs.now →
+        (told.new ≡ told.old ++ of_outputs style 0 (map as_output outs.now) before.now now.now) }
+    ensures cause { All (λ o. ComputesBoth before.now now.now (as_output o)) outs.now →
         IfErr result (λ why. why ≡ NoMemory) }
 {
     for k in 0..outs.len() {

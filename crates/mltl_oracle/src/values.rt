@@ -1,8 +1,8 @@
 //! Values of expressions and truths of atoms on a row.
 
 ghost use Rattle.mltl_base.specs.Atoms.{holds as holds_on, in_column as column_of, value as value_on};
-ghost use Rattle.mltl_oracle.specs.Computing.{CanCompute, Computes, ComputesAtom, compares, result_of};
-ghost use Rattle.mltl_oracle.specs.Shapes.{atom_of, term_of};
+ghost use Rattle.mltl_oracle.specs.Computing.{HasResult, Computes, ComputesAtom, comparison_holds, arithmetic_result};
+ghost use Rattle.mltl_oracle.specs.Shapes.{as_atom, as_term};
 ghost use Rattle.std.specs.Prelude.{◌≡◌, IfSome, IfNone, pos};
 ghost use Rattle.mltl_base.specs.declared.operators.ArithOp.TheVariants.{Rem as Remainder};
 
@@ -12,8 +12,8 @@ use mltl_base::{ArithOp, CompareOp};
 /// The value of an expression on a row; `None` where a part of it leaves 64 bits or a divisor is 0.
 #[tactic(auto, unfolding(mltl_base::specs::Atoms::value))]
 pub fn value(e: &Term, row: &[i64]) -> Option<i64>
-    ensures value { IfSome result (λ v. v ≡ value_on (term_of e.now) row.now) }
-    ensures none { IfNone result (¬ Computes row.now (term_of e.now)) }
+    ensures value { IfSome result (λ v. v ≡ value_on (as_term e.now) row.now) }
+    ensures none { IfNone result (¬ Computes row.now (as_term e.now)) }
 {
     match e {
         Term::Column(c) => Some(in_column(row, *c)),
@@ -32,8 +32,8 @@ pub fn value(e: &Term, row: &[i64]) -> Option<i64>
 /// The truth of an atom on a row; `None` where an expression of it has no value.
 #[tactic(auto, unfolding(mltl_base::specs::Atoms::holds))]
 pub fn holds(a: &Atom, row: &[i64]) -> Option<bool>
-    ensures truth { IfSome result (λ v. v ≡ holds_on (atom_of a.now) row.now) }
-    ensures none { IfNone result (¬ ComputesAtom row.now (atom_of a.now)) }
+    ensures truth { IfSome result (λ v. v ≡ holds_on (as_atom a.now) row.now) }
+    ensures none { IfNone result (¬ ComputesAtom row.now (as_atom a.now)) }
 {
     match a {
         Atom::IsTrue(c) => Some(in_column(row, *c) == 1),
@@ -57,8 +57,8 @@ fn in_column(row: &[i64], column: u32) -> i64
 
 /// An operator between two numbers; quotient and remainder truncate toward zero.
 fn compute(op: ArithOp, a: i64, b: i64) -> Option<i64>
-    ensures value { IfSome result (λ v. v ≡ result_of op a b) }
-    ensures none { IfNone result (¬ CanCompute op a b) }
+    ensures value { IfSome result (λ v. v ≡ arithmetic_result op a b) }
+    ensures none { IfNone result (¬ HasResult op a b) }
 {
     match op {
         ArithOp::Add => a.checked_add(b),
@@ -71,7 +71,7 @@ fn compute(op: ArithOp, a: i64, b: i64) -> Option<i64>
 
 /// The remainder with the sign of the left operand, which is 0 where the divisor is -1.
 fn remainder(a: i64, b: i64) -> Option<i64>
-    ensures value { IfSome result (λ v. v ≡ result_of Remainder a b) }
+    ensures value { IfSome result (λ v. v ≡ arithmetic_result Remainder a b) }
     ensures none { IfNone result (b ≡ pos 0) }
 {
     if b == 0 {
@@ -85,7 +85,7 @@ fn remainder(a: i64, b: i64) -> Option<i64>
 
 /// A comparison of two numbers.
 fn compare(op: CompareOp, a: i64, b: i64) -> bool
-    ensures { result ≡ compares op a b }
+    ensures { result ≡ comparison_holds op a b }
 {
     match op {
         CompareOp::Eq => a == b,

@@ -5,7 +5,7 @@ ghost use Rattle.mltl_base.specs.Formula.{wpd};
 ghost use Rattle.mltl_base.specs.Meaning.{sat};
 ghost use Rattle.mltl_base.specs.Verdicts.{known_front, verdicts as verdicts_of};
 ghost use Rattle.mltl_oracle.specs.Computing.{ComputesAll, ComputesAtom, k_between, k_logic, k_operator, k_window};
-ghost use Rattle.mltl_oracle.specs.Shapes.{atom_of, formula_of, of_truth};
+ghost use Rattle.mltl_oracle.specs.Shapes.{as_atom, as_formula, truth_formula};
 ghost use Rattle.mltl_oracle.specs.declared.verdict.Fault.TheVariants.{Memory as NoMemory};
 ghost use Rattle.std.specs.Prelude.{◌≡◌, suc, ◌+◌, ◌^◌, ◌<◌, Some, length, map, slice_get, IfOk, IfErr, IfSome, All};
 
@@ -46,8 +46,8 @@ enum Operator {
 
 /// The verdicts of a formula that are known after the rows.
 pub fn verdicts(alloc: Global, rows: &[List<i64>], p: &Formula) -> Result<List<bool>, Fault>
-    ensures known { IfOk result (λ vs. vs ≡ verdicts_of rows.now (formula_of p.now)) }
-    ensures cause { ComputesAll rows.now (formula_of p.now) → IfErr result (λ why. why ≡ NoMemory) }
+    ensures known { IfOk result (λ vs. vs ≡ verdicts_of rows.now (as_formula p.now)) }
+    ensures cause { ComputesAll rows.now (as_formula p.now) → IfErr result (λ why. why ≡ NoMemory) }
 {
     match p {
         Formula::Truth(b) => constant(alloc, *b, rows),
@@ -80,11 +80,11 @@ pub fn meaning(
     p: &Formula,
     t: usize,
 ) -> Result<Option<bool>, Fault>
-    ensures meaning { IfOk result (λ o. IfSome o (λ v. v ≡ sat rows.now (formula_of p.now) t)) }
-    ensures known { IfOk result (λ o. o ≡ slice_get (verdicts_of rows.now (formula_of p.now)) t) }
-    ensures in_time { t + wpd (formula_of p.now) < length rows.now →
-        IfOk result (λ o. o ≡ Some (sat rows.now (formula_of p.now) t)) }
-    ensures cause { ComputesAll rows.now (formula_of p.now) → IfErr result (λ why. why ≡ NoMemory) }
+    ensures meaning { IfOk result (λ o. IfSome o (λ v. v ≡ sat rows.now (as_formula p.now) t)) }
+    ensures known { IfOk result (λ o. o ≡ slice_get (verdicts_of rows.now (as_formula p.now)) t) }
+    ensures in_time { t + wpd (as_formula p.now) < length rows.now →
+        IfOk result (λ o. o ≡ Some (sat rows.now (as_formula p.now) t)) }
+    ensures cause { ComputesAll rows.now (as_formula p.now) → IfErr result (λ why. why ≡ NoMemory) }
 {
     let vs = verdicts(alloc, rows, p)?;
     let decided = at(&vs, t);
@@ -100,7 +100,7 @@ fn at(vs: &List<bool>, t: usize) -> Option<bool>
 
 /// One truth for each row.
 fn constant(alloc: Global, b: bool, rows: &[List<i64>]) -> Result<List<bool>, Fault>
-    ensures known { IfOk result (λ vs. vs ≡ verdicts_of rows.now (of_truth b)) }
+    ensures known { IfOk result (λ vs. vs ≡ verdicts_of rows.now (truth_formula b)) }
     ensures cause { IfErr result (λ why. why ≡ NoMemory) }
 {
     let mut known = List::new(alloc);
@@ -112,8 +112,8 @@ fn constant(alloc: Global, b: bool, rows: &[List<i64>]) -> Result<List<bool>, Fa
 
 /// The truth of an atom on each row.
 fn truths(alloc: Global, a: &Atom, rows: &[List<i64>]) -> Result<List<bool>, Fault>
-    ensures known { IfOk result (λ vs. vs ≡ map (holds_on (atom_of a.now)) rows.now) }
-    ensures cause { All (λ row. ComputesAtom row (atom_of a.now)) rows.now →
+    ensures known { IfOk result (λ vs. vs ≡ map (holds_on (as_atom a.now)) rows.now) }
+    ensures cause { All (λ row. ComputesAtom row (as_atom a.now)) rows.now →
         IfErr result (λ why. why ≡ NoMemory) }
 {
     let mut known = List::new(alloc);

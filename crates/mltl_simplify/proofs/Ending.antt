@@ -14,11 +14,11 @@ use Rattle.c2po_nodes.specs.declared.nodes.PlainOut.{PlainOut}
 use Rattle.c2po_nodes.specs.declared.nodes.PlainOut.TheVariants as out
 use Rattle.c2po_nodes.specs.declared.nodes.Expanded.{Expanded}
 use Rattle.c2po_nodes.specs.Faults.{HasRanges, formula_fault}
-use Rattle.c2po_nodes.specs.Nodes.{formula_at, trees, AreSound}
+use Rattle.c2po_nodes.specs.Nodes.{node_formula, trees, AreSound}
 use Rattle.c2po_nodes.specs.Outputs.{IsSound, NamesFormulas, asked, asked_by}
 use Rattle.c2po_nodes.proofs.NoFaults.{neither}
 use Rattle.mltl_simplify.specs.declared.proxies.Proxy.{Proxy}
-use Rattle.mltl_simplify.specs.Nodes.{AreSimplified, NamesNodes, out_over}
+use Rattle.mltl_simplify.specs.Nodes.{AreSimplified, ReadsNodes, out_over}
 use Rattle.mltl_simplify.specs.Outputs.{simple_asked, simple_output, simple_outputs}
 use Rattle.mltl_simplify.specs.Simplify.{simp, as_truth}
 use Rattle.mltl_simplify.proofs.Cases.{finally_cases, globally_cases, historically_cases, once_cases}
@@ -92,23 +92,23 @@ simple_ranged outs h = All-map HasRanges simple_asked outs (All-weaker HasRanges
 module _ (older simple : List Plain) (proxies : List Proxy) (done : AreSimplified older (length older) simple proxies) where
   out_asked : (o : PlainOut) → NamesFormulas (trees older) o → HasRanges (asked_by (trees older) o) → asked_by (trees simple) (out_over proxies o) ≡ simple_asked (asked_by (trees older) o)
   out_asked (out.Formula e n name) h k =
-      ap (λ p. record { engine = e; name = name; output = formula p }) (place_of_formula older simple proxies done n h (All-head NoFault (formula_at (trees older) n) [] k))
+      ap (λ p. record { engine = e; name = name; output = formula p }) (place_of_formula older simple proxies done n h (All-head NoFault (node_formula (trees older) n) [] k))
   out_asked (out.Contract e n m name) h k =
-      let rest = All-tail NoFault (formula_at (trees older) n) (formula_at (trees older) m ∷ []) k in
+      let rest = All-tail NoFault (node_formula (trees older) n) (node_formula (trees older) m ∷ []) k in
       ap₂ (λ p q. record { engine = e; name = name; output = contract p q })
-      (place_of_formula older simple proxies done n h.0 (All-head NoFault (formula_at (trees older) n) (formula_at (trees older) m ∷ []) k))
-      (place_of_formula older simple proxies done m h.1 (All-head NoFault (formula_at (trees older) m) [] rest))
+      (place_of_formula older simple proxies done n h.0 (All-head NoFault (node_formula (trees older) n) (node_formula (trees older) m ∷ []) k))
+      (place_of_formula older simple proxies done m h.1 (All-head NoFault (node_formula (trees older) m) [] rest))
 
   out_names : (o : PlainOut) → NamesFormulas (trees older) o → NamesFormulas (trees simple) (out_over proxies o)
   out_names (out.Formula e n name) h = (formula_names older simple proxies done n h).0
   out_names (out.Contract e n m name) h = ((formula_names older simple proxies done n h.0).0, (formula_names older simple proxies done m h.1).0)
 
-  out_below : (o : PlainOut) → NamesFormulas (trees older) o → NamesNodes (length proxies) o
+  out_below : (o : PlainOut) → NamesFormulas (trees older) o → ReadsNodes (length proxies) o
   out_below (out.Formula e n name) h = (formula_names older simple proxies done n h).1
   out_below (out.Contract e n m name) h = ((formula_names older simple proxies done n h.0).1, (formula_names older simple proxies done m h.1).1)
 
-  pub outs_below : (outs : List PlainOut) → All (NamesFormulas (trees older)) outs → All (NamesNodes (length proxies)) outs
-  outs_below outs h = All-weaker (NamesFormulas (trees older)) (NamesNodes (length proxies)) out_below outs h
+  pub outs_below : (outs : List PlainOut) → All (NamesFormulas (trees older)) outs → All (ReadsNodes (length proxies)) outs
+  outs_below outs h = All-weaker (NamesFormulas (trees older)) (ReadsNodes (length proxies)) out_below outs h
 
   outs_asked : (outs : List PlainOut) → All (NamesFormulas (trees older)) outs → All HasRanges (map (asked_by (trees older)) outs) →
       map (asked_by (trees simple)) (map (out_over proxies) outs) ≡ simple_outputs (map (asked_by (trees older)) outs)

@@ -8,7 +8,7 @@ use Rattle.mltl_base.specs.Atoms.{Atom, holds}
 use Rattle.mltl_base.specs.Settled.{IsFuture, IsOrdered, IsPast}
 use Rattle.c2po_nodes.specs.Nodes.{IsBounded}
 use Rattle.mltl_simplify.specs.Forms.{AreBounded, HasAtom}
-use Rattle.mltl_simplify.specs.Simplify.{both, either, equals, has_signal, implies, joined, of_truth, simp, simple_and, simple_atom, simple_equals, simple_implies, simple_not, simple_or, as_truth, unless_false, unless_truth}
+use Rattle.mltl_simplify.specs.Simplify.{both, either, equals, has_signal, implies, summed_interval, of_truth, simp, simple_and, simple_atom, simple_equals, simple_implies, simple_not, simple_or, as_truth, unless_false, unless_truth}
 use Rattle.mltl_simplify.proofs.Cases.{finally_cases, globally_cases, historically_cases, not_cases, once_cases}
 
 -- what truths have, and formulas that are joined without time
@@ -88,7 +88,7 @@ unless_false_has own (Some false) x h = own.false_has
 -- ---- intervals
 
 -- what each interval has, a sum of two has where it is in bounds
-module _ (P : Interval → Type 0) (sums : (i j : Interval) → i.hi + j.hi ≤ MAX_BOUND → P i → P j → P (joined i j)) where
+module _ (P : Interval → Type 0) (sums : (i j : Interval) → i.hi + j.hi ≤ MAX_BOUND → P i → P j → P (summed_interval i j)) where
   abbrev OfIntervals : Formula → Type 0
   OfIntervals p = EachInterval P p
 

@@ -13,9 +13,9 @@ use Rattle.mltl_base.specs.declared.operators.BetweenOp.TheVariants as between
 use Rattle.mltl_base.specs.Formula.{Formula, truth, falsity, atom, negation, conjunction, disjunction, implication, equivalence, finally, globally, until, release, once, historically, since}
 use Rattle.c2po_nodes.specs.declared.nodes.Plain.{Plain}
 use Rattle.c2po_nodes.specs.declared.nodes.Plain.TheVariants as node
-use Rattle.c2po_nodes.specs.Nodes.{Tree, formula, formula_at, tree_of, windowed, ranged, constant_formula, IsBounded}
+use Rattle.c2po_nodes.specs.Nodes.{Tree, formula, node_formula, tree_of, windowed, ranged, constant_formula, IsBounded}
 use Rattle.mltl_simplify.specs.Nodes.{KeepsNone, gives_truth, keeps_truth, simple_between, simple_window}
-use Rattle.mltl_simplify.specs.Simplify.{if_joined, joined, of_truth, simple_and, simple_equals, simple_finally, simple_globally, simple_historically, simple_implies, simple_not, simple_once, simple_or, as_truth}
+use Rattle.mltl_simplify.specs.Simplify.{if_joined, summed_interval, of_truth, simple_and, simple_equals, simple_finally, simple_globally, simple_historically, simple_implies, simple_not, simple_once, simple_or, as_truth}
 use Rattle.mltl_simplify.proofs.Cases.{finally_cases, globally_cases, historically_cases, once_cases, truth_is}
 
 -- ---- the operator at the head of a formula, and of a node
@@ -105,9 +105,9 @@ unfolding simple_not
 not_truth ts true p e = let same : truth ≡ p = cc in ap simple_not same
 not_truth ts false p e = let same : falsity ≡ p = cc in ap simple_not same
 
-pub not_not : (ts : List Tree) (z : ℕ) (p : Formula) → tree_of ts (node.Not z) ≡ formula p → formula_at ts z ≡ simple_not p
+pub not_not : (ts : List Tree) (z : ℕ) (p : Formula) → tree_of ts (node.Not z) ≡ formula p → node_formula ts z ≡ simple_not p
 unfolding simple_not
-not_not ts z p e = let same : negation (formula_at ts z) ≡ p = cc in ap simple_not same
+not_not ts z p e = let same : negation (node_formula ts z) ≡ p = cc in ap simple_not same
 
 other_not : (p : Formula) → as_truth p ≡ None → is_not p ≡ false → negation p ≡ simple_not p
 unfolding simple_not as_truth is_not
@@ -272,7 +272,7 @@ pub window_over_other : (ts : List Tree) (op inner : WindowOp) (i j : Interval) 
 unfolding node_head
 window_over_other ts op inner i j z p e k h = window_stays ts op i (node.Window inner j z) p e k (λ same. h (let one : inner ≡ op = cc in one))
 
-over : (op : WindowOp) (i j : Interval) (q : Formula) → simple_window op i (windowed op j q) ≡ if_joined i j (windowed op (joined i j) q) (windowed op i (windowed op j q))
+over : (op : WindowOp) (i j : Interval) (q : Formula) → simple_window op i (windowed op j q) ≡ if_joined i j (windowed op (summed_interval i j) q) (windowed op i (windowed op j q))
 unfolding simple_finally simple_globally simple_once simple_historically
 over window.F i j q = refl
 over window.G i j q = refl
@@ -293,23 +293,23 @@ same_formula p q e = cc
 
 -- two in a row are one, where the limit allows it, and stay else
 pub window_joined : (ts : List Tree) (op : WindowOp) (i j whole : Interval) (z : ℕ) (p : Formula) → tree_of ts (node.Window op j z) ≡ formula p →
-    Some whole ≡ (if nat_le (i.hi + j.hi) MAX_BOUND then Some (joined i j) else None) → windowed op whole (formula_at ts z) ≡ simple_window op i p
+    Some whole ≡ (if nat_le (i.hi + j.hi) MAX_BOUND then Some (summed_interval i j) else None) → windowed op whole (node_formula ts z) ≡ simple_window op i p
 window_joined ts op i j whole z p e h =
-    let q : Formula = formula_at ts z in
-    let w = taken (nat_le (i.hi + j.hi) MAX_BOUND) whole (joined i j) h in
+    let q : Formula = node_formula ts z in
+    let w = taken (nat_le (i.hi + j.hi) MAX_BOUND) whole (summed_interval i j) h in
     let same : windowed op j q ≡ p = same_formula (windowed op j q) p e in
-    let one : if_joined i j (windowed op (joined i j) q) (windowed op i (windowed op j q)) ≡ windowed op (joined i j) q =
-    ap (λ b. if b then windowed op (joined i j) q else windowed op i (windowed op j q)) w.0 in
+    let one : if_joined i j (windowed op (summed_interval i j) q) (windowed op i (windowed op j q)) ≡ windowed op (summed_interval i j) q =
+    ap (λ b. if b then windowed op (summed_interval i j) q else windowed op i (windowed op j q)) w.0 in
     ap (λ k. windowed op k q) w.1 ∙ (sym one ∙ (sym (over op i j q) ∙ ap (simple_window op i) same))
 
 pub window_far : (ts : List Tree) (op : WindowOp) (i j : Interval) (z : ℕ) (p : Formula) → tree_of ts (node.Window op j z) ≡ formula p →
-    None ≡ (if nat_le (i.hi + j.hi) MAX_BOUND then Some (joined i j) else None) → windowed op i p ≡ simple_window op i p
+    None ≡ (if nat_le (i.hi + j.hi) MAX_BOUND then Some (summed_interval i j) else None) → windowed op i p ≡ simple_window op i p
 window_far ts op i j z p e h =
-    let q : Formula = formula_at ts z in
-    let w = left (nat_le (i.hi + j.hi) MAX_BOUND) (joined i j) h in
+    let q : Formula = node_formula ts z in
+    let w = left (nat_le (i.hi + j.hi) MAX_BOUND) (summed_interval i j) h in
     let same : windowed op j q ≡ p = same_formula (windowed op j q) p e in
-    let two : if_joined i j (windowed op (joined i j) q) (windowed op i (windowed op j q)) ≡ windowed op i (windowed op j q) =
-    ap (λ b. if b then windowed op (joined i j) q else windowed op i (windowed op j q)) w in
+    let two : if_joined i j (windowed op (summed_interval i j) q) (windowed op i (windowed op j q)) ≡ windowed op i (windowed op j q) =
+    ap (λ b. if b then windowed op (summed_interval i j) q else windowed op i (windowed op j q)) w in
     subst (λ x. windowed op i x ≡ simple_window op i x) same (sym (over op i j q ∙ two))
 
 -- ---- temporal operators between formulas
@@ -347,8 +347,8 @@ false_not_true true h k = cc
 false_not_true false h k = cc
 
 -- a joined interval is in bounds
-pub window_sum : (i j whole : Interval) → IsBounded i → IsBounded j → Some whole ≡ (if nat_le (i.hi + j.hi) MAX_BOUND then Some (joined i j) else None) → IsBounded whole
+pub window_sum : (i j whole : Interval) → IsBounded i → IsBounded j → Some whole ≡ (if nat_le (i.hi + j.hi) MAX_BOUND then Some (summed_interval i j) else None) → IsBounded whole
 window_sum i j whole h k e =
-    let w = taken (nat_le (i.hi + j.hi) MAX_BOUND) whole (joined i j) e in
+    let w = taken (nat_le (i.hi + j.hi) MAX_BOUND) whole (summed_interval i j) e in
     let least : i.hi + j.hi ≤ MAX_BOUND = leb-true _ _ w.0 in
     subst IsBounded (sym w.1) (omega (arith, h.0, k.0), least)

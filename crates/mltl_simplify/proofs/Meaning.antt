@@ -13,7 +13,7 @@ use Rattle.mltl_base.specs.Settled.{IsOrdered}
 use Rattle.mltl_base.specs.Table.{Holds}
 use Rattle.mltl_base.proofs.CoreMeaning.{not_not}
 use Rattle.mltl_base.proofs.Deciding.{sat_decides}
-use Rattle.mltl_simplify.specs.Simplify.{both, either, equals, has_signal, implies, joined, of_truth, reads_signal, simp, simple_and, simple_atom, simple_equals, simple_finally, simple_globally, simple_historically, simple_implies, simple_not, simple_once, simple_or, as_truth, unless_false, unless_truth}
+use Rattle.mltl_simplify.specs.Simplify.{both, either, equals, has_signal, implies, summed_interval, of_truth, reads_signal, simp, simple_and, simple_atom, simple_equals, simple_finally, simple_globally, simple_historically, simple_implies, simple_not, simple_once, simple_or, as_truth, unless_false, unless_truth}
 use Rattle.mltl_simplify.proofs.Cases.{finally_cases, globally_cases, historically_cases, not_cases, once_cases, truth_is}
 use Rattle.mltl_simplify.proofs.Forms.{simp_ordered}
 
@@ -169,7 +169,7 @@ module _ (rows : List Row) (i : Interval) (t : ℕ) (o : i.lo ≤ i.hi) where
   finally_means = finally_cases (λ x y. IsOrdered x → sat rows y t ≡ sat rows (finally i x) t) i
       (λ u. by_words rows truth (finally i truth) t (λ h. (i.lo, omega arith, o, tt)) (λ w. tt))
       (λ u. by_words rows falsity (finally i falsity) t (λ h. absurd h) (λ w. w.3))
-      (λ j z l u. by_words rows (finally (joined i j) z) (finally i (finally j z)) t
+      (λ j z l u. by_words rows (finally (summed_interval i j) z) (finally i (finally j z)) t
       (λ w. let s = parts i j w.0 o u.0 w.1 w.2 in let place : t + w.0 ≡ t + s.outer + s.inner = omega (arith, s.whole) in
       (s.outer, s.outer_low, s.outer_high, (s.inner, s.inner_low, s.inner_high, subst (Holds rows z) place w.3)))
       (λ w. let place : t + w.0 + w.3.0 ≡ t + (w.0 + w.3.0) = omega arith in
@@ -181,7 +181,7 @@ module _ (rows : List Row) (i : Interval) (t : ℕ) (o : i.lo ≤ i.hi) where
   globally_means = globally_cases (λ x y. IsOrdered x → sat rows y t ≡ sat rows (globally i x) t) i
       (λ u. by_words rows truth (globally i truth) t (λ h k low high. tt) (λ w. tt))
       (λ u. by_words rows falsity (globally i falsity) t (λ h. absurd h) (λ w. w i.lo (omega arith) o))
-      (λ j z l u. by_words rows (globally (joined i j) z) (globally i (globally j z)) t
+      (λ j z l u. by_words rows (globally (summed_interval i j) z) (globally i (globally j z)) t
       (λ h k a b l c d. let place : t + (k + l) ≡ t + k + l = omega arith in subst (Holds rows z) place (h (k + l) (omega (arith, a, c)) (omega (arith, b, d))))
       (λ h n low high. let s = parts i j n o u.0 low high in let place : t + s.outer + s.inner ≡ t + n = omega (arith, s.whole) in
       subst (Holds rows z) place (h s.outer s.outer_low s.outer_high s.inner s.inner_low s.inner_high)))
@@ -191,7 +191,7 @@ module _ (rows : List Row) (i : Interval) (t : ℕ) (o : i.lo ≤ i.hi) where
   unfolding Holds
   once_means = once_cases (λ x y. IsOrdered x → sat rows y t ≡ sat rows (once i x) t) i
       (λ u. by_words rows falsity (once i falsity) t (λ h. absurd h) (λ w. w.4))
-      (λ j z l u. by_words rows (once (joined i j) z) (once i (once j z)) t
+      (λ j z l u. by_words rows (once (summed_interval i j) z) (once i (once j z)) t
       (λ w. let s = parts i j (t - w.0) o u.0 w.2 w.3 in (
         w.0 + s.inner,
         omega (arith, s.whole, w.1),
@@ -207,7 +207,7 @@ module _ (rows : List Row) (i : Interval) (t : ℕ) (o : i.lo ≤ i.hi) where
   unfolding Holds
   historically_means = historically_cases (λ x y. IsOrdered x → sat rows y t ≡ sat rows (historically i x) t) i
       (λ u. by_words rows truth (historically i truth) t (λ h m below low high. tt) (λ w. tt))
-      (λ j z l u. by_words rows (historically (joined i j) z) (historically i (historically j z)) t
+      (λ j z l u. by_words rows (historically (summed_interval i j) z) (historically i (historically j z)) t
       (λ h m below a b n under c d. h n (omega (arith, below, under)) (omega (arith, below, under, a, c)) (omega (arith, below, under, b, d)))
       (λ h n below low high. let s = parts i j (t - n) o u.0 low high in
       h (n + s.inner) (omega (arith, s.whole, below)) (omega (arith, s.whole, below, s.outer_low)) (omega (arith, s.whole, below, s.outer_high))

@@ -13,7 +13,7 @@ use Rattle.mltl_base.proofs.Ranging.{HasRange, value_fits_word, divisor_not_zero
 use Rattle.c2po_nodes.specs.Faults.{why_none, term_fault, formula_fault}
 use Rattle.c2po_nodes.specs.Nodes.{arithmetic, comparison, constant_formula}
 use Rattle.c2po_nodes.proofs.NoFaults.{neither, over_none, both_none, divisor_none}
-use Rattle.mltl_simplify.specs.Numbers.{number_of, computed, compared, compares, CanDivideBy, IsNegated, IsComputed}
+use Rattle.mltl_simplify.specs.Numbers.{number_of, computed_number, compared_numbers, numbers_compare, CanDivideBy, IsNegated, IsComputed}
 use Rattle.mltl_simplify.specs.Simplify.{reads_signal, has_signal, of_truth, simp}
 
 -- the number is known, where there is no fault
@@ -62,7 +62,7 @@ can_divide arith.TheVariants.Mul a b h = tt
 can_divide arith.TheVariants.Div a b h = by_divisor divided a b h
 can_divide arith.TheVariants.Rem a b h = by_divisor left_over a b h
 
-value_by : (op : arith.ArithOp) (a b : Term) → value (arithmetic op a b) [] ≡ computed op (value a []) (value b [])
+value_by : (op : arith.ArithOp) (a b : Term) → value (arithmetic op a b) [] ≡ computed_number op (value a []) (value b [])
 unfolding value
 value_by arith.TheVariants.Add a b = refl
 value_by arith.TheVariants.Sub a b = refl
@@ -101,12 +101,12 @@ negated_known a x found known is h =
 pub computed_known : (op : arith.ArithOp) (a b : Term) (x y found : Option ℤ) → IsKnown x a → IsKnown y b → IsComputed op x y found → IsKnown found (arithmetic op a b)
 computed_known op a b x y found known_x known_y is h =
     let none = operands op a b h in
-    let word : FitsSigned w64 (computed op (value a []) (value b [])) = subst (λ z. FitsSigned w64 z) (value_by op a b) (fits (arithmetic op a b) h) in
+    let word : FitsSigned w64 (computed_number op (value a []) (value b [])) = subst (λ z. FitsSigned w64 z) (value_by op a b) (fits (arithmetic op a b) h) in
     go (reads_signal a) (reads_signal b) (subst (λ v. IsComputed op v (number_of b) found) (known_x none.0) (subst (λ v. IsComputed op x v found) (known_y none.1) is)) word
     ∙ sym (ap₂ (λ t v. if t then None else Some v) (reads_by op a b) (value_by op a b))
   where
-    go : (s t : Bool) → IsComputed op (if s then None else Some (value a [])) (if t then None else Some (value b [])) found → FitsSigned w64 (computed op (value a []) (value b [])) →
-        found ≡ (if s || t then None else Some (computed op (value a []) (value b [])))
+    go : (s t : Bool) → IsComputed op (if s then None else Some (value a [])) (if t then None else Some (value b [])) found → FitsSigned w64 (computed_number op (value a []) (value b [])) →
+        found ≡ (if s || t then None else Some (computed_number op (value a []) (value b [])))
     go true t n w = n
     go false true n w = n
     go false false n w = n (can_divide op a b h, w)
@@ -122,7 +122,7 @@ has_by compare.TheVariants.Le a b = refl
 has_by compare.TheVariants.Gt a b = refl
 has_by compare.TheVariants.Ge a b = refl
 
-holds_by : (op : compare.CompareOp) (a b : Term) → holds (comparison op a b) [] ≡ compares op (value a []) (value b [])
+holds_by : (op : compare.CompareOp) (a b : Term) → holds (comparison op a b) [] ≡ numbers_compare op (value a []) (value b [])
 unfolding holds
 holds_by compare.TheVariants.Eq a b = refl
 holds_by compare.TheVariants.Ne a b = refl
@@ -150,16 +150,16 @@ by_found (Some v) p = constant_formula v
 by_found None p = p
 
 pub compared_simple : (op : compare.CompareOp) (a b : Term) (x y : Option ℤ) → IsKnown x a → IsKnown y b → formula_fault (atom (comparison op a b)) ≡ None →
-    by_found (compared op x y) (atom (comparison op a b)) ≡ simp (atom (comparison op a b))
+    by_found (compared_numbers op x y) (atom (comparison op a b)) ≡ simp (atom (comparison op a b))
 unfolding simp
 compared_simple op a b x y known_x known_y h =
     let none = both_faultless op a b h in
-    ap₂ (λ v w. by_found (compared op v w) (atom (comparison op a b))) (known_x none.0) (known_y none.1)
+    ap₂ (λ v w. by_found (compared_numbers op v w) (atom (comparison op a b))) (known_x none.0) (known_y none.1)
     ∙ (go (reads_signal a) (reads_signal b)
     ∙ sym (ap₂ (λ t v. if t then atom (comparison op a b) else of_truth v) (has_by op a b) (holds_by op a b)))
   where
-    go : (s t : Bool) → by_found (compared op (if s then None else Some (value a [])) (if t then None else Some (value b []))) (atom (comparison op a b))
-        ≡ (if s || t then atom (comparison op a b) else of_truth (compares op (value a []) (value b [])))
+    go : (s t : Bool) → by_found (compared_numbers op (if s then None else Some (value a [])) (if t then None else Some (value b []))) (atom (comparison op a b))
+        ≡ (if s || t then atom (comparison op a b) else of_truth (numbers_compare op (value a []) (value b [])))
     go true t = refl
     go false true = refl
-    go false false = constant_is (compares op (value a []) (value b []))
+    go false false = constant_is (numbers_compare op (value a []) (value b []))

@@ -17,14 +17,14 @@ use Rattle.mltl_base.specs.Formula as plain
 use Rattle.c2po_nodes.specs.declared.nodes.Plain.{Plain}
 use Rattle.c2po_nodes.specs.declared.nodes.Plain.TheVariants as node
 use Rattle.c2po_nodes.specs.Faults.{formula_fault}
-use Rattle.c2po_nodes.specs.Nodes.{Tree, number, formula, term_at, formula_at, tree_of, trees, arithmetic, comparison, connected, windowed, ranged, constant_formula, Has, Grows, IsNumber, IsFormula, IsFormed, AreSound}
+use Rattle.c2po_nodes.specs.Nodes.{Tree, number, formula, node_term, node_formula, tree_of, trees, arithmetic, comparison, connected, windowed, ranged, constant_formula, Has, Grows, IsNumber, IsFormula, IsFormed, AreSound}
 use Rattle.c2po_nodes.proofs.NoFaults.{neither}
 use Rattle.c2po_nodes.proofs.Places.{at_push}
 use Rattle.c2po_nodes.proofs.Pushing.{has_new, grows_append, sound_push, number_at, is_number, formula_in_place, is_formula}
 use Rattle.mltl_simplify.specs.declared.proxies.Proxy.{Proxy}
-use Rattle.mltl_simplify.specs.Numbers.{compared}
+use Rattle.mltl_simplify.specs.Numbers.{compared_numbers}
 use Rattle.mltl_simplify.specs.Nodes as simplified
-use Rattle.mltl_simplify.specs.Nodes.{AreFormed, AreNumbered, AreSimplified, IsNumbered, IsPlaced, IsSimplified, Places, Puts, simple_between, simple_logic, simple_window}
+use Rattle.mltl_simplify.specs.Nodes.{AreFormed, ProxiesAreNumbered, AreSimplified, IsNumbered, IsPlaced, IsSimplified, Places, AddsNodes, simple_between, simple_logic, simple_window}
 use Rattle.mltl_simplify.specs.Simplify.{has_signal, of_truth, simp}
 use Rattle.mltl_simplify.proofs.Reading.{formula_below, formula_operand, has_place, head, node_has, number_below, number_operand}
 use Rattle.mltl_simplify.proofs.Putting.{put}
@@ -40,12 +40,12 @@ has_part : (proxies : List Proxy) (a : ℕ) → a < length proxies → HasPart p
 has_part proxies a l = let d : Proxy = record { place = 0; number = None } in record { the = get_or proxies a d; is = slice_get-get_or proxies a d l }
 
 -- the number of an operand, and of a node, is known
-pub known_operand : (nodes : List Plain) (proxies : List Proxy) (i a : ℕ) → length proxies ≡ i → i < length nodes → AreNumbered nodes proxies → IsNumber (slice_get (trees (take i nodes)) a) →
-    IsKnown (simplified.number_at proxies a) (term_at (trees (take i nodes)) a)
+pub known_operand : (nodes : List Plain) (proxies : List Proxy) (i a : ℕ) → length proxies ≡ i → i < length nodes → ProxiesAreNumbered nodes proxies → IsNumber (slice_get (trees (take i nodes)) a) →
+    IsKnown (simplified.known_number proxies a) (node_term (trees (take i nodes)) a)
 known_operand nodes proxies i a each l numbered h =
     let below : a < i = number_below nodes i a l h in
     let proxy = has_part proxies a (omega arith) in
-    subst (λ x. IsKnown x (term_at (trees (take i nodes)) a)) (sym (ap simplified.number_in proxy.is)) (numbered.known a proxy.the _ proxy.is (number_operand nodes i a h))
+    subst (λ x. IsKnown x (node_term (trees (take i nodes)) a)) (sym (ap simplified.proxy_number proxy.is)) (numbered.known a proxy.the _ proxy.is (number_operand nodes i a h))
 
 pub numbered_as : (found : Option ℤ) (a : Term) (tree : Tree) → number a ≡ tree → IsKnown found a → IsNumbered found tree
 numbered_as found a tree e h = subst (λ t. IsNumbered found t) e h
@@ -71,17 +71,17 @@ other_numbered ts n tree e x y z = subst (λ t. IsNumbered None t) e (numbered_n
 
 -- the node that stands for an operand
 module _ (nodes simple : List Plain) (proxies : List Proxy) (i : ℕ) (l : i < length nodes) (before : AreSimplified nodes i simple proxies) where
-  pub formula_there : (a : ℕ) → IsFormula (slice_get (trees (take i nodes)) a) → IsSimplified simple (simplified.place_at proxies a) (formula_at (trees (take i nodes)) a)
+  pub formula_there : (a : ℕ) → IsFormula (slice_get (trees (take i nodes)) a) → IsSimplified simple (simplified.place_at proxies a) (node_formula (trees (take i nodes)) a)
   formula_there a h =
       let below : a < i = formula_below nodes i a l h in
       let proxy = has_part proxies a (omega (arith, before.each)) in
-      subst (λ n. IsSimplified simple n (formula_at (trees (take i nodes)) a)) (sym (ap simplified.place_in proxy.is)) (before.placed a proxy.the _ proxy.is (formula_operand nodes i a h))
+      subst (λ n. IsSimplified simple n (node_formula (trees (take i nodes)) a)) (sym (ap simplified.place_in proxy.is)) (before.placed a proxy.the _ proxy.is (formula_operand nodes i a h))
 
-  pub number_there : (a : ℕ) → IsNumber (slice_get (trees (take i nodes)) a) → Has simple (simplified.place_at proxies a) (number (term_at (trees (take i nodes)) a))
+  pub number_there : (a : ℕ) → IsNumber (slice_get (trees (take i nodes)) a) → Has simple (simplified.place_at proxies a) (number (node_term (trees (take i nodes)) a))
   number_there a h =
       let below : a < i = number_below nodes i a l h in
       let proxy = has_part proxies a (omega (arith, before.each)) in
-      subst (λ n. Has simple n (number (term_at (trees (take i nodes)) a))) (sym (ap simplified.place_in proxy.is)) (before.placed a proxy.the _ proxy.is (number_operand nodes i a h))
+      subst (λ n. Has simple n (number (node_term (trees (take i nodes)) a))) (sym (ap simplified.place_in proxy.is)) (before.placed a proxy.the _ proxy.is (number_operand nodes i a h))
 
 -- ---- one more node
 
@@ -96,7 +96,7 @@ place_put (Ok k) nodes old new n tree pushed place placed formed = record {
 }
 
 -- a formula that is put, or found, is placed
-pub place_formula : (nodes old new : List Plain) (n : ℕ) (p q : plain.Formula) → Puts old new n q → (formula_fault p ≡ None → q ≡ simp p) → Places nodes old new n (formula p)
+pub place_formula : (nodes old new : List Plain) (n : ℕ) (p q : plain.Formula) → AddsNodes old new n q → (formula_fault p ≡ None → q ≡ simp p) → Places nodes old new n (formula p)
 place_formula nodes old new n p q put same = record {
   placed = record { the = q; has = put.has; simple = same };
   grows = put.grows;
@@ -172,7 +172,7 @@ place_arith result nodes old new op a b x y tree pushed place h k e = place_put 
 
 -- a comparison becomes what is found of its numbers
 pub place_truth : {E : Type 0} (result : Result ℕ E) (nodes old new : List Plain) (op : compare.CompareOp) (x y : Term) (u w : Option ℤ) (v : Bool) (tree : Tree) → OnOk result (new ≡ old ++ node.Truth v ∷ []) → IfOk result (λ k. k ≡ length old) →
-    IsKnown u x → IsKnown w y → Some v ≡ compared op u w → formula (plain.atom (comparison op x y)) ≡ tree → IfOk result (λ k. Places nodes old new k tree)
+    IsKnown u x → IsKnown w y → Some v ≡ compared_numbers op u w → formula (plain.atom (comparison op x y)) ≡ tree → IfOk result (λ k. Places nodes old new k tree)
 place_truth result nodes old new op x y u w v tree pushed place known_x known_y found e = place_put result nodes old new (node.Truth v) tree pushed place
     (λ k g. subst (λ t. IsPlaced new k t) e (record {
       the = constant_formula v;
@@ -182,7 +182,7 @@ place_truth result nodes old new op x y u w v tree pushed place known_x known_y 
     (λ signals s. tt)
 
 pub place_compare : {E : Type 0} (result : Result ℕ E) (nodes old new : List Plain) (op : compare.CompareOp) (a b : ℕ) (x y : Term) (u w : Option ℤ) (tree : Tree) → OnOk result (new ≡ old ++ node.Compare op a b ∷ []) → IfOk result (λ k. k ≡ length old) →
-    Has old a (number x) → Has old b (number y) → IsKnown u x → IsKnown w y → None ≡ compared op u w → formula (plain.atom (comparison op x y)) ≡ tree → IfOk result (λ k. Places nodes old new k tree)
+    Has old a (number x) → Has old b (number y) → IsKnown u x → IsKnown w y → None ≡ compared_numbers op u w → formula (plain.atom (comparison op x y)) ≡ tree → IfOk result (λ k. Places nodes old new k tree)
 place_compare result nodes old new op a b x y u w tree pushed place h k known_x known_y found e = place_put result nodes old new (node.Compare op a b) tree pushed place
     (λ m g. subst (λ t. IsPlaced new m t) e (record {
       the = plain.atom (comparison op x y);
@@ -218,22 +218,22 @@ not_simple p x h f = ap Rattle.mltl_simplify.specs.Simplify.simple_not (h f)
 
 module _ {E : Type 0} (result : Result ℕ E) (nodes old new : List Plain) (tree : Tree) where
   pub logic_placed : (op : logic.LogicOp) (p q : plain.Formula) (a b : ℕ) (x : IsSimplified old a p) (y : IsSimplified old b q) → formula (connected op p q) ≡ tree →
-      IfOk result (λ n. Puts old new n (simple_logic op x.the y.the)) → IfOk result (λ n. Places nodes old new n tree)
+      IfOk result (λ n. AddsNodes old new n (simple_logic op x.the y.the)) → IfOk result (λ n. Places nodes old new n tree)
   logic_placed op p q a b x y e h = IfOk-weaker result _ _
       (λ n w. subst (λ t. Places nodes old new n t) e (place_formula nodes old new n (connected op p q) _ w (logic_simple op p q x.the y.the x.simple y.simple))) h
 
   pub window_placed : (op : window.WindowOp) (i : Interval) (p : plain.Formula) (a : ℕ) (x : IsSimplified old a p) → formula (windowed op i p) ≡ tree →
-      IfOk result (λ n. Puts old new n (simple_window op i x.the)) → IfOk result (λ n. Places nodes old new n tree)
+      IfOk result (λ n. AddsNodes old new n (simple_window op i x.the)) → IfOk result (λ n. Places nodes old new n tree)
   window_placed op i p a x e h = IfOk-weaker result _ _
       (λ n w. subst (λ t. Places nodes old new n t) e (place_formula nodes old new n (windowed op i p) _ w (window_simple op i p x.the x.simple))) h
 
   pub between_placed : (op : between.BetweenOp) (i : Interval) (p q : plain.Formula) (a b : ℕ) (x : IsSimplified old a p) (y : IsSimplified old b q) → formula (ranged op i p q) ≡ tree →
-      IfOk result (λ n. Puts old new n (simple_between op i x.the y.the)) → IfOk result (λ n. Places nodes old new n tree)
+      IfOk result (λ n. AddsNodes old new n (simple_between op i x.the y.the)) → IfOk result (λ n. Places nodes old new n tree)
   between_placed op i p q a b x y e h = IfOk-weaker result _ _
       (λ n w. subst (λ t. Places nodes old new n t) e (place_formula nodes old new n (ranged op i p q) _ w (between_simple op i p q x.the y.the x.simple y.simple))) h
 
   pub not_placed : (p : plain.Formula) (a : ℕ) (x : IsSimplified old a p) → formula (plain.negation p) ≡ tree →
-      IfOk result (λ n. Puts old new n (Rattle.mltl_simplify.specs.Simplify.simple_not x.the)) → IfOk result (λ n. Places nodes old new n tree)
+      IfOk result (λ n. AddsNodes old new n (Rattle.mltl_simplify.specs.Simplify.simple_not x.the)) → IfOk result (λ n. Places nodes old new n tree)
   not_placed p a x e h = IfOk-weaker result _ _
       (λ n w. subst (λ t. Places nodes old new n t) e (place_formula nodes old new n (plain.negation p) _ w (not_simple p x.the x.simple))) h
 
@@ -269,22 +269,22 @@ one_more nodes old new i proxies more proxy l before here told e =
 
 record Named (nodes simple : List Plain) (proxies : List Proxy) (n : ℕ) : Type 0 where
   below : n < length proxies
-  stands : IsSimplified simple (simplified.place_at proxies n) (formula_at (trees nodes) n)
+  stands : IsSimplified simple (simplified.place_at proxies n) (node_formula (trees nodes) n)
 
 named : (nodes simple : List Plain) (proxies : List Proxy) → AreSimplified nodes (length nodes) simple proxies → (n : ℕ) → IsFormula (slice_get (trees nodes) n) → Named nodes simple proxies n
 named nodes simple proxies done n h =
     let all : take (length nodes) nodes ≡ nodes = take-length nodes in
-    let there : Has nodes n (formula (formula_at (trees nodes) n)) = subst (λ ns. Has nodes n (formula (formula_at (trees ns) n))) all
+    let there : Has nodes n (formula (node_formula (trees nodes) n)) = subst (λ ns. Has nodes n (formula (node_formula (trees ns) n))) all
     (formula_operand nodes (length nodes) n (subst (λ ns. IsFormula (slice_get (trees ns) n)) (sym all) h)) in
     let inside : n < length nodes = has_place nodes n _ there in
     let proxy = has_part proxies n (omega (arith, done.each)) in
     record {
       below = omega (arith, done.each);
-      stands = subst (λ m. IsSimplified simple m (formula_at (trees nodes) n)) (sym (ap simplified.place_in proxy.is)) (done.placed n proxy.the _ proxy.is there);
+      stands = subst (λ m. IsSimplified simple m (node_formula (trees nodes) n)) (sym (ap simplified.place_in proxy.is)) (done.placed n proxy.the _ proxy.is there);
     }
 
-pub place_of_formula : (nodes simple : List Plain) (proxies : List Proxy) → AreSimplified nodes (length nodes) simple proxies → (n : ℕ) → IsFormula (slice_get (trees nodes) n) → formula_fault (formula_at (trees nodes) n) ≡ None →
-    formula_at (trees simple) (simplified.place_at proxies n) ≡ simp (formula_at (trees nodes) n)
+pub place_of_formula : (nodes simple : List Plain) (proxies : List Proxy) → AreSimplified nodes (length nodes) simple proxies → (n : ℕ) → IsFormula (slice_get (trees nodes) n) → formula_fault (node_formula (trees nodes) n) ≡ None →
+    node_formula (trees simple) (simplified.place_at proxies n) ≡ simp (node_formula (trees nodes) n)
 place_of_formula nodes simple proxies done n h k =
     let s = (named nodes simple proxies done n h).stands in
     formula_in_place simple (simplified.place_at proxies n) s.the s.has ∙ s.simple k

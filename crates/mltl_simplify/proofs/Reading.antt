@@ -5,7 +5,7 @@ use Rattle.std.proofs.lemmas.List.{take-append-drop, length-take-le}
 use Rattle.std.proofs.lemmas.Option.{slice_get_within, same_Some}
 use Rattle.c2po_nodes.specs.declared.nodes.Plain.{Plain}
 use Rattle.c2po_nodes.specs.declared.nodes.Plain.TheVariants.{Truth}
-use Rattle.c2po_nodes.specs.Nodes.{Tree, number, formula, term_in, formula_in, term_at, formula_at, tree_of, trees, Has, IsNumber, IsFormula, IsFormed}
+use Rattle.c2po_nodes.specs.Nodes.{Tree, number, formula, term_in, formula_in, node_term, node_formula, tree_of, trees, Has, IsNumber, IsFormula, IsFormed}
 use Rattle.c2po_nodes.proofs.Places.{get_last, node_there}
 use Rattle.c2po_nodes.proofs.Pushing.{trees_more, length-trees, grows_append}
 use Rattle.mltl_simplify.specs.Nodes.{AreFormed}
@@ -44,10 +44,10 @@ is_number_in None h = absurd h
 is_number_in (Some (number a)) h = refl
 is_number_in (Some (formula p)) h = absurd h
 
-pub formula_operand : (nodes : List Plain) (k a : ℕ) → IsFormula (slice_get (trees (take k nodes)) a) → Has nodes a (formula (formula_at (trees (take k nodes)) a))
+pub formula_operand : (nodes : List Plain) (k a : ℕ) → IsFormula (slice_get (trees (take k nodes)) a) → Has nodes a (formula (node_formula (trees (take k nodes)) a))
 formula_operand nodes k a h = has_later nodes k a _ (is_formula_in (slice_get (trees (take k nodes)) a) h)
 
-pub number_operand : (nodes : List Plain) (k a : ℕ) → IsNumber (slice_get (trees (take k nodes)) a) → Has nodes a (number (term_at (trees (take k nodes)) a))
+pub number_operand : (nodes : List Plain) (k a : ℕ) → IsNumber (slice_get (trees (take k nodes)) a) → Has nodes a (number (node_term (trees (take k nodes)) a))
 number_operand nodes k a h = has_later nodes k a _ (is_number_in (slice_get (trees (take k nodes)) a) h)
 
 below : (nodes : List Plain) (k a : ℕ) (tree : Tree) → k < length nodes → slice_get (trees (take k nodes)) a ≡ Some tree → a < k

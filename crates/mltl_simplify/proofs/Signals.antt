@@ -14,7 +14,7 @@ use Rattle.mltl_base.specs.Reports.{Output, formula, contract}
 use Rattle.mltl_base.specs.Subformulas.{Asked}
 use Rattle.c2po_nodes.specs.Outputs.{asked_over, output_over}
 use Rattle.mltl_simplify.specs.Outputs.{simple_asked, simple_output, simple_outputs}
-use Rattle.mltl_simplify.specs.Simplify.{both, either, equals, has_signal, if_joined, implies, joined, of_truth, reads_signal, simp, simple_and, simple_atom, simple_equals, simple_finally, simple_globally, simple_historically, simple_implies, simple_not, simple_once, simple_or, as_truth, unless_false, unless_truth}
+use Rattle.mltl_simplify.specs.Simplify.{both, either, equals, has_signal, if_joined, implies, summed_interval, of_truth, reads_signal, simp, simple_and, simple_atom, simple_equals, simple_finally, simple_globally, simple_historically, simple_implies, simple_not, simple_once, simple_or, as_truth, unless_false, unless_truth}
 use Rattle.mltl_simplify.proofs.Ending.{kept_by}
 use Rattle.mltl_simplify.proofs.Forms.{simp_each_atom}
 
@@ -192,7 +192,7 @@ module _ (columns : List ℕ) where
   finally_over i (disjunction p q) = refl
   finally_over i (implication p q) = refl
   finally_over i (equivalence p q) = refl
-  finally_over i (finally j p) = joined_over i j (finally (joined i j) p) (finally i (finally j p))
+  finally_over i (finally j p) = joined_over i j (finally (summed_interval i j) p) (finally i (finally j p))
   finally_over i (globally j p) = refl
   finally_over i (until j p q) = refl
   finally_over i (release j p q) = refl
@@ -211,7 +211,7 @@ module _ (columns : List ℕ) where
   globally_over i (implication p q) = refl
   globally_over i (equivalence p q) = refl
   globally_over i (finally j p) = refl
-  globally_over i (globally j p) = joined_over i j (globally (joined i j) p) (globally i (globally j p))
+  globally_over i (globally j p) = joined_over i j (globally (summed_interval i j) p) (globally i (globally j p))
   globally_over i (until j p q) = refl
   globally_over i (release j p q) = refl
   globally_over i (once j p) = refl
@@ -232,7 +232,7 @@ module _ (columns : List ℕ) where
   once_over i (globally j p) = refl
   once_over i (until j p q) = refl
   once_over i (release j p q) = refl
-  once_over i (once j p) = joined_over i j (once (joined i j) p) (once i (once j p))
+  once_over i (once j p) = joined_over i j (once (summed_interval i j) p) (once i (once j p))
   once_over i (historically j p) = refl
   once_over i (since j p q) = refl
 
@@ -251,7 +251,7 @@ module _ (columns : List ℕ) where
   historically_over i (until j p q) = refl
   historically_over i (release j p q) = refl
   historically_over i (once j p) = refl
-  historically_over i (historically j p) = joined_over i j (historically (joined i j) p) (historically i (historically j p))
+  historically_over i (historically j p) = joined_over i j (historically (summed_interval i j) p) (historically i (historically j p))
   historically_over i (since j p q) = refl
 
   unless_truth_over : (u : Option Bool) (x : Formula) → over (unless_truth u x) ≡ unless_truth u (over x)

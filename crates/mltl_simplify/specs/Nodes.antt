@@ -68,7 +68,7 @@ pub record IsFormulaAt (nodes : List Plain) (n : ℕ) : Type 0 where
   pub has : Has nodes n (formula the)
 
 -- further nodes, of which node n is a formula: the older ones stay, and all are as sound as those
-pub record Puts (old new : List Plain) (n : ℕ) (p : plain.Formula) : Type 0 where
+pub record AddsNodes (old new : List Plain) (n : ℕ) (p : plain.Formula) : Type 0 where
   pub has : Has new n (formula p)
   pub grows : Grows old new
   pub sound : (signals : ℕ) → AreSound signals old → AreSound signals new
@@ -97,7 +97,7 @@ IsNumbered known (number a) = term_fault a ≡ None → known ≡ number_of a
 IsNumbered known (formula p) = ⊤
 
 -- the proxies of the first nodes have the numbers of these
-pub record AreNumbered (nodes : List Plain) (proxies : List Proxy) : Type 0 where
+pub record ProxiesAreNumbered (nodes : List Plain) (proxies : List Proxy) : Type 0 where
   pub known : (n : ℕ) (proxy : Proxy) (tree : Tree) → slice_get proxies n ≡ Some proxy → Has nodes n tree
       → IsNumbered proxy.number tree
 
@@ -106,13 +106,13 @@ pub record AreSimplified (nodes : List Plain) (count : ℕ) (simple : List Plain
   pub each : length proxies ≡ count
   pub placed : (n : ℕ) (proxy : Proxy) (tree : Tree) → slice_get proxies n ≡ Some proxy → Has nodes n tree
       → IsPlaced simple proxy.place tree
-  pub numbered : AreNumbered nodes proxies
+  pub numbered : ProxiesAreNumbered nodes proxies
   pub sound : (signals : ℕ) → AreSound signals nodes → AreSound signals simple
 
 -- the number of a proxy, where there is one
-abbrev pub number_in : Option Proxy → Option ℤ
-number_in (Some proxy) = proxy.number
-number_in None = None
+abbrev pub proxy_number : Option Proxy → Option ℤ
+proxy_number (Some proxy) = proxy.number
+proxy_number None = None
 
 -- the place of a proxy, where there is one
 abbrev pub place_in : Option Proxy → ℕ
@@ -124,8 +124,8 @@ abbrev pub place_at : List Proxy → ℕ → ℕ
 place_at proxies n = place_in (slice_get proxies n)
 
 -- the number of node n, if it is known
-abbrev pub number_at : List Proxy → ℕ → Option ℤ
-number_at proxies n = number_in (slice_get proxies n)
+abbrev pub known_number : List Proxy → ℕ → Option ℤ
+known_number proxies n = proxy_number (slice_get proxies n)
 
 -- an output over the indices that represent its nodes
 abbrev pub out_over : List Proxy → PlainOut → PlainOut
@@ -133,6 +133,6 @@ out_over proxies (Formula engine n name) = Formula engine (place_at proxies n) n
 out_over proxies (Contract engine n m name) = Contract engine (place_at proxies n) (place_at proxies m) name
 
 -- the output reads nodes among this many
-abbrev pub NamesNodes : ℕ → PlainOut → Type 0
-NamesNodes count (Formula engine n name) = n < count
-NamesNodes count (Contract engine n m name) = (n < count) × (m < count)
+abbrev pub ReadsNodes : ℕ → PlainOut → Type 0
+ReadsNodes count (Formula engine n name) = n < count
+ReadsNodes count (Contract engine n m name) = (n < count) × (m < count)

@@ -15,12 +15,12 @@ abbrev pub number_of : Term → Option ℤ
 number_of a = if reads_signal a then None else Some (value a [])
 
 -- what an operator makes of two numbers
-abbrev pub computed : arith.ArithOp → ℤ → ℤ → ℤ
-computed arith.TheVariants.Add x y = x +ℤ y
-computed arith.TheVariants.Sub x y = x -ℤ y
-computed arith.TheVariants.Mul x y = x *ℤ y
-computed arith.TheVariants.Div x y = int_div x y
-computed arith.TheVariants.Rem x y = int_rem x y
+abbrev pub computed_number : arith.ArithOp → ℤ → ℤ → ℤ
+computed_number arith.TheVariants.Add x y = x +ℤ y
+computed_number arith.TheVariants.Sub x y = x -ℤ y
+computed_number arith.TheVariants.Mul x y = x *ℤ y
+computed_number arith.TheVariants.Div x y = int_div x y
+computed_number arith.TheVariants.Rem x y = int_rem x y
 
 -- the divisor, if there is one, isn't 0
 abbrev pub CanDivideBy : arith.ArithOp → ℤ → Type 0
@@ -30,7 +30,7 @@ CanDivideBy _ y = ⊤
 
 -- the operator can be computed in 64 bits
 abbrev pub CanCompute : arith.ArithOp → ℤ → ℤ → Type 0
-CanCompute op x y = CanDivideBy op y × FitsSigned w64 (computed op x y)
+CanCompute op x y = CanDivideBy op y × FitsSigned w64 (computed_number op x y)
 
 -- what is found for a negation is its number, where the operand's is known and 64 bits suffice
 abbrev pub IsNegated : Option ℤ → Option ℤ → Type 0
@@ -39,21 +39,21 @@ IsNegated (Some x) found = FitsSigned w64 (neg_ℤ x) → found ≡ Some (neg_�
 
 -- what is found for an operation is its number, where the operands' are known and 64 bits suffice
 abbrev pub IsComputed : arith.ArithOp → Option ℤ → Option ℤ → Option ℤ → Type 0
-IsComputed op (Some x) (Some y) found = CanCompute op x y → found ≡ Some (computed op x y)
+IsComputed op (Some x) (Some y) found = CanCompute op x y → found ≡ Some (computed_number op x y)
 IsComputed op None y found = found ≡ None
 IsComputed op (Some x) None found = found ≡ None
 
 -- whether two numbers compare so
-abbrev pub compares : compare.CompareOp → ℤ → ℤ → Bool
-compares compare.TheVariants.Eq x y = int_eq x y
-compares compare.TheVariants.Ne x y = not (int_eq x y)
-compares compare.TheVariants.Lt x y = int_lt x y
-compares compare.TheVariants.Le x y = int_le x y
-compares compare.TheVariants.Gt x y = int_lt y x
-compares compare.TheVariants.Ge x y = int_le y x
+abbrev pub numbers_compare : compare.CompareOp → ℤ → ℤ → Bool
+numbers_compare compare.TheVariants.Eq x y = int_eq x y
+numbers_compare compare.TheVariants.Ne x y = not (int_eq x y)
+numbers_compare compare.TheVariants.Lt x y = int_lt x y
+numbers_compare compare.TheVariants.Le x y = int_le x y
+numbers_compare compare.TheVariants.Gt x y = int_lt y x
+numbers_compare compare.TheVariants.Ge x y = int_le y x
 
 -- the same of numbers that may be known
-abbrev pub compared : compare.CompareOp → Option ℤ → Option ℤ → Option Bool
-compared op (Some x) (Some y) = Some (compares op x y)
-compared op (Some x) None = None
-compared op None y = None
+abbrev pub compared_numbers : compare.CompareOp → Option ℤ → Option ℤ → Option Bool
+compared_numbers op (Some x) (Some y) = Some (numbers_compare op x y)
+compared_numbers op (Some x) None = None
+compared_numbers op None y = None

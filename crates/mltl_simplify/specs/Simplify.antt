@@ -102,8 +102,8 @@ abbrev pub simple_equals : Formula → Formula → Formula
 simple_equals x y = equals (as_truth x) (as_truth y) x y
 
 -- the interval of an operator over the same operator: its ends are the sums of both intervals' ends
-abbrev pub joined : Interval → Interval → Interval
-joined i j = record { lo = i.lo + j.lo; hi = i.hi + j.hi }
+abbrev pub summed_interval : Interval → Interval → Interval
+summed_interval i j = record { lo = i.lo + j.lo; hi = i.hi + j.hi }
 
 -- the joined interval, where its upper end is within the limit
 abbrev pub if_joined : Interval → Interval → Formula → Formula → Formula
@@ -113,27 +113,27 @@ if_joined i j one two = if nat_le (i.hi + j.hi) MAX_BOUND then one else two
 unfoldable pub simple_finally : Interval → Formula → Formula
 simple_finally i truth = truth
 simple_finally i falsity = falsity
-simple_finally i (finally j z) = if_joined i j (finally (joined i j) z) (finally i (finally j z))
+simple_finally i (finally j z) = if_joined i j (finally (summed_interval i j) z) (finally i (finally j z))
 simple_finally i x = finally i x
 
 -- globally of true or false is that Boolean; two of them in a row are merged
 unfoldable pub simple_globally : Interval → Formula → Formula
 simple_globally i truth = truth
 simple_globally i falsity = falsity
-simple_globally i (globally j z) = if_joined i j (globally (joined i j) z) (globally i (globally j z))
+simple_globally i (globally j z) = if_joined i j (globally (summed_interval i j) z) (globally i (globally j z))
 simple_globally i x = globally i x
 
 -- once of false is false; two of them in a row are one. Once of true isn't true at the first times
 unfoldable pub simple_once : Interval → Formula → Formula
 simple_once i falsity = falsity
-simple_once i (once j z) = if_joined i j (once (joined i j) z) (once i (once j z))
+simple_once i (once j z) = if_joined i j (once (summed_interval i j) z) (once i (once j z))
 simple_once i x = once i x
 
 -- historically of true is true; two of them in a row are one. Historically of false isn't false at the first times
 unfoldable pub simple_historically : Interval → Formula → Formula
 simple_historically i truth = truth
 simple_historically i (historically j z) =
-    if_joined i j (historically (joined i j) z) (historically i (historically j z))
+    if_joined i j (historically (summed_interval i j) z) (historically i (historically j z))
 simple_historically i x = historically i x
 
 -- until and release with true or false on the right are that Boolean

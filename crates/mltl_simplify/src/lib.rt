@@ -7,10 +7,10 @@ mod laws;
 mod numbers;
 mod proxies;
 mod rules;
-mod simplifying;
+mod simplifier;
 
 pub use laws::{
     simplified_examples, simplified_formulas_keep_their_form, simplified_formulas_mean_the_same,
     simplified_formulas_settle_among_each_class, simplified_verdicts_are_settled,
 };
-pub use simplifying::simplify;
+pub use simplifier::simplify;

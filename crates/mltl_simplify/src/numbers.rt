@@ -1,7 +1,7 @@
 //! The values of integer expressions without signals, and what operators make of them.
 
 ghost use Rattle.std.specs.Prelude.{◌≡◌, ◌≢◌, pos, int_rem, Some};
-ghost use Rattle.mltl_simplify.specs.Numbers.{CanCompute, IsComputed, IsNegated, compared as compared_as, compares, computed as meant};
+ghost use Rattle.mltl_simplify.specs.Numbers.{CanCompute, IsComputed, IsNegated, compared_numbers as compared_as, numbers_compare, computed_number as meant};
 
 use mltl_base::{ArithOp, CompareOp};
 
@@ -43,7 +43,7 @@ pub fn computed(op: ArithOp, x: Option<i64>, y: Option<i64>) -> Option<i64>
 
 /// Whether two numbers compare so.
 fn compare(op: CompareOp, x: i64, y: i64) -> bool
-    ensures { result ≡ compares op x y }
+    ensures { result ≡ numbers_compare op x y }
 {
     match op {
         CompareOp::Eq => x == y,

@@ -2,7 +2,7 @@
 
 ghost use Rattle.std.specs.Prelude.{◌≡◌, ◌<◌, [], length, IfOk};
 ghost use Rattle.c2po_nodes.specs.Nodes.{Has, Tree};
-ghost use Rattle.mltl_simplify.specs.Nodes.{AreFormed, AreNumbered, AreSimplified, IsNumbered, Places, number_at as known_at, place_at as stands_at};
+ghost use Rattle.mltl_simplify.specs.Nodes.{AreFormed, ProxiesAreNumbered, AreSimplified, IsNumbered, Places, known_number as known_at, place_at as stands_at};
 
 use crate::numbers::{compared, computed, negated};
 use crate::rules::{between, connective, negation, window};
@@ -38,7 +38,7 @@ fn number_of(proxies: &[Proxy], nodes: &[Plain], i: usize) -> Option<i64>
     requires next { i < length nodes.now }
     requires formed { AreFormed nodes.now }
     requires each { length proxies.now ≡ i }
-    requires numbered { AreNumbered nodes.now proxies.now }
+    requires numbered { ProxiesAreNumbered nodes.now proxies.now }
     ensures { (tree : Tree) → Has nodes.now i tree → IsNumbered result tree }
 {
     match nodes[i] {

@@ -4,8 +4,8 @@ ghost use Rattle.std.specs.Prelude.{◌≡◌, ◌↔◌, ◌+◌, IsTrue, if◌
 ghost use Rattle.mltl_base.specs.Formula.{Formula};
 ghost use Rattle.mltl_base.specs.declared.limits.TheConstants.{MAX_BOUND};
 ghost use Rattle.c2po_nodes.specs.Nodes.{Has, IsBounded, formula};
-ghost use Rattle.mltl_simplify.specs.Nodes.{AreFormed, IsFormulaAt, KeepsNone, Puts, gives_truth, keeps_truth, simple_between, simple_logic, simple_window};
-ghost use Rattle.mltl_simplify.specs.Simplify.{joined as summed, simple_and, simple_equals, simple_implies, simple_not, simple_or, as_truth};
+ghost use Rattle.mltl_simplify.specs.Nodes.{AreFormed, IsFormulaAt, KeepsNone, AddsNodes, gives_truth, keeps_truth, simple_between, simple_logic, simple_window};
+ghost use Rattle.mltl_simplify.specs.Simplify.{summed_interval as summed, simple_and, simple_equals, simple_implies, simple_not, simple_or, as_truth};
 
 use c2po_nodes::{NodeList, Plain};
 use mltl_base::limits::MAX_BOUND;
@@ -28,7 +28,7 @@ pub fn negation(nodes: &mut NodeList, a: u32) -> Result<u32, AllocError>
     requires formed { AreFormed nodes.old }
     requires there { IsFormulaAt nodes.old a }
     ensures { (p : Formula) → Has nodes.old a (formula p)
-        → IfOk result (λ n. Puts nodes.old nodes.new n (simple_not p)) }
+        → IfOk result (λ n. AddsNodes nodes.old nodes.new n (simple_not p)) }
 {
     match nodes.as_slice()[a as usize] {
         Plain::Truth(value) => nodes.push(Plain::Truth(!value)),
@@ -43,7 +43,7 @@ fn conjunction(nodes: &mut NodeList, a: u32, b: u32) -> Result<u32, AllocError>
     requires left { IsFormulaAt nodes.old a }
     requires right { IsFormulaAt nodes.old b }
     ensures { (p q : Formula) → Has nodes.old a (formula p) → Has nodes.old b (formula q)
-        → IfOk result (λ n. Puts nodes.old nodes.new n (simple_and p q)) }
+        → IfOk result (λ n. AddsNodes nodes.old nodes.new n (simple_and p q)) }
 {
     match (truth_at(nodes, a), truth_at(nodes, b)) {
         (Some(true), _) => Ok(b),
@@ -60,7 +60,7 @@ fn disjunction(nodes: &mut NodeList, a: u32, b: u32) -> Result<u32, AllocError>
     requires left { IsFormulaAt nodes.old a }
     requires right { IsFormulaAt nodes.old b }
     ensures { (p q : Formula) → Has nodes.old a (formula p) → Has nodes.old b (formula q)
-        → IfOk result (λ n. Puts nodes.old nodes.new n (simple_or p q)) }
+        → IfOk result (λ n. AddsNodes nodes.old nodes.new n (simple_or p q)) }
 {
     match (truth_at(nodes, a), truth_at(nodes, b)) {
         (Some(true), _) => Ok(a),
@@ -77,7 +77,7 @@ fn implication(nodes: &mut NodeList, a: u32, b: u32) -> Result<u32, AllocError>
     requires left { IsFormulaAt nodes.old a }
     requires right { IsFormulaAt nodes.old b }
     ensures { (p q : Formula) → Has nodes.old a (formula p) → Has nodes.old b (formula q)
-        → IfOk result (λ n. Puts nodes.old nodes.new n (simple_implies p q)) }
+        → IfOk result (λ n. AddsNodes nodes.old nodes.new n (simple_implies p q)) }
 {
     match (truth_at(nodes, a), truth_at(nodes, b)) {
         (Some(true), _) => Ok(b),
@@ -94,7 +94,7 @@ fn equivalence(nodes: &mut NodeList, a: u32, b: u32) -> Result<u32, AllocError>
     requires left { IsFormulaAt nodes.old a }
     requires right { IsFormulaAt nodes.old b }
     ensures { (p q : Formula) → Has nodes.old a (formula p) → Has nodes.old b (formula q)
-        → IfOk result (λ n. Puts nodes.old nodes.new n (simple_equals p q)) }
+        → IfOk result (λ n. AddsNodes nodes.old nodes.new n (simple_equals p q)) }
 {
     match (truth_at(nodes, a), truth_at(nodes, b)) {
         (Some(true), _) => Ok(b),
@@ -111,7 +111,7 @@ pub fn connective(nodes: &mut NodeList, op: LogicOp, a: u32, b: u32) -> Result<u
     requires left { IsFormulaAt nodes.old a }
     requires right { IsFormulaAt nodes.old b }
     ensures { (p q : Formula) → Has nodes.old a (formula p) → Has nodes.old b (formula q)
-        → IfOk result (λ n. Puts nodes.old nodes.new n (simple_logic op p q)) }
+        → IfOk result (λ n. AddsNodes nodes.old nodes.new n (simple_logic op p q)) }
 {
     match op {
         LogicOp::And => conjunction(nodes, a, b),
@@ -162,7 +162,7 @@ fn stacked(nodes: &mut NodeList, op: WindowOp, i: Interval, a: u32) -> Result<u3
     requires bounded { IsBounded i }
     requires there { IsFormulaAt nodes.old a }
     ensures { (p : Formula) → Has nodes.old a (formula p) → KeepsNone op (as_truth p)
-        → IfOk result (λ n. Puts nodes.old nodes.new n (simple_window op i p)) }
+        → IfOk result (λ n. AddsNodes nodes.old nodes.new n (simple_window op i p)) }
 {
     let node = nodes.as_slice()[a as usize];
     match node {
@@ -180,7 +180,7 @@ pub fn window(nodes: &mut NodeList, op: WindowOp, i: Interval, a: u32) -> Result
     requires bounded { IsBounded i }
     requires there { IsFormulaAt nodes.old a }
     ensures { (p : Formula) → Has nodes.old a (formula p)
-        → IfOk result (λ n. Puts nodes.old nodes.new n (simple_window op i p)) }
+        → IfOk result (λ n. AddsNodes nodes.old nodes.new n (simple_window op i p)) }
 {
     match truth_at(nodes, a) {
         Some(value) if keeps(op, value) => Ok(a),
@@ -211,7 +211,7 @@ pub fn between(
     requires left { IsFormulaAt nodes.old a }
     requires right { IsFormulaAt nodes.old b }
     ensures { (p q : Formula) → Has nodes.old a (formula p) → Has nodes.old b (formula q)
-        → IfOk result (λ n. Puts nodes.old nodes.new n (simple_between op i p q)) }
+        → IfOk result (λ n. AddsNodes nodes.old nodes.new n (simple_between op i p q)) }
 {
     match truth_at(nodes, b) {
         Some(value) if gives(op, value) => Ok(b),

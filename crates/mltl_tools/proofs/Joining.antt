@@ -27,7 +27,7 @@ use Rattle.c2po_compile.specs.Image.{over_columns, plain_outputs}
 use Rattle.c2po_compile.specs.ImageFiles.{stored_columns}
 use Rattle.c2po_nodes.specs.Outputs.{asked_over}
 use Rattle.c2po_cli.specs.Asking.{ask, compile_asked, make, served}
-use Rattle.c2po_cli.specs.Images.{IsFileBy, IsFileUnder, header_of}
+use Rattle.c2po_cli.specs.Images.{IsFileBy, IsFileUnder, asked_header}
 use Rattle.c2po_cli.specs.Run.{IsMade}
 use Rattle.r2u2_cli.specs.Formulas.{TellsProgram, columns_under}
 use Rattle.r2u2_cli.specs.Outcome.{StopsBy, due_by, rows_over}
@@ -36,7 +36,7 @@ use Rattle.r2u2_cli.specs.Taken.{lines_in, trace_ended, trace_of}
 use Rattle.r2u2_cli.specs.Run.{IsRun}
 use Rattle.r2u2_cli.proofs.ImageFiles.{program_told}
 use Rattle.r2u2_cli.proofs.Telling.{over_found}
-use Rattle.mltl_tools.specs.Sentence.{HasCompiled, HasWatched, TellsFormulas, TellsText, lines_at}
+use Rattle.mltl_tools.specs.Sentence.{HasCompiled, HasWatched, ReportsFormulas, ReportsText, lines_at}
 use Rattle.mltl_tools.proofs.Outputs.{reports_below}
 
 -- ---- the compilation
@@ -51,7 +51,7 @@ compiled_file words text header bytes events h =
     let made = subst (λ asked. IsMade asked Done h.before h.now events) (asks_made words h.asked h.asks) h.made in
     subst (λ b. IsFileUnder h.asked.simplify text header b) h.wrote
     (subst (λ l. IsFileUnder h.asked.simplify text l (given place.TheVariants.Out events)) h.under
-    (subst (λ t. IsFileUnder h.asked.simplify t (header_of h.asked.header (lines_at place.TheVariants.Header events)) (given place.TheVariants.Out events)) h.read
+    (subst (λ t. IsFileUnder h.asked.simplify t (asked_header h.asked.header (lines_at place.TheVariants.Header events)) (given place.TheVariants.Out events)) h.read
     (made.image refl h.no_table)))
 
 -- ---- what a program of such a file tells
@@ -68,7 +68,7 @@ module _ (asked : RunAsked) (text bytes : List ℕ) (own_header header : Option 
   -- the columns are found, and the lines after any rows tell the formulas
   record TellsAfter : Type 0 where
     placed : columns_by (signals_in text) (option_or header own_header) ≡ Ok (stored_columns program)
-    told : (rows : List Row) (out : List ℕ) → out ≡ lines asked.style (output_names program) (outputs program) rows → TellsFormulas text (stored_columns program) rows out
+    told : (rows : List Row) (out : List ℕ) → out ≡ lines asked.style (output_names program) (outputs program) rows → ReportsFormulas text (stored_columns program) rows out
 
   tells : (rows : List Row) → TellsProgram asked.style bytes header program rows
   tells rows = program_told asked.style bytes header program rows runs
@@ -126,7 +126,7 @@ found_so : (kind : FileKind) (events : List Event) (bytes : List ℕ) (raws : Li
     → program_over kind (taken (file_place kind) events) raws ≡ program_over file.Program bytes raws
 found_so kind events bytes raws is same = ap (λ k. program_over k (taken (file_place k) events) raws) is ∙ ap (λ b. program_over file.Program b raws) same
 
-pub watched_told : (compiling watching : List (List ℕ)) (text bytes : List ℕ) (header : Option (List ℕ)) (asked : RunAsked) (made ran : List Event) → HasCompiled compiling text header bytes made → HasWatched watching asked bytes ran → TellsText text header asked bytes ran
+pub watched_told : (compiling watching : List (List ℕ)) (text bytes : List ℕ) (header : Option (List ℕ)) (asked : RunAsked) (made ran : List Event) → HasCompiled compiling text header bytes made → HasWatched watching asked bytes ran → ReportsText text header asked bytes ran
 watched_told compiling watching text bytes header asked made ran compiled watched =
     let file_is = compiled_file compiling text header bytes made compiled in
     let is = subst (λ a. IsRun a Done watched.kept watched.before watched.now ran) watched.asks watched.ran in

@@ -26,7 +26,7 @@ use Rattle.c2po_compile.specs.Image.{plain_outputs}
 use Rattle.c2po_compile.specs.ImageFiles.{stored_columns}
 use Rattle.c2po_compile.specs.Simplified.{TellWords}
 use Rattle.c2po_cli.specs.Asking.{ask}
-use Rattle.c2po_cli.specs.Images.{header_of}
+use Rattle.c2po_cli.specs.Images.{asked_header}
 use Rattle.c2po_cli.specs.Run.{IsMade}
 use Rattle.r2u2_cli.specs.Outcome.{rows_over}
 use Rattle.r2u2_cli.specs.ProgramBy.{header_in, program_over}
@@ -49,7 +49,7 @@ pub record HasCompiled (words : List (List ℕ)) (text : List ℕ) (header : Opt
   pub no_table : asked.table ≡ false
   pub made : IsMade (ask words) Done before now events
   pub read : taken at.Spec events ≡ text
-  pub under : header_of asked.header (lines_at at.Header events) ≡ header
+  pub under : asked_header asked.header (lines_at at.Header events) ≡ header
   pub wrote : given at.Out events ≡ bytes
 
 -- The log of a run of r2u2 that ended with success: its arguments requested this run over a program file and a trace,
@@ -67,7 +67,7 @@ pub record HasWatched (words : List (List ℕ)) (asked : RunAsked) (bytes : List
 -- reports, under the names of the text's outputs and of no others. Of each output they report each time once and in
 -- order, with a word that is the meaning of its time whatever rows follow; and no time comes later than the output's
 -- worst-case delay.
-pub record TellsFormulas (text : List ℕ) (columns : Columns) (rows : List Row) (out : List ℕ) : Type 0 where
+pub record ReportsFormulas (text : List ℕ) (columns : Columns) (rows : List Row) (out : List ℕ) : Type 0 where
   pub told_so : List Report
   pub lines_are : out ≡ lines_of_reports (map (λ o. o.name) (outputs_in text)) told_so
   pub only : All (λ report. report.out < length (outputs_in text)) told_so
@@ -77,15 +77,15 @@ pub record TellsFormulas (text : List ℕ) (columns : Columns) (rows : List Row)
 -- A run over a program file reports a text: its rows are clean, its lines report the text's formulas over all rows,
 -- and before each read of the trace they reported them over the rows of what was read. The signals are in the columns
 -- of the trace's header; without one in those of the compilation: of its header, or of the order of declaration.
-pub record TellsText (text : List ℕ) (header : Option (List ℕ)) (asked : RunAsked) (bytes : List ℕ)
+pub record ReportsText (text : List ℕ) (header : Option (List ℕ)) (asked : RunAsked) (bytes : List ℕ)
     (events : List Event) : Type 0 where
   pub program : Program
   pub runs : program_over file.Program bytes (lines_in events) ≡ Ok program
   pub placed : columns_by (signals_in text) (option_or (header_in (lines_in events)) header)
       ≡ Ok (stored_columns program)
   pub clean : (rows_over asked program true (trace_of events)).stop ≡ Clean
-  pub whole : TellsFormulas text (stored_columns program) (rows_over asked program true (trace_of events)).rows
+  pub whole : ReportsFormulas text (stored_columns program) (rows_over asked program true (trace_of events)).rows
       (given at.Out events)
   pub prompt : (before after : List Event) (piece : List ℕ) → events ≡ before ++ Took at.Trace piece ∷ after
-      → TellsFormulas text (stored_columns program) (rows_over asked program false (trace_of before)).rows
+      → ReportsFormulas text (stored_columns program) (rows_over asked program false (trace_of before)).rows
       (given at.Out before)

@@ -3,7 +3,7 @@
 ghost use Rattle.std.specs.Prelude.{List as Seq, Option as Maybe, ℕ};
 ghost use Rattle.tool_io.specs.Log.{Event};
 ghost use Rattle.tool_words.specs.R2u2Words.{RunAsked};
-ghost use Rattle.mltl_tools.specs.Sentence.{HasCompiled, HasWatched, TellsText};
+ghost use Rattle.mltl_tools.specs.Sentence.{HasCompiled, HasWatched, ReportsText};
 
 /// A text that [`c2po_main`](crate::c2po_main) compiled, and whose program [`r2u2_main`](crate::r2u2_main) ran over a
 /// trace, both with success: the lines report the text's own formulas over the rows of the trace.
@@ -14,5 +14,5 @@ pub fn compiled_and_watched()
     ensures { (compiling watching : Seq (Seq ℕ)) (text bytes : Seq ℕ) (header : Maybe (Seq ℕ))
         (asked : RunAsked) (made ran : Seq Event) →
         HasCompiled compiling text header bytes made → HasWatched watching asked bytes ran →
-        TellsText text header asked bytes ran }
+        ReportsText text header asked bytes ran }
 {}

@@ -14,7 +14,7 @@ use Rattle.mltl_base.specs.declared.operators.PtOp.TheVariants as pt
 use Rattle.obs_binary.specs.declared.head.OutHead.{OutHead}
 use Rattle.obs_binary.specs.declared.head.SignalHead.{SignalHead}
 use Rattle.obs_binary.specs.Layout.{bz_entry, ft_entry, pt_entry, out_entry, signal_entry, u32_bytes, i64_bytes, FitsBz, FitsFt, FitsPt}
-use Rattle.obs_binary.specs.Reading.{bz_content, ft_content, pt_content, out_content, signal_content, number_at}
+use Rattle.obs_binary.specs.Reading.{bz_content, ft_content, pt_content, out_content, signal_content, u32_from}
 use Rattle.obs_binary.proofs.Numbers.{IsBytes, field-below, signed-fits, signed-again}
 
 -- Entries of `len` bytes that say what they hold.
@@ -23,7 +23,7 @@ pub record AreEntries {X : Type 0} (len : ℕ) (spelled : X → List ℕ) (conte
   pub holds : (x : X) → IsBytes (spelled x) → content (spelled x) ≡ Some x → Holds x
   pub again : (x : X) → Holds x → content (spelled x) ≡ Some x
 
-again : (n : ℕ) → n < 2 ^ 32 → number_at (u32_bytes n) 0 ≡ n
+again : (n : ℕ) → n < 2 ^ 32 → u32_from (u32_bytes n) 0 ≡ n
 unfolding u32_bytes
 again n lt = from_le_bytes-to_le_bytes_4 n lt
 
@@ -65,7 +65,7 @@ bz_holds (bz.Eq a b) fits e = (field-below (bz_entry (bz.Eq a b)) 4 a fits (cc),
 bz_holds (bz.Lt a b) fits e = (field-below (bz_entry (bz.Lt a b)) 4 a fits (cc), field-below (bz_entry (bz.Lt a b)) 8 b fits (cc))
 bz_holds (bz.Le a b) fits e = (field-below (bz_entry (bz.Le a b)) 4 a fits (cc), field-below (bz_entry (bz.Le a b)) 8 b fits (cc))
 
-two : {X : Type 0} (op : ℕ → ℕ → X) (a b : ℕ) → (a < 2 ^ 32) × (b < 2 ^ 32) → Some (op (number_at (u32_bytes a) 0) (number_at (u32_bytes b) 0)) ≡ Some (op a b)
+two : {X : Type 0} (op : ℕ → ℕ → X) (a b : ℕ) → (a < 2 ^ 32) × (b < 2 ^ 32) → Some (op (u32_from (u32_bytes a) 0) (u32_from (u32_bytes b) 0)) ≡ Some (op a b)
 two op a b h = rw (again a h.0, again b h.1) refl
 
 bz_again : (op : BzOp) → FitsBz op → bz_content (bz_entry op) ≡ Some op

@@ -14,7 +14,7 @@ use Rattle.obs_binary.specs.declared.fault.ReadFault.{ReadFault}
 use Rattle.obs_binary.specs.declared.fault.ReadFault.TheVariants.{Short, Magic, Version, Reserved, Trailing}
 use Rattle.obs_binary.specs.declared.header.Header.{Header}
 use Rattle.obs_binary.specs.Layout.{u16_bytes, u32_bytes, header_len, header_bytes, signal_counts}
-use Rattle.obs_binary.specs.Reading.{short_at, number_at, header_fields, said_len, header_at}
+use Rattle.obs_binary.specs.Reading.{short_at, u32_from, header_fields, said_len, header_at}
 use Rattle.obs_binary.proofs.Numbers.{IsBytes, IsBytes-drop, IsBytes-take, number-below}
 use Rattle.obs_binary.proofs.Parts.{ok_is}
 
@@ -23,17 +23,17 @@ use Rattle.obs_binary.proofs.Parts.{ok_is}
 seam : (n k : ℕ) (bytes : List ℕ) → drop (k + n) bytes ≡ drop n (drop k bytes)
 seam n k bytes = grind (arith, common_steps)
 
-u32-back : (bytes : List ℕ) (k : ℕ) → IsBytes bytes → k + 4 ≤ length bytes → u32_bytes (number_at bytes k) ++ drop (k + 4) bytes ≡ drop k bytes
+u32-back : (bytes : List ℕ) (k : ℕ) → IsBytes bytes → k + 4 ≤ length bytes → u32_bytes (u32_from bytes k) ++ drop (k + 4) bytes ≡ drop k bytes
 unfolding u32_bytes
 u32-back bytes k fits room =
     let front = IsBytes-take 4 (drop k bytes) (IsBytes-drop k bytes fits) in
     let len : length (take 4 (drop k bytes)) ≡ 4 = omega (arith, length-take 4 (drop k bytes), length-drop k bytes) in
-    let same : to_le_bytes w32 (number_at bytes k) ≡ take 4 (drop k bytes) = le_bytes_4 (take 4 (drop k bytes)) (number_at bytes k) len front refl in
+    let same : to_le_bytes w32 (u32_from bytes k) ≡ take 4 (drop k bytes) = le_bytes_4 (take 4 (drop k bytes)) (u32_from bytes k) len front refl in
     ap (λ x. x ++ drop (k + 4) bytes) same ∙ ap (λ x. take 4 (drop k bytes) ++ x) (seam 4 k bytes) ∙ take-append-drop 4 (drop k bytes)
 
 numbers_from : List ℕ → ℕ → ℕ → List ℕ
 numbers_from bytes k zero = []
-numbers_from bytes k (suc n) = number_at bytes k ∷ numbers_from bytes (k + 4) n
+numbers_from bytes k (suc n) = u32_from bytes k ∷ numbers_from bytes (k + 4) n
 
 numbers-back : (n : ℕ) (bytes : List ℕ) (k : ℕ) → IsBytes bytes → k + 4 * n ≤ length bytes → flat_map u32_bytes (numbers_from bytes k n) ++ drop (k + 4 * n) bytes ≡ drop k bytes
 unfolding numbers_from
@@ -41,9 +41,9 @@ numbers-back zero bytes k fits room = ap (λ x. drop x bytes) (add-zero k)
 numbers-back (suc n) bytes k fits room =
     let next : k + 4 * suc n ≡ (k + 4) + 4 * n = omega arith in
     let others = numbers-back n bytes (k + 4) fits (omega arith) in
-    append_assoc (u32_bytes (number_at bytes k)) (flat_map u32_bytes (numbers_from bytes (k + 4) n)) (drop (k + 4 * suc n) bytes)
-    ∙ ap (λ x. u32_bytes (number_at bytes k) ++ (flat_map u32_bytes (numbers_from bytes (k + 4) n) ++ drop x bytes)) next
-    ∙ ap (λ x. u32_bytes (number_at bytes k) ++ x) others
+    append_assoc (u32_bytes (u32_from bytes k)) (flat_map u32_bytes (numbers_from bytes (k + 4) n)) (drop (k + 4 * suc n) bytes)
+    ∙ ap (λ x. u32_bytes (u32_from bytes k) ++ (flat_map u32_bytes (numbers_from bytes (k + 4) n) ++ drop x bytes)) next
+    ∙ ap (λ x. u32_bytes (u32_from bytes k) ++ x) others
     ∙ u32-back bytes k fits (omega arith)
 
 -- ---- what is read
@@ -138,11 +138,11 @@ regroup-header h rest =
     append_assoc (u16_bytes h.version) (0 ∷ 0 ∷ (numbers ++ signal_counts h)) rest ∙ ap (λ x. u16_bytes h.version ++ (0 ∷ 0 ∷ x)) (append_assoc numbers (signal_counts h) rest) in
     ap (λ x. codes "MLTL" ++ x) after
 
-numbers-first : (bytes : List ℕ) → IsBytes bytes → 32 ≤ length bytes → drop 8 bytes ≡ flat_map u32_bytes (number_at bytes 8 ∷ number_at bytes 12 ∷ number_at bytes 16 ∷ number_at bytes 20 ∷ number_at bytes 24 ∷ number_at bytes 28 ∷ []) ++ drop 32 bytes
+numbers-first : (bytes : List ℕ) → IsBytes bytes → 32 ≤ length bytes → drop 8 bytes ≡ flat_map u32_bytes (u32_from bytes 8 ∷ u32_from bytes 12 ∷ u32_from bytes 16 ∷ u32_from bytes 20 ∷ u32_from bytes 24 ∷ u32_from bytes 28 ∷ []) ++ drop 32 bytes
 unfolding numbers_from
 numbers-first bytes fits long = sym (numbers-back 6 bytes 8 fits long)
 
-numbers-second : (bytes : List ℕ) → IsBytes bytes → 40 ≤ length bytes → drop 32 bytes ≡ flat_map u32_bytes (number_at bytes 32 ∷ number_at bytes 36 ∷ []) ++ drop 40 bytes
+numbers-second : (bytes : List ℕ) → IsBytes bytes → 40 ≤ length bytes → drop 32 bytes ≡ flat_map u32_bytes (u32_from bytes 32 ∷ u32_from bytes 36 ∷ []) ++ drop 40 bytes
 unfolding numbers_from
 numbers-second bytes fits long = sym (numbers-back 2 bytes 32 fits long)
 

@@ -6,8 +6,8 @@ use Rattle.mltl_base.specs.declared.program.Out.TheVariants.{Formula, Contract}
 use Rattle.mltl_base.specs.declared.program.StoredSignal.{StoredSignal}
 use Rattle.obs_binary.specs.declared.head.OutHead.{OutHead}
 use Rattle.obs_binary.specs.Layout.{out_head, signal_name, signal_head, FitsName, FitsOut, FitsSignal}
-use Rattle.mltl_base.specs.Programs.{name_of}
-use Rattle.obs_binary.specs.Reading.{out_of, signal_of}
+use Rattle.mltl_base.specs.Programs.{out_name}
+use Rattle.obs_binary.specs.Reading.{out_of, stored_signal}
 use Rattle.obs_binary.proofs.Entries.{HoldsOut, HoldsRight, HoldsSignal}
 use Rattle.obs_binary.proofs.Parts.{AreNamed}
 
@@ -19,7 +19,7 @@ unfolding parts
 head-parts engine left None name_len name e = ap (λ n. parts engine left None n) e
 head-parts engine left (Some right) name_len name e = ap (λ n. parts engine left (Some right) n) e
 
-name-parts : (engine : Engine) (left : ℕ) (right : Option ℕ) (name_len : ℕ) (name : List ℕ) → name_of (out_of (parts engine left right name_len) name) ≡ name
+name-parts : (engine : Engine) (left : ℕ) (right : Option ℕ) (name_len : ℕ) (name : List ℕ) → out_name (out_of (parts engine left right name_len) name) ≡ name
 unfolding parts
 name-parts engine left None name_len name = refl
 name-parts engine left (Some right) name_len name = refl
@@ -29,19 +29,19 @@ unfolding parts
 fits-parts engine left None name_len name l r n = (l, n)
 fits-parts engine left (Some right) name_len name l r n = (l, r, n)
 
-out-again : (o : Out) → out_of (out_head o) (name_of o) ≡ o
+out-again : (o : Out) → out_of (out_head o) (out_name o) ≡ o
 out-again (Formula engine a name) = refl
 out-again (Contract engine a b name) = refl
 
-out-len : (o : Out) → (out_head o).name_len ≡ length (name_of o)
+out-len : (o : Out) → (out_head o).name_len ≡ length (out_name o)
 out-len (Formula engine a name) = refl
 out-len (Contract engine a b name) = refl
 
-out-named : (o : Out) → FitsOut o → FitsName (name_of o)
+out-named : (o : Out) → FitsOut o → FitsName (out_name o)
 out-named (Formula engine a name) f = f.1
 out-named (Contract engine a b name) f = f.2
 
-pub outs-are : AreNamed (λ h. h.name_len) out_of out_head name_of HoldsOut FitsOut
+pub outs-are : AreNamed (λ h. h.name_len) out_of out_head out_name HoldsOut FitsOut
 unfolding parts
 outs-are = record {
   head = λ h name e. head-parts h.engine h.left h.right h.name_len name e;
@@ -52,7 +52,7 @@ outs-are = record {
   named = out-named;
 }
 
-pub signals-are : AreNamed (λ h. h.name_len) signal_of signal_head signal_name HoldsSignal FitsSignal
+pub signals-are : AreNamed (λ h. h.name_len) stored_signal signal_head signal_name HoldsSignal FitsSignal
 signals-are = record {
   head = λ h name e. (λ i. record { column = h.column; truth = h.truth; name_len = e i });
   name = λ h name. refl;

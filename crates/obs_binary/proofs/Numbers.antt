@@ -8,7 +8,7 @@ use Rattle.std.proofs.lemmas.Int.{to_z-of_z}
 use Rattle.std.proofs.lemmas.Bool.{cases_lt}
 use Rattle.std.proofs.lemmas.List.{get_or-drop, get_or-take, get_or_past, length-take}
 use Rattle.std.proofs.lemmas.Nat.{from_le_bytes-to_le_bytes_8}
-use Rattle.obs_binary.specs.Reading.{number_at, signed_at}
+use Rattle.obs_binary.specs.Reading.{u32_from, signed_at}
 
 abbrev pub IsBytes : List ℕ → Type 0
 IsBytes bytes = (i : ℕ) → get_or bytes i 0 < 256
@@ -29,11 +29,11 @@ below32 bytes fits = omega (arith, fits 0, fits 1, fits 2, fits 3)
 below64 : (bytes : List ℕ) → IsBytes bytes → from_le_bytes w64 bytes < 2 ^ 64
 below64 bytes fits = omega (arith, fits 0, fits 1, fits 2, fits 3, fits 4, fits 5, fits 6, fits 7)
 
-pub number-below : (bytes : List ℕ) (k : ℕ) → IsBytes bytes → number_at bytes k < 2 ^ 32
+pub number-below : (bytes : List ℕ) (k : ℕ) → IsBytes bytes → u32_from bytes k < 2 ^ 32
 number-below bytes k fits = below32 (take 4 (drop k bytes)) (IsBytes-take 4 (drop k bytes) (IsBytes-drop k bytes fits))
 
 -- a number that a field gave fits the field
-pub field-below : (bytes : List ℕ) (k n : ℕ) → IsBytes bytes → number_at bytes k ≡ n → n < 2 ^ 32
+pub field-below : (bytes : List ℕ) (k n : ℕ) → IsBytes bytes → u32_from bytes k ≡ n → n < 2 ^ 32
 field-below bytes k n fits e = subst (λ m. m < 2 ^ 32) e (number-below bytes k fits)
 
 pub signed-fits : (bytes : List ℕ) (k : ℕ) (z : ℤ) → IsBytes bytes → signed_at bytes k ≡ z → FitsSigned w64 z

@@ -5,10 +5,10 @@ use Rattle.std.proofs.Math.Seq.{drop-cons}
 use Rattle.std.proofs.lemmas.List.{append-nil, drop_all}
 use Rattle.obs_binary.specs.declared.fault.ReadFault.{ReadFault}
 use Rattle.obs_binary.specs.declared.fault.ReadFault.TheVariants.{Short, Magic, Version, Reserved, Opcode, Trailing, NameBytes, SignalBytes, Memory}
-use Rattle.obs_binary.specs.Reading.{◌>>=◌, Fails, each_at, named, is_name_in_front}
+use Rattle.obs_binary.specs.Reading.{◌>>=◌, FailsWith, each_at, named, is_name_in_front}
 
 -- a call that answers the fault of reading
-pub Fails-same : {Y : Type 0} (fault : ReadFault) (read : Result Y ReadFault) → read ≡ Err fault → Fails fault read
+pub Fails-same : {Y : Type 0} (fault : ReadFault) (read : Result Y ReadFault) → read ≡ Err fault → FailsWith fault read
 Fails-same Memory read e = tt
 Fails-same Short read e = e
 Fails-same Magic read e = e
@@ -20,7 +20,7 @@ Fails-same (NameBytes k) read e = e
 Fails-same (SignalBytes k) read e = e
 
 -- a step whose fault is the fault of the whole
-pub Fails-onto : {Y Z : Type 0} (fault : ReadFault) (step : Result Y ReadFault) (whole : Result Z ReadFault) → Fails fault step → (step ≡ Err fault → whole ≡ Err fault) → Fails fault whole
+pub Fails-onto : {Y Z : Type 0} (fault : ReadFault) (step : Result Y ReadFault) (whole : Result Z ReadFault) → FailsWith fault step → (step ≡ Err fault → whole ≡ Err fault) → FailsWith fault whole
 Fails-onto Memory step whole f onto = tt
 Fails-onto Short step whole f onto = onto f
 Fails-onto Magic step whole f onto = onto f
@@ -50,8 +50,8 @@ module _ {X : Type 0} (read : List ℕ → Result (X × List ℕ) ReadFault) (co
       let one : with_front front (each_at read (count - i) bytes) ≡ with_front (front ++ x ∷ []) (each_at read (count - (i + 1)) after) = rw (k, h) (regroup front x (each_at read (count - (i + 1)) after)) in
       sym one ∙ so_far
 
-  pub each_at-fails : (front : List X) (i : ℕ) (bytes : List ℕ) (fault : ReadFault) → i < count → Fails fault (read bytes)
-      → with_front front (each_at read (count - i) bytes) ≡ total → Fails fault total
+  pub each_at-fails : (front : List X) (i : ℕ) (bytes : List ℕ) (fault : ReadFault) → i < count → FailsWith fault (read bytes)
+      → with_front front (each_at read (count - i) bytes) ≡ total → FailsWith fault total
   unfolding each_at
   each_at-fails front i bytes fault lt f so_far =
       let k : count - i ≡ suc (count - (i + 1)) = omega arith in
@@ -94,7 +94,7 @@ module _ {H X : Type 0} (len_of : H → ℕ) (with_name : H → List ℕ → X) 
       subst (λ j. names_after (front ++ with_name head (take (len_of head) bytes) ∷ []) (named len_of with_name fault j (drop (k + 1) heads) (drop (len_of head) bytes)) ≡ total) (sym next) (sym one ∙ so_far)
 
   pub named-fails : (front : List X) (k : ℕ) (bytes : List ℕ) (head : H) → k < length heads → head ≡ get_or heads k head → is_name_in_front (len_of head) bytes ≡ false
-      → names_after front (named len_of with_name fault k (drop k heads) bytes) ≡ total → Fails (fault k) total
+      → names_after front (named len_of with_name fault k (drop k heads) bytes) ≡ total → FailsWith (fault k) total
   unfolding named
   named-fails front k bytes head lt is not_named so_far =
       let cons : drop k heads ≡ head ∷ drop (suc k) heads = drop-cons heads k head lt ∙ rw (← is) refl in
@@ -102,7 +102,7 @@ module _ {H X : Type 0} (len_of : H → ℕ) (with_name : H → List ℕ → X) 
       Fails-same (fault k) total (sym so_far ∙ one)
 
   pub named-over : (front : List X) (k : ℕ) (bytes : List ℕ) → length heads ≡ k → eqb (length bytes) 0 ≡ false
-      → names_after front (named len_of with_name fault k (drop k heads) bytes) ≡ total → Fails (fault k) total
+      → names_after front (named len_of with_name fault k (drop k heads) bytes) ≡ total → FailsWith (fault k) total
   unfolding named
   named-over front k bytes end over so_far =
       let none : drop k heads ≡ [] = drop_all k heads (omega arith) in

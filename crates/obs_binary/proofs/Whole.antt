@@ -15,9 +15,9 @@ use Rattle.obs_binary.specs.declared.header.Header.{Header}
 use Rattle.obs_binary.specs.declared.fault.ReadFault.{ReadFault}
 use Rattle.obs_binary.specs.declared.fault.ReadFault.TheVariants.{NameBytes, SignalBytes}
 use Rattle.mltl_base.specs.Letters.{is_in_word}
-use Rattle.obs_binary.specs.Layout.{bz_entry, ft_entry, pt_entry, out_entry, signal_entry, u16_bytes, u32_bytes, header_len, header_bytes, body_len, out_head, signal_name, signal_head, out_names, signal_names, header_of, spelling, IsVersioned, FitsBz, FitsFt, FitsPt, FitsOut, FitsSignal, Fits}
-use Rattle.mltl_base.specs.Programs.{name_of}
-use Rattle.obs_binary.specs.Reading.{◌>>=◌, Gives, entry_at, each_at, bz_content, ft_content, pt_content, out_content, signal_content, out_of, signal_of, outs_named, signals_named, said_len, header_at, body_at, program_at}
+use Rattle.obs_binary.specs.Layout.{bz_entry, ft_entry, pt_entry, out_entry, signal_entry, u16_bytes, u32_bytes, header_len, header_bytes, body_len, out_head, signal_name, signal_head, out_names, signal_names, header_of, spelling, IsVersioned, FitsBz, FitsFt, FitsPt, FitsOut, FitsSignal, IsEncodable}
+use Rattle.mltl_base.specs.Programs.{out_name}
+use Rattle.obs_binary.specs.Reading.{◌>>=◌, GivesReading, entry_at, each_at, bz_content, ft_content, pt_content, out_content, signal_content, out_of, stored_signal, outs_named, signals_named, said_len, header_at, past_header, program_at}
 use Rattle.obs_binary.proofs.Numbers.{IsBytes, IsBytes-drop}
 use Rattle.obs_binary.proofs.Entries.{AreEntries, bz_entries, ft_entries, pt_entries, out_entries, signal_entries, HoldsFt, HoldsPt, HoldsOut, HoldsSignal}
 use Rattle.obs_binary.proofs.Parts.{bind_ok, ok_is, each-takes, each-again, length-entries, named-takes, named-again}
@@ -119,7 +119,7 @@ part-len len spelled content Holds entries xs n bytes rest parts count =
 record TakesBody (h : Header) (bytes : List ℕ) (p : Program) : Type 0 where
   header : header_of p ≡ h
   parts : bytes ≡ body_of p
-  fits : Fits p
+  fits : IsEncodable p
 
 versioned : (h : Header) (bz : List BzOp) (ft : List (FtOp × ℕ)) (pt : List (PtOp × ℕ)) (outs : List Out) (signals : List StoredSignal) → HoldsHeader h → length signals ≡ h.signals → IsVersioned (made h bz ft pt outs signals)
 versioned h bz ft pt outs signals holds count = elim holds.version [
@@ -127,8 +127,8 @@ versioned h bz ft pt outs signals holds count = elim holds.version [
   | inr v ↦ inr v
 ]
 
-body-takes : (h : Header) (size : ℕ) (bytes : List ℕ) (p : Program) → IsBytes bytes → HoldsHeader h → length bytes ≡ body_len h → body_at h size bytes ≡ Ok p → TakesBody h bytes p
-unfolding body_at
+body-takes : (h : Header) (size : ℕ) (bytes : List ℕ) (p : Program) → IsBytes bytes → HoldsHeader h → length bytes ≡ body_len h → past_header h size bytes ≡ Ok p → TakesBody h bytes p
+unfolding past_header
 body-takes h size bytes p fits holds len e =
     let b1 = bind_ok (each_at (entry_at 24 bz_entry bz_content size) h.bz bytes) (λ bz. after_bz h size bz) p e in
     let t1 = each-takes 24 bz_entry bz_content FitsBz bz_entries size h.bz bytes b1.0 fits b1.1 in
@@ -142,9 +142,9 @@ body-takes h size bytes p fits holds len e =
     let t5 = each-takes 8 signal_entry signal_content HoldsSignal signal_entries size h.signals b4.0.1 b5.0 t4.3 b5.1 in
     let names = b5.0.1 in
     let b6 = bind_ok (outs_named b4.0.0 (take h.name_bytes names)) (λ outs. after_names h b1.0.0 b2.0.0 b3.0.0 b5.0.0 (drop h.name_bytes names) outs) p b5.2 in
-    let n6 = named-takes (λ o. o.name_len) out_of out_head name_of HoldsOut FitsOut outs-are NameBytes 0 b4.0.0 (take h.name_bytes names) b6.0 t4.2 b6.1 in
+    let n6 = named-takes (λ o. o.name_len) out_of out_head out_name HoldsOut FitsOut outs-are NameBytes 0 b4.0.0 (take h.name_bytes names) b6.0 t4.2 b6.1 in
     let b7 = bind_ok (signals_named b5.0.0 (drop h.name_bytes names)) (λ signals. Ok (made h b1.0.0 b2.0.0 b3.0.0 b6.0 signals)) p b6.2 in
-    let n7 = named-takes (λ o. o.name_len) signal_of signal_head signal_name HoldsSignal FitsSignal signals-are SignalBytes 0 b5.0.0 (drop h.name_bytes names) b7.0 t5.2 b7.1 in
+    let n7 = named-takes (λ o. o.name_len) stored_signal signal_head signal_name HoldsSignal FitsSignal signals-are SignalBytes 0 b5.0.0 (drop h.name_bytes names) b7.0 t5.2 b7.1 in
     let bz = b1.0.0 in
     let ft = b2.0.0 in
     let pt = b3.0.0 in
@@ -158,7 +158,7 @@ body-takes h size bytes p fits holds len e =
     let names_len : length names ≡ h.name_bytes + h.signal_bytes = omega (arith, len, l1, l2, l3, l4, l5) in
     let first_len : length (take h.name_bytes names) ≡ h.name_bytes = omega (arith, length-take h.name_bytes names, names_len) in
     let second_len : length (drop h.name_bytes names) ≡ h.signal_bytes = omega (arith, length-drop h.name_bytes names, names_len) in
-    let out_bytes : length (flat_map name_of outs) ≡ h.name_bytes = ap length (sym n6.0) ∙ first_len in
+    let out_bytes : length (flat_map out_name outs) ≡ h.name_bytes = ap length (sym n6.0) ∙ first_len in
     let signal_bytes : length (flat_map signal_name signals) ≡ h.signal_bytes = ap length (sym n7.0) ∙ second_len in
     let out_count : length outs ≡ h.outs = sym (length-map outs out_head) ∙ ap length n6.1 ∙ t4.1 in
     let signal_count : length signals ≡ h.signals = sym (length-map signals signal_head) ∙ ap length n7.1 ∙ t5.1 in
@@ -166,7 +166,7 @@ body-takes h size bytes p fits holds len e =
     let pt_count : length (map (λ x. x.0) pt) ≡ h.pt = length-map pt (λ x. x.0) ∙ t3.1 in
     let heads : flat_map out_entry b4.0.0 ≡ flat_map (λ o. out_entry (out_head o)) outs = ap (flat_map out_entry) (sym n6.1) ∙ flat_map-of_map out_head out_entry outs in
     let signal_heads : flat_map signal_entry b5.0.0 ≡ flat_map (λ s. signal_entry (signal_head s)) signals = ap (flat_map signal_entry) (sym n7.1) ∙ flat_map-of_map signal_head signal_entry signals in
-    let p7 : names ≡ flat_map name_of outs ++ flat_map signal_name signals = sym (take-append-drop h.name_bytes names) ∙ (λ i. n6.0 i ++ n7.0 i) in
+    let p7 : names ≡ flat_map out_name outs ++ flat_map signal_name signals = sym (take-append-drop h.name_bytes names) ∙ (λ i. n6.0 i ++ n7.0 i) in
     let p5 = t5.0 ∙ (λ i. signal_heads i ++ p7 i) in
     let p4 = t4.0 ∙ (λ i. heads i ++ p5 i) in
     let p3 = t3.0 ∙ (λ i. flat_map pt_entry (sym (zip-parts pt) i) ++ p4 i) in
@@ -210,10 +210,10 @@ unfolding header_bytes u16_bytes u32_bytes
 length-header h = omega (arith, counts-len (h.version == 2) (flat_map u32_bytes (h.signals ∷ h.signal_bytes ∷ [])) refl)
 
 -- what is read is spelled so
-pub program-takes : (bytes : List ℕ) (p : Program) → IsBytes bytes → program_at bytes ≡ Ok p → Fits p × (bytes ≡ spelling p)
+pub program-takes : (bytes : List ℕ) (p : Program) → IsBytes bytes → program_at bytes ≡ Ok p → IsEncodable p × (bytes ≡ spelling p)
 unfolding program_at spelling
 program-takes bytes p fits e =
-    let a = bind_ok (header_at bytes) (λ header. body_at header (length bytes) (drop (header_len header.version) bytes)) p e in
+    let a = bind_ok (header_at bytes) (λ header. past_header header (length bytes) (drop (header_len header.version) bytes)) p e in
     let h = a.0 in
     let t = header-takes bytes h fits a.1 in
     let rest = drop (header_len h.version) bytes in
@@ -226,7 +226,7 @@ program-takes bytes p fits e =
 bind-is : {A B : Type 0} (r : Result A ReadFault) (f : A → Result B ReadFault) (x : A) → r ≡ Ok x → (r >>= f) ≡ f x
 bind-is r f x e = ap (λ r. r >>= f) e
 
-holds-header : (p : Program) → Fits p → HoldsHeader (header_of p)
+holds-header : (p : Program) → IsEncodable p → HoldsHeader (header_of p)
 holds-header p f = record {
   version = elim f.layout.versioned [
     | inl v ↦ inl (v.0, ap length v.1, ap (λ ss. length (flat_map signal_name ss)) v.1)
@@ -242,8 +242,8 @@ holds-header p f = record {
   signal_bytes = f.layout.signal_name_bytes;
 }
 
-body-again : (p : Program) (size : ℕ) → Fits p → body_at (header_of p) size (body_of p) ≡ Ok p
-unfolding body_at
+body-again : (p : Program) (size : ℕ) → IsEncodable p → past_header (header_of p) size (body_of p) ≡ Ok p
+unfolding past_header
 body-again p size f =
     let h = header_of p in
     let lay = f.layout in
@@ -266,9 +266,9 @@ body-again p size f =
     let e5 = (λ i. each_at (entry_at 8 signal_entry signal_content size) (sym (length-map p.signals signal_head) i) (sym (flat_map-of_map signal_head signal_entry p.signals) i ++ r6))
     ∙ each-again 8 signal_entry signal_content HoldsSignal signal_entries size signal_heads r6 (map-all FitsSignal HoldsSignal signal_head signal-head-holds p.signals f.signals) in
     let e6 = ap (λ bytes. outs_named heads bytes) (take_at (out_names p) (signal_names p) (length (out_names p)) refl)
-    ∙ named-again (λ o. o.name_len) out_of out_head name_of HoldsOut FitsOut outs-are NameBytes 0 p.outs f.outs lay.out_letters in
+    ∙ named-again (λ o. o.name_len) out_of out_head out_name HoldsOut FitsOut outs-are NameBytes 0 p.outs f.outs lay.out_letters in
     let e7 = ap (λ bytes. signals_named signal_heads bytes) (drop_at (out_names p) (signal_names p) (length (out_names p)) refl)
-    ∙ named-again (λ o. o.name_len) signal_of signal_head signal_name HoldsSignal FitsSignal signals-are SignalBytes 0 p.signals f.signals lay.signal_letters in
+    ∙ named-again (λ o. o.name_len) stored_signal signal_head signal_name HoldsSignal FitsSignal signals-are SignalBytes 0 p.signals f.signals lay.signal_letters in
     let same : made h p.bz ft pt p.outs p.signals ≡ p = λ i. record {
       version = p.version;
       width = p.width;
@@ -288,7 +288,7 @@ body-again p size f =
     ∙ bind-is (signals_named signal_heads (drop h.name_bytes r6)) (λ signals. Ok (made h p.bz ft pt p.outs signals)) p.signals e7
     ∙ ap (λ q. Ok q) same
 
-length-body : (p : Program) → Fits p → length (body_of p) ≡ body_len (header_of p)
+length-body : (p : Program) → IsEncodable p → length (body_of p) ≡ body_len (header_of p)
 length-body p f =
     let lay = f.layout in
     let ft = zip p.ft p.sizes.ft in
@@ -307,7 +307,7 @@ length-body p f =
     omega (arith, l1, l2, l3, l4, l5, l6)
 
 -- what is spelled so is read
-pub program-again : (p : Program) → Fits p → program_at (spelling p) ≡ Ok p
+pub program-again : (p : Program) → IsEncodable p → program_at (spelling p) ≡ Ok p
 unfolding program_at spelling
 program-again p f =
     let h = header_of p in
@@ -316,16 +316,16 @@ program-again p f =
     let said : said_len h ≡ length (front ++ rest) = omega (arith, length-append front rest, length-header h, length-body p f) in
     let header = header-again h rest (holds-header p f) said in
     let after : drop (header_len h.version) (front ++ rest) ≡ rest = drop_at front rest (header_len h.version) (length-header h) in
-    bind-is (header_at (front ++ rest)) (λ header. body_at header (length (front ++ rest)) (drop (header_len header.version) (front ++ rest))) h header
-    ∙ ap (λ bytes. body_at h (length (front ++ rest)) bytes) after
+    bind-is (header_at (front ++ rest)) (λ header. past_header header (length (front ++ rest)) (drop (header_len header.version) (front ++ rest))) h header
+    ∙ ap (λ bytes. past_header h (length (front ++ rest)) bytes) after
     ∙ body-again p (length (front ++ rest)) f
 
 -- bytes are those of one program alone
-pub one-program : (p q : Program) → Fits p → Fits q → spelling p ≡ spelling q → p ≡ q
+pub one-program : (p q : Program) → IsEncodable p → IsEncodable q → spelling p ≡ spelling q → p ≡ q
 one-program p q f g e = ok_is p q (sym (program-again p f) ∙ ap program_at e ∙ program-again q g)
 
 -- ---- what a call that gives what reading gives has found
 
-pub is-found : (bytes : List ℕ) (result : Result Program ReadFault) → IsBytes bytes → Gives (λ p. p) result (program_at bytes) → IfOk result (λ p. Fits p × (bytes ≡ spelling p))
+pub is-found : (bytes : List ℕ) (result : Result Program ReadFault) → IsBytes bytes → GivesReading (λ p. p) result (program_at bytes) → IfOk result (λ p. IsEncodable p × (bytes ≡ spelling p))
 is-found bytes (Ok p) fits e = program-takes bytes p fits e
 is-found bytes (Err fault) fits e = tt

@@ -16,7 +16,7 @@ use Rattle.mltl_base.specs.declared.program.Out.TheVariants.{Formula, Contract}
 use Rattle.mltl_base.specs.declared.program.StoredSignal.{StoredSignal}
 use Rattle.mltl_base.specs.declared.program.Program.{Program}
 use Rattle.mltl_base.specs.Letters.{is_in_word}
-use Rattle.mltl_base.specs.Programs.{name_of}
+use Rattle.mltl_base.specs.Programs.{out_name}
 use Rattle.obs_binary.specs.declared.head.OutHead.{OutHead}
 use Rattle.obs_binary.specs.declared.head.SignalHead.{SignalHead}
 use Rattle.obs_binary.specs.declared.header.Header.{Header}
@@ -138,7 +138,7 @@ signal_head s = record { column = s.column; truth = s.truth; name_len = length s
 
 -- the names of the outputs, in order and without anything between
 abbrev pub out_names : Program → List ℕ
-out_names p = flat_map name_of p.outs
+out_names p = flat_map out_name p.outs
 
 -- the names of the signals, in order and without anything between
 abbrev pub signal_names : Program → List ℕ
@@ -237,7 +237,7 @@ FitsSignal s = (s.column < 2 ^ 32) × FitsName s.name
 
 -- A program that can be written, whose numbers are those of its types: they have 32 bits, constants have 64, and a name
 -- has 1 to 64 bytes. A program in memory always has such numbers.
-pub record Fits (p : Program) : Type 0 where
+pub record IsEncodable (p : Program) : Type 0 where
   pub layout : IsWritable p
   pub width : p.width < 2 ^ 32
   pub bz : AllByRecursion FitsBz p.bz

@@ -34,8 +34,8 @@ abbrev pub short_at : List ℕ → ℕ → ℕ
 short_at bytes k = from_le_bytes w16 (take 2 (drop k bytes))
 
 -- the 32-bit number at offset k
-abbrev pub number_at : List ℕ → ℕ → ℕ
-number_at bytes k = from_le_bytes w32 (take 4 (drop k bytes))
+abbrev pub u32_from : List ℕ → ℕ → ℕ
+u32_from bytes k = from_le_bytes w32 (take 4 (drop k bytes))
 
 -- the signed 64-bit number at offset k
 abbrev pub signed_at : List ℕ → ℕ → ℤ
@@ -44,14 +44,14 @@ signed_at bytes k = cast_signed w64 (from_le_bytes w64 (take 8 (drop k bytes)))
 -- ---- reading
 
 -- reading gives this fault; want of memory says nothing of the bytes
-abbrev pub Fails : {Y : Type 0} → ReadFault → Result Y ReadFault → Type 0
-Fails Memory read = ⊤
-Fails fault read = read ≡ Err fault
+abbrev pub FailsWith : {Y : Type 0} → ReadFault → Result Y ReadFault → Type 0
+FailsWith Memory read = ⊤
+FailsWith fault read = read ≡ Err fault
 
 -- what a call answered, seen by `view`, is what reading gives, unless memory ran out
-abbrev pub Gives : {X Y : Type 0} → (X → Y) → Result X ReadFault → Result Y ReadFault → Type 0
-Gives view (Ok x) read = read ≡ Ok (view x)
-Gives view (Err fault) read = Fails fault read
+abbrev pub GivesReading : {X Y : Type 0} → (X → Y) → Result X ReadFault → Result Y ReadFault → Type 0
+GivesReading view (Ok x) read = read ≡ Ok (view x)
+GivesReading view (Err fault) read = FailsWith fault read
 
 infixl 10 ◌>>=◌
 -- one step after another, up to the first fault
@@ -99,8 +99,8 @@ each_at read (suc n) bytes = do
 unfoldable pub bz_content : List ℕ → Option BzOp
 bz_content bytes =
     let opcode = slice_index bytes 0 in
-    let a = number_at bytes 4 in
-    let b = number_at bytes 8 in
+    let a = u32_from bytes 4 in
+    let b = u32_from bytes 8 in
     if opcode == 0x01 then Some (bz.Column a)
     else if opcode == 0x02 then Some (bz.IsTrue a)
     else if opcode == 0x03 then Some (bz.Const (signed_at bytes 8))
@@ -116,35 +116,35 @@ bz_content bytes =
     else None
 
 -- the interval of a temporal operator's entry
-abbrev pub interval_at : List ℕ → Interval
-interval_at bytes = record { lo = number_at bytes 12; hi = number_at bytes 16 }
+abbrev pub entry_interval : List ℕ → Interval
+entry_interval bytes = record { lo = u32_from bytes 12; hi = u32_from bytes 16 }
 
 -- the future-time instruction that an entry says, with its size, if its opcode is that of one
 unfoldable pub ft_content : List ℕ → Option (FtOp × ℕ)
 ft_content bytes =
     let opcode = slice_index bytes 0 in
-    let a = number_at bytes 4 in
-    let b = number_at bytes 8 in
-    let size = number_at bytes 20 in
+    let a = u32_from bytes 4 in
+    let b = u32_from bytes 8 in
+    let size = u32_from bytes 20 in
     if opcode == 0x10 then Some (ft.True, size)
     else if opcode == 0x11 then Some (ft.Load a, size)
     else if opcode == 0x12 then Some (ft.Not a, size)
     else if opcode == 0x13 then Some (ft.And a b, size)
-    else if opcode == 0x14 then Some (ft.Until a b (interval_at bytes), size)
+    else if opcode == 0x14 then Some (ft.Until a b (entry_interval bytes), size)
     else None
 
 -- the past-time instruction that an entry says, with its size, if its opcode is that of one
 unfoldable pub pt_content : List ℕ → Option (PtOp × ℕ)
 pt_content bytes =
     let opcode = slice_index bytes 0 in
-    let a = number_at bytes 4 in
-    let b = number_at bytes 8 in
-    let size = number_at bytes 20 in
+    let a = u32_from bytes 4 in
+    let b = u32_from bytes 8 in
+    let size = u32_from bytes 20 in
     if opcode == 0x20 then Some (pt.True, size)
     else if opcode == 0x21 then Some (pt.Load a, size)
     else if opcode == 0x22 then Some (pt.Not a, size)
     else if opcode == 0x23 then Some (pt.And a b, size)
-    else if opcode == 0x24 then Some (pt.Since a b (interval_at bytes), size)
+    else if opcode == 0x24 then Some (pt.Since a b (entry_interval bytes), size)
     else None
 
 -- the engine that an output's entry names
@@ -154,20 +154,20 @@ engine_at bytes = if slice_index bytes 1 == 1 then Pt else Ft
 -- the fields of an output's entry, with the right instruction that a contract has
 abbrev pub out_at : List ℕ → Option ℕ → OutHead
 out_at bytes right =
-    record { engine = engine_at bytes; left = number_at bytes 4; right = right; name_len = number_at bytes 12 }
+    record { engine = engine_at bytes; left = u32_from bytes 4; right = right; name_len = u32_from bytes 12 }
 
 -- what an output's entry says, if its opcode is that of a formula or of a contract
 unfoldable pub out_content : List ℕ → Option OutHead
 out_content bytes =
     let opcode = slice_index bytes 0 in
     if opcode == 0x30 then Some (out_at bytes None)
-    else if opcode == 0x31 then Some (out_at bytes (Some (number_at bytes 8)))
+    else if opcode == 0x31 then Some (out_at bytes (Some (u32_from bytes 8)))
     else None
 
 -- a signal has no opcode
 unfoldable pub signal_content : List ℕ → Option SignalHead
 signal_content bytes =
-    Some (record { column = number_at bytes 0; truth = slice_index bytes 4 == 1; name_len = slice_index bytes 5 })
+    Some (record { column = u32_from bytes 0; truth = slice_index bytes 4 == 1; name_len = slice_index bytes 5 })
 
 -- ---- names
 
@@ -192,8 +192,8 @@ out_of head name =
     option_map_or (λ right. Contract head.engine head.left right name) head.right (Formula head.engine head.left name)
 
 -- the signal that has these fields and this name
-abbrev pub signal_of : SignalHead → List ℕ → StoredSignal
-signal_of head name = record { name = name; truth = head.truth; column = head.column }
+abbrev pub stored_signal : SignalHead → List ℕ → StoredSignal
+stored_signal head name = record { name = name; truth = head.truth; column = head.column }
 
 -- the outputs that have these fields, with their names, or a fault of the names
 abbrev pub outs_named : List OutHead → List ℕ → Result (List Out) ReadFault
@@ -201,7 +201,7 @@ outs_named heads bytes = named (λ h. h.name_len) out_of NameBytes 0 heads bytes
 
 -- the signals that have these fields, with their names, or a fault of the names
 abbrev pub signals_named : List SignalHead → List ℕ → Result (List StoredSignal) ReadFault
-signals_named heads bytes = named (λ h. h.name_len) signal_of SignalBytes 0 heads bytes
+signals_named heads bytes = named (λ h. h.name_len) stored_signal SignalBytes 0 heads bytes
 
 -- ---- headers and programs
 
@@ -209,14 +209,14 @@ signals_named heads bytes = named (λ h. h.name_len) signal_of SignalBytes 0 hea
 abbrev pub header_fields : ℕ → List ℕ → Header
 header_fields version bytes = record {
   version = version;
-  width = number_at bytes 8;
-  bz = number_at bytes 12;
-  ft = number_at bytes 16;
-  pt = number_at bytes 20;
-  outs = number_at bytes 24;
-  name_bytes = number_at bytes 28;
-  signals = if version == 2 then number_at bytes 32 else 0;
-  signal_bytes = if version == 2 then number_at bytes 36 else 0;
+  width = u32_from bytes 8;
+  bz = u32_from bytes 12;
+  ft = u32_from bytes 16;
+  pt = u32_from bytes 20;
+  outs = u32_from bytes 24;
+  name_bytes = u32_from bytes 28;
+  signals = if version == 2 then u32_from bytes 32 else 0;
+  signal_bytes = if version == 2 then u32_from bytes 36 else 0;
 }
 
 -- the number of bytes that the header says
@@ -239,8 +239,8 @@ header_at bytes =
     else Ok header
 
 -- what follows the header of a file of `size` bytes
-unfoldable pub body_at : Header → ℕ → List ℕ → Result Program ReadFault
-body_at header size bytes = do
+unfoldable pub past_header : Header → ℕ → List ℕ → Result Program ReadFault
+past_header header size bytes = do
   bz ← each_at (entry_at 24 bz_entry bz_content size) header.bz bytes
   ft ← each_at (entry_at 24 ft_entry ft_content size) header.ft bz.1
   pt ← each_at (entry_at 24 pt_entry pt_content size) header.pt ft.1
@@ -263,4 +263,4 @@ body_at header size bytes = do
 unfoldable pub program_at : List ℕ → Result Program ReadFault
 program_at bytes = do
   header ← header_at bytes
-  body_at header (length bytes) (drop (header_len header.version) bytes)
+  past_header header (length bytes) (drop (header_len header.version) bytes)

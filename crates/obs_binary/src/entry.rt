@@ -2,7 +2,7 @@
 
 ghost use Rattle.std.specs.Prelude.{◌≡◌, ◌≤◌, ◌<◌, ◌+◌, ◌*◌, ◌^◌, ℕ, List as Items, Option, length, IfOk};
 ghost use Rattle.obs_binary.specs.Layout.{entry, constant};
-ghost use Rattle.obs_binary.specs.Reading.{Gives, first_other, entry_at, each_at};
+ghost use Rattle.obs_binary.specs.Reading.{GivesReading, first_other, entry_at, each_at};
 
 use crate::fault::ReadFault;
 use byteorder::{ByteOrder, LittleEndian};
@@ -77,7 +77,7 @@ pub(crate) fn first_other(offset: u64, musts: &[u8], bytes: &[u8]) -> Option<u64
 fn read_entry<X: Entry>(size: usize, rest: &[u8]) -> Result<(X, &[u8]), ReadFault>
     requires enough { X.LEN ≤ length rest.now }
     requires within { length rest.now ≤ size }
-    ensures read { Gives (λ x. (x.0, x.1.now)) result
+    ensures read { GivesReading (λ x. (x.0, x.1.now)) result
         (entry_at X.LEN X.spelled X.content size rest.now) }
     ensures left { IfOk result (λ x. length x.1.now + X.LEN ≡ length rest.now) }
 {
@@ -101,7 +101,7 @@ pub(crate) fn entries<X: Entry>(
 ) -> Result<(List<X>, &[u8]), ReadFault>
     requires enough { X.LEN * count ≤ length bytes.now }
     requires within { length bytes.now ≤ size }
-    ensures read { Gives (λ x. (x.0, x.1.now)) result
+    ensures read { GivesReading (λ x. (x.0, x.1.now)) result
         (each_at (entry_at X.LEN X.spelled X.content size) count bytes.now) }
     ensures count { IfOk result (λ x. length x.0 ≡ count) }
     ensures left { IfOk result (λ x. length x.1.now + X.LEN * count ≡ length bytes.now) }

@@ -1,14 +1,14 @@
 //! The numbers of a program file, which are little-endian.
 
 ghost use Rattle.std.specs.Prelude.{◌≡◌, ◌≤◌, ◌+◌, length};
-ghost use Rattle.obs_binary.specs.Reading.{number_at, signed_at, short_at};
+ghost use Rattle.obs_binary.specs.Reading.{u32_from, signed_at, short_at};
 
 use byteorder::{ByteOrder, LittleEndian};
 
 /// The unsigned number of 32 bits at an offset of the bytes.
 pub fn u32_at(bytes: &[u8], at: usize) -> u32
     requires { at + 4 ≤ length bytes.now }
-    ensures { result ≡ number_at bytes.now at }
+    ensures { result ≡ u32_from bytes.now at }
 {
     LittleEndian::read_u32(&bytes[at..])
 }

@@ -2,7 +2,7 @@
 
 ghost use Rattle.std.specs.Prelude.{◌≡◌, ◌==◌, if◌then◌else◌};
 ghost use Rattle.obs_binary.specs.Layout.{out_entry, signal_entry};
-ghost use Rattle.obs_binary.specs.Reading.{out_content, signal_content, out_of, signal_of};
+ghost use Rattle.obs_binary.specs.Reading.{out_content, signal_content, out_of, stored_signal};
 ghost use Rattle.obs_binary.specs.declared.fault.ReadFault.TheVariants.{NameBytes, SignalBytes};
 
 use crate::entry::{Entry, entry_bytes, first_other};
@@ -144,7 +144,7 @@ impl Head for SignalHead {
 
     ghost name_len = { λ head. head.name_len };
 
-    ghost with_name = { signal_of };
+    ghost with_name = { stored_signal };
 
     ghost fault = { SignalBytes };
 

@@ -2,7 +2,7 @@
 
 ghost use Rattle.std.specs.Prelude.{◌≡◌, ◌+◌, ◌++◌, ◌≤◌, ◌<◌, ◌^◌, length, IfOk, OnOk};
 ghost use Rattle.obs_binary.specs.Layout.{header_bytes, header_len};
-ghost use Rattle.obs_binary.specs.Reading.{Gives, header_at, header_fields, said_len};
+ghost use Rattle.obs_binary.specs.Reading.{GivesReading, header_at, header_fields, said_len};
 
 use crate::fault::ReadFault;
 use crate::fields::{u16_at, u32_at};
@@ -70,7 +70,7 @@ impl Header {
     /// Returns the header at the start of the bytes of a file, or the first fault in it or in the length of the file.
     #[tactic(auto, unfolding(crate::specs::Reading::header_at))]
     pub(crate) fn read(bytes: &[u8]) -> Result<Header, ReadFault>
-        ensures read { Gives (λ header. header) result (header_at bytes.now) }
+        ensures read { GivesReading (λ header. header) result (header_at bytes.now) }
         ensures said { IfOk result (λ header. said_len header ≡ length bytes.now) }
     {
         if bytes.len() < 32 {

@@ -2,7 +2,7 @@
 
 ghost use Rattle.std.specs.Prelude.{◌≡◌, length};
 ghost use Rattle.obs_binary.specs.Layout.{bz_entry, ft_entry, pt_entry, FitsBz, FitsFt, FitsPt};
-ghost use Rattle.obs_binary.specs.Reading.{bz_content, ft_content, pt_content, interval_at};
+ghost use Rattle.obs_binary.specs.Reading.{bz_content, ft_content, pt_content, entry_interval};
 
 use crate::entry::{Entry, constant_bytes, entry_bytes, first_other};
 use crate::fields::{i64_at, u32_at};
@@ -67,7 +67,7 @@ impl Entry for BzOp {
 
 fn interval_of(bytes: &[u8]) -> Interval
     requires { length bytes.now ≡ 24 }
-    ensures { result ≡ interval_at bytes.now }
+    ensures { result ≡ entry_interval bytes.now }
 {
     Interval {
         lo: u32_at(bytes, 12),

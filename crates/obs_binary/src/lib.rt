@@ -8,10 +8,10 @@ mod head;
 mod header;
 mod instructions;
 mod names;
-mod reading;
-mod writing;
+mod reader;
+mod writer;
 
 pub use fault::ReadFault;
 pub use fields::{i64_at, u32_at};
-pub use reading::{one_program, read_program};
-pub use writing::write_program;
+pub use reader::{one_program, read_program};
+pub use writer::write_program;

@@ -3,7 +3,7 @@
 ghost use Rattle.std.specs.Prelude.{◌≡◌, ◌<◌, ◌^◌, ℕ, List as Items, length, MatchOption, false, true, take, drop};
 ghost use Rattle.std.specs.List.{list_all};
 ghost use Rattle.mltl_base.specs.Letters.{is_in_word};
-ghost use Rattle.obs_binary.specs.Reading.{Gives, is_name_in_front, named};
+ghost use Rattle.obs_binary.specs.Reading.{GivesReading, is_name_in_front, named};
 ghost use Rattle.obs_binary.specs.declared.fault.ReadFault.{ReadFault};
 
 use crate::fault::ReadFault;
@@ -69,7 +69,7 @@ pub(crate) fn named<H: Head>(
     names: &[u8],
 ) -> Result<List<H::Whole>, ReadFault>
     requires { length heads.now < 2 ^ 32 }
-    ensures { Gives (λ wholes. wholes) result
+    ensures { GivesReading (λ wholes. wholes) result
         (named H.name_len H.with_name H.fault 0 heads.now names.now) }
 {
     let mut wholes = List::room_for(alloc, heads.len())?;

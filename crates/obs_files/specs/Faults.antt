@@ -53,7 +53,7 @@ abbrev pub opened : List ℕ → Result Program FileFault
 opened bytes = verified (program_at bytes)
 
 -- a call returns what was found, unless out of memory
-abbrev pub Tells : Result Program FileFault → Result Program FileFault → Type 0
-Tells (Ok program) found = found ≡ Ok program
-Tells (Err file.Memory) found = ⊤
-Tells (Err (file.Program fault)) found = found ≡ Err (file.Program fault)
+abbrev pub ReturnsOpened : Result Program FileFault → Result Program FileFault → Type 0
+ReturnsOpened (Ok program) found = found ≡ Ok program
+ReturnsOpened (Err file.Memory) found = ⊤
+ReturnsOpened (Err (file.Program fault)) found = found ≡ Err (file.Program fault)

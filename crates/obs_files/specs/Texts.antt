@@ -2,7 +2,7 @@
 
 use Rattle.std.specs.Prelude.{ℕ, List, ◌++◌, codes}
 use Rattle.obs_verify.specs.declared.fault.VerifyFault.TheVariants as verify
-use Rattle.obs_verify.specs.FaultTexts.{numbered, verify_fault_text}
+use Rattle.obs_verify.specs.FaultTexts.{with_number, verify_fault_text}
 use Rattle.obs_files.specs.declared.fault.FileFault as file
 use Rattle.obs_files.specs.declared.fault.ProgramFault as fault
 
@@ -11,11 +11,11 @@ abbrev pub fault_text : fault.ProgramFault → List ℕ
 fault_text fault.TheVariants.Short = codes "short"
 fault_text fault.TheVariants.Magic = codes "magic"
 fault_text fault.TheVariants.Version = codes "version"
-fault_text (fault.TheVariants.Reserved at) = numbered (codes "reserved") at
-fault_text (fault.TheVariants.Opcode at) = numbered (codes "opcode") at
+fault_text (fault.TheVariants.Reserved at) = with_number (codes "reserved") at
+fault_text (fault.TheVariants.Opcode at) = with_number (codes "opcode") at
 fault_text fault.TheVariants.Trailing = codes "trailing"
-fault_text (fault.TheVariants.NameBytes k) = numbered (codes "namebytes") k
-fault_text (fault.TheVariants.SignalBytes k) = numbered (codes "signalbytes") k
+fault_text (fault.TheVariants.NameBytes k) = with_number (codes "namebytes") k
+fault_text (fault.TheVariants.SignalBytes k) = with_number (codes "signalbytes") k
 fault_text fault.TheVariants.Width = verify_fault_text verify.Width
 fault_text (fault.TheVariants.Signal k) = verify_fault_text (verify.Signal k)
 fault_text (fault.TheVariants.Operand p i) = verify_fault_text (verify.Operand p i)

@@ -1,9 +1,9 @@
 //! Checked programs from and to bytes.
 
 ghost use Rattle.std.specs.Prelude.{◌≡◌, IfOk, OnOk};
-ghost use Rattle.obs_binary.specs.Layout.{Fits, spelling};
+ghost use Rattle.obs_binary.specs.Layout.{IsEncodable, spelling};
 ghost use Rattle.obs_verify.specs.WellFormed.{IsWellFormed};
-ghost use Rattle.obs_files.specs.Faults.{Tells, opened};
+ghost use Rattle.obs_files.specs.Faults.{ReturnsOpened, opened};
 ghost use Rattle.obs_files.specs.Names.{NamesFit};
 
 use crate::FileFault;
@@ -17,10 +17,10 @@ use std::alloc::{AllocError, Global};
 /// `verify`; `Memory` when out of memory.
 pub fn open(alloc: Global, bytes: &[u8]) -> Result<Checked, FileFault>
     // Which program it is, or which fault.
-    ensures answer { Tells result (opened bytes.now) }
+    ensures answer { ReturnsOpened result (opened bytes.now) }
     // Its bytes are these, each of them.
     ensures spelled { IfOk result (λ checked. bytes.now ≡ spelling checked) }
-    ensures fits { IfOk result (λ checked. Fits checked) }
+    ensures fits { IfOk result (λ checked. IsEncodable checked) }
     ensures well_formed { IfOk result (λ checked. IsWellFormed checked) }
     ensures names { IfOk result (λ checked. NamesFit checked) }
 {
@@ -34,7 +34,7 @@ pub fn image(alloc: Global, checked: &Checked) -> Result<Vec<u8>, AllocError>
     requires names { NamesFit checked.now }
     ensures written { IfOk result (λ bytes. bytes.items ≡ spelling checked.now) }
     // So they are opened again as this program.
-    ensures fits { OnOk result (Fits checked.now) }
+    ensures fits { OnOk result (IsEncodable checked.now) }
 {
     write_program(alloc, checked.program())
 }

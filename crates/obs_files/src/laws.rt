@@ -2,7 +2,7 @@
 
 ghost use Rattle.std.specs.Prelude.{◌≡◌, Ok};
 ghost use Rattle.mltl_base.specs.declared.program.Program.{Program as Observer};
-ghost use Rattle.obs_binary.specs.Layout.{Fits, spelling};
+ghost use Rattle.obs_binary.specs.Layout.{IsEncodable, spelling};
 ghost use Rattle.obs_verify.specs.Upgrade.{up};
 ghost use Rattle.obs_verify.specs.WellFormed.{IsWellFormed};
 ghost use Rattle.obs_files.specs.Faults.{opened};
@@ -11,7 +11,7 @@ ghost use Rattle.obs_files.specs.Names.{NamesFit};
 /// The bytes of a well-formed program are opened as that program.
 #[tactic(auto, using(crate::proofs::Opening::found_again))]
 pub fn images_open()
-    ensures { (program : Observer) → Fits program → IsWellFormed program
+    ensures { (program : Observer) → IsEncodable program → IsWellFormed program
         → opened (spelling program) ≡ Ok program }
 {}
 

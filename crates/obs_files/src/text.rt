@@ -3,7 +3,7 @@
 ghost use Rattle.std.specs.Prelude.{◌≡◌, ◌+◌, ◌≤◌, ◌++◌, length};
 ghost use Rattle.arrayvec.specs.ArrayVec.{array_vec_len};
 ghost use Rattle.obs_files.specs.Texts.{fault_text};
-ghost use Rattle.obs_verify.specs.FaultTexts.{numbered, parted};
+ghost use Rattle.obs_verify.specs.FaultTexts.{with_number, parted};
 
 use crate::ProgramFault;
 use arrayvec::ArrayVec;
@@ -67,7 +67,7 @@ fn add_fault(text: &mut Text, fault: ProgramFault)
 
 fn add_numbered(text: &mut Text, name: &[u8], n: u64)
     requires { array_vec_len text.old + length name.now ≤ 11 }
-    ensures { text.new.items ≡ text.old.items ++ numbered name.now n }
+    ensures { text.new.items ≡ text.old.items ++ with_number name.now n }
 {
     add(text, name);
     add(text, b" ");

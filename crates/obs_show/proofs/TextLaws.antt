@@ -10,7 +10,7 @@ use Rattle.obs_show.specs.declared.fault.ShowFault.TheVariants.{TooLong, Wide, M
 use Rattle.obs_show.specs.Lines.{Line}
 use Rattle.obs_show.specs.Showing.{written_line}
 use Rattle.obs_show.specs.Writing.{Adds, bz_bytes, ft_bytes, output_bytes, pt_bytes, signal_bytes, written}
-use Rattle.obs_show.specs.Text.{bz_line, ft_line, line_text, lines_by, lines_text, output_line, output_lines, pt_line, signal_line, text}
+use Rattle.obs_show.specs.Text.{bz_line, ft_line, shown_line, numbered_lines, lines_text, output_line, output_lines, pt_line, signal_line, text}
 use Rattle.std.proofs.lemmas.Grind.{flat_map-append}
 
 first_line : (line : Option Line) (ls : List Line) → lines_text (cons_option line ls) ≡ written_line line ++ lines_text ls
@@ -73,21 +73,21 @@ module _ {X : Type 0} (rule : ℕ → X → List ℕ) where
       ∙ ap (λ ts. ts ++ written rule (k + 1) xs) (sym (is k x))
 
   -- a line of each member, as bytes
-  pub mapped : (k : ℕ) (line : ℕ → X → Line) → ((n : ℕ) (x : X) → rule n x ≡ line_text (line n x)) → (xs : List X) → lines_text (map (λ p. line p.0 p.1) (enumerate_from k xs)) ≡ written rule k xs
+  pub mapped : (k : ℕ) (line : ℕ → X → Line) → ((n : ℕ) (x : X) → rule n x ≡ shown_line (line n x)) → (xs : List X) → lines_text (map (λ p. line p.0 p.1) (enumerate_from k xs)) ≡ written rule k xs
   unfolding written
   mapped k line is [] = refl
-  mapped k line is (x ∷ xs) = ap (λ ts. line_text (line k x) ++ ts) (mapped (k + 1) line is xs) ∙ ap (λ ts. ts ++ written rule (k + 1) xs) (sym (is k x))
+  mapped k line is (x ∷ xs) = ap (λ ts. shown_line (line k x) ++ ts) (mapped (k + 1) line is xs) ∙ ap (λ ts. ts ++ written rule (k + 1) xs) (sym (is k x))
 
 signals_text : (k : ℕ) (signals : List StoredSignal) → lines_text (map signal_line signals) ≡ written signal_bytes k signals
 unfolding written
 signals_text k [] = refl
-signals_text k (signal ∷ signals) = ap (λ ts. line_text (signal_line signal) ++ ts) (signals_text (k + 1) signals)
+signals_text k (signal ∷ signals) = ap (λ ts. shown_line (signal_line signal) ++ ts) (signals_text (k + 1) signals)
 
 both : {a b c d : List ℕ} → a ≡ b → c ≡ d → a ++ c ≡ b ++ d
 both {a} {b} {c} {d} h k = ap (λ ts. ts ++ c) h ∙ ap (λ ts. b ++ ts) k
 
 lines-append : (ls ms : List Line) → lines_text (ls ++ ms) ≡ lines_text ls ++ lines_text ms
-lines-append ls ms = flat_map-append line_text ls ms
+lines-append ls ms = flat_map-append shown_line ls ms
 
 -- the bytes of a program, part by part
 pub text_parts : (program : Program) → text program
@@ -98,9 +98,9 @@ pub text_parts : (program : Program) → text program
     ++ written (output_bytes program) 0 program.outs)))
 text_parts program =
     let signals : List Line = map signal_line program.signals in
-    let bz : List Line = lines_by (bz_line program) program.bz in
-    let ft : List Line = lines_by (ft_line program) program.ft in
-    let pt : List Line = lines_by (pt_line program) program.pt in
+    let bz : List Line = numbered_lines (bz_line program) program.bz in
+    let ft : List Line = numbered_lines (ft_line program) program.ft in
+    let pt : List Line = numbered_lines (pt_line program) program.pt in
     let outs : List Line = output_lines program program.outs in
     let outs_is : lines_text outs ≡ written (output_bytes program) 0 program.outs = mapped (output_bytes program) 0 (output_line program) (λ n x. refl) program.outs in
     let pt_is : lines_text (pt ++ outs) ≡ written (pt_bytes program) 0 program.pt ++ written (output_bytes program) 0 program.outs =

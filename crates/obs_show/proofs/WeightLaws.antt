@@ -14,15 +14,15 @@ use Rattle.mltl_base.specs.declared.program.Out.TheVariants.{Formula, Contract}
 use Rattle.mltl_base.specs.declared.program.Program.{Program}
 use Rattle.mltl_base.specs.Atoms.{Atom, is_true}
 use Rattle.mltl_base.specs.Formula.{Core, ctrue, catom, plain}
-use Rattle.mltl_base.specs.Programs.{Expression, whole, truth, atom_of, atoms, cores_of, expression_of, expressions, expressions_after, formula_of, formulas, formulas_after, output_of, past_formula_of, past_formulas, past_formulas_after, term_at, term_of}
+use Rattle.mltl_base.specs.Programs.{Expression, whole, truth, atom_of, atoms, cores_of, expression_of, expressions, expressions_after, op_formula, formulas, formulas_after, output_of, past_formula_of, past_formulas, past_formulas_after, term_at, expression_term}
 use Rattle.mltl_base.specs.Queues.{AreInOrder, IsAfterOperands, NamesInstructions}
 use Rattle.obs_verify.specs.InstructionRanges.{ReadsBefore}
 use Rattle.obs_verify.specs.Layout.{HasLayout}
 use Rattle.obs_verify.specs.Running.{ArePastInOrder, IsAfterPastOperands, IsTruthExpression}
-use Rattle.obs_verify.specs.Soundness.{AreSound, IsSound, IsWhole, IsWholeExpression}
+use Rattle.obs_verify.specs.Soundness.{SoundOps, SoundOp, IsWhole, IsWholeExpression}
 use Rattle.obs_verify.specs.WellFormed.{IsWellFormed}
 use Rattle.obs_verify.proofs.RunLaws.{all_named, runs_future, runs_past}
-use Rattle.obs_show.specs.Weight.{formula_weight, output_weight, term_weight, weight}
+use Rattle.obs_show.specs.Weight.{formula_weight, output_weight, term_weight, program_weight}
 use Rattle.obs_show.specs.Weighing.{bz_weight, capped, expression_weight, formula_weights, ft_weight, operator_weight, out_weight, pt_weight}
 
 -- the weights that the code keeps
@@ -55,12 +55,12 @@ whole_of es a None at h = absurd h
 whole_of es a (Some (truth b)) at h = absurd h
 whole_of es a (Some (whole t)) at h =
     let here = found es a (whole t) at in
-    record { within = here.0; is = here.1 ∙ ap (λ o. capped (term_weight (term_of o))) (sym at) }
+    record { within = here.0; is = here.1 ∙ ap (λ o. capped (term_weight (expression_term o))) (sym at) }
 
 whole_at : (es : List Expression) (a : ℕ) → IsWhole es a → ReadsWhole es a
 whole_at es a h = whole_of es a (slice_get es a) refl h
 
-pub sound_reads : (width : ℕ) (es : List Expression) (op : BzOp) → IsSound width es op → ReadsBefore (length es) op
+pub sound_reads : (width : ℕ) (es : List Expression) (op : BzOp) → SoundOp width es op → ReadsBefore (length es) op
 sound_reads width es (Column c) h = tt
 sound_reads width es (IsTrue c) h = tt
 sound_reads width es (Const n) h = tt
@@ -77,7 +77,7 @@ sound_reads width es (Le a b) h = ((whole_at es a h.0).within, (whole_at es b h.
 two : (es : List Expression) (a b : ℕ) → IsWhole es a → IsWhole es b → operator_weight (slice_index (map told es) a) (slice_index (map told es) b) ≡ capped (1 + term_weight (term_at es a) + term_weight (term_at es b))
 two es a b h k = joins _ _ _ _ (whole_at es a h).is (whole_at es b k).is
 
-sound_weight : (width : ℕ) (es : List Expression) (op : BzOp) → IsSound width es op → bz_weight (map told es) op ≡ told (expression_of es op)
+sound_weight : (width : ℕ) (es : List Expression) (op : BzOp) → SoundOp width es op → bz_weight (map told es) op ≡ told (expression_of es op)
 unfolding term_weight
 sound_weight width es (Column c) h = refl
 sound_weight width es (IsTrue c) h = refl
@@ -96,16 +96,16 @@ sound_weight width es (Le a b) h = two es a b h.0 h.1
 pub record BzWeighed (width : ℕ) (ops : List BzOp) (i : ℕ) (weights : List ℕ) : Type 0 where
   pub before : List Expression
   pub rest : expressions_after before (drop i ops) ≡ expressions ops
-  pub sound : AreSound width before (drop i ops)
+  pub sound : SoundOps width before (drop i ops)
   pub are : weights ≡ map told before
 
-pub bz_none : (width : ℕ) (ops : List BzOp) → AreSound width [] ops → BzWeighed width ops 0 []
+pub bz_none : (width : ℕ) (ops : List BzOp) → SoundOps width [] ops → BzWeighed width ops 0 []
 bz_none width ops sound = record { before = []; rest = refl; sound = sound; are = refl }
 
 bz_next : (width : ℕ) (ops : List BzOp) (i : ℕ) (weights : List ℕ) (w : BzWeighed width ops i weights) (d : BzOp) → i < length ops
-    → IsSound width w.before (slice_index_or ops i d) × AreSound width (w.before ++ expression_of w.before (slice_index_or ops i d) ∷ []) (drop (i + 1) ops)
-unfolding AreSound
-bz_next width ops i weights w d here = subst (AreSound width w.before) (drop_more ops i d here) w.sound
+    → SoundOp width w.before (slice_index_or ops i d) × SoundOps width (w.before ++ expression_of w.before (slice_index_or ops i d) ∷ []) (drop (i + 1) ops)
+unfolding SoundOps
+bz_next width ops i weights w d here = subst (SoundOps width w.before) (drop_more ops i d here) w.sound
 
 pub bz_reads : (width : ℕ) (ops : List BzOp) (i : ℕ) (weights : List ℕ) (d : BzOp) → BzWeighed width ops i weights → i < length ops → ReadsBefore (length weights) (slice_index_or ops i d)
 bz_reads width ops i weights d w here =
@@ -166,7 +166,7 @@ module _ (es : List Expression) where
       → operator_weight (slice_index (map told_core cs) l) (slice_index (map told_core cs) r) ≡ capped (1 + formula_weight (plain (slice_index_or cs l ctrue)) + formula_weight (plain (slice_index_or cs r ctrue)))
   two_cores cs n l r long h k = joins _ _ _ _ (picked told_core cs l ctrue n long h) (picked told_core cs r ctrue n long k)
 
-  ft_here : (cs : List Core) (n : ℕ) (op : ft.FtOp) → n ≡ length cs → IsAfterOperands n op → ((k : ℕ) → op ≡ ft.TheVariants.Load k → Loads k) → ft_weight (map told es) (map told_core cs) op ≡ told_core (formula_of held cs op)
+  ft_here : (cs : List Core) (n : ℕ) (op : ft.FtOp) → n ≡ length cs → IsAfterOperands n op → ((k : ℕ) → op ≡ ft.TheVariants.Load k → Loads k) → ft_weight (map told es) (map told_core cs) op ≡ told_core (op_formula held cs op)
   unfolding formula_weight plain
   ft_here cs n ft.TheVariants.True long after loads = refl
   ft_here cs n (ft.TheVariants.Load k) long after loads = (loaded_at es k (slice_get es k) refl (loads k refl)).1
@@ -198,11 +198,11 @@ module _ (es : List Expression) where
   ft_more ops i weights more d n w here after loads is pushed =
       let op : ft.FtOp = slice_index_or ops i d in
       record {
-        before = w.before ++ formula_of held w.before op ∷ [];
+        before = w.before ++ op_formula held w.before op ∷ [];
         rest = ap (formulas_after held w.before) (sym (drop_more ops i d here)) ∙ w.rest;
-        long = omega (arith, w.long, length_push w.before (formula_of held w.before op));
+        long = omega (arith, w.long, length_push w.before (op_formula held w.before op));
         are = pushed ∙ ap (λ ws. ws ++ n ∷ []) w.are ∙ ap (λ m. map told_core w.before ++ m ∷ []) (is ∙ ap (λ ws. ft_weight (map told es) ws op) w.are ∙ ft_here w.before i op w.long after loads)
-            ∙ sym (map-append told_core w.before (formula_of held w.before op ∷ []));
+            ∙ sym (map-append told_core w.before (op_formula held w.before op ∷ []));
       }
 
   pub ft_all : (ops : List ft.FtOp) (i : ℕ) (weights : List ℕ) → FtWeighed ops i weights → length ops ≤ i → weights ≡ map told_core (formulas held ops)
@@ -240,7 +240,7 @@ module _ (es : List Expression) where
 length_after : (loaded : List Atom) (before : List Core) (ops : List ft.FtOp) → length (formulas_after loaded before ops) ≡ length before + length ops
 unfolding formulas_after
 length_after loaded before [] = omega arith
-length_after loaded before (op ∷ ops) = omega (arith, length_after loaded (before ++ formula_of loaded before op ∷ []) ops, length_push before (formula_of loaded before op))
+length_after loaded before (op ∷ ops) = omega (arith, length_after loaded (before ++ op_formula loaded before op ∷ []) ops, length_push before (op_formula loaded before op))
 
 length_past : (loaded : List Atom) (before : List Core) (ops : List pt.PtOp) → length (past_formulas_after loaded before ops) ≡ length before + length ops
 unfolding past_formulas_after
@@ -299,7 +299,7 @@ pub out_more : (program : Program) (future past : List ℕ) (outs : List Out) (i
 out_more program future past outs i total now part out fs ps here at named is joined_is was =
     joined_is ∙ pairs total part _ _ was (is ∙ out_is program future past out fs ps named) ∙ ap (λ n. capped n) (sym (more_weight program outs i out here at))
 
-pub out_all : (program : Program) (outs : List Out) (i total : ℕ) → outs ≡ program.outs → length outs ≤ i → total ≡ capped (weight_before program outs i) → total ≡ capped (weight program)
+pub out_all : (program : Program) (outs : List Out) (i total : ℕ) → outs ≡ program.outs → length outs ≤ i → total ≡ capped (weight_before program outs i) → total ≡ capped (program_weight program)
 out_all program outs i total same past is = is ∙ ap (λ os. capped (sum_by output_weight (map (output_of program) os))) (take_all i outs past ∙ same)
 
 -- ---- what a well-formed program gives the engines' instructions

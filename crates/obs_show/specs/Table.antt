@@ -34,12 +34,12 @@ abbrev pub bare : Field → List Field
 bare name = name ∷ blank ∷ blank ∷ blank ∷ blank ∷ []
 
 -- the fields from operation to high of an instruction with one operand
-abbrev pub unary : Field → Field → List Field
-unary name left = name ∷ left ∷ blank ∷ blank ∷ blank ∷ []
+abbrev pub unary_fields : Field → Field → List Field
+unary_fields name left = name ∷ left ∷ blank ∷ blank ∷ blank ∷ []
 
 -- the fields from operation to high of an instruction with two operands
-abbrev pub binary : Field → ℕ → ℕ → List Field
-binary name left right = name ∷ decimal left ∷ decimal right ∷ blank ∷ blank ∷ []
+abbrev pub binary_fields : Field → ℕ → ℕ → List Field
+binary_fields name left right = name ∷ decimal left ∷ decimal right ∷ blank ∷ blank ∷ []
 
 -- the fields from operation to high of an instruction with two operands and the bounds of an interval
 abbrev pub temporal : Field → ℕ → ℕ → Interval → List Field
@@ -47,33 +47,33 @@ temporal name left right window = name ∷ decimal left ∷ decimal right ∷ de
 
 -- the fields from operation to high of a Booleanizer instruction; a constant shows its value as its left operand
 unfoldable pub bz_fields : BzOp → List Field
-bz_fields (bz.Column c) = unary (codes "column") (decimal c)
-bz_fields (bz.IsTrue c) = unary (codes "istrue") (decimal c)
-bz_fields (bz.Const value) = unary (codes "const") (signed_decimal value)
-bz_fields (bz.Neg a) = unary (codes "neg") (decimal a)
-bz_fields (bz.Add a b) = binary (codes "add") a b
-bz_fields (bz.Sub a b) = binary (codes "sub") a b
-bz_fields (bz.Mul a b) = binary (codes "mul") a b
-bz_fields (bz.Div a b) = binary (codes "div") a b
-bz_fields (bz.Rem a b) = binary (codes "rem") a b
-bz_fields (bz.Eq a b) = binary (codes "eq") a b
-bz_fields (bz.Lt a b) = binary (codes "lt") a b
-bz_fields (bz.Le a b) = binary (codes "le") a b
+bz_fields (bz.Column c) = unary_fields (codes "column") (decimal c)
+bz_fields (bz.IsTrue c) = unary_fields (codes "istrue") (decimal c)
+bz_fields (bz.Const value) = unary_fields (codes "const") (signed_decimal value)
+bz_fields (bz.Neg a) = unary_fields (codes "neg") (decimal a)
+bz_fields (bz.Add a b) = binary_fields (codes "add") a b
+bz_fields (bz.Sub a b) = binary_fields (codes "sub") a b
+bz_fields (bz.Mul a b) = binary_fields (codes "mul") a b
+bz_fields (bz.Div a b) = binary_fields (codes "div") a b
+bz_fields (bz.Rem a b) = binary_fields (codes "rem") a b
+bz_fields (bz.Eq a b) = binary_fields (codes "eq") a b
+bz_fields (bz.Lt a b) = binary_fields (codes "lt") a b
+bz_fields (bz.Le a b) = binary_fields (codes "le") a b
 
 -- the fields from operation to high of a future-time instruction
 unfoldable pub ft_fields : FtOp → List Field
 ft_fields ft.True = bare (codes "true")
-ft_fields (ft.Load a) = unary (codes "load") (decimal a)
-ft_fields (ft.Not g) = unary (codes "not") (decimal g)
-ft_fields (ft.And l r) = binary (codes "and") l r
+ft_fields (ft.Load a) = unary_fields (codes "load") (decimal a)
+ft_fields (ft.Not g) = unary_fields (codes "not") (decimal g)
+ft_fields (ft.And l r) = binary_fields (codes "and") l r
 ft_fields (ft.Until l r window) = temporal (codes "until") l r window
 
 -- the fields from operation to high of a past-time instruction
 unfoldable pub pt_fields : PtOp → List Field
 pt_fields pt.True = bare (codes "true")
-pt_fields (pt.Load a) = unary (codes "load") (decimal a)
-pt_fields (pt.Not g) = unary (codes "not") (decimal g)
-pt_fields (pt.And l r) = binary (codes "and") l r
+pt_fields (pt.Load a) = unary_fields (codes "load") (decimal a)
+pt_fields (pt.Not g) = unary_fields (codes "not") (decimal g)
+pt_fields (pt.And l r) = binary_fields (codes "and") l r
 pt_fields (pt.Since l r window) = temporal (codes "since") l r window
 
 -- the best delay, the worst delay and the size of future-time instruction i
@@ -108,9 +108,9 @@ records program = numbered bz_record program.bz
     ++ (numbered (ft_record program) program.ft ++ numbered (pt_record program) program.pt)
 
 -- the lines of records, as csv writes them by default
-abbrev pub lines : List (List Field) → List ℕ
-lines rows = flat_map (row_text default_writer) rows
+abbrev pub csv_lines : List (List Field) → List ℕ
+csv_lines rows = flat_map (row_text default_writer) rows
 
 -- the table of a program
 abbrev pub table : Program → List ℕ
-table program = lines (columns ∷ records program)
+table program = csv_lines (columns ∷ records program)

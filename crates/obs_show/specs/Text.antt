@@ -78,8 +78,8 @@ abbrev pub pt_line : Program → ℕ → pt.PtOp → Option Line
 pt_line program i op = option_map (define (pt_name program i)) (pt_form program op)
 
 -- the label of output k: its name, where that isn't the output's number
-abbrev pub label_of : ℕ → List ℕ → Option (List ℕ)
-label_of k name = if bytes_eq name (decimal k) then None else Some name
+abbrev pub shown_label : ℕ → List ℕ → Option (List ℕ)
+shown_label k name = if bytes_eq name (decimal k) then None else Some name
 
 -- the reference to instruction i of an engine
 abbrev pub reference_in : Program → Engine → ℕ → Reference
@@ -89,25 +89,25 @@ reference_in program Pt i = pt_reference program i
 -- the line of output k
 abbrev pub output_line : Program → ℕ → out.Out → Line
 output_line program k (out.TheVariants.Formula engine i name) =
-    formula engine (label_of k name) (reference_in program engine i)
+    formula engine (shown_label k name) (reference_in program engine i)
 output_line program k (out.TheVariants.Contract engine i j name) =
-    contract engine (label_of k name) (reference_in program engine i) (reference_in program engine j)
+    contract engine (shown_label k name) (reference_in program engine i) (reference_in program engine j)
 
 -- the lines that a rule gives to members with their numbers, which count from 0
-abbrev pub lines_by : {X : Type 0} → (ℕ → X → Option Line) → List X → List Line
-lines_by rule xs = filter_map (λ p. rule p.0 p.1) (enumerate_from 0 xs)
+abbrev pub numbered_lines : {X : Type 0} → (ℕ → X → Option Line) → List X → List Line
+numbered_lines rule xs = filter_map (λ p. rule p.0 p.1) (enumerate_from 0 xs)
 
 -- the lines of outputs
 abbrev pub output_lines : Program → List out.Out → List Line
 output_lines program outs = map (λ p. output_line program p.0 p.1) (enumerate_from 0 outs)
 
 -- the lines of a program: signals, operations of the Booleanizer, of future time and of past time, outputs
-abbrev pub lines : Program → List Line
-lines program =
+abbrev pub shown_lines : Program → List Line
+shown_lines program =
     map signal_line program.signals
-    ++ (lines_by (bz_line program) program.bz
-    ++ (lines_by (ft_line program) program.ft
-    ++ (lines_by (pt_line program) program.pt
+    ++ (numbered_lines (bz_line program) program.bz
+    ++ (numbered_lines (ft_line program) program.ft
+    ++ (numbered_lines (pt_line program) program.pt
     ++ output_lines program program.outs)))
 
 -- how a reference is written
@@ -179,19 +179,19 @@ label_text None = []
 label_text (Some name) = name ++ codes ": "
 
 -- how a line is written, with its newline
-abbrev pub line_text : Line → List ℕ
-line_text (input name truth) = codes "INPUT " ++ name ++ codes ": " ++ kind_text truth ++ codes ";\n"
-line_text (define name form) = codes "DEFINE " ++ name ++ codes " := " ++ form_text form ++ codes ";\n"
-line_text (formula engine label x) =
+abbrev pub shown_line : Line → List ℕ
+shown_line (input name truth) = codes "INPUT " ++ name ++ codes ": " ++ kind_text truth ++ codes ";\n"
+shown_line (define name form) = codes "DEFINE " ++ name ++ codes " := " ++ form_text form ++ codes ";\n"
+shown_line (formula engine label x) =
     section_text engine ++ codes " " ++ label_text label ++ reference_text x ++ codes ";\n"
-line_text (contract engine label x y) =
+shown_line (contract engine label x y) =
     section_text engine ++ codes " " ++ label_text label ++ reference_text x ++ codes " => " ++ reference_text y
     ++ codes ";\n"
 
 -- how lines are written, one after the other
 abbrev pub lines_text : List Line → List ℕ
-lines_text ls = flat_map line_text ls
+lines_text ls = flat_map shown_line ls
 
 -- a program as text
 abbrev pub text : Program → List ℕ
-text program = lines_text (lines program)
+text program = lines_text (shown_lines program)

@@ -56,5 +56,5 @@ output_weight (formula p) = formula_weight p
 output_weight (contract p q) = formula_weight p + formula_weight q
 
 -- the weights of all outputs of a program together
-abbrev pub weight : Program → ℕ
-weight program = sum_by output_weight (outputs program)
+abbrev pub program_weight : Program → ℕ
+program_weight program = sum_by output_weight (outputs program)

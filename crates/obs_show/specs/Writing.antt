@@ -11,7 +11,7 @@ use Rattle.mltl_base.specs.declared.program.StoredSignal.{StoredSignal}
 use Rattle.obs_show.specs.declared.fault.ShowFault.{ShowFault}
 use Rattle.obs_show.specs.declared.fault.ShowFault.TheVariants.{TooLong, Wide, Memory}
 use Rattle.obs_show.specs.Showing.{written_line}
-use Rattle.obs_show.specs.Text.{bz_line, ft_line, line_text, output_line, pt_line, signal_line}
+use Rattle.obs_show.specs.Text.{bz_line, ft_line, shown_line, output_line, pt_line, signal_line}
 
 -- what a rule writes of members by their numbers, which count from a number on
 unfoldable pub written : {X : Type 0} → (ℕ → X → List ℕ) → ℕ → List X → List ℕ
@@ -20,7 +20,7 @@ written rule k (x ∷ xs) = rule k x ++ written rule (k + 1) xs
 
 -- what is written of a signal
 abbrev pub signal_bytes : ℕ → StoredSignal → List ℕ
-signal_bytes k signal = line_text (signal_line signal)
+signal_bytes k signal = shown_line (signal_line signal)
 
 -- what is written of an instruction of the Booleanizer
 abbrev pub bz_bytes : Program → ℕ → BzOp → List ℕ
@@ -36,7 +36,7 @@ pt_bytes program i op = written_line (pt_line program i op)
 
 -- what is written of an output
 abbrev pub output_bytes : Program → ℕ → Out → List ℕ
-output_bytes program k output = line_text (output_line program k output)
+output_bytes program k output = shown_line (output_line program k output)
 
 -- a text got more bytes and kept within the limit, or would pass it with them
 abbrev pub Adds : {T : Type 0} → List ℕ → Result T ShowFault → List ℕ → List ℕ → Type 0

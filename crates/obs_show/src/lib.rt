@@ -2,12 +2,12 @@
 #![tactic(auto)]
 
 mod fault;
+mod instruction_names;
 mod lines;
 mod names;
-mod naming;
 mod operation;
+mod program_text;
 mod references;
-mod showing;
 mod shown;
 mod table;
 mod table_fields;
@@ -16,6 +16,6 @@ mod text;
 mod weights;
 
 pub use fault::ShowFault;
-pub use showing::show;
+pub use program_text::show;
 pub use table::instruction_table;
 pub use weights::weight;

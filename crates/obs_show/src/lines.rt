@@ -4,10 +4,10 @@ ghost use Rattle.std.specs.Prelude.{◌≡◌, ◌++◌, ℕ, OnOk, codes, slice
 ghost use Rattle.mltl_base.specs.declared.program.Program.{Program as Observer};
 ghost use Rattle.obs_show.specs.Naming.{numbered_name};
 ghost use Rattle.obs_show.specs.Showing.{NamesAll, reference_at, written_form};
-ghost use Rattle.obs_show.specs.Text.{bz_form, ft_form, interval_text, label_of, label_text, pt_form, reference_in, reference_text, section_text, spaced};
+ghost use Rattle.obs_show.specs.Text.{bz_form, ft_form, interval_text, shown_label, label_text, pt_form, reference_in, reference_text, section_text, spaced};
 
+use crate::instruction_names::Naming;
 use crate::names::add_number;
-use crate::naming::Naming;
 use crate::operation::Instruction;
 use crate::references::{add_defined_name, add_reference};
 use crate::shown::Shown;
@@ -260,7 +260,7 @@ impl Shown for PtOp {
 /// Adds the section of an output, and its label where its name isn't its number.
 fn begin_output(text: &mut Vec<u8>, engine: Engine, k: usize, name: &Name) -> Result<(), AllocError>
     ensures { OnOk result (text.new.items ≡ text.old.items
-        ++ (section_text engine ++ codes " " ++ label_text (label_of k name.now))) }
+        ++ (section_text engine ++ codes " " ++ label_text (shown_label k name.now))) }
 {
     match engine {
         Engine::Ft => text.extend_from_slice(b"FTSPEC ")?,

@@ -5,8 +5,8 @@ ghost use Rattle.obs_show.specs.Naming.{bz_called, bz_reference, ft_called, ft_r
 ghost use Rattle.obs_show.specs.Showing.{NamesAll, reference_at};
 ghost use Rattle.obs_show.specs.Text.{reference_text};
 
+use crate::instruction_names::Naming;
 use crate::names::{add_name, add_number};
-use crate::naming::Naming;
 use mltl_base::{BzOp, FtOp, Part, Program, PtOp};
 use std::alloc::AllocError;
 

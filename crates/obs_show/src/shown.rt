@@ -4,7 +4,7 @@ ghost use Rattle.std.specs.Prelude.{◌≡◌, ◌++◌, ◌<◌, ℕ, List, OnO
 ghost use Rattle.mltl_base.specs.declared.program.Program.{Program as Observer};
 ghost use Rattle.obs_show.specs.Showing.{NamesAll};
 
-use crate::naming::Naming;
+use crate::instruction_names::Naming;
 use mltl_base::Program;
 use std::alloc::AllocError;
 

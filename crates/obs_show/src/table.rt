@@ -2,7 +2,7 @@
 
 ghost use Rattle.std.specs.Prelude.{◌≡◌, ◌<◌, ◌++◌, List, ℕ, length, IfOk, OnOk};
 ghost use Rattle.obs_show.specs.TableText.{HasText, figure_fields};
-ghost use Rattle.obs_show.specs.Table.{bz_record, ft_figure_fields, ft_record, lines as lines_of, numbered, pt_figure_fields, pt_record, table};
+ghost use Rattle.obs_show.specs.Table.{bz_record, ft_figure_fields, ft_record, csv_lines as lines_of, numbered, pt_figure_fields, pt_record, table};
 
 use crate::table_fields::{Figures, Shown};
 use crate::table_lines::Lines;

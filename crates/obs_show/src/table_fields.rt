@@ -3,7 +3,7 @@
 ghost use Rattle.std.specs.Prelude.{◌≡◌, decimal};
 ghost use Rattle.std.specs.Fmt.{signed_decimal};
 ghost use Rattle.obs_show.specs.TableText.{shown_fields};
-ghost use Rattle.obs_show.specs.Table.{bare, binary, bz_fields, ft_fields, pt_fields, temporal, unary};
+ghost use Rattle.obs_show.specs.Table.{bare, binary_fields, bz_fields, ft_fields, pt_fields, temporal, unary_fields};
 
 use mltl_base::{BzOp, FtOp, Interval, PtOp};
 
@@ -40,7 +40,7 @@ impl Shown {
     }
 
     fn constant(name: &'static str, value: i64) -> Shown
-        ensures { shown_fields result ≡ unary name.now (signed_decimal value) }
+        ensures { shown_fields result ≡ unary_fields name.now (signed_decimal value) }
     {
         Shown {
             left: Some(value),
@@ -49,13 +49,13 @@ impl Shown {
     }
 
     fn unary(name: &'static str, left: u32) -> Shown
-        ensures { shown_fields result ≡ unary name.now (decimal left) }
+        ensures { shown_fields result ≡ unary_fields name.now (decimal left) }
     {
         Shown::constant(name, i64::from(left))
     }
 
     fn binary(name: &'static str, left: u32, right: u32) -> Shown
-        ensures { shown_fields result ≡ binary name.now left right }
+        ensures { shown_fields result ≡ binary_fields name.now left right }
     {
         Shown {
             name,

@@ -8,7 +8,7 @@ ghost use Rattle.obs_show.specs.Writing.{Adds, written};
 ghost use Rattle.obs_verify.specs.Layout.{HasLayout};
 
 use crate::fault::ShowFault;
-use crate::naming::Naming;
+use crate::instruction_names::Naming;
 use crate::shown::Shown;
 use mltl_base::Program;
 use mltl_base::limits::MAX_SHOWN_BYTES;

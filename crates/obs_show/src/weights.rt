@@ -8,7 +8,7 @@ ghost use Rattle.mltl_base.specs.declared.interval.Engine.TheVariants.{Ft, Pt};
 ghost use Rattle.mltl_base.specs.Queues.{IsAfterOperands, NamesInstructions};
 ghost use Rattle.obs_verify.specs.InstructionRanges.{ReadsBefore};
 ghost use Rattle.obs_verify.specs.Running.{IsAfterPastOperands};
-ghost use Rattle.obs_show.specs.Weight.{weight as weight_of};
+ghost use Rattle.obs_show.specs.Weight.{program_weight as weight_of};
 ghost use Rattle.obs_show.specs.Weighing.{bz_weight as weight_of_bz, capped, expression_weights, formula_weights, ft_weight as weight_of_ft, operator_weight as weight_joined, out_weight as weight_of_out, pt_weight as weight_of_pt};
 
 use mltl_base::limits::MAX_WEIGHT;

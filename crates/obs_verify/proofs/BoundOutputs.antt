@@ -9,7 +9,7 @@ use Rattle.mltl_base.specs.declared.program.Out as out
 use Rattle.mltl_base.specs.declared.program.Program.{Program}
 use Rattle.mltl_base.specs.Atoms.{Atom, is_true}
 use Rattle.mltl_base.specs.Formula.{Formula, truth as always, falsity, atom, negation, conjunction, disjunction, implication, equivalence, finally, globally, until, release, once, historically, since, Core, ctrue, catom, cnot, cand, cuntil, csince, plain}
-use Rattle.mltl_base.specs.Programs.{Expression, whole, truth, atom_of, expressions, atoms, core_at, formula_of, past_formula_of, formulas_after, past_formulas_after, cores_of, formula_at, output_of, outputs}
+use Rattle.mltl_base.specs.Programs.{Expression, whole, truth, atom_of, expressions, atoms, core_at, op_formula, past_formula_of, formulas_after, past_formulas_after, cores_of, formula_at, output_of, outputs}
 use Rattle.mltl_base.specs.Reports.{Output, formula, contract}
 use Rattle.obs_verify.specs.Bound.{bound, moved}
 use Rattle.obs_verify.specs.Running.{IsTruthExpression, RunsFuture, RunsPast}
@@ -73,7 +73,7 @@ core_moved_at g (c ∷ cs) (suc n) = core_moved_at g cs n
 module _ (g : ℕ → ℕ) (es : List Expression) (loaded now : List Atom)
     (is_loaded : (a : ℕ) → IsTruthExpression (slice_get es a) → slice_index_or now a (is_true 0) ≡ atom_over g (slice_index_or loaded a (is_true 0))) where
   ft_moved : (before : List Core) (op : ft.FtOp) → ((k : ℕ) → op ≡ ft.TheVariants.Load k → IsTruthExpression (slice_get es k))
-      → formula_of now (map (moved_core g) before) op ≡ moved_core g (formula_of loaded before op)
+      → op_formula now (map (moved_core g) before) op ≡ moved_core g (op_formula loaded before op)
   unfolding moved_core
   ft_moved before ft.TheVariants.True h = refl
   ft_moved before (ft.TheVariants.Load a) h = ap catom (is_loaded a (h a refl))
@@ -96,8 +96,8 @@ module _ (g : ℕ → ℕ) (es : List Expression) (loaded now : List Atom)
   ft_all before [] h = refl
   ft_all before (op ∷ ops) h =
       ap (λ (cs : List Core). formulas_after now cs ops)
-      (ap (λ (c : Core). map (moved_core g) before ++ c ∷ []) (ft_moved before op (λ k e. h 0 k (omega arith) e)) ∙ sym (map_push (moved_core g) before (formula_of loaded before op)))
-      ∙ ft_all (before ++ formula_of loaded before op ∷ []) ops (λ i k l e. h (suc i) k (omega arith) e)
+      (ap (λ (c : Core). map (moved_core g) before ++ c ∷ []) (ft_moved before op (λ k e. h 0 k (omega arith) e)) ∙ sym (map_push (moved_core g) before (op_formula loaded before op)))
+      ∙ ft_all (before ++ op_formula loaded before op ∷ []) ops (λ i k l e. h (suc i) k (omega arith) e)
 
   pt_all : (before : List Core) (ops : List pt.PtOp) → ((i k : ℕ) → i < length ops → slice_index_or ops i pt.TheVariants.True ≡ pt.TheVariants.Load k → IsTruthExpression (slice_get es k))
       → past_formulas_after now (map (moved_core g) before) ops ≡ map (moved_core g) (past_formulas_after loaded before ops)

@@ -12,9 +12,9 @@ use Rattle.mltl_base.specs.Ranges.{Range, Ranged, divided, left_over, lessened, 
 use Rattle.obs_verify.specs.declared.fault.VerifyFault.{VerifyFault}
 use Rattle.obs_verify.specs.declared.fault.VerifyFault.TheVariants.{Operand}
 use Rattle.obs_verify.specs.InstructionRanges.{AreRanges, ReadsBefore, range_at, range_over}
-use Rattle.obs_verify.specs.WellFormed.{bz_fault, has_operands, is_whole, is_whole_before, range_fault}
+use Rattle.obs_verify.specs.WellFormed.{bz_fault, has_operands, is_whole, is_whole_before, no_range_fault}
 use Rattle.obs_verify.proofs.RuleLaws.{and_left, and_right}
-use Rattle.mltl_base.specs.Programs.{Expression, expression_of, expressions_after, expressions, term_at, term_of}
+use Rattle.mltl_base.specs.Programs.{Expression, expression_of, expressions_after, expressions, term_at, expression_term}
 
 -- the expressions before stay
 pub front : (before : List Expression) (ops : List BzOp) → take (length before) (expressions_after before ops) ≡ before
@@ -61,7 +61,7 @@ expression_at ops i op h =
 
 -- the whole number of an earlier instruction
 pub term_at-take : (es : List Expression) (i a : ℕ) → a < i → term_at (take i es) a ≡ term_at es a
-term_at-take es i a h = ap term_of (slice_get-take i es a h)
+term_at-take es i a h = ap expression_term (slice_get-take i es a h)
 
 -- an instruction that gives a whole number is one of those before
 pub whole_inside : (program : Program) (i a : ℕ) → is_whole_before program i a ≡ true → a < i
@@ -91,7 +91,7 @@ operand bz ranges a known inside = sym (ap range (term_at-take (expressions bz) 
 
 -- the range of an instruction over those before is that of its expression
 range_of_expression : (bz : List BzOp) (ranges : List Range) (op : BzOp) → AreRanges bz ranges → ReadsBefore (length ranges) op
-    → range_over ranges op ≡ range (term_of (Some (expression_of (take (length ranges) (expressions bz)) op)))
+    → range_over ranges op ≡ range (expression_term (Some (expression_of (take (length ranges) (expressions bz)) op)))
 unfolding range
 range_of_expression bz ranges (Column c) known reads = refl
 range_of_expression bz ranges (IsTrue c) known reads = refl
@@ -109,7 +109,7 @@ range_of_expression bz ranges (Le a b) known reads = refl
 pub range_same : (bz : List BzOp) (ranges : List Range) (op : BzOp) → AreRanges bz ranges → ReadsBefore (length ranges) op → slice_get bz (length ranges) ≡ Some op
     → range_over ranges op ≡ range (term_at (expressions bz) (length ranges))
 range_same bz ranges op known reads here =
-    range_of_expression bz ranges op known reads ∙ ap (λ e. range (term_of e)) (sym (expression_at bz (length ranges) op here))
+    range_of_expression bz ranges op known reads ∙ ap (λ e. range (expression_term e)) (sym (expression_at bz (length ranges) op here))
 
 -- one range more
 pub ranges_push : (bz : List BzOp) (ranges ranges' : List Range) (r : Range) → ranges' ≡ ranges ++ r ∷ [] → AreRanges bz ranges → range (term_at (expressions bz) (length ranges)) ≡ Ok r → AreRanges bz ranges'
@@ -127,13 +127,13 @@ ranges_push bz ranges ranges' r is known here =
 pub bz_operand : (program : Program) (i : ℕ) (op : BzOp) → has_operands program i op ≡ false → bz_fault program i op ≡ Some (Operand Bz i)
 bz_operand program i op h = rw h refl
 
-pub bz_range : (program : Program) (i : ℕ) (op : BzOp) (ranged : Ranged) → has_operands program i op ≡ true → range (term_at (expressions program.bz) i) ≡ ranged → bz_fault program i op ≡ range_fault i ranged
+pub bz_range : (program : Program) (i : ℕ) (op : BzOp) (ranged : Ranged) → has_operands program i op ≡ true → range (term_at (expressions program.bz) i) ≡ ranged → bz_fault program i op ≡ no_range_fault i ranged
 bz_range program i op ranged h k = rw (h, k) refl
 
 -- both, from the range over the ranges before
 pub record IsRanged (program : Program) (i : ℕ) (op : BzOp) (ranged : Ranged) : Type 0 where
   pub range_is : range (term_at (expressions program.bz) i) ≡ ranged
-  pub fault_is : bz_fault program i op ≡ range_fault i ranged
+  pub fault_is : bz_fault program i op ≡ no_range_fault i ranged
 
 pub op_ranged : (program : Program) (ranges : List Range) (op : BzOp) (ranged : Ranged) → has_operands program (length ranges) op ≡ true → AreRanges program.bz ranges → slice_get program.bz (length ranges) ≡ Some op
     → range_over ranges op ≡ ranged → IsRanged program (length ranges) op ranged

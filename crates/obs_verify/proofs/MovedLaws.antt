@@ -9,7 +9,7 @@ use Rattle.mltl_base.specs.Programs.{Expression, whole, truth, expression_of, ex
 use Rattle.mltl_base.specs.Ranges.{divided, left_over, lessened, multiplied, negated, over as over_one, over_both, over_divisor, range, summed}
 use Rattle.obs_verify.specs.declared.fault.VerifyFault.{VerifyFault}
 use Rattle.obs_verify.specs.Bound.{bound_op, moved}
-use Rattle.obs_verify.specs.WellFormed.{first_in, is_truth, is_whole, or_else}
+use Rattle.obs_verify.specs.WellFormed.{first_in, is_truth, is_whole, earlier_of}
 
 slice_get-map : {X Y : Type 0} (f : X → Y) (xs : List X) (i : ℕ) → slice_get (map f xs) i ≡ elim (slice_get xs i) as (λ o. Option Y) [ None ↦ None | Some x ↦ Some (f x) ]
 slice_get-map f [] i = refl
@@ -136,11 +136,11 @@ pub all_none : {X : Type 0} (rule : ℕ → X → Option VerifyFault) (xs : List
 unfolding first_in
 all_none rule [] k each = refl
 all_none rule (x ∷ xs) k each =
-    ap (λ o. or_else o (first_in rule (suc k) xs)) (ap (λ n. rule n x) (sym (add-zero k)) ∙ each 0 x (omega arith))
+    ap (λ o. earlier_of o (first_in rule (suc k) xs)) (ap (λ n. rule n x) (sym (add-zero k)) ∙ each 0 x (omega arith))
     ∙ all_none rule xs (suc k) (λ i d inside. let place : suc k + i ≡ k + suc i = omega arith in ap (λ n. rule n (slice_index_or xs i d)) place ∙ each (suc i) d (omega arith))
 
 -- rules that agree
 pub first_same : {X : Type 0} (rule rule' : ℕ → X → Option VerifyFault) → ((i : ℕ) (x : X) → rule i x ≡ rule' i x) → (xs : List X) (k : ℕ) → first_in rule k xs ≡ first_in rule' k xs
 unfolding first_in
 first_same rule rule' each [] k = refl
-first_same rule rule' each (x ∷ xs) k = ap (λ o. or_else o (first_in rule (suc k) xs)) (each k x) ∙ ap (or_else (rule' k x)) (first_same rule rule' each xs (suc k))
+first_same rule rule' each (x ∷ xs) k = ap (λ o. earlier_of o (first_in rule (suc k) xs)) (each k x) ∙ ap (earlier_of (rule' k x)) (first_same rule rule' each xs (suc k))

@@ -8,23 +8,23 @@ use Rattle.mltl_base.specs.declared.operators.BzOp.TheVariants.{Column, IsTrue, 
 use Rattle.mltl_base.specs.declared.program.Program.{Program}
 use Rattle.mltl_base.specs.declared.program.StoredSignal.{StoredSignal}
 use Rattle.obs_verify.specs.Bound.{AreDifferent, bound, bound_op, bound_signals, moved}
-use Rattle.obs_verify.specs.Readers.{number_in, signal_read, signals_read}
+use Rattle.obs_verify.specs.SignalNumbers.{signal_in, signal_read, signals_read}
 use Rattle.obs_verify.specs.WellFormed.{IsWellFormed, bz_fault, has_kind, has_operands, is_column_of}
 use Rattle.obs_verify.proofs.RuleLaws.{and_right, or_none, unless_true}
 use Rattle.obs_verify.proofs.SoundLaws.{each}
 
 -- ---- the first signal in a column
 
-number_here : (s : StoredSignal) (signals : List StoredSignal) (c : ℕ) → s.column ≡ c → number_in (s ∷ signals) c ≡ Some 0
-unfolding number_in
+number_here : (s : StoredSignal) (signals : List StoredSignal) (c : ℕ) → s.column ≡ c → signal_in (s ∷ signals) c ≡ Some 0
+unfolding signal_in
 number_here s signals c at = rw (eq-eqb s.column c at) refl
 
-number_after : (s : StoredSignal) (signals : List StoredSignal) (c : ℕ) → (s.column ≡ c → ⊥) → number_in (s ∷ signals) c ≡ option_map suc (number_in signals c)
-unfolding number_in
+number_after : (s : StoredSignal) (signals : List StoredSignal) (c : ℕ) → (s.column ≡ c → ⊥) → signal_in (s ∷ signals) c ≡ option_map suc (signal_in signals c)
+unfolding signal_in
 number_after s signals c other = elim (eqb_tells s.column c) [ inl p ↦ absurd (other p.1) | inr p ↦ rw p.0 refl ]
 
-pub nowhere : (c : ℕ) → number_in [] c ≡ None
-unfolding number_in
+pub nowhere : (c : ℕ) → signal_in [] c ≡ None
+unfolding signal_in
 nowhere c = refl
 
 one_less : (o : Option ℕ) (k : ℕ) → option_map suc o ≡ Some k → (j : ℕ) × (o ≡ Some j) × (k ≡ suc j)
@@ -41,12 +41,12 @@ same_number j k h = cc
 not_none : (k : ℕ) → Some k ≡ None → ⊥
 not_none k h = cc
 
-pub number_inside : (signals : List StoredSignal) (c k : ℕ) → number_in signals c ≡ Some k → k < length signals
+pub number_inside : (signals : List StoredSignal) (c k : ℕ) → signal_in signals c ≡ Some k → k < length signals
 number_inside [] c k h = absurd (not_none k (sym h ∙ nowhere c))
 number_inside (s ∷ signals) c k h = elim (eqb_tells s.column c) [
   | inl p ↦ let first : k ≡ 0 = same_number k 0 (sym h ∙ number_here s signals c p.1) in omega arith
   | inr p ↦
-      let less = one_less (number_in signals c) k (sym (number_after s signals c p.1) ∙ h) in
+      let less = one_less (signal_in signals c) k (sym (number_after s signals c p.1) ∙ h) in
       let inside : less.0 < length signals = number_inside signals c less.0 less.1 in
       let next : k ≡ suc less.0 = less.2 in
       omega arith
@@ -54,24 +54,24 @@ number_inside (s ∷ signals) c k h = elim (eqb_tells s.column c) [
 
 -- ---- a table of columns as it is filled
 
-pub number_known : (signals more : List StoredSignal) (c k : ℕ) → number_in signals c ≡ Some k → number_in (signals ++ more) c ≡ Some k
+pub number_known : (signals more : List StoredSignal) (c k : ℕ) → signal_in signals c ≡ Some k → signal_in (signals ++ more) c ≡ Some k
 number_known [] more c k h = absurd (not_none k (sym h ∙ nowhere c))
 number_known (s ∷ signals) more c k h = elim (eqb_tells s.column c) [
   | inl p ↦ number_here s (signals ++ more) c p.1 ∙ sym (number_here s signals c p.1) ∙ h
   | inr p ↦
-      let less = one_less (number_in signals c) k (sym (number_after s signals c p.1) ∙ h) in
+      let less = one_less (signal_in signals c) k (sym (number_after s signals c p.1) ∙ h) in
       number_after s (signals ++ more) c p.1 ∙ ap (option_map suc) (number_known signals more c less.0 less.1) ∙ ap Some (sym less.2)
 ]
 
-pub number_new : (signals : List StoredSignal) (s : StoredSignal) (c : ℕ) → number_in signals c ≡ None → s.column ≡ c → number_in (signals ++ s ∷ []) c ≡ Some (length signals)
+pub number_new : (signals : List StoredSignal) (s : StoredSignal) (c : ℕ) → signal_in signals c ≡ None → s.column ≡ c → signal_in (signals ++ s ∷ []) c ≡ Some (length signals)
 number_new [] s c none at = number_here s [] c at
 number_new (t ∷ signals) s c none at = elim (eqb_tells t.column c) [
   | inl p ↦ absurd (not_none 0 (sym (number_here t signals c p.1) ∙ none))
   | inr p ↦ number_after t (signals ++ s ∷ []) c p.1
-      ∙ ap (option_map suc) (number_new signals s c (none_less (number_in signals c) (sym (number_after t signals c p.1) ∙ none)) at)
+      ∙ ap (option_map suc) (number_new signals s c (none_less (signal_in signals c) (sym (number_after t signals c p.1) ∙ none)) at)
 ]
 
-pub number_other : (signals : List StoredSignal) (s : StoredSignal) (c : ℕ) → (s.column ≡ c → ⊥) → number_in (signals ++ s ∷ []) c ≡ number_in signals c
+pub number_other : (signals : List StoredSignal) (s : StoredSignal) (c : ℕ) → (s.column ≡ c → ⊥) → signal_in (signals ++ s ∷ []) c ≡ signal_in signals c
 number_other [] s c other = number_after s [] c other ∙ ap (option_map suc) (nowhere c) ∙ sym (nowhere c)
 number_other (t ∷ signals) s c other = elim (eqb_tells t.column c) [
   | inl p ↦ number_here t (signals ++ s ∷ []) c p.1 ∙ sym (number_here t signals c p.1)
@@ -80,28 +80,28 @@ number_other (t ∷ signals) s c other = elim (eqb_tells t.column c) [
 
 -- a column that has no signal yet gets this one
 pub filled_free : (numbers : List (Option ℕ)) (signals : List StoredSignal) (s : StoredSignal) (n : ℕ) → s.column < length numbers → n < length numbers
-    → ((c : ℕ) → c < length numbers → slice_index_or numbers c None ≡ number_in signals c) → number_in signals s.column ≡ None
-    → slice_index_or (slice_set numbers s.column (Some (length signals))) n None ≡ number_in (signals ++ s ∷ []) n
+    → ((c : ℕ) → c < length numbers → slice_index_or numbers c None ≡ signal_in signals c) → signal_in signals s.column ≡ None
+    → slice_index_or (slice_set numbers s.column (Some (length signals))) n None ≡ signal_in (signals ++ s ∷ []) n
 filled_free numbers signals s n inside below told free = elim (eqb_tells s.column n) [
   | inl p ↦ ap (λ m. slice_index_or (slice_set numbers s.column (Some (length signals))) m None) (sym p.1) ∙ get_or-set_same numbers s.column (Some (length signals)) None inside
-      ∙ sym (number_new signals s n (ap (number_in signals) (sym p.1) ∙ free) p.1)
+      ∙ sym (number_new signals s n (ap (signal_in signals) (sym p.1) ∙ free) p.1)
   | inr p ↦ get_or-set_other numbers s.column n (Some (length signals)) None (λ (h : n ≡ s.column). p.1 (sym h)) ∙ told n below ∙ sym (number_other signals s n p.1)
 ]
 
 -- a column that has one keeps it
 pub filled_known : (numbers : List (Option ℕ)) (signals : List StoredSignal) (s : StoredSignal) (n k : ℕ) → n < length numbers
-    → ((c : ℕ) → c < length numbers → slice_index_or numbers c None ≡ number_in signals c) → number_in signals s.column ≡ Some k
-    → slice_index_or numbers n None ≡ number_in (signals ++ s ∷ []) n
+    → ((c : ℕ) → c < length numbers → slice_index_or numbers c None ≡ signal_in signals c) → signal_in signals s.column ≡ Some k
+    → slice_index_or numbers n None ≡ signal_in (signals ++ s ∷ []) n
 filled_known numbers signals s n k below told there = elim (eqb_tells s.column n) [
   | inl p ↦
-      let here : number_in signals n ≡ Some k = ap (number_in signals) (sym p.1) ∙ there in
+      let here : signal_in signals n ≡ Some k = ap (signal_in signals) (sym p.1) ∙ there in
       told n below ∙ here ∙ sym (number_known signals (s ∷ []) n k here)
   | inr p ↦ told n below ∙ sym (number_other signals s n p.1)
 ]
 
 -- ---- signals that are moved
 
-pub moved_read : (signals : List StoredSignal) (columns : List ℕ) (c k : ℕ) → length columns ≡ length signals → number_in signals c ≡ Some k → moved signals columns c ≡ slice_index columns k
+pub moved_read : (signals : List StoredSignal) (columns : List ℕ) (c k : ℕ) → length columns ≡ length signals → signal_in signals c ≡ Some k → moved signals columns c ≡ slice_index columns k
 unfolding moved
 moved_read [] columns c k same h = absurd (not_none k (sym h ∙ nowhere c))
 moved_read (s ∷ signals) [] c k same h = absurd (omega arith)
@@ -110,17 +110,17 @@ moved_read (s ∷ signals) (n ∷ columns) c k same h = elim (eqb_tells s.column
       let first : k ≡ 0 = same_number k 0 (sym h ∙ number_here s signals c p.1) in
       rw p.0 (ap (slice_index (n ∷ columns)) (sym first))
   | inr p ↦
-      let less = one_less (number_in signals c) k (sym (number_after s signals c p.1) ∙ h) in
+      let less = one_less (signal_in signals c) k (sym (number_after s signals c p.1) ∙ h) in
       rw p.0 (moved_read signals columns c less.0 (omega arith) less.1 ∙ ap (slice_index (n ∷ columns)) (sym less.2))
 ]
 
-moved_unread : (signals : List StoredSignal) (columns : List ℕ) (c : ℕ) → number_in signals c ≡ None → moved signals columns c ≡ c
+moved_unread : (signals : List StoredSignal) (columns : List ℕ) (c : ℕ) → signal_in signals c ≡ None → moved signals columns c ≡ c
 unfolding moved
 moved_unread [] columns c none = refl
 moved_unread (s ∷ signals) [] c none = refl
 moved_unread (s ∷ signals) (n ∷ columns) c none = elim (eqb_tells s.column c) [
   | inl p ↦ absurd (not_none 0 (sym (number_here s signals c p.1) ∙ none))
-  | inr p ↦ rw p.0 (moved_unread signals columns c (none_less (number_in signals c) (sym (number_after s signals c p.1) ∙ none)))
+  | inr p ↦ rw p.0 (moved_unread signals columns c (none_less (signal_in signals c) (sym (number_after s signals c p.1) ∙ none)))
 ]
 
 -- an instruction that reads no signal stays
@@ -169,21 +169,21 @@ read_moves signals columns (Eq a b) new k same h whole truth = absurd (cc)
 read_moves signals columns (Lt a b) new k same h whole truth = absurd (cc)
 read_moves signals columns (Le a b) new k same h whole truth = absurd (cc)
 
--- what a table of readers says of an instruction
-pub readers_long : (program : Program) (readers : List (Option ℕ)) → readers ≡ signals_read program → length readers ≡ length program.bz
-readers_long program readers is = ap length is ∙ length-map program.bz (signal_read program.signals)
+-- what a table of signal numbers says of an instruction
+pub signal_numbers_long : (program : Program) (signal_numbers : List (Option ℕ)) → signal_numbers ≡ signals_read program → length signal_numbers ≡ length program.bz
+signal_numbers_long program signal_numbers is = ap length is ∙ length-map program.bz (signal_read program.signals)
 
-pub reader_at : (program : Program) (readers : List (Option ℕ)) (i : ℕ) (op : BzOp) → readers ≡ signals_read program → i < length readers
-    → slice_index_or readers i None ≡ signal_read program.signals (slice_index_or program.bz i op)
-reader_at program readers i op is inside =
+pub signal_number_at : (program : Program) (signal_numbers : List (Option ℕ)) (i : ℕ) (op : BzOp) → signal_numbers ≡ signals_read program → i < length signal_numbers
+    → slice_index_or signal_numbers i None ≡ signal_read program.signals (slice_index_or program.bz i op)
+signal_number_at program signal_numbers i op is inside =
     ap (λ rs. slice_index_or rs i None) is
-    ∙ get_or-map (signal_read program.signals) program.bz i op None (omega (arith, readers_long program readers is))
+    ∙ get_or-map (signal_read program.signals) program.bz i op None (omega (arith, signal_numbers_long program signal_numbers is))
 
 different_after : (n : ℕ) (columns : List ℕ) → AreDifferent (n ∷ columns) → AreDifferent columns
 different_after n columns different i j before inside = different (suc i) (suc j) (omega arith) (omega arith)
 
 -- a signal keeps its number where it stands now
-number_stays : (signals : List StoredSignal) (columns : List ℕ) (k : ℕ) → length columns ≡ length signals → AreDifferent columns → k < length signals → number_in (bound_signals signals columns) (slice_index columns k) ≡ Some k
+number_stays : (signals : List StoredSignal) (columns : List ℕ) (k : ℕ) → length columns ≡ length signals → AreDifferent columns → k < length signals → signal_in (bound_signals signals columns) (slice_index columns k) ≡ Some k
 unfolding bound_signals
 number_stays [] columns k same different inside = absurd (omega arith)
 number_stays (s ∷ signals) [] k same different inside = absurd (omega arith)
@@ -201,7 +201,7 @@ and_first : (a b : Bool) → a ≡ false → (a && b) ≡ false
 and_first true b h = absurd (cc)
 and_first false b h = refl
 
-has_number : (signals : List StoredSignal) (c : ℕ) (t : Bool) → has_kind signals c t ≡ true → (k : ℕ) × (number_in signals c ≡ Some k)
+has_number : (signals : List StoredSignal) (c : ℕ) (t : Bool) → has_kind signals c t ≡ true → (k : ℕ) × (signal_in signals c ≡ Some k)
 has_number [] c t h = absurd (cc)
 has_number (s ∷ signals) c t h = elim (eqb_tells s.column c) [
   | inl p ↦ (0, number_here s signals c p.1)
@@ -210,16 +210,16 @@ has_number (s ∷ signals) c t h = elim (eqb_tells s.column c) [
       (suc rest.0, number_after s signals c p.1 ∙ ap (option_map suc) rest.1)
 ]
 
-stored_number : (program : Program) (c : ℕ) (t : Bool) → program.version ≡ 2 → is_column_of program c t ≡ true → (k : ℕ) × (number_in program.signals c ≡ Some k)
+stored_number : (program : Program) (c : ℕ) (t : Bool) → program.version ≡ 2 → is_column_of program c t ≡ true → (k : ℕ) × (signal_in program.signals c ≡ Some k)
 stored_number program c t two h =
     let second : (program.version == 1) ≡ false = ap (λ v. v == 1) two in
     has_number program.signals c t (or_first (program.version == 1) (has_kind program.signals c t) second (and_right _ _ h))
 
 column_stays : (program : Program) (columns : List ℕ) (c : ℕ) (t : Bool) → program.version ≡ 2 → length columns ≡ length program.signals → AreDifferent columns → is_column_of program c t ≡ true
-    → number_in (bound_signals program.signals columns) (moved program.signals columns c) ≡ number_in program.signals c
+    → signal_in (bound_signals program.signals columns) (moved program.signals columns c) ≡ signal_in program.signals c
 column_stays program columns c t two same different h =
     let read = stored_number program c t two h in
-    ap (number_in (bound_signals program.signals columns)) (moved_read program.signals columns c read.0 same read.1)
+    ap (signal_in (bound_signals program.signals columns)) (moved_read program.signals columns c read.0 same read.1)
     ∙ number_stays program.signals columns read.0 same different (number_inside program.signals c read.0 read.1)
     ∙ sym read.1
 

@@ -4,10 +4,10 @@ use Rattle.std.specs.Prelude.{◌&&◌}
 use Rattle.std.proofs.lemmas.Bool.Decides.{eqb_tells}
 use Rattle.std.proofs.lemmas.List.{drop_more, drop_all}
 use Rattle.obs_verify.specs.declared.fault.VerifyFault.{VerifyFault}
-use Rattle.obs_verify.specs.WellFormed.{first_in, or_else, unless}
+use Rattle.obs_verify.specs.WellFormed.{first_in, earlier_of, unless}
 
 -- neither of two faults
-pub or_none : (a b : Option VerifyFault) → or_else a b ≡ None → (a ≡ None) × (b ≡ None)
+pub or_none : (a b : Option VerifyFault) → earlier_of a b ≡ None → (a ≡ None) × (b ≡ None)
 or_none None b h = (refl, h)
 or_none (Some fault) b h = absurd (cc)
 
@@ -15,14 +15,14 @@ or_none (Some fault) b h = absurd (cc)
 pub first_more : {X : Type 0} (rule : ℕ → X → Option VerifyFault) (xs : List X) (i : ℕ) (d : X) → i < length xs → rule i (slice_index_or xs i d) ≡ None
     → first_in rule i (drop i xs) ≡ first_in rule (i + 1) (drop (i + 1) xs)
 unfolding first_in
-first_more rule xs i d inside none = ap (first_in rule i) (drop_more xs i d inside) ∙ ap (λ o. or_else o (first_in rule (suc i) (drop (i + 1) xs))) none
+first_more rule xs i d inside none = ap (first_in rule i) (drop_more xs i d inside) ∙ ap (λ o. earlier_of o (first_in rule (suc i) (drop (i + 1) xs))) none
     ∙ ap (λ n. first_in rule n (drop (i + 1) xs)) (sym (add-one i))
 
 -- a member with a fault
 pub first_here : {X : Type 0} (rule : ℕ → X → Option VerifyFault) (xs : List X) (i : ℕ) (d : X) (fault : VerifyFault) → i < length xs → rule i (slice_index_or xs i d) ≡ Some fault
     → first_in rule i (drop i xs) ≡ Some fault
 unfolding first_in
-first_here rule xs i d fault inside some = ap (first_in rule i) (drop_more xs i d inside) ∙ ap (λ o. or_else o (first_in rule (suc i) (drop (i + 1) xs))) some
+first_here rule xs i d fault inside some = ap (first_in rule i) (drop_more xs i d inside) ∙ ap (λ o. earlier_of o (first_in rule (suc i) (drop (i + 1) xs))) some
 
 -- none is left
 pub first_all : {X : Type 0} (rule : ℕ → X → Option VerifyFault) (xs : List X) (i : ℕ) → length xs ≤ i → first_in rule i (drop i xs) ≡ None

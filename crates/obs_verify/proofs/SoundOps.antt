@@ -6,10 +6,10 @@ use Rattle.std.proofs.lemmas.List.{length_push, take_all}
 use Rattle.mltl_base.specs.declared.operators.BzOp.{BzOp}
 use Rattle.mltl_base.specs.declared.operators.BzOp.TheVariants.{Column, IsTrue, Const, Neg, Add, Sub, Mul, Div, Rem, Eq, Lt, Le}
 use Rattle.mltl_base.specs.declared.program.Program.{Program}
-use Rattle.mltl_base.specs.Programs.{Expression, expression_of, expressions_after, expressions, term_of}
+use Rattle.mltl_base.specs.Programs.{Expression, expression_of, expressions_after, expressions, expression_term}
 use Rattle.mltl_base.specs.Ranges.{Ranged, divisor, wide, range}
-use Rattle.obs_verify.specs.Soundness.{AreSound, AreWhole, IsSound, IsWhole, IsWholeExpression}
-use Rattle.obs_verify.specs.WellFormed.{IsWellFormed, bz_fault, first_in, has_operands, is_column_of, is_whole, is_whole_before, range_fault}
+use Rattle.obs_verify.specs.Soundness.{SoundOps, AreWhole, SoundOp, IsWhole, IsWholeExpression}
+use Rattle.obs_verify.specs.WellFormed.{IsWellFormed, bz_fault, first_in, has_operands, is_column_of, is_whole, is_whole_before, no_range_fault}
 use Rattle.obs_verify.proofs.ExpressionLaws.{expression_at, front}
 use Rattle.obs_verify.proofs.RuleLaws.{and_left, and_right, or_none, unless_true}
 use Rattle.obs_verify.proofs.SoundLaws.{each}
@@ -54,12 +54,12 @@ column_within : (program : Program) (c : ℕ) (t : Bool) → is_column_of progra
 column_within program c t h = ltb-true c program.width (and_left _ _ h)
 
 -- a range without a fault is there
-has_range : (i : ℕ) (ranged : Ranged) → range_fault i ranged ≡ None → IsOk ranged
+has_range : (i : ℕ) (ranged : Ranged) → no_range_fault i ranged ≡ None → IsOk ranged
 has_range i (Ok r) h = refl
 has_range i (Err divisor) h = absurd (cc)
 has_range i (Err wide) h = absurd (cc)
 
-sound_op : (program : Program) (i : ℕ) (op : BzOp) → has_operands program i op ≡ true → IsOk (range (term_of (Some (expression_of (expressions (take i program.bz)) op)))) → IsSound program.width (expressions (take i program.bz)) op
+sound_op : (program : Program) (i : ℕ) (op : BzOp) → has_operands program i op ≡ true → IsOk (range (expression_term (Some (expression_of (expressions (take i program.bz)) op)))) → SoundOp program.width (expressions (take i program.bz)) op
 sound_op program i (Column c) h ok = column_within program c false h
 sound_op program i (IsTrue c) h ok = column_within program c true h
 sound_op program i (Const n) h ok = tt
@@ -74,8 +74,8 @@ sound_op program i (Lt a b) h ok = both_whole program i a b h
 sound_op program i (Le a b) h ok = both_whole program i a b h
 
 -- instructions that are sound one by one
-from_each_sound : (width : ℕ) (before : List Expression) (ops : List BzOp) → ((i : ℕ) (op : BzOp) → slice_get ops i ≡ Some op → IsSound width (expressions_after before (take i ops)) op) → AreSound width before ops
-unfolding AreSound expressions_after
+from_each_sound : (width : ℕ) (before : List Expression) (ops : List BzOp) → ((i : ℕ) (op : BzOp) → slice_get ops i ≡ Some op → SoundOp width (expressions_after before (take i ops)) op) → SoundOps width before ops
+unfolding SoundOps expressions_after
 from_each_sound width before [] all = tt
 from_each_sound width before (op ∷ ops) all = (all 0 op refl, from_each_sound width (before ++ expression_of before op ∷ []) ops (λ i o at. all (suc i) o at))
 
@@ -85,16 +85,16 @@ place_of [] i x d at = absurd (cc)
 place_of (y ∷ ys) zero x d at = (omega arith, cc)
 place_of (y ∷ ys) (suc i) x d at = let p = place_of ys i x d at in (omega (arith, p.0), p.1)
 
-sound_at : (program : Program) → first_in (bz_fault program) 0 program.bz ≡ None → (i : ℕ) (op : BzOp) → slice_get program.bz i ≡ Some op → IsSound program.width (expressions (take i program.bz)) op
+sound_at : (program : Program) → first_in (bz_fault program) 0 program.bz ≡ None → (i : ℕ) (op : BzOp) → slice_get program.bz i ≡ Some op → SoundOp program.width (expressions (take i program.bz)) op
 sound_at program none i op at =
     let place = place_of program.bz i op op at in
     let here = or_none _ _ (subst (λ (o : BzOp). bz_fault program i o ≡ None) place.1 (each (bz_fault program) program.bz none i op place.0)) in
-    let P : List Expression → Type 0 = λ es. IsOk (range (term_of (Some (expression_of es op)))) in
-    let Q : Option Expression → Type 0 = λ o. IsOk (range (term_of o)) in
+    let P : List Expression → Type 0 = λ es. IsOk (range (expression_term (Some (expression_of es op)))) in
+    let Q : Option Expression → Type 0 = λ o. IsOk (range (expression_term o)) in
     sound_op program i op (unless_true _ _ here.0)
     (subst P (ap (λ n. take n (expressions program.bz)) (sym (zero-add i)) ∙ sym (first_expressions [] program.bz i)) (subst Q (expression_at program.bz i op at) (has_range i _ here.1)))
 
-pub all_sound : (program : Program) → IsWellFormed program → AreSound program.width [] program.bz
+pub all_sound : (program : Program) → IsWellFormed program → SoundOps program.width [] program.bz
 all_sound program good =
     let h1 = or_none _ _ good in
     let h2 = or_none _ _ h1.1 in

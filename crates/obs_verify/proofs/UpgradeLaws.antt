@@ -7,15 +7,15 @@ use Rattle.std.proofs.lemmas.List.Elements.{filter_map-append}
 use Rattle.mltl_base.specs.declared.operators.BzOp.{BzOp}
 use Rattle.mltl_base.specs.declared.operators.BzOp.TheVariants.{Column, IsTrue, Const, Neg, Add, Sub, Mul, Div, Rem, Eq, Lt, Le}
 use Rattle.mltl_base.specs.declared.program.StoredSignal.{StoredSignal}
-use Rattle.obs_verify.specs.Upgrade.{clashes, first_clash, read_of, reads, signal_in, signal_of, signals_below}
+use Rattle.obs_verify.specs.Upgrade.{clashes, first_clash, signal_read, reads, signal_in, signal_of, signals_below}
 use Rattle.obs_verify.specs.WellFormed.{has_kind}
 
 -- one instruction more
 pub reads_column : (earlier : List BzOp) (c : ℕ) → reads (earlier ++ Column c ∷ []) ≡ reads earlier ++ signal_in c false ∷ []
-reads_column earlier c = filter_map-append read_of earlier (Column c ∷ [])
+reads_column earlier c = filter_map-append signal_read earlier (Column c ∷ [])
 
 pub reads_truth : (earlier : List BzOp) (c : ℕ) → reads (earlier ++ IsTrue c ∷ []) ≡ reads earlier ++ signal_in c true ∷ []
-reads_truth earlier c = filter_map-append read_of earlier (IsTrue c ∷ [])
+reads_truth earlier c = filter_map-append signal_read earlier (IsTrue c ∷ [])
 
 -- an instruction that reads no column
 pub record ReadsNone (op : BzOp) : Type 0 where
@@ -25,16 +25,16 @@ pub record ReadsNone (op : BzOp) : Type 0 where
 pub reads_none : (op : BzOp) → ((c : ℕ) → op ≡ Column c → ⊥) → ((c : ℕ) → op ≡ IsTrue c → ⊥) → ReadsNone op
 reads_none (Column c) n m = absurd (n c refl)
 reads_none (IsTrue c) n m = absurd (m c refl)
-reads_none (Const k) n m = record { fits = λ earlier. refl; same = λ earlier. filter_map-append read_of earlier (Const k ∷ []) ∙ append-nil (reads earlier) }
-reads_none (Neg a) n m = record { fits = λ earlier. refl; same = λ earlier. filter_map-append read_of earlier (Neg a ∷ []) ∙ append-nil (reads earlier) }
-reads_none (Add a b) n m = record { fits = λ earlier. refl; same = λ earlier. filter_map-append read_of earlier (Add a b ∷ []) ∙ append-nil (reads earlier) }
-reads_none (Sub a b) n m = record { fits = λ earlier. refl; same = λ earlier. filter_map-append read_of earlier (Sub a b ∷ []) ∙ append-nil (reads earlier) }
-reads_none (Mul a b) n m = record { fits = λ earlier. refl; same = λ earlier. filter_map-append read_of earlier (Mul a b ∷ []) ∙ append-nil (reads earlier) }
-reads_none (Div a b) n m = record { fits = λ earlier. refl; same = λ earlier. filter_map-append read_of earlier (Div a b ∷ []) ∙ append-nil (reads earlier) }
-reads_none (Rem a b) n m = record { fits = λ earlier. refl; same = λ earlier. filter_map-append read_of earlier (Rem a b ∷ []) ∙ append-nil (reads earlier) }
-reads_none (Eq a b) n m = record { fits = λ earlier. refl; same = λ earlier. filter_map-append read_of earlier (Eq a b ∷ []) ∙ append-nil (reads earlier) }
-reads_none (Lt a b) n m = record { fits = λ earlier. refl; same = λ earlier. filter_map-append read_of earlier (Lt a b ∷ []) ∙ append-nil (reads earlier) }
-reads_none (Le a b) n m = record { fits = λ earlier. refl; same = λ earlier. filter_map-append read_of earlier (Le a b ∷ []) ∙ append-nil (reads earlier) }
+reads_none (Const k) n m = record { fits = λ earlier. refl; same = λ earlier. filter_map-append signal_read earlier (Const k ∷ []) ∙ append-nil (reads earlier) }
+reads_none (Neg a) n m = record { fits = λ earlier. refl; same = λ earlier. filter_map-append signal_read earlier (Neg a ∷ []) ∙ append-nil (reads earlier) }
+reads_none (Add a b) n m = record { fits = λ earlier. refl; same = λ earlier. filter_map-append signal_read earlier (Add a b ∷ []) ∙ append-nil (reads earlier) }
+reads_none (Sub a b) n m = record { fits = λ earlier. refl; same = λ earlier. filter_map-append signal_read earlier (Sub a b ∷ []) ∙ append-nil (reads earlier) }
+reads_none (Mul a b) n m = record { fits = λ earlier. refl; same = λ earlier. filter_map-append signal_read earlier (Mul a b ∷ []) ∙ append-nil (reads earlier) }
+reads_none (Div a b) n m = record { fits = λ earlier. refl; same = λ earlier. filter_map-append signal_read earlier (Div a b ∷ []) ∙ append-nil (reads earlier) }
+reads_none (Rem a b) n m = record { fits = λ earlier. refl; same = λ earlier. filter_map-append signal_read earlier (Rem a b ∷ []) ∙ append-nil (reads earlier) }
+reads_none (Eq a b) n m = record { fits = λ earlier. refl; same = λ earlier. filter_map-append signal_read earlier (Eq a b ∷ []) ∙ append-nil (reads earlier) }
+reads_none (Lt a b) n m = record { fits = λ earlier. refl; same = λ earlier. filter_map-append signal_read earlier (Lt a b ∷ []) ∙ append-nil (reads earlier) }
+reads_none (Le a b) n m = record { fits = λ earlier. refl; same = λ earlier. filter_map-append signal_read earlier (Le a b ∷ []) ∙ append-nil (reads earlier) }
 
 -- the first clash, from an instruction on
 pub clash_here : (ops : List BzOp) (i : ℕ) (d : BzOp) → i < length ops → clashes (take i ops) (slice_index_or ops i d) ≡ true → first_clash (take i ops) (drop i ops) ≡ Some i

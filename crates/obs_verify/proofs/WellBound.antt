@@ -18,7 +18,7 @@ use Rattle.obs_verify.specs.declared.fault.VerifyFault.{VerifyFault}
 use Rattle.obs_verify.specs.declared.fault.VerifyFault.TheVariants.{Signal, Operand}
 use Rattle.obs_verify.specs.Bound.{AreDifferent, bound, bound_op, bound_signals, moved}
 use Rattle.obs_verify.specs.Kept.{IsKept}
-use Rattle.obs_verify.specs.WellFormed.{IsWellFormed, bz_fault, first_in, ft_fault, has_kind, has_operands, is_column_of, is_new_signal, or_else, pt_fault, signal_fault, unless}
+use Rattle.obs_verify.specs.WellFormed.{IsWellFormed, bz_fault, first_in, ft_fault, has_kind, has_operands, is_column_of, is_new_signal, earlier_of, pt_fault, signal_fault, unless}
 use Rattle.obs_verify.proofs.BoundLaws.{length-bound_signals}
 use Rattle.obs_verify.proofs.ExpressionLaws.{bz_range}
 use Rattle.obs_verify.proofs.MovedLaws.{all_none, first_same, range_kept, truth_at_kept, whole_before_kept}
@@ -27,8 +27,8 @@ use Rattle.obs_verify.proofs.RuleLaws.{and_left, and_right, or_none, unless_true
 use Rattle.obs_verify.proofs.SignalLaws.{unless_both}
 use Rattle.obs_verify.proofs.SoundLaws.{each}
 
-pub both_none : (a b : Option VerifyFault) → a ≡ None → b ≡ None → or_else a b ≡ None
-both_none a b h k = ap (λ o. or_else o b) h ∙ k
+pub both_none : (a b : Option VerifyFault) → a ≡ None → b ≡ None → earlier_of a b ≡ None
+both_none a b h k = ap (λ o. earlier_of o b) h ∙ k
 
 -- no member is at fault, where none is at its place in the list
 pub from_each : {X : Type 0} (rule : ℕ → X → Option VerifyFault) (xs : List X) → ((i : ℕ) (d : X) → i < length xs → rule i (slice_index_or xs i d) ≡ None) → first_in rule 0 xs ≡ None
@@ -145,14 +145,14 @@ bz_kept program width columns two same below signals none = from_each (bz_fault 
 
 ft_kept : (program : Program) (width : ℕ) (columns : List ℕ) (i : ℕ) (op : ft.FtOp) → ft_fault (bound program width columns) i op ≡ ft_fault program i op
 ft_kept program width columns i ft.TheVariants.True = refl
-ft_kept program width columns i (ft.TheVariants.Load a) = ap (λ b. or_else (unless b (Operand Ft i)) None) (truth_at_kept program.signals columns program.bz a)
+ft_kept program width columns i (ft.TheVariants.Load a) = ap (λ b. earlier_of (unless b (Operand Ft i)) None) (truth_at_kept program.signals columns program.bz a)
 ft_kept program width columns i (ft.TheVariants.Not g) = refl
 ft_kept program width columns i (ft.TheVariants.And l r) = refl
 ft_kept program width columns i (ft.TheVariants.Until l r w) = refl
 
 pt_kept : (program : Program) (width : ℕ) (columns : List ℕ) (i : ℕ) (op : pt.PtOp) → pt_fault (bound program width columns) i op ≡ pt_fault program i op
 pt_kept program width columns i pt.TheVariants.True = refl
-pt_kept program width columns i (pt.TheVariants.Load a) = ap (λ b. or_else (unless b (Operand Pt i)) None) (truth_at_kept program.signals columns program.bz a)
+pt_kept program width columns i (pt.TheVariants.Load a) = ap (λ b. earlier_of (unless b (Operand Pt i)) None) (truth_at_kept program.signals columns program.bz a)
 pt_kept program width columns i (pt.TheVariants.Not g) = refl
 pt_kept program width columns i (pt.TheVariants.And l r) = refl
 pt_kept program width columns i (pt.TheVariants.Since l r w) = refl
@@ -175,9 +175,9 @@ well_bound program width columns two same below different narrow good =
     (both_none _ _ (first_same (pt_fault (bound program width columns)) (pt_fault program) (pt_kept program width columns) program.pt 0 ∙ h6.0) h6.1)))))
 
 -- what a checked program keeps
-pub kept_bound : (program : Program) (bests worsts : List ℕ) (readers : List (Option ℕ)) (width : ℕ) (columns : List ℕ) → program.version ≡ 2 → length columns ≡ length program.signals → All (λ c. c < width) columns → AreDifferent columns → width ≤ 65536
-    → IsKept program bests worsts readers → IsKept (bound program width columns) bests worsts readers
-kept_bound program bests worsts readers width columns two same below different narrow kept = record {
+pub kept_bound : (program : Program) (bests worsts : List ℕ) (signal_numbers : List (Option ℕ)) (width : ℕ) (columns : List ℕ) → program.version ≡ 2 → length columns ≡ length program.signals → All (λ c. c < width) columns → AreDifferent columns → width ≤ 65536
+    → IsKept program bests worsts signal_numbers → IsKept (bound program width columns) bests worsts signal_numbers
+kept_bound program bests worsts signal_numbers width columns two same below different narrow kept = record {
   layout = record {
     ft_sizes = kept.layout.ft_sizes;
     pt_sizes = kept.layout.pt_sizes;

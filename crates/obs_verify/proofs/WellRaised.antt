@@ -16,9 +16,9 @@ use Rattle.mltl_base.specs.declared.program.Program.{Program}
 use Rattle.mltl_base.specs.declared.program.StoredSignal.{StoredSignal}
 use Rattle.mltl_base.specs.Programs.{output_names, outputs}
 use Rattle.obs_verify.specs.Kept.{IsKept}
-use Rattle.obs_verify.specs.Readers.{signals_read}
+use Rattle.obs_verify.specs.SignalNumbers.{signals_read}
 use Rattle.obs_verify.specs.Reading.{ReadsWithin}
-use Rattle.obs_verify.specs.Upgrade.{clashes, column_name, first_clash, raised, read_of, reads, signal_in, signal_of, signals_below, up}
+use Rattle.obs_verify.specs.Upgrade.{clashes, column_name, first_clash, raised, signal_read, reads, signal_in, signal_of, signals_below, up}
 use Rattle.obs_verify.specs.WellFormed.{IsWellFormed, bz_fault, first_in, has_kind, has_operands, is_column_of, signal_fault}
 use Rattle.obs_verify.proofs.ExpressionLaws.{bz_range}
 use Rattle.obs_verify.proofs.RuleLaws.{and_left, or_none, unless_true}
@@ -220,11 +220,11 @@ cons_rest : (o : Option StoredSignal) (ss : List StoredSignal) (c : ℕ) (t : Bo
 cons_rest None ss c t h = h
 cons_rest (Some s) ss c t h = or_right _ _ h
 
-read_there : (ops : List BzOp) (i c : ℕ) (t : Bool) (d op : BzOp) → i < length ops → slice_index_or ops i d ≡ op → read_of op ≡ Some (signal_in c t) → has_kind (reads ops) c t ≡ true
+read_there : (ops : List BzOp) (i c : ℕ) (t : Bool) (d op : BzOp) → i < length ops → slice_index_or ops i d ≡ op → signal_read op ≡ Some (signal_in c t) → has_kind (reads ops) c t ≡ true
 read_there [] i c t d op inside is reads_it = absurd (omega arith)
 read_there (o ∷ ops) zero c t d op inside is reads_it =
-    subst (λ (x : Option StoredSignal). has_kind (cons_option x (filter_map read_of ops)) c t ≡ true) (sym (ap read_of is ∙ reads_it)) (own_kind c t (filter_map read_of ops))
-read_there (o ∷ ops) (suc i) c t d op inside is reads_it = cons_rest (read_of o) (filter_map read_of ops) c t (read_there ops i c t d op (omega arith) is reads_it)
+    subst (λ (x : Option StoredSignal). has_kind (cons_option x (filter_map signal_read ops)) c t ≡ true) (sym (ap signal_read is ∙ reads_it)) (own_kind c t (filter_map signal_read ops))
+read_there (o ∷ ops) (suc i) c t d op inside is reads_it = cons_rest (signal_read o) (filter_map signal_read ops) c t (read_there ops i c t d op (omega arith) is reads_it)
 
 column_raised : (program : Program) (c : ℕ) (t : Bool) → IsOneWay (reads program.bz) → has_kind (reads program.bz) c t ≡ true → is_column_of program c t ≡ true → is_column_of (raised program) c t ≡ true
 column_raised program c t one there h =
@@ -262,9 +262,9 @@ well_raised program one good =
     both_none _ _ h1.0 (both_none _ _ (signals_new program narrow) (both_none _ _ (bz_raised program (all_one_way program.bz one) h3.0) h3.1))
 
 -- what a checked program keeps
-pub kept_raised : (program : Program) (bests worsts : List ℕ) (before readers : List (Option ℕ)) → first_clash [] program.bz ≡ None → IsKept program bests worsts before
-    → readers ≡ signals_read (raised program) → IsKept (raised program) bests worsts readers
-kept_raised program bests worsts before readers one kept read = record {
+pub kept_raised : (program : Program) (bests worsts : List ℕ) (before signal_numbers : List (Option ℕ)) → first_clash [] program.bz ≡ None → IsKept program bests worsts before
+    → signal_numbers ≡ signals_read (raised program) → IsKept (raised program) bests worsts signal_numbers
+kept_raised program bests worsts before signal_numbers one kept read = record {
   layout = record {
     ft_sizes = kept.layout.ft_sizes;
     pt_sizes = kept.layout.pt_sizes;

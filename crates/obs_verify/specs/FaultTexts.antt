@@ -11,8 +11,8 @@ part_name part.TheVariants.Ft = codes "ft"
 part_name part.TheVariants.Pt = codes "pt"
 
 -- a fault's name and its number
-abbrev pub numbered : List ℕ → ℕ → List ℕ
-numbered name n = name ++ codes " " ++ decimal n
+abbrev pub with_number : List ℕ → ℕ → List ℕ
+with_number name n = name ++ codes " " ++ decimal n
 
 -- the same with the part between them
 abbrev pub parted : List ℕ → part.Part → ℕ → List ℕ
@@ -21,13 +21,13 @@ parted name p n = name ++ codes " " ++ part_name p ++ codes " " ++ decimal n
 -- why a program isn't well-formed
 abbrev pub verify_fault_text : fault.VerifyFault → List ℕ
 verify_fault_text fault.TheVariants.Width = codes "width"
-verify_fault_text (fault.TheVariants.Signal k) = numbered (codes "signal") k
+verify_fault_text (fault.TheVariants.Signal k) = with_number (codes "signal") k
 verify_fault_text (fault.TheVariants.Operand p i) = parted (codes "operand") p i
 verify_fault_text (fault.TheVariants.Interval p i) = parted (codes "interval") p i
-verify_fault_text (fault.TheVariants.Divisor i) = numbered (codes "divisor") i
-verify_fault_text (fault.TheVariants.Range i) = numbered (codes "range") i
-verify_fault_text (fault.TheVariants.TooLate i) = numbered (codes "toolate") i
-verify_fault_text (fault.TheVariants.Output k) = numbered (codes "output") k
+verify_fault_text (fault.TheVariants.Divisor i) = with_number (codes "divisor") i
+verify_fault_text (fault.TheVariants.Range i) = with_number (codes "range") i
+verify_fault_text (fault.TheVariants.TooLate i) = with_number (codes "toolate") i
+verify_fault_text (fault.TheVariants.Output k) = with_number (codes "output") k
 verify_fault_text (fault.TheVariants.Size p i) = parted (codes "size") p i
 verify_fault_text fault.TheVariants.TooManySlots = codes "toomanyslots"
 verify_fault_text fault.TheVariants.Memory = codes "out of memory"

@@ -5,14 +5,14 @@ use Rattle.mltl_base.specs.declared.limits.TheConstants.{MAX_DELAY}
 use Rattle.mltl_base.specs.declared.program.Program.{Program}
 use Rattle.mltl_base.specs.Queues.{best_delays, worst_delays}
 use Rattle.obs_verify.specs.Layout.{HasLayout}
-use Rattle.obs_verify.specs.Readers.{signals_read}
+use Rattle.obs_verify.specs.SignalNumbers.{signals_read}
 use Rattle.obs_verify.specs.WellFormed.{IsWellFormed}
 
 -- a well-formed program with its delays and the signals that its instructions read
-pub record IsKept (program : Program) (bests worsts : List ℕ) (readers : List (Option ℕ)) : Type 0 where
+pub record IsKept (program : Program) (bests worsts : List ℕ) (signal_numbers : List (Option ℕ)) : Type 0 where
   pub layout : HasLayout program
   pub well_formed : IsWellFormed program
   pub best : bests ≡ best_delays program.ft
   pub worst : worsts ≡ worst_delays program.ft
   pub in_time : All (λ rows. rows ≤ MAX_DELAY) worsts
-  pub read_by : readers ≡ signals_read program
+  pub read_by : signal_numbers ≡ signals_read program

@@ -17,14 +17,14 @@ AreKinds signals kinds =
     → slice_index_or kinds c d ≡ record { whole = has_kind signals c false; truth = has_kind signals c true }
 
 -- a set of names
-abbrev pub Names : Type 0
-Names = BTreeSet (Vec ℕ Global)
+abbrev pub NameSet : Type 0
+NameSet = BTreeSet (Vec ℕ Global)
 
 -- whether a name is in the set
-abbrev pub has_name : Names → List ℕ → Bool
+abbrev pub has_name : NameSet → List ℕ → Bool
 has_name names bytes = list_any (λ name. bytes_eq bytes name.items) names.keys
 
 -- the set has the names of the signals, and no other
-abbrev pub AreNames : List StoredSignal → Names → Type 0
+abbrev pub AreNames : List StoredSignal → NameSet → Type 0
 AreNames signals names =
     (bytes : List ℕ) → has_name names bytes ≡ list_any (λ signal. bytes_eq bytes signal.name) signals

@@ -4,7 +4,7 @@ pub mod InstructionRanges
 pub mod Layout
 pub mod Kept
 pub mod Bound
-pub mod Readers
+pub mod SignalNumbers
 pub mod Running
 pub mod Soundness
 pub mod Upgrade

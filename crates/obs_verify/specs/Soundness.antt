@@ -24,21 +24,21 @@ AreWhole before a b = IsWhole before a × IsWhole before b
 
 -- an instruction whose column is below the width, whose operands are earlier integers, and whose integer has a range:
 -- so its divisor is one number other than 0, and its value has 64 bits
-abbrev pub IsSound : ℕ → List Expression → BzOp → Type 0
-IsSound width before (Column c) = c < width
-IsSound width before (IsTrue c) = c < width
-IsSound width before (Const n) = ⊤
-IsSound width before (Neg a) = IsWhole before a × IsOk (range (negative (term_at before a)))
-IsSound width before (Add a b) = AreWhole before a b × IsOk (range (plus (term_at before a) (term_at before b)))
-IsSound width before (Sub a b) = AreWhole before a b × IsOk (range (minus (term_at before a) (term_at before b)))
-IsSound width before (Mul a b) = AreWhole before a b × IsOk (range (times (term_at before a) (term_at before b)))
-IsSound width before (Div a b) = AreWhole before a b × IsOk (range (quotient (term_at before a) (term_at before b)))
-IsSound width before (Rem a b) = AreWhole before a b × IsOk (range (remainder (term_at before a) (term_at before b)))
-IsSound width before (Eq a b) = AreWhole before a b
-IsSound width before (Lt a b) = AreWhole before a b
-IsSound width before (Le a b) = AreWhole before a b
+abbrev pub SoundOp : ℕ → List Expression → BzOp → Type 0
+SoundOp width before (Column c) = c < width
+SoundOp width before (IsTrue c) = c < width
+SoundOp width before (Const n) = ⊤
+SoundOp width before (Neg a) = IsWhole before a × IsOk (range (negative (term_at before a)))
+SoundOp width before (Add a b) = AreWhole before a b × IsOk (range (plus (term_at before a) (term_at before b)))
+SoundOp width before (Sub a b) = AreWhole before a b × IsOk (range (minus (term_at before a) (term_at before b)))
+SoundOp width before (Mul a b) = AreWhole before a b × IsOk (range (times (term_at before a) (term_at before b)))
+SoundOp width before (Div a b) = AreWhole before a b × IsOk (range (quotient (term_at before a) (term_at before b)))
+SoundOp width before (Rem a b) = AreWhole before a b × IsOk (range (remainder (term_at before a) (term_at before b)))
+SoundOp width before (Eq a b) = AreWhole before a b
+SoundOp width before (Lt a b) = AreWhole before a b
+SoundOp width before (Le a b) = AreWhole before a b
 
 -- each instruction, over the expressions of those before it
-unfoldable pub AreSound : ℕ → List Expression → List BzOp → Type 0
-AreSound width before [] = ⊤
-AreSound width before (op ∷ ops) = IsSound width before op × AreSound width (before ++ expression_of before op ∷ []) ops
+unfoldable pub SoundOps : ℕ → List Expression → List BzOp → Type 0
+SoundOps width before [] = ⊤
+SoundOps width before (op ∷ ops) = SoundOp width before op × SoundOps width (before ++ expression_of before op ∷ []) ops

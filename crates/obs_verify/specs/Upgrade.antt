@@ -19,14 +19,14 @@ abbrev pub signal_in : ℕ → Bool → StoredSignal
 signal_in c truth = record { name = column_name c; truth = truth; column = c }
 
 -- the signal that an instruction reads, if it reads one
-abbrev pub read_of : bz.BzOp → Option StoredSignal
-read_of (bz.TheVariants.Column c) = Some (signal_in c false)
-read_of (bz.TheVariants.IsTrue c) = Some (signal_in c true)
-read_of op = None
+abbrev pub signal_read : bz.BzOp → Option StoredSignal
+signal_read (bz.TheVariants.Column c) = Some (signal_in c false)
+signal_read (bz.TheVariants.IsTrue c) = Some (signal_in c true)
+signal_read op = None
 
 -- the signals that instructions read, in their order
 abbrev pub reads : List bz.BzOp → List StoredSignal
-reads ops = filter_map read_of ops
+reads ops = filter_map signal_read ops
 
 -- the signal of a column, if one is read there
 abbrev pub signal_of : List StoredSignal → ℕ → Option StoredSignal

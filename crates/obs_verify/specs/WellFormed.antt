@@ -29,14 +29,14 @@ abbrev pub unless : Bool → VerifyFault → Option VerifyFault
 unless test fault = if test then None else Some fault
 
 -- the first of two faults
-abbrev pub or_else : Option VerifyFault → Option VerifyFault → Option VerifyFault
-or_else (Some fault) other = Some fault
-or_else None other = other
+abbrev pub earlier_of : Option VerifyFault → Option VerifyFault → Option VerifyFault
+earlier_of (Some fault) other = Some fault
+earlier_of None other = other
 
 -- the first fault of members by a rule, where the first member has the number k
 unfoldable pub first_in : {X : Type 0} → (ℕ → X → Option VerifyFault) → ℕ → List X → Option VerifyFault
 first_in rule k [] = None
-first_in rule k (x ∷ xs) = or_else (rule k x) (first_in rule (suc k) xs)
+first_in rule k (x ∷ xs) = earlier_of (rule k x) (first_in rule (suc k) xs)
 
 -- 1. The width is within its limit.
 abbrev pub width_fault : Program → Option VerifyFault
@@ -106,16 +106,16 @@ has_operands program i (bz.TheVariants.Lt a b) = is_whole_before program i a && 
 has_operands program i (bz.TheVariants.Le a b) = is_whole_before program i a && is_whole_before program i b
 
 -- the fault of an instruction whose integer has no range
-abbrev pub range_fault : ℕ → Ranged → Option VerifyFault
-range_fault i (Ok range) = None
-range_fault i (Err divisor) = Some (Divisor i)
-range_fault i (Err wide) = Some (Range i)
+abbrev pub no_range_fault : ℕ → Ranged → Option VerifyFault
+no_range_fault i (Ok range) = None
+no_range_fault i (Err divisor) = Some (Divisor i)
+no_range_fault i (Err wide) = Some (Range i)
 
 -- the fault of instruction i of the Booleanizer
 abbrev pub bz_fault : Program → ℕ → bz.BzOp → Option VerifyFault
 bz_fault program i op =
-    or_else (unless (has_operands program i op) (Operand Bz i))
-    (range_fault i (range (term_at (expressions program.bz) i)))
+    earlier_of (unless (has_operands program i op) (Operand Bz i))
+    (no_range_fault i (range (term_at (expressions program.bz) i)))
 
 -- 4. Instructions of the future-time engine load truths and read earlier instructions, over intervals within the limit;
 -- none is too late.
@@ -143,7 +143,7 @@ has_future_window (ft.TheVariants.Until l r window) = is_window window
 -- the fault of instruction i of the future-time engine, by its operands or its interval
 abbrev pub ft_fault : Program → ℕ → ft.FtOp → Option VerifyFault
 ft_fault program i op =
-    or_else (unless (has_future_operands program i op) (Operand Ft i))
+    earlier_of (unless (has_future_operands program i op) (Operand Ft i))
     (unless (has_future_window op) (BadInterval Ft i))
 
 -- the fault of instruction i whose worst-case delay is over the limit
@@ -171,7 +171,7 @@ has_past_window (pt.TheVariants.Since l r window) = is_window window
 -- the fault of instruction i of the past-time engine, by its operands or its interval
 abbrev pub pt_fault : Program → ℕ → pt.PtOp → Option VerifyFault
 pt_fault program i op =
-    or_else (unless (has_past_operands program i op) (Operand Pt i)) (unless (has_past_window op) (BadInterval Pt i))
+    earlier_of (unless (has_past_operands program i op) (Operand Pt i)) (unless (has_past_window op) (BadInterval Pt i))
 
 -- 6. Outputs report instructions of their engine.
 
@@ -197,15 +197,15 @@ size_fault part needed i size = unless (size == slice_index needed i) (Size part
 -- the first fault of a program
 abbrev pub first_fault : Program → Option VerifyFault
 first_fault program =
-    or_else (width_fault program)
-    (or_else (first_in (signal_fault program) 0 program.signals)
-    (or_else (first_in (bz_fault program) 0 program.bz)
-    (or_else (first_in (ft_fault program) 0 program.ft)
-    (or_else (first_in late_fault 0 (worst_delays program.ft))
-    (or_else (first_in (pt_fault program) 0 program.pt)
-    (or_else (first_in (output_fault program) 0 program.outs)
-    (or_else (slots_fault program)
-    (or_else (first_in (size_fault Ft (queue_lengths program.ft program.outs)) 0 program.sizes.ft)
+    earlier_of (width_fault program)
+    (earlier_of (first_in (signal_fault program) 0 program.signals)
+    (earlier_of (first_in (bz_fault program) 0 program.bz)
+    (earlier_of (first_in (ft_fault program) 0 program.ft)
+    (earlier_of (first_in late_fault 0 (worst_delays program.ft))
+    (earlier_of (first_in (pt_fault program) 0 program.pt)
+    (earlier_of (first_in (output_fault program) 0 program.outs)
+    (earlier_of (slots_fault program)
+    (earlier_of (first_in (size_fault Ft (queue_lengths program.ft program.outs)) 0 program.sizes.ft)
     (first_in (size_fault Pt (box_counts program.pt)) 0 program.sizes.pt)))))))))
 
 -- a program without a fault

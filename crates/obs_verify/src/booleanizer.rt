@@ -3,7 +3,7 @@
 ghost use Rattle.std.specs.Prelude.{◌≡◌, ◌<◌, ◌≤◌, ◌^◌, Some, length, slice_get, take, IfOk, Ok};
 ghost use Rattle.mltl_base.specs.Programs.{expressions, term_at};
 ghost use Rattle.mltl_base.specs.Ranges.{range};
-ghost use Rattle.mltl_base.specs.Answers.{Tells};
+ghost use Rattle.mltl_base.specs.Answers.{IsRangeOf};
 ghost use Rattle.obs_verify.specs.InstructionRanges.{AreRanges, ReadsBefore, range_over};
 ghost use Rattle.obs_verify.specs.Kinds.{AreKinds};
 ghost use Rattle.obs_verify.specs.WellFormed.{IsAnswer, bz_fault, first_in, has_operands as may_read, is_column_of, is_whole, is_whole_before as whole_before};
@@ -63,7 +63,7 @@ fn check_op(
 /// The range of an instruction, from the ranges of those before it.
 fn range_of(before: &[Range], op: &BzOp) -> Result<Range, NoRange>
     requires { ReadsBefore (length before.now) op.now }
-    ensures { Tells result (range_over before.now op.now) }
+    ensures { IsRangeOf result (range_over before.now op.now) }
 {
     match *op {
         BzOp::Column(_) => Ok(signal()),

@@ -9,9 +9,9 @@ ghost use Rattle.obs_verify.specs.WellFormed.{IsAnswer, IsWellFormed, first_faul
 
 use crate::columns::{move_reads, move_signals};
 use crate::fault::{UpgradeFault, VerifyFault};
-use crate::readers::readers_of;
 use crate::reads::read_signals;
 use crate::rules::check_rules;
+use crate::signal_numbers::signal_numbers_of;
 use delay_sizes::Delays;
 use mltl_base::limits::{MAX_DELAY, MAX_SIGNALS};
 use mltl_base::{Columns, List, Program, StoredSignal};
@@ -24,7 +24,7 @@ use std::marker::Model;
 pub struct Checked {
     program: Program,
     delays: Delays,
-    readers: List<Option<u32>>,
+    signal_numbers: List<Option<u32>>,
 }
 
 impl Model for Checked {
@@ -37,7 +37,7 @@ impl Model for Checked {
 
     ghost view = { λ checked. checked.program };
 
-    ghost invariant = { λ checked. IsKept checked.program checked.delays.best checked.delays.worst checked.readers };
+    ghost invariant = { λ checked. IsKept checked.program checked.delays.best checked.delays.worst checked.signal_numbers };
 }
 
 impl Checked {
@@ -67,11 +67,11 @@ pub fn verify(alloc: Global, program: Program) -> Result<Checked, VerifyFault>
     ensures kept { IfOk result (λ checked. checked ≡ program) }
 {
     let delays = check_rules(alloc, &program)?;
-    let readers = readers_of(alloc, &program)?;
+    let signal_numbers = signal_numbers_of(alloc, &program)?;
     Ok(Checked {
         program,
         delays,
-        readers,
+        signal_numbers,
     })
 }
 
@@ -88,16 +88,16 @@ pub fn rebind(checked: Checked, columns: &Columns) -> Checked
     let Checked {
         mut program,
         delays,
-        readers,
+        signal_numbers,
     } = checked;
     let places = columns.of_signal.as_slice();
-    move_reads(&mut program, readers.as_slice(), places);
+    move_reads(&mut program, signal_numbers.as_slice(), places);
     move_signals(&mut program.signals, places);
     program.width = columns.width;
     Checked {
         program,
         delays,
-        readers,
+        signal_numbers,
     }
 }
 
@@ -134,10 +134,10 @@ fn with_signals(
     } = checked;
     program.version = 2;
     program.signals = signals;
-    let readers = readers_of(alloc, &program)?;
+    let signal_numbers = signal_numbers_of(alloc, &program)?;
     Ok(Checked {
         program,
         delays,
-        readers,
+        signal_numbers,
     })
 }

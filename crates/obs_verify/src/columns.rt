@@ -3,19 +3,19 @@
 ghost use Rattle.std.specs.Prelude.{◌≡◌, ℕ, length, map};
 ghost use Rattle.mltl_base.specs.declared.operators.BzOp.TheVariants as bz;
 ghost use Rattle.obs_verify.specs.Bound.{bound_op as op_in, bound_signals};
-ghost use Rattle.obs_verify.specs.Readers.{signals_read};
+ghost use Rattle.obs_verify.specs.SignalNumbers.{signals_read};
 
 use mltl_base::{BzOp, List, Program, StoredSignal};
 
 /// Moves the columns that instructions read, of each the number of the signal there.
-pub fn move_reads(program: &mut Program, readers: &[Option<u32>], columns: &[u32])
+pub fn move_reads(program: &mut Program, signal_numbers: &[Option<u32>], columns: &[u32])
     requires one_each { length columns.now ≡ length program.old.signals }
-    requires readers { readers.now ≡ signals_read program.old }
+    requires signal_numbers { signal_numbers.now ≡ signals_read program.old }
     ensures { program.new
         ≡ record program.old { bz = map (op_in program.old.signals columns.now) program.old.bz } }
 {
-    for (i, reader) in readers.iter().enumerate() {
-        if let Some(k) = *reader {
+    for (i, signal_number) in signal_numbers.iter().enumerate() {
+        if let Some(k) = *signal_number {
             let op = moved_to(*program.bz.get(i), columns[k as usize]);
             let _ = program.bz.put(i, op);
         }

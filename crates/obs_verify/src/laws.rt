@@ -6,7 +6,7 @@ ghost use Rattle.mltl_base.specs.Programs.{output_names, outputs};
 ghost use Rattle.mltl_base.specs.Queues.{NamesInstructions};
 ghost use Rattle.obs_verify.specs.Layout.{HasLayout};
 ghost use Rattle.obs_verify.specs.Running.{RunsFuture, RunsPast};
-ghost use Rattle.obs_verify.specs.Soundness.{AreSound};
+ghost use Rattle.obs_verify.specs.Soundness.{SoundOps};
 ghost use Rattle.obs_verify.specs.Upgrade.{up};
 ghost use Rattle.obs_verify.specs.WellFormed.{IsWellFormed};
 
@@ -24,7 +24,7 @@ pub fn well_formed_programs_run()
 /// The Booleanizer can compute a well-formed program in 64 bits on every row that fits it.
 #[tactic(auto, using(crate::proofs::SoundOps::all_sound))]
 pub fn well_formed_programs_are_sound()
-    ensures { (program : Observer) → IsWellFormed program → AreSound program.width [] program.bz }
+    ensures { (program : Observer) → IsWellFormed program → SoundOps program.width [] program.bz }
 {}
 
 /// A program has the same reports in version 2.

@@ -10,9 +10,9 @@ mod columns;
 mod fault;
 mod laws;
 mod layout;
-mod readers;
 mod reads;
 mod rules;
+mod signal_numbers;
 mod signals;
 
 pub use checked::{Checked, rebind, upgrade, verify};

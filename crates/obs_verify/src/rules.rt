@@ -5,7 +5,7 @@ ghost use Rattle.mltl_base.specs.Queues.{AreInOrder, HasBounds, HasPastBounds, R
 ghost use Rattle.mltl_base.specs.declared.interval.Part.TheVariants.{Ft, Pt};
 ghost use Rattle.delay_sizes.specs.Sizing.{AreDelaysOf};
 ghost use Rattle.obs_verify.specs.Layout.{HasLayout};
-ghost use Rattle.obs_verify.specs.WellFormed.{IsAnswer, first_fault, first_in, late_fault, or_else, size_fault, slots_fault};
+ghost use Rattle.obs_verify.specs.WellFormed.{IsAnswer, first_fault, first_in, late_fault, earlier_of, size_fault, slots_fault};
 
 use crate::booleanizer::check_booleanizer;
 use crate::checks::{check_future, check_outputs, check_past, check_stored, check_width};
@@ -60,8 +60,8 @@ fn check_sizes(alloc: Global, program: &Program, found: &Delays) -> Result<(), V
     requires bounded_past { All (HasPastBounds MAX_BOUND) program.now.pt }
     requires reported { All (ReportsInstructions (length program.now.ft)) program.now.outs }
     requires delays { AreDelaysOf program.now.ft found.now }
-    ensures { IsAnswer result (or_else (slots_fault program.now)
-        (or_else
+    ensures { IsAnswer result (earlier_of (slots_fault program.now)
+        (earlier_of
         (first_in (size_fault Ft (lengths program.now.ft program.now.outs)) 0 program.now.sizes.ft)
         (first_in (size_fault Pt (boxes program.now.pt)) 0 program.now.sizes.pt))) }
 {

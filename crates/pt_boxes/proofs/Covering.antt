@@ -8,7 +8,7 @@ use Rattle.std.proofs.Math.Bool.{and-false, and-true, or-false, or_assoc}
 use Rattle.mltl_base.specs.declared.interval.Interval.{Interval}
 use Rattle.mltl_base.specs.Meaning.{within}
 use Rattle.pt_boxes.specs.declared.boxes.Span.{Span}
-use Rattle.pt_boxes.specs.Spans.{AreApart, Tells, covers, in_some, meets, prolonged, since_after, stretch_at, with_stretch, without_ended}
+use Rattle.pt_boxes.specs.Spans.{SpansLieApart, SpanSince, covers, in_some, meets, prolonged, since_after, stretch_at, with_stretch, without_ended}
 use Rattle.pt_boxes.proofs.Sinces.{since_after_more}
 use Rattle.pt_boxes.proofs.Stretches.{without_ended-lasting, without_ended-none, without_ended-past}
 
@@ -32,15 +32,15 @@ in_some-without_ended n u (s ∷ ss) h = elim (cases_lt s.last n) [
 ]
 
 -- boxes that start later do not cover a time
-none_before : (i : Interval) (n low u : ℕ) (boxes : List Span) → AreApart i n low boxes → u < low → in_some boxes u ≡ false
-unfolding AreApart
+none_before : (i : Interval) (n low u : ℕ) (boxes : List Span) → SpansLieApart i n low boxes → u < low → in_some boxes u ≡ false
+unfolding SpansLieApart
 none_before i n low u [] a h = refl
 none_before i n low u (s ∷ ss) a h =
     ap₂ (λ (x y : Bool). x || y) (covers_before s u (omega (arith, a.0))) (none_before i n (s.last + 2) u ss a.4 (omega (arith, a.0, a.1)))
 
 -- at the last row's time the oldest box decides
-pub in_some_first : (i : Interval) (n : ℕ) (boxes : List Span) (s : Span) → AreApart i (n + 1) 0 boxes → slice_get boxes 0 ≡ Some s → nat_le s.first n ≡ in_some boxes n
-unfolding AreApart
+pub in_some_first : (i : Interval) (n : ℕ) (boxes : List Span) (s : Span) → SpansLieApart i (n + 1) 0 boxes → slice_get boxes 0 ≡ Some s → nat_le s.first n ≡ in_some boxes n
+unfolding SpansLieApart
 in_some_first i n [] s a e = cc
 in_some_first i n (t ∷ ts) s a e =
     let same : t ≡ s = cc in
@@ -51,9 +51,9 @@ in_some_first i n (t ∷ ts) s a e =
 covers_joined : (s new : Span) (u : ℕ) → s.first ≤ new.first → s.last ≤ new.last → new.first ≤ s.last + 1 → covers (record { first = s.first; last = new.last }) u ≡ (covers s u || covers new u)
 covers_joined s new u from to touch = grind (arith, nat_tests)
 
-in_some-prolonged : (i : Interval) (n low : ℕ) (new : Span) (u : ℕ) (boxes : List Span) → AreApart i n low boxes → new.last + 1 ≡ n + i.hi → n + i.lo ≡ new.first + 1 → i.lo ≤ i.hi → meets new.first boxes ≡ true
+in_some-prolonged : (i : Interval) (n low : ℕ) (new : Span) (u : ℕ) (boxes : List Span) → SpansLieApart i n low boxes → new.last + 1 ≡ n + i.hi → n + i.lo ≡ new.first + 1 → i.lo ≤ i.hi → meets new.first boxes ≡ true
     → in_some (prolonged new.last boxes) u ≡ (in_some boxes u || covers new u)
-unfolding AreApart meets prolonged
+unfolding SpansLieApart meets prolonged
 in_some-prolonged i n low new u [] a last first ordered met = cc
 in_some-prolonged i n low new u (s ∷ []) a last first ordered met =
     let touch : new.first ≤ s.last + 1 = grind (arith, nat_tests) in
@@ -63,7 +63,7 @@ in_some-prolonged i n low new u (s ∷ s' ∷ ss) a last first ordered met =
     ap (λ (b : Bool). covers s u || b) (in_some-prolonged i n (s.last + 2) new u (s' ∷ ss) a.4 last first ordered met) ∙ sym (or_assoc (covers s u) (in_some (s' ∷ ss) u) (covers new u))
 
 -- a stretch more covers its times too
-pub in_some-with_stretch : (i : Interval) (n u : ℕ) (boxes : List Span) → i.lo ≤ i.hi → AreApart i (n + 1) 0 boxes → n ≤ u
+pub in_some-with_stretch : (i : Interval) (n u : ℕ) (boxes : List Span) → i.lo ≤ i.hi → SpansLieApart i (n + 1) 0 boxes → n ≤ u
     → in_some (with_stretch (stretch_at i n) boxes) u ≡ (in_some boxes u || within i (u - n))
 in_some-with_stretch i n u boxes ordered a h =
     let new : Span = stretch_at i n in
@@ -84,20 +84,20 @@ after_right i p q n u aged new left right p_is q_is aged_is new_is =
     ∙ sym (since_after_more i p q n u)
 
 -- what is left of the boxes where the left operand is false, and where it is true
-in_some-aged : (i : Interval) (p q : ℕ → Bool) (n u : ℕ) (boxes : List Span) (left : Bool) → Tells i p q n boxes → n ≤ u
+in_some-aged : (i : Interval) (p q : ℕ → Bool) (n u : ℕ) (boxes : List Span) (left : Bool) → SpanSince i p q n boxes → n ≤ u
     → in_some (if left then without_ended n boxes else []) u ≡ (since_after i p q n u && left)
 in_some-aged i p q n u boxes true t h = in_some-without_ended n u boxes h ∙ t.each u (omega arith) ∙ sym (and-true (since_after i p q n u))
 in_some-aged i p q n u boxes false t h = sym (and-false (since_after i p q n u))
 
-in_some-opened : (i : Interval) (n u : ℕ) (boxes : List Span) (right : Bool) → i.lo ≤ i.hi → AreApart i (n + 1) 0 boxes → n ≤ u
+in_some-opened : (i : Interval) (n u : ℕ) (boxes : List Span) (right : Bool) → i.lo ≤ i.hi → SpansLieApart i (n + 1) 0 boxes → n ≤ u
     → in_some (if right then with_stretch (stretch_at i n) boxes else boxes) u ≡ (in_some boxes u || (within i (u - n) && right))
 in_some-opened i n u boxes true ordered a h = in_some-with_stretch i n u boxes ordered a h ∙ ap (λ (b : Bool). in_some boxes u || b) (sym (and-true (within i (u - n))))
 in_some-opened i n u boxes false ordered a h = sym (ap (λ (b : Bool). in_some boxes u || b) (and-false (within i (u - n))) ∙ or-false (in_some boxes u))
 
 -- the boxes after a row tell what one row more tells
-pub tells_more : (i : Interval) (n : ℕ) (old aged new : List Span) (left right : Bool) → i.lo ≤ i.hi → AreApart i (n + 1) 0 aged
+pub tells_more : (i : Interval) (n : ℕ) (old aged new : List Span) (left right : Bool) → i.lo ≤ i.hi → SpansLieApart i (n + 1) 0 aged
     → aged ≡ (if left then without_ended n old else []) → new ≡ (if right then with_stretch (stretch_at i n) aged else aged)
-    → (p q : ℕ → Bool) → Tells i p q n old → p n ≡ left → q n ≡ right → Tells i p q (n + 1) new
+    → (p q : ℕ → Bool) → SpanSince i p q n old → p n ≡ left → q n ≡ right → SpanSince i p q (n + 1) new
 tells_more i n old aged new left right ordered apart aged_is new_is p q t p_is q_is = record {
   each = λ u h.
       let from : n ≤ u = omega arith in

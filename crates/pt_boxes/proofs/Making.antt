@@ -12,12 +12,12 @@ use Rattle.pt_boxes.specs.declared.boxes.Boxes.{Boxes}
 use Rattle.pt_boxes.specs.declared.boxes.Span.{Span}
 use Rattle.pt_boxes.specs.declared.engine.Pt.{Pt}
 use Rattle.pt_boxes.specs.declared.rows.Node.{Node}
-use Rattle.pt_boxes.specs.Boxes.{Belongs, no_boxes}
+use Rattle.pt_boxes.specs.Boxes.{SpansOf, no_boxes}
 use Rattle.pt_boxes.specs.Nodes.{HasBoxes, boxes_in, no_node, node_at, op_at}
 use Rattle.obs_verify.specs.Running.{RunsPast}
-use Rattle.pt_boxes.specs.Spans.{AreApart}
-use Rattle.pt_boxes.specs.Standing.{Stands, meaning_of}
-use Rattle.pt_boxes.specs.Tables.{IsTold, Table}
+use Rattle.pt_boxes.specs.Spans.{SpansLieApart}
+use Rattle.pt_boxes.specs.Standing.{PtHasTaken, formula_meaning}
+use Rattle.pt_boxes.specs.Tables.{BoxesRepresent, TruthTable}
 use Rattle.pt_boxes.proofs.Apart.{none_apart}
 use Rattle.pt_boxes.proofs.Rings.{none_kept}
 use Rattle.pt_boxes.proofs.Standings.{stands_with}
@@ -50,22 +50,22 @@ first_apart True boxes e = tt
 first_apart (Load k) boxes e = tt
 first_apart (Not g) boxes e = tt
 first_apart (And l r) boxes e = tt
-first_apart (Since l r window) boxes e = subst (λ (xs : List Span). AreApart window 0 0 xs) (sym e) (none_apart window 0)
+first_apart (Since l r window) boxes e = subst (λ (xs : List Span). SpansLieApart window 0 0 xs) (sym e) (none_apart window 0)
 
-pub first_told : (op : PtOp) (table : Table) (boxes : List Span) → boxes ≡ [] → IsTold op table 0 boxes
+pub first_told : (op : PtOp) (table : TruthTable) (boxes : List Span) → boxes ≡ [] → BoxesRepresent op table 0 boxes
 unfolding some_below
 first_told True table boxes e = tt
 first_told (Load k) table boxes e = tt
 first_told (Not g) table boxes e = tt
 first_told (And l r) table boxes e = tt
-first_told (Since l r window) table boxes e = subst (λ (xs : List Span). IsTold (Since l r window) table 0 xs) (sym e) (record { each = λ u h. refl })
+first_told (Since l r window) table boxes e = subst (λ (xs : List Span). BoxesRepresent (Since l r window) table 0 xs) (sym e) (record { each = λ u h. refl })
 
-pub first_belongs : (boxes : Boxes) (spans : List Span) → boxes ≡ no_boxes → Belongs boxes spans
-first_belongs boxes spans e = subst (λ (b : Boxes). Belongs b spans) (sym e) (record { oldest_in = λ h. h; used_in = omega arith })
+pub first_belongs : (boxes : Boxes) (spans : List Span) → boxes ≡ no_boxes → SpansOf boxes spans
+first_belongs boxes spans e = subst (λ (b : Boxes). SpansOf b spans) (sym e) (record { oldest_in = λ h. h; used_in = omega arith })
 
 -- new nodes stand for no rows
 pub made_stands : (program : Program) (pt : Pt) → RunsPast program → length pt.nodes ≡ length program.pt → Started program.sizes.pt pt.nodes (length pt.slab) (length program.pt) → pt.rows ≡ 0
-    → length pt.slab ≡ sum program.sizes.pt → Stands program [] pt
+    → length pt.slab ≡ sum program.sizes.pt → PtHasTaken program [] pt
 made_stands program pt runs same_length started none total =
     let nodes : List Node = pt.nodes in
     let slab : List Span = pt.slab in
@@ -90,7 +90,7 @@ made_stands program pt runs same_length started none total =
     })
     none
     (record {
-      told = λ i h. first_told (op_at program.pt i) (meaning_of program []) (boxes_in slab (node_at nodes i)) (nothing i h);
+      told = λ i h. first_told (op_at program.pt i) (formula_meaning program []) (boxes_in slab (node_at nodes i)) (nothing i h);
       truths = λ i h some. absurd (omega arith);
     })
     total

@@ -12,13 +12,13 @@ use Rattle.pt_boxes.specs.declared.boxes.Span.{Span}
 use Rattle.pt_boxes.specs.declared.rows.Node.{Node}
 use Rattle.pt_boxes.specs.Nodes.{boxes_in, node_at, op_at}
 use Rattle.obs_verify.specs.Running.{ArePastInOrder, IsAfterPastOperands}
-use Rattle.pt_boxes.specs.Standing.{meaning_of}
-use Rattle.pt_boxes.specs.Tables.{HasTable, IsTable, IsTold, Table, op_truth}
+use Rattle.pt_boxes.specs.Standing.{formula_meaning}
+use Rattle.pt_boxes.specs.Tables.{HasTable, IsTruthTable, BoxesRepresent, TruthTable, op_truth}
 use Rattle.pt_boxes.proofs.Sinces.{since_after_same}
 use Rattle.pt_boxes.proofs.Unfolded.{unfolds_at}
 
 -- the truths of the atoms that instructions load, by row
-abbrev pub loaded_of : Program → List Row → Table
+abbrev pub loaded_of : Program → List Row → TruthTable
 loaded_of program rows k t = holds (get_or (atoms program.bz) k (is_true 0)) (get_or rows t [])
 
 -- those of the row that comes last
@@ -37,17 +37,17 @@ sat_of rows loaded all (Since l r window) t = refl
 
 -- the meanings are a table
 meaning_at : (program : Program) (rows : List Row) → ArePastInOrder program.pt → (i t : ℕ) → i < length program.pt
-    → meaning_of program rows i t ≡ op_truth (op_at program.pt i) (loaded_of program rows) (meaning_of program rows) t
+    → formula_meaning program rows i t ≡ op_truth (op_at program.pt i) (loaded_of program rows) (formula_meaning program rows) t
 meaning_at program rows order i t h =
     let loaded : List Atom = atoms program.bz in
     ap (λ (p : Core). sat rows (plain p) t) (unfolds_at loaded program.pt order i h)
     ∙ sat_of rows loaded (past_formulas loaded program.pt) (op_at program.pt i) t
 
-pub meaning_table : (program : Program) (rows : List Row) (n : ℕ) → ArePastInOrder program.pt → IsTable program.pt (loaded_of program rows) n (meaning_of program rows)
+pub meaning_table : (program : Program) (rows : List Row) (n : ℕ) → ArePastInOrder program.pt → IsTruthTable program.pt (loaded_of program rows) n (formula_meaning program rows)
 meaning_table program rows n order = λ i t h t_in. meaning_at program rows order i t h
 
 -- the truth of an operator where what it reads is the same up to that time
-truth_same : (i : ℕ) (op : PtOp) (loaded loaded' table table' : Table) (t : ℕ) → IsAfterPastOperands i op → ((k : ℕ) → loaded' k t ≡ loaded k t) → ((g : ℕ) → g < i → (s : ℕ) → s ≤ t → table' g s ≡ table g s)
+truth_same : (i : ℕ) (op : PtOp) (loaded loaded' table table' : TruthTable) (t : ℕ) → IsAfterPastOperands i op → ((k : ℕ) → loaded' k t ≡ loaded k t) → ((g : ℕ) → g < i → (s : ℕ) → s ≤ t → table' g s ≡ table g s)
     → op_truth op loaded' table' t ≡ op_truth op loaded table t
 truth_same i True loaded loaded' table table' t after same_loads same = refl
 truth_same i (Load k) loaded loaded' table table' t after same_loads same = same_loads k
@@ -57,20 +57,20 @@ truth_same i (Since l r window) loaded loaded' table table' t after same_loads s
     since_after_same window (table' l) (table l) (table' r) (table r) (suc t) t (λ s s_in. same l after.0 s (omega arith)) (λ s s_in. same r after.1 s (omega arith))
 
 -- later rows leave the meanings at earlier times
-stays_below : (program : Program) (rows more : List Row) → ArePastInOrder program.pt → (k i t : ℕ) → i < k → i < length program.pt → t < length rows → meaning_of program (rows ++ more) i t ≡ meaning_of program rows i t
+stays_below : (program : Program) (rows more : List Row) → ArePastInOrder program.pt → (k i t : ℕ) → i < k → i < length program.pt → t < length rows → formula_meaning program (rows ++ more) i t ≡ formula_meaning program rows i t
 stays_below program rows more order zero i t i_in h t_in = absurd (omega arith)
 stays_below program rows more order (suc k) i t i_in h t_in =
     meaning_at program (rows ++ more) order i t h
-    ∙ truth_same i (op_at program.pt i) (loaded_of program rows) (loaded_of program (rows ++ more)) (meaning_of program rows) (meaning_of program (rows ++ more)) t (order i h)
+    ∙ truth_same i (op_at program.pt i) (loaded_of program rows) (loaded_of program (rows ++ more)) (formula_meaning program rows) (formula_meaning program (rows ++ more)) t (order i h)
     (λ a. ap (λ (r : Row). holds (get_or (atoms program.bz) a (is_true 0)) r) (get_or_append_left rows more [] t t_in))
     (λ g g_in s s_in. stays_below program rows more order k g s (omega arith) (omega arith) (omega arith))
     ∙ sym (meaning_at program rows order i t h)
 
-pub meaning_stays : (program : Program) (rows more : List Row) → ArePastInOrder program.pt → (i t : ℕ) → i < length program.pt → t < length rows → meaning_of program (rows ++ more) i t ≡ meaning_of program rows i t
+pub meaning_stays : (program : Program) (rows more : List Row) → ArePastInOrder program.pt → (i t : ℕ) → i < length program.pt → t < length rows → formula_meaning program (rows ++ more) i t ≡ formula_meaning program rows i t
 meaning_stays program rows more order i t h t_in = stays_below program rows more order (suc i) i t (omega arith) h t_in
 
 -- boxes that tell one table tell another one which is the same so far
-told_same : (k : ℕ) (op : PtOp) (table table' : Table) (n : ℕ) (boxes : List Span) → IsAfterPastOperands k op → ((g t : ℕ) → g < k → t < n → table' g t ≡ table g t) → IsTold op table n boxes → IsTold op table' n boxes
+told_same : (k : ℕ) (op : PtOp) (table table' : TruthTable) (n : ℕ) (boxes : List Span) → IsAfterPastOperands k op → ((g t : ℕ) → g < k → t < n → table' g t ≡ table g t) → BoxesRepresent op table n boxes → BoxesRepresent op table' n boxes
 told_same k True table table' n boxes after same t = tt
 told_same k (Load a) table table' n boxes after same t = tt
 told_same k (Not g) table table' n boxes after same t = tt
@@ -79,7 +79,7 @@ told_same k (Since l r window) table table' n boxes after same t = record {
   each = λ u h. t.each u h ∙ since_after_same window (table l) (table' l) (table r) (table' r) n u (λ s s_in. sym (same l s after.0 s_in)) (λ s s_in. sym (same r s after.1 s_in));
 }
 
-pub has_same : (ops : List PtOp) (table table' : Table) (n : ℕ) (nodes : List Node) (slab : List Span) → ArePastInOrder ops → ((g t : ℕ) → g < length ops → t < n → table' g t ≡ table g t)
+pub has_same : (ops : List PtOp) (table table' : TruthTable) (n : ℕ) (nodes : List Node) (slab : List Span) → ArePastInOrder ops → ((g t : ℕ) → g < length ops → t < n → table' g t ≡ table g t)
     → HasTable ops table n nodes slab → HasTable ops table' n nodes slab
 has_same ops table table' n nodes slab order same has = record {
   told = λ i h. told_same i (op_at ops i) table table' n (boxes_in slab (node_at nodes i)) (order i h) (λ g t g_in t_in. same g t (omega arith) t_in) (has.told i h);

@@ -13,7 +13,7 @@ use Rattle.pt_boxes.specs.declared.engine.Pt.{Pt}
 use Rattle.pt_boxes.specs.declared.rows.Node.{Node}
 use Rattle.pt_boxes.specs.Boxes.{no_boxes}
 use Rattle.pt_boxes.specs.Nodes.{boxes_in, no_node, node_at, op_at}
-use Rattle.pt_boxes.specs.Standing.{Stands, meaning_of, room_total}
+use Rattle.pt_boxes.specs.Standing.{PtHasTaken, formula_meaning, room_total}
 use Rattle.pt_boxes.proofs.Making.{first_apart, first_belongs, first_told}
 use Rattle.pt_boxes.proofs.Rings.{none_kept}
 use Rattle.pt_boxes.proofs.Standings.{stands_with}
@@ -46,12 +46,12 @@ pub as_restarted : {old old' new new' : List Node} → old ≡ old' → new ≡ 
 as_restarted {old} {old'} {new} {new'} same_old same_new again =
     subst (λ (ns : List Node). AreRestarted ns new') same_old (subst (λ (ns : List Node). AreRestarted old ns) same_new again)
 
-total_of : (program : Program) (rows : List Row) (pt : Pt) → Stands program rows pt → length pt.slab ≡ sum program.sizes.pt
+total_of : (program : Program) (rows : List Row) (pt : Pt) → PtHasTaken program rows pt → length pt.slab ≡ sum program.sizes.pt
 unfolding room_total
 total_of program rows pt stands = stands.total
 
 -- the nodes of an engine that stands for some rows stand for none once they begin again
-pub restarted : (program : Program) (rows : List Row) (old new : Pt) → Stands program rows old → AreRestarted old.nodes new.nodes → new.slab ≡ old.slab → new.rows ≡ 0 → Stands program [] new
+pub restarted : (program : Program) (rows : List Row) (old new : Pt) → PtHasTaken program rows old → AreRestarted old.nodes new.nodes → new.slab ≡ old.slab → new.rows ≡ 0 → PtHasTaken program [] new
 restarted program rows old new stands again slab none =
     let many = again.many in
     let seats = again.seats in
@@ -81,7 +81,7 @@ restarted program rows old new stands again slab none =
     })
     none
     (record {
-      told = λ i h. first_told (op_at program.pt i) (meaning_of program []) (boxes_in new.slab (node_at new.nodes i)) (nothing i h);
+      told = λ i h. first_told (op_at program.pt i) (formula_meaning program []) (boxes_in new.slab (node_at new.nodes i)) (nothing i h);
       truths = λ i h some. absurd (omega arith);
     })
     (length-slab ∙ total_of program rows old stands)

@@ -5,13 +5,13 @@ use Rattle.scq_ring.specs.Runs.{window, ring_index_of}
 use Rattle.scq_ring.proofs.Windows.{window_before_pop, window_last, length-window}
 use Rattle.pt_boxes.specs.declared.boxes.Boxes.{Boxes}
 use Rattle.pt_boxes.specs.declared.boxes.Span.{Span}
-use Rattle.pt_boxes.specs.Boxes.{Belongs, kept}
+use Rattle.pt_boxes.specs.Boxes.{SpansOf, kept}
 use Rattle.pt_boxes.proofs.Stretches.{no_span}
 
 pub none_kept : (boxes : Boxes) (spans : List Span) → boxes.used ≡ 0 → kept boxes spans ≡ []
 none_kept boxes spans none = ap (λ (n : ℕ). window boxes.oldest n spans) none
 
-module _ (boxes : Boxes) (spans : List Span) (b : Belongs boxes spans) where
+module _ (boxes : Boxes) (spans : List Span) (b : SpansOf boxes spans) where
   pub length-kept : length (kept boxes spans) ≡ boxes.used
   length-kept = elim (cases_lt 0 boxes.used) [
     | inl some ↦ length-window boxes.oldest boxes.used spans (b.oldest_in (omega (arith, b.used_in))) b.used_in

@@ -10,13 +10,13 @@ use Rattle.mltl_base.proofs.Seats.{length-part}
 use Rattle.pt_boxes.specs.declared.boxes.Span.{Span}
 use Rattle.pt_boxes.specs.declared.engine.Pt.{Pt}
 use Rattle.pt_boxes.specs.Nodes.{AreKept, HasBoxes, boxes_in, node_at, op_at}
-use Rattle.pt_boxes.specs.Spans.{Tells}
-use Rattle.pt_boxes.specs.Standing.{Stands, boxes_at, instruction_count, meaning_of, now_at, room_at, room_total, row_count}
-use Rattle.pt_boxes.specs.Tables.{HasTable, IsTold, Table}
+use Rattle.pt_boxes.specs.Spans.{SpanSince}
+use Rattle.pt_boxes.specs.Standing.{PtHasTaken, boxes_at, instruction_count, formula_meaning, now_at, room_at, room_total, row_count}
+use Rattle.pt_boxes.specs.Tables.{HasTable, BoxesRepresent, TruthTable}
 use Rattle.pt_boxes.proofs.Rings.{length-kept}
 
 pub stands_with : (program : Program) (rows : List Row) (pt : Pt) → AreKept program.pt (length rows) pt.nodes pt.slab → pt.rows ≡ length rows
-    → HasTable program.pt (meaning_of program rows) (length rows) pt.nodes pt.slab → length pt.slab ≡ sum program.sizes.pt → Stands program rows pt
+    → HasTable program.pt (formula_meaning program rows) (length rows) pt.nodes pt.slab → length pt.slab ≡ sum program.sizes.pt → PtHasTaken program rows pt
 unfolding boxes_at instruction_count now_at room_at room_total row_count
 stands_with program rows pt kept taken has total =
     let nodes = pt.nodes in
@@ -35,28 +35,28 @@ stands_with program rows pt kept taken has total =
           omega (arith, k.room, k.belongs.used_in);
       total = total;
       apart = λ i l r window h is. subst (λ (op : PtOp). HasBoxes op (length rows) (boxes_in slab (node_at nodes i))) is (kept.kept i (omega arith)).apart;
-      told = λ i l r window h is. subst (λ (op : PtOp). IsTold op (meaning_of program rows) (length rows) (boxes_in slab (node_at nodes i))) is (has.told i h);
+      told = λ i l r window h is. subst (λ (op : PtOp). BoxesRepresent op (formula_meaning program rows) (length rows) (boxes_in slab (node_at nodes i))) is (has.told i h);
     }
 
 -- what a Since's boxes tell, those of any instruction tell
-told_of : (op : PtOp) (table : Table) (n : ℕ) (boxes : List Span) → ((l r : ℕ) (window : Interval) → op ≡ Since l r window → Tells window (table l) (table r) n boxes) → IsTold op table n boxes
+told_of : (op : PtOp) (table : TruthTable) (n : ℕ) (boxes : List Span) → ((l r : ℕ) (window : Interval) → op ≡ Since l r window → SpanSince window (table l) (table r) n boxes) → BoxesRepresent op table n boxes
 told_of True table n boxes h = tt
 told_of (Load k) table n boxes h = tt
 told_of (Not g) table n boxes h = tt
 told_of (And l r) table n boxes h = tt
 told_of (Since l r window) table n boxes h = h l r window refl
 
-pub table_of : (program : Program) (rows : List Row) (pt : Pt) → Stands program rows pt → HasTable program.pt (meaning_of program rows) (length rows) pt.nodes pt.slab
+pub table_of : (program : Program) (rows : List Row) (pt : Pt) → PtHasTaken program rows pt → HasTable program.pt (formula_meaning program rows) (length rows) pt.nodes pt.slab
 unfolding boxes_at now_at
 table_of program rows pt s = record {
-  told = λ i h. told_of (op_at program.pt i) (meaning_of program rows) (length rows) (boxes_in pt.slab (node_at pt.nodes i)) (λ l r window is. s.told i l r window h is);
+  told = λ i h. told_of (op_at program.pt i) (formula_meaning program rows) (length rows) (boxes_in pt.slab (node_at pt.nodes i)) (λ l r window is. s.told i l r window h is);
   truths = λ i h some. s.now i h some;
 }
 
-pub total_of : (program : Program) (rows : List Row) (pt : Pt) → Stands program rows pt → length pt.slab ≡ sum program.sizes.pt
+pub total_of : (program : Program) (rows : List Row) (pt : Pt) → PtHasTaken program rows pt → length pt.slab ≡ sum program.sizes.pt
 unfolding room_total
 total_of program rows pt s = s.total
 
-pub rows_of : (program : Program) (rows : List Row) (pt : Pt) → Stands program rows pt → pt.rows ≡ length rows
+pub rows_of : (program : Program) (rows : List Row) (pt : Pt) → PtHasTaken program rows pt → pt.rows ≡ length rows
 unfolding row_count
 rows_of program rows pt s = s.taken

@@ -12,8 +12,8 @@ use Rattle.pt_boxes.specs.declared.engine.Pt.{Pt}
 use Rattle.pt_boxes.specs.declared.rows.Node.{Node}
 use Rattle.pt_boxes.specs.Nodes.{AreKept}
 use Rattle.obs_verify.specs.Running.{RunsPast}
-use Rattle.pt_boxes.specs.Standing.{Stands, meaning_of}
-use Rattle.pt_boxes.specs.Tables.{AgreeOnLoads, HasTable, IsTable, Table}
+use Rattle.pt_boxes.specs.Standing.{PtHasTaken, formula_meaning}
+use Rattle.pt_boxes.specs.Tables.{LoadsMatchTable, HasTable, IsTruthTable, TruthTable}
 use Rattle.pt_boxes.proofs.Meanings.{has_same, loaded_last, loaded_of, meaning_stays, meaning_table}
 use Rattle.pt_boxes.proofs.Standings.{stands_with, table_of, total_of}
 use Rattle.obs_verify.proofs.Truths.{truth_there}
@@ -21,7 +21,7 @@ use Rattle.obs_verify.proofs.Truths.{truth_there}
 -- nodes have taken a row after n others
 pub record TakesRow (ops : List PtOp) (numbers : List ℤ) (n : ℕ) (nodes : List Node) (slab : List Span) (nodes' : List Node) (slab' : List Span) : Type 0 where
   pub kept : AreKept ops (n + 1) nodes' slab'
-  pub table : (loaded table : Table) → IsTable ops loaded (n + 1) table → AgreeOnLoads ops numbers loaded n → HasTable ops table n nodes slab → HasTable ops table (n + 1) nodes' slab'
+  pub table : (loaded table : TruthTable) → IsTruthTable ops loaded (n + 1) table → LoadsMatchTable ops numbers loaded n → HasTable ops table n nodes slab → HasTable ops table (n + 1) nodes' slab'
 
 pub kept_as : (ops ops' : List PtOp) (n n' : ℕ) (nodes nodes' : List Node) (slab slab' : List Span) → ops ≡ ops' → n ≡ n' → nodes ≡ nodes' → slab ≡ slab' → AreKept ops' n' nodes' slab' → AreKept ops n nodes slab
 kept_as ops ops' n n' nodes nodes' slab slab' same_ops same_n same_nodes same_slab k =
@@ -41,25 +41,25 @@ takes_as ops ops' numbers n n' nodes nodes' slab slab' new new' new_slab new_sla
     (subst (λ (x : List Span). TakesRow ops' numbers n' nodes' slab' new' x) (sym same_new_slab) t)))))
 
 -- what the program loads on the last row
-agree_last : (program : Program) (rows : List Row) (row : Row) (numbers : List ℤ) → RunsPast program → numbers ≡ numbers_on row program.bz → AgreeOnLoads program.pt numbers (loaded_of program (rows ++ row ∷ [])) (length rows)
+agree_last : (program : Program) (rows : List Row) (row : Row) (numbers : List ℤ) → RunsPast program → numbers ≡ numbers_on row program.bz → LoadsMatchTable program.pt numbers (loaded_of program (rows ++ row ∷ [])) (length rows)
 agree_last program rows row numbers runs given = λ i k v i_in is gives.
     gives row program.bz (get_or (atoms program.bz) k (is_true 0)) given (truth_there (expressions program.bz) k (runs.loads i k i_in is))
     ∙ sym (loaded_last program rows row k)
 
 pub row_stands : (program : Program) (rows : List Row) (row : Row) (old new : Pt) (numbers : List ℤ) → RunsPast program → numbers ≡ numbers_on row program.bz → new.rows ≡ length rows + 1
-    → TakesRow program.pt numbers (length rows) old.nodes old.slab new.nodes new.slab → length new.slab ≡ length old.slab → Stands program rows old → Stands program (rows ++ row ∷ []) new
+    → TakesRow program.pt numbers (length rows) old.nodes old.slab new.nodes new.slab → length new.slab ≡ length old.slab → PtHasTaken program rows old → PtHasTaken program (rows ++ row ∷ []) new
 row_stands program rows row old new numbers runs given taken takes long stands =
     let more : List Row = rows ++ row ∷ [] in
     let size : length more ≡ length rows + 1 = length_push rows row in
-    let has : HasTable program.pt (meaning_of program more) (length rows) old.nodes old.slab =
-    has_same program.pt (meaning_of program rows) (meaning_of program more) (length rows) old.nodes old.slab runs.order
+    let has : HasTable program.pt (formula_meaning program more) (length rows) old.nodes old.slab =
+    has_same program.pt (formula_meaning program rows) (formula_meaning program more) (length rows) old.nodes old.slab runs.order
     (λ g t g_in t_in. meaning_stays program rows (row ∷ []) runs.order g t g_in t_in) (table_of program rows old stands) in
-    let table : HasTable program.pt (meaning_of program more) (length rows + 1) new.nodes new.slab =
-    takes.table (loaded_of program more) (meaning_of program more) (meaning_table program more (length rows + 1) runs.order) (agree_last program rows row numbers runs given) has in
+    let table : HasTable program.pt (formula_meaning program more) (length rows + 1) new.nodes new.slab =
+    takes.table (loaded_of program more) (formula_meaning program more) (meaning_table program more (length rows + 1) runs.order) (agree_last program rows row numbers runs given) has in
     stands_with program more new
     (subst (λ (k : ℕ). AreKept program.pt k new.nodes new.slab) (sym size) takes.kept)
     (taken ∙ sym size)
-    (subst (λ (k : ℕ). HasTable program.pt (meaning_of program more) k new.nodes new.slab) (sym size) table)
+    (subst (λ (k : ℕ). HasTable program.pt (formula_meaning program more) k new.nodes new.slab) (sym size) table)
     (long ∙ total_of program rows old stands)
 
 -- the work of a row by the sizes that the program stores

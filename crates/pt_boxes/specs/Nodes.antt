@@ -9,8 +9,8 @@ use Rattle.mltl_base.specs.Seats.{AreSeated, no_seat, part}
 use Rattle.pt_boxes.specs.declared.boxes.Boxes.{Boxes}
 use Rattle.pt_boxes.specs.declared.boxes.Span.{Span}
 use Rattle.pt_boxes.specs.declared.rows.Node.{Node}
-use Rattle.pt_boxes.specs.Boxes.{Belongs, kept, no_boxes}
-use Rattle.pt_boxes.specs.Spans.{AreApart}
+use Rattle.pt_boxes.specs.Boxes.{SpansOf, kept, no_boxes}
+use Rattle.pt_boxes.specs.Spans.{SpansLieApart}
 
 -- instruction i, True past the last one
 abbrev pub op_at : List PtOp → ℕ → PtOp
@@ -29,29 +29,29 @@ abbrev pub boxes_in : List Span → Node → List Span
 boxes_in slab node = kept node.boxes (part slab node.seat)
 
 -- the parts of the slab follow one another and end within it
-abbrev pub AreLaid : List Node → List Span → Type 0
-AreLaid nodes slab = AreSeated no_node (λ node. node.seat) nodes (length slab) (length nodes)
+abbrev pub SpansAreLaid : List Node → List Span → Type 0
+SpansAreLaid nodes slab = AreSeated no_node (λ node. node.seat) nodes (length slab) (length nodes)
 
 -- the boxes of a Since lie apart after n rows; of another instruction nothing is asked
 abbrev pub HasBoxes : PtOp → ℕ → List Span → Type 0
-HasBoxes (Since l r i) n boxes = AreApart i n 0 boxes
+HasBoxes (Since l r i) n boxes = SpansLieApart i n 0 boxes
 HasBoxes op n boxes = ⊤
 
 -- after n rows, the boxes of a Since with this interval have their room, and lie apart
 pub record KeepsSince (i : Interval) (n : ℕ) (boxes : Boxes) (own : List Span) : Type 0 where
   pub room : length own ≡ box_count i
-  pub belongs : Belongs boxes own
-  pub apart : AreApart i n 0 (kept boxes own)
+  pub belongs : SpansOf boxes own
+  pub apart : SpansLieApart i n 0 (kept boxes own)
 
 -- after n rows, the boxes of an instruction have their room, and lie apart
-pub record IsKept (op : PtOp) (n : ℕ) (boxes : Boxes) (own : List Span) : Type 0 where
+pub record KeepsRoom (op : PtOp) (n : ℕ) (boxes : Boxes) (own : List Span) : Type 0 where
   pub room : length own ≡ boxes_of op
-  pub belongs : Belongs boxes own
+  pub belongs : SpansOf boxes own
   pub apart : HasBoxes op n (kept boxes own)
 
 -- so have those of all instructions, each in its part of the slab
 pub record AreKept (ops : List PtOp) (n : ℕ) (nodes : List Node) (slab : List Span) : Type 0 where
   pub same_length : length nodes ≡ length ops
-  pub laid : AreLaid nodes slab
-  pub kept : (i : ℕ) → i < length nodes → IsKept (op_at ops i) n (node_at nodes i).boxes
+  pub laid : SpansAreLaid nodes slab
+  pub kept : (i : ℕ) → i < length nodes → KeepsRoom (op_at ops i) n (node_at nodes i).boxes
       (part slab (node_at nodes i).seat)

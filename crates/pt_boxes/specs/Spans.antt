@@ -22,16 +22,16 @@ abbrev pub since_after : Interval → (ℕ → Bool) → (ℕ → Bool) → ℕ 
 since_after i p q n u = some_below n (λ m. within i (u - m) && (q m && every_in (suc m) n p))
 
 -- the boxes of p since q after n rows: from time n - 1 on, they cover the times at which it holds where p stays true
-pub record Tells (i : Interval) (p q : ℕ → Bool) (n : ℕ) (boxes : List Span) : Type 0 where
+pub record SpanSince (i : Interval) (p q : ℕ → Bool) (n : ℕ) (boxes : List Span) : Type 0 where
   pub each : (u : ℕ) → n ≤ u + 1 → in_some boxes u ≡ since_after i p q n u
 
 -- After n rows, each box covers more times than the interval's ends lie apart, and ends from n - 1 to n - 1 + hi; the
 -- first starts at or past `low`, and each later one at least 2 after the end of the one before.
-unfoldable pub AreApart : Interval → ℕ → ℕ → List Span → Type 0
-AreApart i n low [] = ⊤
-AreApart i n low (s ∷ ss) =
+unfoldable pub SpansLieApart : Interval → ℕ → ℕ → List Span → Type 0
+SpansLieApart i n low [] = ⊤
+SpansLieApart i n low (s ∷ ss) =
     (low ≤ s.first) × (s.first + (i.hi - i.lo) ≤ s.last) × (n ≤ s.last + 1) × (s.last < n + i.hi)
-    × AreApart i n (s.last + 2) ss
+    × SpansLieApart i n (s.last + 2) ss
 
 -- the boxes without the first one where it ended before this time
 unfoldable pub without_ended : ℕ → List Span → List Span

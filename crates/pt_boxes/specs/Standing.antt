@@ -13,7 +13,7 @@ use Rattle.mltl_base.specs.Queues.{boxes_of}
 use Rattle.pt_boxes.specs.declared.boxes.Span.{Span}
 use Rattle.pt_boxes.specs.declared.engine.Pt.{Pt}
 use Rattle.pt_boxes.specs.Nodes.{AreKept, boxes_in, node_at, op_at}
-use Rattle.pt_boxes.specs.Spans.{AreApart, Tells}
+use Rattle.pt_boxes.specs.Spans.{SpansLieApart, SpanSince}
 
 -- how many instructions there are
 unfoldable pub instruction_count : Pt → ℕ
@@ -40,17 +40,17 @@ unfoldable pub room_total : Pt → ℕ
 room_total pt = length pt.slab
 
 -- the formula of instruction i on the rows, by time
-abbrev pub meaning_of : Program → List Row → ℕ → ℕ → Bool
-meaning_of program rows i t = sat rows (plain (formula_at program past i)) t
+abbrev pub formula_meaning : Program → List Row → ℕ → ℕ → Bool
+formula_meaning program rows i t = sat rows (plain (formula_at program past i)) t
 
 -- the engine has taken the rows of this program
-pub record Stands (program : Program) (rows : List Row) (pt : Pt) : Type 0 where
+pub record PtHasTaken (program : Program) (rows : List Row) (pt : Pt) : Type 0 where
   pub seated : AreKept program.pt (length rows) pt.nodes pt.slab
   pub taken : row_count pt ≡ length rows
   -- each instruction holds at the last row exactly where its formula does
   pub count : instruction_count pt ≡ length program.pt
   pub now : (i : ℕ) → i < length program.pt → 0 < length rows
-      → now_at pt i ≡ meaning_of program rows i (length rows - 1)
+      → now_at pt i ≡ formula_meaning program rows i (length rows - 1)
   -- the room for boxes is fixed, and no instruction has more
   pub rooms : (i : ℕ) → i < length program.pt → room_at pt i ≡ boxes_of (op_at program.pt i)
   pub few : (i : ℕ) → i < length program.pt → length (boxes_at pt i) ≤ boxes_of (op_at program.pt i)
@@ -58,6 +58,6 @@ pub record Stands (program : Program) (rows : List Row) (pt : Pt) : Type 0 where
   pub total : room_total pt ≡ sum program.sizes.pt
   -- the boxes of a Since are long enough, lie apart, end from n - 1 to n - 1 + hi, and say when it holds
   pub apart : (i l r : ℕ) (window : Interval) → i < length program.pt → op_at program.pt i ≡ Since l r window
-      → AreApart window (length rows) 0 (boxes_at pt i)
+      → SpansLieApart window (length rows) 0 (boxes_at pt i)
   pub told : (i l r : ℕ) (window : Interval) → i < length program.pt → op_at program.pt i ≡ Since l r window
-      → Tells window (meaning_of program rows l) (meaning_of program rows r) (length rows) (boxes_at pt i)
+      → SpanSince window (formula_meaning program rows l) (formula_meaning program rows r) (length rows) (boxes_at pt i)

@@ -8,14 +8,14 @@ use Rattle.booleanizer.specs.Evaluation.{IsTruthIn}
 use Rattle.pt_boxes.specs.declared.boxes.Span.{Span}
 use Rattle.pt_boxes.specs.declared.rows.Node.{Node}
 use Rattle.pt_boxes.specs.Nodes.{op_at, node_at, boxes_in}
-use Rattle.pt_boxes.specs.Spans.{Tells}
+use Rattle.pt_boxes.specs.Spans.{SpanSince}
 
 -- truths by number and time
-abbrev pub Table : Type 0
-Table = ℕ → ℕ → Bool
+abbrev pub TruthTable : Type 0
+TruthTable = ℕ → ℕ → Bool
 
 -- the value of an instruction at a time, over those that are loaded and those of instructions
-abbrev pub op_truth : PtOp → Table → Table → ℕ → Bool
+abbrev pub op_truth : PtOp → TruthTable → TruthTable → ℕ → Bool
 op_truth True loaded table t = true
 op_truth (Load k) loaded table t = loaded k t
 op_truth (Not g) loaded table t = not (table g t)
@@ -23,36 +23,36 @@ op_truth (And l r) loaded table t = table l t && table r t
 op_truth (Since l r i) loaded table t = since_at i (table l) (table r) t
 
 -- the table has the values of these instructions at the first n times
-abbrev pub IsTable : List PtOp → Table → ℕ → Table → Type 0
-IsTable ops loaded n table = (i t : ℕ) → i < length ops → t < n → table i t ≡ op_truth (op_at ops i) loaded table t
+abbrev pub IsTruthTable : List PtOp → TruthTable → ℕ → TruthTable → Type 0
+IsTruthTable ops loaded n table = (i t : ℕ) → i < length ops → t < n → table i t ≡ op_truth (op_at ops i) loaded table t
 
 -- the boxes of a Since represent what the table says of it after n rows
-abbrev pub IsTold : PtOp → Table → ℕ → List Span → Type 0
-IsTold (Since l r i) table n boxes = Tells i (table l) (table r) n boxes
-IsTold op table n boxes = ⊤
+abbrev pub BoxesRepresent : PtOp → TruthTable → ℕ → List Span → Type 0
+BoxesRepresent (Since l r i) table n boxes = SpanSince i (table l) (table r) n boxes
+BoxesRepresent op table n boxes = ⊤
 
 -- after n rows the nodes hold the values of the last row, and boxes that represent the table
-pub record HasTable (ops : List PtOp) (table : Table) (n : ℕ) (nodes : List Node) (slab : List Span) : Type 0 where
-  pub told : (i : ℕ) → i < length ops → IsTold (op_at ops i) table n (boxes_in slab (node_at nodes i))
+pub record HasTable (ops : List PtOp) (table : TruthTable) (n : ℕ) (nodes : List Node) (slab : List Span) : Type 0 where
+  pub told : (i : ℕ) → i < length ops → BoxesRepresent (op_at ops i) table n (boxes_in slab (node_at nodes i))
   pub truths : (i : ℕ) → i < length ops → 0 < n → (node_at nodes i).truth ≡ table i (n - 1)
 
 -- what instructions load is what the table of loaded truths has at time t
-abbrev pub AgreeOnLoads : List PtOp → List ℤ → Table → ℕ → Type 0
-AgreeOnLoads ops numbers loaded t =
+abbrev pub LoadsMatchTable : List PtOp → List ℤ → TruthTable → ℕ → Type 0
+LoadsMatchTable ops numbers loaded t =
     (i k : ℕ) (v : Bool) → i < length ops → op_at ops i ≡ Load k → IsTruthIn numbers k v → v ≡ loaded k t
 
 -- an instruction is due to take the row at time `now`: the nodes before it hold its values at that time, its boxes
 -- represent the table before it, and the table's next value is that of the instruction
-pub record IsTurn (op : PtOp) (numbers : List ℤ) (loaded table : Table) (now : ℕ) (before : List Node)
+pub record IsTurn (op : PtOp) (numbers : List ℤ) (loaded table : TruthTable) (now : ℕ) (before : List Node)
     (boxes : List Span) : Type 0 where
   pub operands : (g : ℕ) → g < length before → (node_at before g).truth ≡ table g now
-  pub told : IsTold op table now boxes
+  pub told : BoxesRepresent op table now boxes
   pub here : table (length before) now ≡ op_truth op loaded table now
   pub loads : (k : ℕ) (v : Bool) → op ≡ Load k → IsTruthIn numbers k v → v ≡ loaded k now
 
 -- an instruction has taken the row at time `now`: its value is that of the table, which its boxes represent from then
 -- on
-pub record TookTurn (op : PtOp) (table : Table) (now : ℕ) (before : List Node) (value : Bool)
+pub record TookTurn (op : PtOp) (table : TruthTable) (now : ℕ) (before : List Node) (value : Bool)
     (boxes : List Span) : Type 0 where
-  pub told : IsTold op table (now + 1) boxes
+  pub told : BoxesRepresent op table (now + 1) boxes
   pub truth : value ≡ table (length before) now

@@ -21,7 +21,7 @@ pub struct Boxes {
 impl Boxes {
     ghost use Rattle.std.specs.Prelude.{List};
     ghost use Rattle.pt_boxes.specs.declared.boxes.Span.{Span};
-    ghost use Rattle.pt_boxes.specs.Boxes.{Belongs, kept, no_boxes};
+    ghost use Rattle.pt_boxes.specs.Boxes.{SpansOf, kept, no_boxes};
     ghost use Rattle.pt_boxes.specs.Spans.{meets, prolonged, with_stretch, without_ended};
 
     /// No boxes.
@@ -33,7 +33,7 @@ impl Boxes {
 
     /// The oldest box.
     pub fn oldest(&self, spans: &[Span]) -> Option<Span>
-        requires belongs { Belongs self.now spans.now }
+        requires belongs { SpansOf self.now spans.now }
         ensures oldest { result ≡ slice_get (kept self.now spans.now) 0 }
     {
         if self.used == 0 {
@@ -45,7 +45,7 @@ impl Boxes {
 
     /// Drops all boxes.
     pub fn clear(&mut self)
-        ensures belongs { (spans : List Span) → Belongs self.old spans → Belongs self.new spans }
+        ensures belongs { (spans : List Span) → SpansOf self.old spans → SpansOf self.new spans }
         ensures none { (spans : List Span) → kept self.new spans ≡ [] }
     {
         self.used = 0;
@@ -53,8 +53,8 @@ impl Boxes {
 
     /// Drops the oldest box where it ended before this time.
     pub fn let_ended_go(&mut self, spans: &[Span], now: u64)
-        requires belongs { Belongs self.old spans.now }
-        ensures belongs { Belongs self.new spans.now }
+        requires belongs { SpansOf self.old spans.now }
+        ensures belongs { SpansOf self.new spans.now }
         ensures rest { kept self.new spans.now ≡ without_ended now (kept self.old spans.now) }
     {
         if self.used > 0 && spans[self.oldest].last < now {
@@ -65,9 +65,9 @@ impl Boxes {
 
     /// Adds a stretch, which is joined with the newest box where it meets or touches it.
     pub fn add(&mut self, spans: &mut [Span], stretch: Span)
-        requires belongs { Belongs self.old spans.old }
+        requires belongs { SpansOf self.old spans.old }
         requires room { length (with_stretch stretch (kept self.old spans.old)) ≤ length spans.old }
-        ensures belongs { Belongs self.new spans.new }
+        ensures belongs { SpansOf self.new spans.new }
         ensures added { kept self.new spans.new ≡ with_stretch stretch (kept self.old spans.old) }
     {
         if self.meets(spans, stretch.first) {
@@ -79,7 +79,7 @@ impl Boxes {
 
     /// Whether a stretch that starts at this time meets or touches the newest box.
     fn meets(&self, spans: &[Span], first: u64) -> bool
-        requires belongs { Belongs self.now spans.now }
+        requires belongs { SpansOf self.now spans.now }
         ensures meets { result ≡ meets first (kept self.now spans.now) }
     {
         self.used > 0
@@ -89,9 +89,9 @@ impl Boxes {
 
     /// Moves the end of the newest box.
     fn prolong(&mut self, spans: &mut [Span], last: u64)
-        requires belongs { Belongs self.old spans.old }
+        requires belongs { SpansOf self.old spans.old }
         requires some_box { 0 < self.old.used }
-        ensures belongs { Belongs self.new spans.new }
+        ensures belongs { SpansOf self.new spans.new }
         ensures prolonged { kept self.new spans.new ≡ prolonged last (kept self.old spans.old) }
     {
         let newest = ring_index(self.oldest, self.used - 1, spans.len());
@@ -100,9 +100,9 @@ impl Boxes {
 
     /// Adds a box after the newest one, where there is room.
     fn push(&mut self, spans: &mut [Span], stretch: Span)
-        requires belongs { Belongs self.old spans.old }
+        requires belongs { SpansOf self.old spans.old }
         requires room { self.old.used < length spans.old }
-        ensures belongs { Belongs self.new spans.new }
+        ensures belongs { SpansOf self.new spans.new }
         ensures pushed { kept self.new spans.new ≡ kept self.old spans.old ++ stretch ∷ [] }
     {
         spans[ring_index(self.oldest, self.used, spans.len())] = stretch;

@@ -28,11 +28,11 @@ impl Pt {
     ghost use Rattle.mltl_base.specs.Atoms.{Row};
     ghost use Rattle.booleanizer.specs.Evaluation.{numbers_on};
     ghost use Rattle.pt_boxes.specs.Running.{row_work};
-    ghost use Rattle.pt_boxes.specs.Standing.{Stands, instruction_count, now_at};
+    ghost use Rattle.pt_boxes.specs.Standing.{PtHasTaken, instruction_count, now_at};
 
     /// The engine of a program, before the first row. It takes all its memory at once.
     pub fn make(alloc: Global, checked: &Checked) -> Result<Pt, AllocError>
-        ensures stands { IfOk result (Stands checked.now []) }
+        ensures stands { IfOk result (PtHasTaken checked.now []) }
     {
         let program = program_of(checked);
         let sizes = program.sizes.pt.as_slice();
@@ -57,8 +57,8 @@ impl Pt {
 
     /// Stands for no rows again, in the memory that it has.
     pub fn reset(&mut self, checked: &Checked)
-        requires stands { (rows : List Row) × Stands checked.now rows self.old }
-        ensures stands { Stands checked.now [] self.new }
+        requires stands { (rows : List Row) × PtHasTaken checked.now rows self.old }
+        ensures stands { PtHasTaken checked.now [] self.new }
     {
         restart(self.nodes.as_mut_slice());
         self.rows = 0;
@@ -67,11 +67,11 @@ impl Pt {
     /// Takes the row that the Booleanizer took last. It does not allocate.
     pub fn row<L: Ledger>(&mut self, checked: &Checked, bz: &Bz, steps: &mut Steps<L>)
         requires given { (row : Row) × (bz.now ≡ numbers_on row checked.now.bz) }
-        requires stands { (rows : List Row) × Stands checked.now rows self.old
+        requires stands { (rows : List Row) × PtHasTaken checked.now rows self.old
             × (length rows < MAX_MISSION) }
         ensures stands { (rows : List Row) (row : Row) → length rows < MAX_MISSION
-            → bz.now ≡ numbers_on row checked.now.bz → Stands checked.now rows self.old
-            → Stands checked.now (rows ++ row ∷ []) self.new }
+            → bz.now ≡ numbers_on row checked.now.bz → PtHasTaken checked.now rows self.old
+            → PtHasTaken checked.now (rows ++ row ∷ []) self.new }
         ensures counted { steps.new ≤ steps.old + row_work checked.now }
     {
         let program = program_of(checked);

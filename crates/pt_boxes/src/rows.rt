@@ -6,8 +6,8 @@ ghost use Rattle.mltl_base.specs.declared.operators.PtOp.TheVariants.{Load as lo
 ghost use Rattle.mltl_base.specs.Queues.{HasPastBounds, boxes_of};
 ghost use Rattle.obs_verify.specs.Running.{ArePastInOrder, IsAfterPastOperands};
 ghost use Rattle.pt_boxes.specs.Boxes.{kept};
-ghost use Rattle.pt_boxes.specs.Nodes.{AreKept, IsKept, node_at, op_at};
-ghost use Rattle.pt_boxes.specs.Tables.{AgreeOnLoads, HasTable, IsTable, IsTurn, Table, TookTurn};
+ghost use Rattle.pt_boxes.specs.Nodes.{AreKept, KeepsRoom, node_at, op_at};
+ghost use Rattle.pt_boxes.specs.Tables.{LoadsMatchTable, HasTable, IsTruthTable, IsTurn, TruthTable, TookTurn};
 
 use crate::boxes::{Boxes, Span};
 use crate::since::since_row;
@@ -48,9 +48,9 @@ fn step<L: Ledger>(
     requires bounded { HasPastBounds MAX_BOUND op }
     requires loaded { (k : ℕ) → op ≡ loads k → k < length bz.now }
     requires early { now < MAX_MISSION }
-    requires kept { IsKept op now boxes.old own.old }
-    ensures kept { IsKept op (now + 1) boxes.new own.new }
-    ensures told { (loaded table : Table)
+    requires kept { KeepsRoom op now boxes.old own.old }
+    ensures kept { KeepsRoom op (now + 1) boxes.new own.new }
+    ensures told { (loaded table : TruthTable)
         → IsTurn op bz.now loaded table now before.now (kept boxes.old own.old)
         → TookTurn op table now before.now result (kept boxes.new own.new) }
     ensures counted { steps.new ≤ steps.old + (boxes_of op + 2) }
@@ -89,8 +89,8 @@ pub fn row_of<L: Ledger>(
     requires early { now < MAX_MISSION }
     requires kept { AreKept ops.now now nodes.old slab.old }
     ensures kept { AreKept ops.now (now + 1) nodes.new slab.new }
-    ensures table { (loaded table : Table) → IsTable ops.now loaded (now + 1) table
-        → AgreeOnLoads ops.now bz.now loaded now
+    ensures table { (loaded table : TruthTable) → IsTruthTable ops.now loaded (now + 1) table
+        → LoadsMatchTable ops.now bz.now loaded now
         → HasTable ops.now table now nodes.old slab.old
         → HasTable ops.now table (now + 1) nodes.new slab.new }
     ensures counted { steps.new ≤ steps.old + sum_by (λ op. boxes_of op + 2) ops.now }

@@ -3,9 +3,9 @@
 ghost use Rattle.std.specs.Prelude.{◌≡◌, ℕ, Bool, ◌+◌, ◌^◌, ◌<◌, ◌≤◌, [], if◌then◌else◌};
 ghost use Rattle.mltl_base.specs.declared.limits.TheConstants.{MAX_MISSION};
 ghost use Rattle.mltl_base.specs.declared.interval.Interval.{Interval};
-ghost use Rattle.pt_boxes.specs.Boxes.{Belongs, kept};
+ghost use Rattle.pt_boxes.specs.Boxes.{SpansOf, kept};
 ghost use Rattle.pt_boxes.specs.Nodes.{KeepsSince};
-ghost use Rattle.pt_boxes.specs.Spans.{AreApart, Tells, in_some, stretch_at, with_stretch, without_ended};
+ghost use Rattle.pt_boxes.specs.Spans.{SpansLieApart, SpanSince, in_some, stretch_at, with_stretch, without_ended};
 
 use crate::boxes::{Boxes, Span};
 use delay_sizes::few_boxes;
@@ -16,12 +16,12 @@ use std::sync::ledger::Ledger;
 
 /// Drops what ended before this time, and everything where the left operand is false then.
 fn age(boxes: &mut Boxes, spans: &[Span], now: u64, left: bool)
-    requires belongs { Belongs boxes.old spans.now }
-    ensures belongs { Belongs boxes.new spans.now }
+    requires belongs { SpansOf boxes.old spans.now }
+    ensures belongs { SpansOf boxes.new spans.now }
     ensures rest { kept boxes.new spans.now
         ≡ if left then without_ended now (kept boxes.old spans.now) else [] }
-    ensures apart { (i : Interval) → AreApart i now 0 (kept boxes.old spans.now)
-        → AreApart i (now + 1) 0 (kept boxes.new spans.now) }
+    ensures apart { (i : Interval) → SpansLieApart i now 0 (kept boxes.old spans.now)
+        → SpansLieApart i (now + 1) 0 (kept boxes.new spans.now) }
 {
     if left {
         boxes.let_ended_go(spans, now);
@@ -62,8 +62,8 @@ fn open(boxes: &mut Boxes, spans: &mut [Span], window: Interval, now: u64, right
 
 /// Whether the last row's time lies in a box.
 fn holds(boxes: &Boxes, spans: &[Span], window: Interval, now: u64) -> bool
-    requires belongs { Belongs boxes.now spans.now }
-    requires apart { AreApart window (now + 1) 0 (kept boxes.now spans.now) }
+    requires belongs { SpansOf boxes.now spans.now }
+    requires apart { SpansLieApart window (now + 1) 0 (kept boxes.now spans.now) }
     ensures holds { result ≡ in_some (kept boxes.now spans.now) now }
 {
     match boxes.oldest(spans) {
@@ -88,9 +88,9 @@ pub fn since_row<L: Ledger>(
     requires early { now < MAX_MISSION }
     requires kept { KeepsSince window now boxes.old spans.old }
     ensures kept { KeepsSince window (now + 1) boxes.new spans.new }
-    ensures told { (p q : ℕ → Bool) → Tells window p q now (kept boxes.old spans.old)
+    ensures told { (p q : ℕ → Bool) → SpanSince window p q now (kept boxes.old spans.old)
         → p now ≡ left → q now ≡ right
-        → Tells window p q (now + 1) (kept boxes.new spans.new) }
+        → SpanSince window p q (now + 1) (kept boxes.new spans.new) }
     ensures holds { result ≡ in_some (kept boxes.new spans.new) now }
     ensures counted { steps.new ≤ steps.old + 2 }
 {

@@ -17,16 +17,16 @@ use Rattle.r2u2_c.specs.declared.codes.TheConstants.{DONE, NOT_OPEN, REPORTS_LEF
 use Rattle.r2u2_c.specs.declared.report.Told.{Told}
 use Rattle.r2u2_c.specs.declared.row_why.RowWhy.{RowWhy}
 use Rattle.r2u2_c.specs.Batches.{TellsEach}
-use Rattle.r2u2_c.specs.Exports.{HoldsBack, TellsFirst, TellsWhy, Tells, why_of}
-use Rattle.r2u2_c.specs.Queries.{AreTold, delays_of}
+use Rattle.r2u2_c.specs.Exports.{HoldsBack, TellsFirst, TellsWhy, Reports, row_cause}
+use Rattle.r2u2_c.specs.Queries.{MirrorsMonitor, open_delays}
 
 -- the monitor after a box is the one that was open
 pub is_open_as : (m box : State) (before : Option State) → before ≡ Some box → m ≡ box → before ≡ Some m
 is_open_as m box before is same = is ∙ ap (λ (x : State). Some x) (sym same)
 
 -- a report that the monitor told is told by the call
-pub told_by_call : (style : Style) (read : Told) (m n : State) (before after : Option State) → before ≡ Some m → after ≡ Some n → TellsFirst style read m n → Tells style read before after
-told_by_call style read m n before after is now t = subst (λ (o : Option State). Tells style read o after) (sym is) (subst (λ (o : Option State). Tells style read (Some m) o) (sym now) t)
+pub told_by_call : (style : Style) (read : Told) (m n : State) (before after : Option State) → before ≡ Some m → after ≡ Some n → TellsFirst style read m n → Reports style read before after
+told_by_call style read m n before after is now t = subst (λ (o : Option State). Reports style read o after) (sym is) (subst (λ (o : Option State). Reports style read (Some m) o) (sym now) t)
 
 -- where a report was told, the monitor wasn't drained
 pub undrained : (m : State) (before : Option State) → before ≡ Some m → (IsDrained m → true ≡ false)
@@ -39,10 +39,10 @@ undrained m before is gone = (
 -- what a call answers to a row, and what C reads
 abbrev pub Answers : Result ⊤ RowFault → ℕ → RowWhy → RowWhy → Type 0
 Answers taken code before after =
-    IfOk taken (λ _. (code ≡ DONE) × (after ≡ before)) × IfErr taken (λ fault. (after ≡ why_of fault) × (code ≡ after.why))
+    IfOk taken (λ _. (code ≡ DONE) × (after ≡ before)) × IfErr taken (λ fault. (after ≡ row_cause fault) × (code ≡ after.why))
 
 -- the code of a fault
-fault_code : (fault : RowFault) (code : ℕ) (after : RowWhy) → after ≡ why_of fault → code ≡ after.why → code ≡ (why_of fault).why
+fault_code : (fault : RowFault) (code : ℕ) (after : RowWhy) → after ≡ row_cause fault → code ≡ after.why → code ≡ (row_cause fault).why
 fault_code fault code after is e = e ∙ ap (λ (why : RowWhy). why.why) is
 
 -- the answer to a row that isn't taken before the reports are given
@@ -77,7 +77,7 @@ late_last (Err (NotARow column)) code row m o before after is cause answers e =
 late_last (Err TooManyRows) code row m o before after is cause answers e = subst (HoldsBack TooManyRows row) (sym is) cause
 
 -- a fault is told with its code and its column
-fault_told : (fault : RowFault) (before : RowWhy) → TellsWhy (why_of fault).why before (why_of fault)
+fault_told : (fault : RowFault) (before : RowWhy) → TellsWhy (row_cause fault).why before (row_cause fault)
 fault_told ReportsLeft before = record { untold = λ small. absurd (let few : 5 ≤ 1 = small in omega (arith, few)); why = λ _. refl; nowhere = λ _ other. refl }
 fault_told (NotARow column) before = record { untold = λ small. absurd (let few : 6 ≤ 1 = small in omega (arith, few)); why = λ _. refl; nowhere = λ _ other. absurd (other refl) }
 fault_told TooManyRows before = record { untold = λ small. absurd (let few : 7 ≤ 1 = small in omega (arith, few)); why = λ _. refl; nowhere = λ _ other. refl }
@@ -87,9 +87,9 @@ why_told (Ok t) code before after answers =
     let done : code ≡ 0 = answers.0.0 in
     record { untold = λ _. answers.0.1; why = λ more. absurd (let big : 1 < code = more in omega (arith, big, done)); nowhere = λ more other. absurd (let big : 1 < code = more in omega (arith, big, done)) }
 why_told (Err fault) code before after answers =
-    let why : after ≡ why_of fault = answers.1.0 in
+    let why : after ≡ row_cause fault = answers.1.0 in
     subst (λ (read : RowWhy). TellsWhy code before read) (sym why)
-    (subst (λ (n : ℕ). TellsWhy n before (why_of fault)) (sym (fault_code fault code after why answers.1.1)) (fault_told fault before))
+    (subst (λ (n : ℕ). TellsWhy n before (row_cause fault)) (sym (fault_code fault code after why answers.1.1)) (fault_told fault before))
 
 -- the codes of rows
 pub row_codes : (taken : Result ⊤ RowFault) (code : ℕ) (before after : RowWhy) → Answers taken code before after
@@ -101,17 +101,17 @@ row_codes (Err TooManyRows) code before after answers = (4, lit< tt, sym (fault_
 
 -- the delay of an output, or 0 where there is none
 pub delay_told : (m : State) (before : Option State) (k : ℕ) (found : Option ℕ) (told : ℕ) → before ≡ Some m
-    → found ≡ option_map delay (slice_get (outputs (program_of m)) k) → told ≡ unwrap_or found 0 → told ≡ slice_index (delays_of before) k
+    → found ≡ option_map delay (slice_get (outputs (program_of m)) k) → told ≡ unwrap_or found 0 → told ≡ slice_index (open_delays before) k
 delay_told m before k found told is finds tells =
     let outs : List Output = outputs (program_of m) in
     tells ∙ ap (λ (o : Option ℕ). unwrap_or o 0) (finds ∙ sym (slice_get-map delay outs k)) ∙ unwrap_or-slice_get (map delay outs) k 0
-    ∙ ap (λ (o : Option State). slice_index (delays_of o) k) (sym is)
+    ∙ ap (λ (o : Option State). slice_index (open_delays o) k) (sym is)
 
 -- what may be read of a monitor stays where its program does, and the number of its rows
-pub told_still : (m n : State) (before : Option State) (taken columns outs stored : ℕ) → before ≡ Some m → AreTold before taken columns outs stored
-    → program_of n ≡ program_of m → taken_by n ≡ taken_by m → AreTold (Some n) taken columns outs stored
+pub told_still : (m n : State) (before : Option State) (taken columns outs stored : ℕ) → before ≡ Some m → MirrorsMonitor before taken columns outs stored
+    → program_of n ≡ program_of m → taken_by n ≡ taken_by m → MirrorsMonitor (Some n) taken columns outs stored
 told_still m n before taken columns outs stored is told same as_many =
-    let old : AreTold (Some m) taken columns outs stored = subst (λ (o : Option State). AreTold o taken columns outs stored) is told in
+    let old : MirrorsMonitor (Some m) taken columns outs stored = subst (λ (o : Option State). MirrorsMonitor o taken columns outs stored) is told in
     record {
       rows = old.rows ∙ sym as_many;
       width = old.width ∙ ap (λ (p : Program). p.width) (sym same);

@@ -9,7 +9,8 @@ use Rattle.r2u2_c.specs.Exports.{TellsFirst}
 -- the reports are those that a call for each returns, one after another
 abbrev pub TellsEach : Style → List Told → State → State → Type 0
 TellsEach style [] before after = after ≡ before
-TellsEach style (read ∷ more) before after = (next : State) × TellsFirst style read before next × TellsEach style more next after
+TellsEach style (read ∷ more) before after =
+    (next : State) × TellsFirst style read before next × TellsEach style more next after
 
 -- the open monitor has returned them
 abbrev pub TellsMany : Style → List Told → Option State → Option State → Type 0

@@ -7,16 +7,16 @@ use Rattle.mltl_base.specs.declared.report.Style.{Style}
 use Rattle.mltl_base.specs.Atoms.{Row}
 use Rattle.r2u2_monitor.specs.declared.state.State.{State}
 use Rattle.r2u2_monitor.specs.Bursts.{OpensFew}
-use Rattle.r2u2_monitor.specs.Monitoring.{HasGiven, Stands, TakesRow, open_of, program_of}
+use Rattle.r2u2_monitor.specs.Monitoring.{HasGiven, Stands, TakesRow, open_in, program_of}
 use Rattle.r2u2_monitor.specs.declared.row_fault.RowFault.{RowFault}
 use Rattle.r2u2_monitor.specs.declared.row_fault.RowFault.TheVariants.{ReportsLeft, NotARow, TooManyRows}
 use Rattle.r2u2_monitor.specs.RowFaults.{IsRowCause}
 use Rattle.r2u2_c.specs.declared.codes.TheConstants.{NOT_A_ROW, NOT_OPEN, REPORTS_LEFT, TOO_MANY_ROWS}
 use Rattle.r2u2_c.specs.declared.fault.Fault.{Fault}
-use Rattle.r2u2_c.specs.declared.opening.OpeningFault.{OpeningFault}
+use Rattle.r2u2_c.specs.declared.opened.OpeningFault.{OpeningFault}
 use Rattle.r2u2_c.specs.declared.report.Told.{Told}
 use Rattle.r2u2_c.specs.declared.row_why.RowWhy.{RowWhy}
-use Rattle.r2u2_c.specs.Faults.{fault_of}
+use Rattle.r2u2_c.specs.Faults.{opening_fault}
 use Rattle.r2u2_c.specs.Opening.{IsFresh, Starts}
 use Rattle.r2u2_c.specs.Reports.{shown}
 
@@ -28,7 +28,7 @@ Opens found (Some before) after = ⊥
 
 -- there is no program, and the fault says why
 abbrev pub Refuses : Result Program OpeningFault → Fault → Type 0
-Refuses (Err why) fault = fault ≡ fault_of why
+Refuses (Err why) fault = fault ≡ opening_fault why
 Refuses (Ok program) fault = ⊥
 
 -- the monitor that is open is one of the same program that has taken no rows, and has no report to give
@@ -55,10 +55,10 @@ HoldsBack why row (Some monitor) = IsRowCause why monitor row
 HoldsBack why row None = ⊥
 
 -- each cause as C reads it: its code, and the column of numbers that aren't a row
-abbrev pub why_of : RowFault → RowWhy
-why_of ReportsLeft = record { why = REPORTS_LEFT; column = 0 }
-why_of (NotARow column) = record { why = NOT_A_ROW; column = column }
-why_of TooManyRows = record { why = TOO_MANY_ROWS; column = 0 }
+abbrev pub row_cause : RowFault → RowWhy
+row_cause ReportsLeft = record { why = REPORTS_LEFT; column = 0 }
+row_cause (NotARow column) = record { why = NOT_A_ROW; column = column }
+row_cause TooManyRows = record { why = TOO_MANY_ROWS; column = 0 }
 
 -- why a row isn't taken is returned with its code, and with a column where it isn't a row; else nothing is returned
 pub record TellsWhy (code : ℕ) (before after : RowWhy) : Type 0 where
@@ -70,12 +70,12 @@ pub record TellsWhy (code : ℕ) (before after : RowWhy) : Type 0 where
 pub record TellsFirst (style : Style) (read : Told) (before after : State) : Type 0 where
   pub report : Report
   pub shown_as : read ≡ shown report
-  pub first : (rows : List Row) → Stands before rows → open_of style before rows ≡ report ∷ open_of style after rows
+  pub first : (rows : List Row) → Stands before rows → open_in style before rows ≡ report ∷ open_in style after rows
   pub stands : (rows : List Row) → Stands before rows → Stands after rows
   pub gives : HasGiven report before after
 
 -- the open monitor has returned it
-abbrev pub Tells : Style → Told → Option State → Option State → Type 0
-Tells style read (Some before) (Some after) = TellsFirst style read before after
-Tells style read (Some before) None = ⊥
-Tells style read None after = ⊥
+abbrev pub Reports : Style → Told → Option State → Option State → Type 0
+Reports style read (Some before) (Some after) = TellsFirst style read before after
+Reports style read (Some before) None = ⊥
+Reports style read None after = ⊥

@@ -7,19 +7,19 @@ use Rattle.obs_files.specs.Texts.{fault_text}
 use Rattle.trace_feed.specs.declared.header_fault.HeaderFault.TheVariants as header
 use Rattle.trace_feed.specs.HeaderTexts.{header_fault_text}
 use Rattle.r2u2_c.specs.declared.fault.Fault.{Fault}
-use Rattle.r2u2_c.specs.declared.opening.OpeningFault.{OpeningFault}
-use Rattle.r2u2_c.specs.declared.opening.OpeningFault.TheVariants.{Program, NoSignals, LongHeader}
-use Rattle.r2u2_c.specs.declared.opening.OpeningFault.TheVariants.{NoHeader, Missing, Twice, Memory}
+use Rattle.r2u2_c.specs.declared.opened.OpeningFault.{OpeningFault}
+use Rattle.r2u2_c.specs.declared.opened.OpeningFault.TheVariants.{Program, NoSignals, LongHeader}
+use Rattle.r2u2_c.specs.declared.opened.OpeningFault.TheVariants.{NoHeader, Missing, Twice, Memory}
 
 -- what is wrong, in words
-abbrev pub text_of : OpeningFault → List ℕ
-text_of (Program f) = fault_text f
-text_of NoSignals = codes "no signals"
-text_of LongHeader = codes "line too long"
-text_of NoHeader = header_fault_text header.NoHeader
-text_of (Missing name) = header_fault_text (header.Missing name)
-text_of (Twice name) = header_fault_text (header.Twice name)
-text_of Memory = header_fault_text header.Memory
+abbrev pub opening_text : OpeningFault → List ℕ
+opening_text (Program f) = fault_text f
+opening_text NoSignals = codes "no signals"
+opening_text LongHeader = codes "line too long"
+opening_text NoHeader = header_fault_text header.NoHeader
+opening_text (Missing name) = header_fault_text (header.Missing name)
+opening_text (Twice name) = header_fault_text (header.Twice name)
+opening_text Memory = header_fault_text header.Memory
 
 -- each kind of fault of a program has a distinct number
 abbrev pub fault_kind : fault.ProgramFault → ℕ
@@ -43,14 +43,14 @@ fault_kind (fault.TheVariants.Size p i) = 17
 fault_kind fault.TheVariants.TooManySlots = 18
 
 -- and each other fault of an opening
-abbrev pub kind_of : OpeningFault → ℕ
-kind_of (Program f) = fault_kind f
-kind_of NoSignals = 19
-kind_of LongHeader = 20
-kind_of NoHeader = 21
-kind_of (Missing name) = 22
-kind_of (Twice name) = 23
-kind_of Memory = 0
+abbrev pub opening_kind : OpeningFault → ℕ
+opening_kind (Program f) = fault_kind f
+opening_kind NoSignals = 19
+opening_kind LongHeader = 20
+opening_kind NoHeader = 21
+opening_kind (Missing name) = 22
+opening_kind (Twice name) = 23
+opening_kind Memory = 0
 
 -- the number of a part
 abbrev pub part_number : part.Part → ℕ
@@ -87,14 +87,19 @@ fault_place (fault.TheVariants.Size p i) = i
 fault_place f = 0
 
 -- the same of an opening
-abbrev pub place_of : OpeningFault → ℕ
-place_of (Program f) = fault_place f
-place_of why = 0
+abbrev pub opening_place : OpeningFault → ℕ
+opening_place (Program f) = fault_place f
+opening_place why = 0
 
 -- a text at the start of 96 bytes, with zeros after it
 abbrev pub padded : List ℕ → List ℕ
 padded text = text ++ drop (length text) (replicate 96 0)
 
 -- what C reads of the fault of an opening
-abbrev pub fault_of : OpeningFault → Fault
-fault_of why = record { kind = kind_of why; part = part_of why; place = place_of why; text = padded (text_of why) }
+abbrev pub opening_fault : OpeningFault → Fault
+opening_fault why = record {
+  kind = opening_kind why;
+  part = part_of why;
+  place = opening_place why;
+  text = padded (opening_text why);
+}

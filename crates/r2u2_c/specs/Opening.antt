@@ -13,8 +13,8 @@ use Rattle.trace_feed.specs.Header.{bound_to}
 use Rattle.r2u2_monitor.specs.declared.state.State.{State}
 use Rattle.r2u2_monitor.specs.Bytes.{bytes_of, monitor_bytes}
 use Rattle.r2u2_monitor.specs.Monitoring.{IsDrained, Stands, program_of}
-use Rattle.r2u2_c.specs.declared.opening.OpeningFault.{OpeningFault}
-use Rattle.r2u2_c.specs.declared.opening.OpeningFault.TheVariants as opening
+use Rattle.r2u2_c.specs.declared.opened.OpeningFault.{OpeningFault}
+use Rattle.r2u2_c.specs.declared.opened.OpeningFault.TheVariants as opening
 
 -- the fault of a file as one of an opening
 abbrev pub of_file : FileFault → OpeningFault
@@ -34,8 +34,8 @@ with_fault opening_of (Ok program) = Ok program
 with_fault opening_of (Err fault) = Err (opening_of fault)
 
 -- the program that these bytes spell, or their first fault
-abbrev pub program_by : List ℕ → Result Program OpeningFault
-program_by bytes = with_fault of_file (opened bytes)
+abbrev pub opened_by : List ℕ → Result Program OpeningFault
+opened_by bytes = with_fault of_file (opened bytes)
 
 -- a program with its signals in the columns that a header names; one of version 1 stores no signals
 abbrev pub bound_by : List ℕ → Program → Result Program OpeningFault
@@ -52,7 +52,7 @@ bound_if line (Err why) = Err why
 
 -- the program of these bytes under a header, or the first that refuses it: the bytes, then the header
 abbrev pub program_under : List ℕ → List ℕ → Result Program OpeningFault
-program_under line bytes = bound_if line (program_by bytes)
+program_under line bytes = bound_if line (opened_by bytes)
 
 -- the monitor has taken no rows, and has no report to give
 pub record IsFresh (found : Program) (monitor : State) : Type 0 where

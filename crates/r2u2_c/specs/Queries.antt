@@ -13,17 +13,17 @@ use Rattle.r2u2_monitor.specs.Running.{row_work}
 use Rattle.r2u2_monitor.specs.Bursts.{most_reports}
 use Rattle.r2u2_monitor.specs.Bytes.{monitor_bytes}
 use Rattle.r2u2_c.specs.declared.bytes.TheConstants.{MONITOR_BYTES}
-use Rattle.r2u2_c.specs.declared.opening.OpeningFault.{OpeningFault}
+use Rattle.r2u2_c.specs.declared.opened.OpeningFault.{OpeningFault}
 
 -- the number of columns of a row
-abbrev pub width_of : Option State → ℕ
-width_of (Some monitor) = (program_of monitor).width
-width_of None = 0
+abbrev pub open_width : Option State → ℕ
+open_width (Some monitor) = (program_of monitor).width
+open_width None = 0
 
 -- the number of rows that were taken
-abbrev pub rows_of : Option State → ℕ
-rows_of (Some monitor) = taken_by monitor
-rows_of None = 0
+abbrev pub open_rows : Option State → ℕ
+open_rows (Some monitor) = taken_by monitor
+open_rows None = 0
 
 -- the most steps of one row
 abbrev pub steps_of : Option State → ℕ
@@ -31,32 +31,32 @@ steps_of (Some monitor) = row_work (program_of monitor)
 steps_of None = 0
 
 -- the most reports that one row brings
-abbrev pub most_of : Option State → ℕ
-most_of (Some monitor) = most_reports (program_of monitor)
-most_of None = 0
+abbrev pub open_most_reports : Option State → ℕ
+open_most_reports (Some monitor) = most_reports (program_of monitor)
+open_most_reports None = 0
 
 -- the names of the outputs
-abbrev pub names_of : Option State → List (List ℕ)
-names_of (Some monitor) = output_names (program_of monitor)
-names_of None = []
+abbrev pub open_names : Option State → List (List ℕ)
+open_names (Some monitor) = output_names (program_of monitor)
+open_names None = []
 
 -- the signals that the program stores
-abbrev pub signals_of : Option State → List StoredSignal
-signals_of (Some monitor) = (program_of monitor).signals
-signals_of None = []
+abbrev pub open_signals : Option State → List StoredSignal
+open_signals (Some monitor) = (program_of monitor).signals
+open_signals None = []
 
 -- what may be read of a monitor without it: how many rows it has taken, and how many columns, outputs and signals its
 -- program has; 0 where none is open
-pub record AreTold (monitor : Option State) (taken columns outs stored : ℕ) : Type 0 where
-  pub rows : taken ≡ rows_of monitor
-  pub width : columns ≡ width_of monitor
-  pub outputs : outs ≡ length (names_of monitor)
-  pub signals : stored ≡ length (signals_of monitor)
+pub record MirrorsMonitor (monitor : Option State) (taken columns outs stored : ℕ) : Type 0 where
+  pub rows : taken ≡ open_rows monitor
+  pub width : columns ≡ open_width monitor
+  pub outputs : outs ≡ length (open_names monitor)
+  pub signals : stored ≡ length (open_signals monitor)
 
 -- the worst-case delays of the outputs
-abbrev pub delays_of : Option State → List ℕ
-delays_of (Some monitor) = map delay (outputs (program_of monitor))
-delays_of None = []
+abbrev pub open_delays : Option State → List ℕ
+open_delays (Some monitor) = map delay (outputs (program_of monitor))
+open_delays None = []
 
 -- each kind of output has a number of its own
 abbrev pub output_number : out.Out → ℕ

@@ -5,8 +5,8 @@ ghost use Rattle.r2u2_monitor.specs.Monitoring.{IsDrained};
 ghost use Rattle.r2u2_c.specs.Batches.{TellsEach, TellsMany, WritesFront};
 ghost use Rattle.r2u2_c.specs.Reports.{style_of};
 
+use crate::c_monitor::R2u2;
 use crate::codes::{DONE, NOT_OPEN};
-use crate::keeping::R2u2;
 use crate::report::{Told, next_of};
 use r2u2_monitor::Monitor;
 use std::alloc::Global;

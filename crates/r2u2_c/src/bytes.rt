@@ -2,13 +2,13 @@
 
 ghost use Rattle.std.specs.Prelude.{◌≡◌, ◌≢◌, ◌∷◌, [], Contains, IfErr, IfOk, Err};
 ghost use Rattle.r2u2_c.specs.Exports.{Refuses};
-ghost use Rattle.r2u2_c.specs.Opening.{program_by};
+ghost use Rattle.r2u2_c.specs.Opening.{opened_by};
 ghost use Rattle.r2u2_c.specs.Queries.{TellsBytes};
 
 use crate::codes::{DONE, NO_MEMORY, REFUSED};
 use crate::exports::refuse;
 use crate::fault::Fault;
-use crate::opening::OpeningFault;
+use crate::opened::OpeningFault;
 use obs_files::open;
 use r2u2_monitor::{Monitor, monitor_bytes};
 use std::alloc::Global;
@@ -23,8 +23,8 @@ const _: () = prove!(size_of::<Monitor>() == MONITOR_BYTES);
 /// together.
 #[unsafe(no_mangle)]
 pub extern "C" fn r2u2_bytes(alloc: Global, bytes: &[u8], told: &mut u64, fault: &mut Fault) -> u32
-    ensures tells { result ≡ DONE → TellsBytes (program_by bytes.now) told.new }
-    ensures refused { result ≡ REFUSED → Refuses (program_by bytes.now) fault.new }
+    ensures tells { result ≡ DONE → TellsBytes (opened_by bytes.now) told.new }
+    ensures refused { result ≡ REFUSED → Refuses (opened_by bytes.now) fault.new }
     ensures kept { result ≢ DONE → told.new ≡ told.old }
     ensures untold { result ≢ REFUSED → fault.new ≡ fault.old }
     ensures codes { Contains (DONE ∷ REFUSED ∷ NO_MEMORY ∷ []) result }
@@ -40,9 +40,9 @@ pub extern "C" fn r2u2_bytes(alloc: Global, bytes: &[u8], told: &mut u64, fault:
 
 /// How many bytes a monitor of the program that these bytes spell holds.
 fn bytes_of(alloc: Global, bytes: &[u8]) -> Result<u64, OpeningFault>
-    ensures told { IfOk result (λ count. TellsBytes (program_by bytes.now) count) }
+    ensures told { IfOk result (λ count. TellsBytes (opened_by bytes.now) count) }
     ensures refused { IfErr result (λ why. why ≢ OpeningFault.Memory
-        → program_by bytes.now ≡ Err why) }
+        → opened_by bytes.now ≡ Err why) }
 {
     let checked = open(alloc, bytes)?;
     Ok(MONITOR_BYTES as u64 + monitor_bytes(&checked))

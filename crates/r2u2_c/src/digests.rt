@@ -3,12 +3,12 @@
 ghost use Rattle.std.specs.Prelude.{◌≡◌, ◌≢◌, ◌↔◌, ◌<◌, [], ◌∷◌, Contains, IsSome, IsTrue};
 ghost use Rattle.sha2.specs.Sha256.{sha256};
 ghost use Rattle.r2u2_c.specs.Exports.{Opens, Refuses};
-ghost use Rattle.r2u2_c.specs.Opening.{program_by};
+ghost use Rattle.r2u2_c.specs.Opening.{opened_by};
 
+use crate::c_monitor::R2u2;
 use crate::codes::{ALREADY_OPEN, DAMAGED, DONE, NO_MEMORY, REFUSED};
 use crate::exports::r2u2_open;
 use crate::fault::Fault;
-use crate::keeping::R2u2;
 use sha2::{Digest, Sha256};
 use std::alloc::Global;
 
@@ -28,11 +28,12 @@ pub extern "C" fn r2u2_open_checked(
     digest: &ProgramDigest,
     fault: &mut Fault,
 ) -> u32
-    ensures opens { result ≡ DONE → Opens (program_by bytes.now) it.old.handle.value it.new.handle.value }
+    ensures opens { result ≡ DONE
+        → Opens (opened_by bytes.now) it.old.handle.value it.new.handle.value }
     ensures already { (result ≡ ALREADY_OPEN) ↔ IsSome it.old.handle.value }
     ensures damaged { result ≡ DAMAGED → sha256 bytes.now ≢ digest.now.bytes }
     ensures whole { result ≢ ALREADY_OPEN → result ≢ DAMAGED → sha256 bytes.now ≡ digest.now.bytes }
-    ensures refused { result ≡ REFUSED → Refuses (program_by bytes.now) fault.new }
+    ensures refused { result ≡ REFUSED → Refuses (opened_by bytes.now) fault.new }
     ensures kept { 0 < result → it.new.handle.value ≡ it.old.handle.value }
     ensures untold { result ≢ REFUSED → fault.new ≡ fault.old }
     ensures codes { Contains

@@ -2,20 +2,20 @@
 
 ghost use Rattle.std.specs.Prelude.{◌≡◌, ◌≢◌, ◌↔◌, ◌<◌, [], ◌∷◌, Contains, IsSome, IsSomeAnd, IfErr, IfOk, None};
 ghost use Rattle.r2u2_monitor.specs.Monitoring.{IsDrained};
-ghost use Rattle.r2u2_c.specs.declared.opening.OpeningFault.TheVariants.{Memory};
+ghost use Rattle.r2u2_c.specs.declared.opened.OpeningFault.TheVariants.{Memory};
 ghost use Rattle.r2u2_monitor.specs.declared.row_fault.RowFault.TheVariants.{NotARow, ReportsLeft, TooManyRows};
-ghost use Rattle.r2u2_c.specs.Exports.{BeginsAgain, BringsFew, HoldsBack, Opens, Refuses, Takes, Tells, TellsWhy, why_of};
-ghost use Rattle.r2u2_c.specs.Faults.{fault_of};
-ghost use Rattle.r2u2_c.specs.Opening.{program_by, program_under};
+ghost use Rattle.r2u2_c.specs.Exports.{BeginsAgain, BringsFew, HoldsBack, Opens, Refuses, Takes, Reports, TellsWhy, row_cause};
+ghost use Rattle.r2u2_c.specs.Faults.{opening_fault};
+ghost use Rattle.r2u2_c.specs.Opening.{opened_by, program_under};
 ghost use Rattle.r2u2_c.specs.Reports.{style_of};
 
+use crate::c_monitor::R2u2;
 use crate::codes::{
     ALREADY_OPEN, DONE, NO_MEMORY, NO_REPORT, NOT_A_ROW, NOT_OPEN, REFUSED, REPORTS_LEFT,
     TOO_MANY_ROWS,
 };
 use crate::fault::Fault;
-use crate::keeping::R2u2;
-use crate::opening::{OpeningFault, open_monitor, open_under};
+use crate::opened::{OpeningFault, open_monitor, open_under};
 use crate::report::{Told, next_of};
 use crate::row_why::RowWhy;
 use r2u2_monitor::RowFault;
@@ -24,9 +24,10 @@ use std::alloc::Global;
 /// Opens the program that these bytes spell. Rows have the columns that it was compiled for.
 #[unsafe(no_mangle)]
 pub extern "C" fn r2u2_open(it: &mut R2u2, alloc: Global, bytes: &[u8], fault: &mut Fault) -> u32
-    ensures opens { result ≡ DONE → Opens (program_by bytes.now) it.old.handle.value it.new.handle.value }
+    ensures opens { result ≡ DONE
+        → Opens (opened_by bytes.now) it.old.handle.value it.new.handle.value }
     ensures already { (result ≡ ALREADY_OPEN) ↔ IsSome it.old.handle.value }
-    ensures refused { result ≡ REFUSED → Refuses (program_by bytes.now) fault.new }
+    ensures refused { result ≡ REFUSED → Refuses (opened_by bytes.now) fault.new }
     ensures kept { 0 < result → it.new.handle.value ≡ it.old.handle.value }
     ensures untold { result ≢ REFUSED → fault.new ≡ fault.old }
     ensures codes { Contains (DONE ∷ ALREADY_OPEN ∷ REFUSED ∷ NO_MEMORY ∷ []) result }
@@ -75,7 +76,7 @@ pub extern "C" fn r2u2_open_under(
 /// Tells why no monitor was opened.
 pub(crate) fn refuse(why: OpeningFault, fault: &mut Fault) -> u32
     ensures memory { why ≡ Memory → (result ≡ NO_MEMORY) × (fault.new ≡ fault.old) }
-    ensures refused { why ≢ Memory → (result ≡ REFUSED) × (fault.new ≡ fault_of why) }
+    ensures refused { why ≢ Memory → (result ≡ REFUSED) × (fault.new ≡ opening_fault why) }
 {
     match why {
         OpeningFault::Memory => NO_MEMORY,
@@ -115,7 +116,7 @@ pub extern "C" fn r2u2_row(it: &mut R2u2, alloc: Global, fields: &[i64], why: &m
 /// Tells whether a row was taken, and why not.
 fn tell_taken(taken: Result<(), RowFault>, why: &mut RowWhy) -> u32
     ensures done { IfOk taken (λ _. (result ≡ DONE) × (why.new ≡ why.old)) }
-    ensures fault { IfErr taken (λ fault. (why.new ≡ why_of fault) × (result ≡ why.new.why)) }
+    ensures fault { IfErr taken (λ fault. (why.new ≡ row_cause fault) × (result ≡ why.new.why)) }
 {
     match taken {
         Ok(()) => DONE,
@@ -129,7 +130,8 @@ fn tell_taken(taken: Result<(), RowFault>, why: &mut RowWhy) -> u32
 /// Gives the next report of the rows so far: of each time where `runs` is 0, else of each longest stretch of one word.
 #[unsafe(no_mangle)]
 pub extern "C" fn r2u2_next(it: &mut R2u2, alloc: Global, runs: u32, report: &mut Told) -> u32
-    ensures tells { result ≡ DONE → Tells (style_of runs) report.new it.old.handle.value it.new.handle.value }
+    ensures tells { result ≡ DONE
+        → Reports (style_of runs) report.new it.old.handle.value it.new.handle.value }
     ensures not_open { (result ≡ NOT_OPEN) ↔ (it.old.handle.value ≡ None) }
     ensures drained { (result ≡ NO_REPORT) ↔ IsSomeAnd it.old.handle.value IsDrained }
     ensures kept { 0 < result → it.new.handle.value ≡ it.old.handle.value }

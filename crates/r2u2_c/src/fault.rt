@@ -1,10 +1,10 @@
 //! Faults of openings as C reads them.
 
 ghost use Rattle.std.specs.Prelude.{◌≡◌, ◌≤◌, ◌++◌, drop, length};
-ghost use Rattle.r2u2_c.specs.Faults.{fault_kind, fault_of, fault_part, fault_place, kind_of, part_number, part_of, place_of};
+ghost use Rattle.r2u2_c.specs.Faults.{fault_kind, opening_fault, fault_part, fault_place, opening_kind, part_number, part_of, opening_place};
 
 use crate::fault_text::text_of_fault;
-use crate::opening::OpeningFault;
+use crate::opened::OpeningFault;
 use mltl_base::Part;
 use obs_files::ProgramFault;
 
@@ -25,7 +25,7 @@ pub struct Fault {
 impl Fault {
     /// The fault of an opening as C reads it.
     pub(crate) fn of(why: &OpeningFault) -> Fault
-        ensures { result ≡ fault_of why.now }
+        ensures { result ≡ opening_fault why.now }
     {
         let line = text_of_fault(why);
         let mut text = [0; 96];
@@ -48,7 +48,7 @@ pub(crate) fn fill_front(into: &mut [u8], piece: &[u8])
 }
 
 fn kind_of_fault(why: &OpeningFault) -> u32
-    ensures { result ≡ kind_of why.now }
+    ensures { result ≡ opening_kind why.now }
 {
     match why {
         OpeningFault::Program(fault) => kind_of_program_fault(*fault),
@@ -117,7 +117,7 @@ fn number_of_part(part: Part) -> u32
 }
 
 fn place_of_fault(why: &OpeningFault) -> u64
-    ensures { result ≡ place_of why.now }
+    ensures { result ≡ opening_place why.now }
 {
     match why {
         OpeningFault::Program(fault) => place_of_program_fault(*fault),

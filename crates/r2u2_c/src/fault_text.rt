@@ -1,15 +1,15 @@
 //! Faults of openings in words.
 
 ghost use Rattle.std.specs.Prelude.{◌≡◌};
-ghost use Rattle.r2u2_c.specs.Faults.{text_of};
+ghost use Rattle.r2u2_c.specs.Faults.{opening_text};
 
-use crate::opening::OpeningFault;
+use crate::opened::OpeningFault;
 use arrayvec::ArrayVec;
 use mltl_base::text::add;
 
 /// What is wrong, in words: at most 77 bytes.
 pub(crate) fn text_of_fault(why: &OpeningFault) -> ArrayVec<u8, 95>
-    ensures { result.items ≡ text_of why.now }
+    ensures { result.items ≡ opening_text why.now }
 {
     let mut text = ArrayVec::new();
     match why {

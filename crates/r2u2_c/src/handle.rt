@@ -67,7 +67,8 @@ impl Handle {
     /// Takes the monitor out, if one is open.
     #[inline(always)]
     pub(crate) fn take(&mut self, alloc: Global) -> Option<Box<Monitor>>
-        ensures taken { MatchOption result (self.old.value ≡ None) (λ b. self.old.value ≡ Some b.value) }
+        ensures taken { MatchOption result (self.old.value ≡ None)
+            (λ b. self.old.value ≡ Some b.value) }
         ensures emptied { self.new.value ≡ None }
     {
         mem::replace(self, Handle::empty()).into_box(alloc)

@@ -8,15 +8,15 @@
 mod batches;
 mod boxes;
 pub mod bytes;
+mod c_monitor;
 pub mod codes;
 mod digests;
 mod exports;
 mod fault;
 mod fault_text;
 mod handle;
-mod keeping;
 mod names;
-mod opening;
+mod opened;
 mod queries;
 mod report;
 mod row_why;
@@ -24,11 +24,11 @@ pub mod version;
 
 pub use batches::r2u2_next_many;
 pub use bytes::r2u2_bytes;
+pub use c_monitor::R2u2;
 pub use digests::{ProgramDigest, r2u2_open_checked};
 pub use exports::{r2u2_close, r2u2_next, r2u2_open, r2u2_open_under, r2u2_reset, r2u2_row};
 pub use fault::Fault;
-pub use keeping::R2u2;
-pub use opening::OpeningFault;
+pub use opened::OpeningFault;
 pub use queries::{
     r2u2_delay, r2u2_most_reports, r2u2_name, r2u2_output_kind, r2u2_outputs, r2u2_rows,
     r2u2_signal, r2u2_signals, r2u2_steps, r2u2_version, r2u2_width,

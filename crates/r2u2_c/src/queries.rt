@@ -1,9 +1,9 @@
 //! What C may ask of a monitor. None of these calls changes it.
 
 ghost use Rattle.std.specs.Prelude.{◌≡◌, ◌<◌, ◌≤◌, IsSomeAnd, Some, length, slice_get, slice_index};
-ghost use Rattle.r2u2_c.specs.Queries.{TellsSignal, WritesName, delays_of, most_of, names_of, output_kinds_of, output_number, rows_of, signals_of, steps_of, width_of};
+ghost use Rattle.r2u2_c.specs.Queries.{TellsSignal, WritesName, open_delays, open_most_reports, open_names, output_kinds_of, output_number, open_rows, open_signals, steps_of, open_width};
 
-use crate::keeping::R2u2;
+use crate::c_monitor::R2u2;
 use crate::names::write_name;
 use crate::version::VERSION;
 use mltl_base::{Out, StoredSignal};
@@ -21,7 +21,7 @@ pub extern "C" fn r2u2_version() -> u32
 /// The number of columns of a row; 0 where none is open.
 #[unsafe(no_mangle)]
 pub extern "C" fn r2u2_width(it: &R2u2) -> u32
-    ensures { result ≡ width_of it.now.handle.value }
+    ensures { result ≡ open_width it.now.handle.value }
 {
     it.width()
 }
@@ -29,7 +29,7 @@ pub extern "C" fn r2u2_width(it: &R2u2) -> u32
 /// The number of outputs; 0 where none is open.
 #[unsafe(no_mangle)]
 pub extern "C" fn r2u2_outputs(it: &R2u2) -> u32
-    ensures { result ≡ length (names_of it.now.handle.value) }
+    ensures { result ≡ length (open_names it.now.handle.value) }
 {
     it.outputs()
 }
@@ -37,10 +37,10 @@ pub extern "C" fn r2u2_outputs(it: &R2u2) -> u32
 /// Writes the name of output `k`, counted from 0, to the start of a buffer, and returns its length.
 #[unsafe(no_mangle)]
 pub extern "C" fn r2u2_name(it: &mut R2u2, alloc: Global, k: u32, buffer: &mut [u8]) -> u32
-    ensures named { 0 < result → IsSomeAnd (slice_get (names_of it.old.handle.value) k)
+    ensures named { 0 < result → IsSomeAnd (slice_get (open_names it.old.handle.value) k)
         (λ name. WritesName name result buffer.old buffer.new) }
     ensures untold { result ≡ 0 → buffer.new ≡ buffer.old }
-    ensures enough { k < length (names_of it.old.handle.value) → 64 ≤ length buffer.old
+    ensures enough { k < length (open_names it.old.handle.value) → 64 ≤ length buffer.old
         → 0 < result }
     ensures kept { it.new.handle.value ≡ it.old.handle.value }
 {
@@ -57,7 +57,7 @@ pub extern "C" fn r2u2_name(it: &mut R2u2, alloc: Global, k: u32, buffer: &mut [
 /// The number of rows that were taken; 0 where none is open.
 #[unsafe(no_mangle)]
 pub extern "C" fn r2u2_rows(it: &R2u2) -> u64
-    ensures { result ≡ rows_of it.now.handle.value }
+    ensures { result ≡ open_rows it.now.handle.value }
 {
     it.rows()
 }
@@ -65,7 +65,7 @@ pub extern "C" fn r2u2_rows(it: &R2u2) -> u64
 /// Returns the worst-case delay of output `k`, in rows; 0 where none is open or there is no such output.
 #[unsafe(no_mangle)]
 pub extern "C" fn r2u2_delay(it: &mut R2u2, alloc: Global, k: u32) -> u32
-    ensures delay { result ≡ slice_index (delays_of it.old.handle.value) k }
+    ensures delay { result ≡ slice_index (open_delays it.old.handle.value) k }
     ensures kept { it.new.handle.value ≡ it.old.handle.value }
 {
     match it.handle.take(alloc) {
@@ -97,7 +97,7 @@ pub extern "C" fn r2u2_steps(it: &mut R2u2, alloc: Global) -> u64
 /// The most reports that one row brings, in either style; 0 where none is open.
 #[unsafe(no_mangle)]
 pub extern "C" fn r2u2_most_reports(it: &mut R2u2, alloc: Global) -> u64
-    ensures most { result ≡ most_of it.old.handle.value }
+    ensures most { result ≡ open_most_reports it.old.handle.value }
     ensures kept { it.new.handle.value ≡ it.old.handle.value }
 {
     match it.handle.take(alloc) {
@@ -129,7 +129,7 @@ pub extern "C" fn r2u2_output_kind(it: &mut R2u2, alloc: Global, k: u32) -> u32
 /// The number of signals that the program stores; 0 where none is open.
 #[unsafe(no_mangle)]
 pub extern "C" fn r2u2_signals(it: &R2u2) -> u32
-    ensures { result ≡ length (signals_of it.now.handle.value) }
+    ensures { result ≡ length (open_signals it.now.handle.value) }
 {
     it.signals()
 }
@@ -145,13 +145,13 @@ pub extern "C" fn r2u2_signal(
     kind: &mut u32,
     buffer: &mut [u8],
 ) -> u32
-    ensures tells { 0 < result → IsSomeAnd (slice_get (signals_of it.old.handle.value) k)
+    ensures tells { 0 < result → IsSomeAnd (slice_get (open_signals it.old.handle.value) k)
         (λ signal. TellsSignal signal column.new kind.new) }
-    ensures named { 0 < result → IsSomeAnd (slice_get (signals_of it.old.handle.value) k)
+    ensures named { 0 < result → IsSomeAnd (slice_get (open_signals it.old.handle.value) k)
         (λ signal. WritesName signal.name result buffer.old buffer.new) }
     ensures untold { result ≡ 0 → (column.new ≡ column.old)
         × (kind.new ≡ kind.old) × (buffer.new ≡ buffer.old) }
-    ensures enough { k < length (signals_of it.old.handle.value) → 64 ≤ length buffer.old
+    ensures enough { k < length (open_signals it.old.handle.value) → 64 ≤ length buffer.old
         → 0 < result }
     ensures kept { it.new.handle.value ≡ it.old.handle.value }
 {
@@ -167,10 +167,10 @@ pub extern "C" fn r2u2_signal(
 
 /// Writes the name of an output to the start of a buffer that has room for it, and returns its length.
 fn name_in(monitor: &Monitor, k: u32, buffer: &mut [u8]) -> u32
-    ensures named { 0 < result → IsSomeAnd (slice_get (names_of (Some monitor.now)) k)
+    ensures named { 0 < result → IsSomeAnd (slice_get (open_names (Some monitor.now)) k)
         (λ name. WritesName name result buffer.old buffer.new) }
     ensures untold { result ≡ 0 → buffer.new ≡ buffer.old }
-    ensures enough { k < length (names_of (Some monitor.now)) → 64 ≤ length buffer.old
+    ensures enough { k < length (open_names (Some monitor.now)) → 64 ≤ length buffer.old
         → 0 < result }
 {
     match monitor.checked().program().outs.as_slice().get(k as usize) {
@@ -198,13 +198,13 @@ fn output_number(out: &Out) -> u32
 }
 
 fn signal_in(monitor: &Monitor, k: u32, column: &mut u32, kind: &mut u32, buffer: &mut [u8]) -> u32
-    ensures tells { 0 < result → IsSomeAnd (slice_get (signals_of (Some monitor.now)) k)
+    ensures tells { 0 < result → IsSomeAnd (slice_get (open_signals (Some monitor.now)) k)
         (λ signal. TellsSignal signal column.new kind.new) }
-    ensures named { 0 < result → IsSomeAnd (slice_get (signals_of (Some monitor.now)) k)
+    ensures named { 0 < result → IsSomeAnd (slice_get (open_signals (Some monitor.now)) k)
         (λ signal. WritesName signal.name result buffer.old buffer.new) }
     ensures untold { result ≡ 0 → (column.new ≡ column.old)
         × (kind.new ≡ kind.old) × (buffer.new ≡ buffer.old) }
-    ensures enough { k < length (signals_of (Some monitor.now)) → 64 ≤ length buffer.old
+    ensures enough { k < length (open_signals (Some monitor.now)) → 64 ≤ length buffer.old
         → 0 < result }
 {
     match monitor

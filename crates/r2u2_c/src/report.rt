@@ -1,7 +1,7 @@
 //! Reports as C reads them.
 
 ghost use Rattle.std.specs.Prelude.{◌≡◌};
-ghost use Rattle.r2u2_monitor.specs.Monitoring.{GivesNext};
+ghost use Rattle.r2u2_monitor.specs.Monitoring.{ReturnsNext};
 ghost use Rattle.r2u2_c.specs.Reports.{shown, style_of, word_number};
 
 use mltl_base::{Report, Style, Word};
@@ -52,7 +52,7 @@ fn style_by(runs: u32) -> Style
 /// The next report, in the style that a number asks for.
 #[inline(always)]
 pub(crate) fn next_of(monitor: &mut Monitor, runs: u32) -> Option<Report>
-    ensures { GivesNext (style_of runs) result monitor.old monitor.new }
+    ensures { ReturnsNext (style_of runs) result monitor.old monitor.new }
 {
     monitor.next(style_by(runs))
 }

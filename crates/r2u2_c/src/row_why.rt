@@ -1,7 +1,7 @@
 //! Why a row isn't taken, as C reads it.
 
 ghost use Rattle.std.specs.Prelude.{◌≡◌};
-ghost use Rattle.r2u2_c.specs.Exports.{why_of};
+ghost use Rattle.r2u2_c.specs.Exports.{row_cause};
 
 use crate::codes::{NOT_A_ROW, REPORTS_LEFT, TOO_MANY_ROWS};
 use r2u2_monitor::RowFault;
@@ -18,7 +18,7 @@ pub struct RowWhy {
 impl RowWhy {
     /// A fault of a row as C reads it.
     pub(crate) fn of(fault: RowFault) -> RowWhy
-        ensures { result ≡ why_of fault }
+        ensures { result ≡ row_cause fault }
     {
         match fault {
             RowFault::ReportsLeft => RowWhy {

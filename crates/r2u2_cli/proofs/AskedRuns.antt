@@ -8,7 +8,7 @@ use Rattle.tool_io.specs.declared.host.Place.TheVariants as at
 use Rattle.tool_io.specs.Log.{Event, Took, given, names_of, Writes, WritesFront}
 use Rattle.tool_io.proofs.LogLaws.{WritesFront-misses, Writes-given, Writes-names}
 use Rattle.tool_io.proofs.Prompting.{Prompt-from_by, Writes-prompt}
-use Rattle.tool_words.specs.R2u2Words.{Asked, RunAsked, help, run, demo, nothing}
+use Rattle.tool_words.specs.R2u2Words.{R2u2Request, RunAsked, help, run, demo, nothing}
 use Rattle.r2u2_monitor.specs.declared.state.State.{State}
 use Rattle.tool_words.specs.declared.message.Tool.TheVariants.{R2u2}
 use Rattle.tool_words.specs.declared.status.Status as status
@@ -46,31 +46,31 @@ run_help (status.TheVariants.WriteFault place.TheVariants.Out) events fronts =
 run_help answer events is = absurd is
 
 -- nothing was done
-second_none : (asked : Asked) → TriesSecond asked []
+second_none : (asked : R2u2Request) → TriesSecond asked []
 second_none help = tt
 second_none (run asked) = λ two. let none : 1 < 0 = two in absurd (omega (arith, none))
 second_none (demo seed rows) = tt
 second_none nothing = tt
 
-prompt_none : (asked : Asked) → IsPrompt asked []
+prompt_none : (asked : R2u2Request) → IsPrompt asked []
 prompt_none help = Prompt-from_by (λ bytes. []) [] [] tt
 prompt_none (run asked) = Prompt-from_by (due_by asked (found_in asked []) false) [] [] tt
 prompt_none (demo seed rows) = Prompt-from_by (λ bytes. []) [] [] tt
 prompt_none nothing = Prompt-from_by (λ bytes. []) [] [] tt
 
-memory_none : (asked : Asked) → OutcomeOf status.TheVariants.Memory asked [] None
+memory_none : (asked : R2u2Request) → OutcomeOf status.TheVariants.Memory asked [] None
 memory_none help = record { no_lines = refl; no_monitor = refl }
 memory_none (run asked) = (omega arith, record { no_lines = refl; no_monitor = refl })
 memory_none (demo seed rows) = record { no_lines = refl; no_monitor = refl }
 memory_none nothing = record { no_lines = refl; no_monitor = refl }
 
-memory_begun : (asked : Asked) → RefusesAfter asked status.TheVariants.Memory []
+memory_begun : (asked : R2u2Request) → RefusesAfter asked status.TheVariants.Memory []
 memory_begun help = tt
 memory_begun (run asked) = λ unrefused. tt
 memory_begun (demo seed rows) = tt
 memory_begun nothing = tt
 
-run_none : (asked : Asked) (answer : status.Status) → OutcomeOf answer asked [] None → OpensAsTold answer [] → RefusesAfter asked answer [] → Ran asked answer None []
+run_none : (asked : R2u2Request) (answer : status.Status) → OutcomeOf answer asked [] None → OpensAsTold answer [] → RefusesAfter asked answer [] → Ran asked answer None []
 run_none asked answer outcome opened begun = record {
   names = record { rest = asked_names asked; split = refl };
   second = second_none asked;
@@ -87,10 +87,10 @@ run_none asked answer outcome opened begun = record {
     none [] after piece is = cc
     none (event ∷ before) after piece is = cc
 
-pub run_no_memory : (asked : Asked) → Ran asked status.TheVariants.Memory None []
+pub run_no_memory : (asked : R2u2Request) → Ran asked status.TheVariants.Memory None []
 run_no_memory asked = run_none asked status.TheVariants.Memory (memory_none asked) tt (memory_begun asked)
 
-pub run_nothing : (asked : Asked) → asked ≡ nothing → Ran asked status.TheVariants.Usage None []
+pub run_nothing : (asked : R2u2Request) → asked ≡ nothing → Ran asked status.TheVariants.Usage None []
 run_nothing asked is = subst (λ a. Ran a status.TheVariants.Usage None []) (sym is) (run_none nothing status.TheVariants.Usage (record { no_lines = refl; no_monitor = refl }) tt tt)
 
 -- the summary of a demo, or a front of it, went out
@@ -138,13 +138,13 @@ nothing_usage status.TheVariants.Usage out kept is some = refl
 nothing_usage status.TheVariants.Memory out kept is some = absurd (some refl)
 nothing_usage answer out kept is some = absurd is
 
-pub run_usage : (asked : Asked) (answer : status.Status) (kept : Option State) (events : List Event) → Ran asked answer kept events → answer ≢ status.TheVariants.Memory → (answer ≡ status.TheVariants.Usage) ↔ (asked ≡ nothing)
+pub run_usage : (asked : R2u2Request) (answer : status.Status) (kept : Option State) (events : List Event) → Ran asked answer kept events → answer ≢ status.TheVariants.Memory → (answer ≡ status.TheVariants.Usage) ↔ (asked ≡ nothing)
 run_usage help answer kept events ran some = (λ same. absurd (subst (λ s. HelpOutcome s (given Out events) kept) same ran.outcome), λ is. cc)
 run_usage (run asked) answer kept events ran some = (λ same. absurd ((asks_over answer asked _ _ _ _ _ kept ran.outcome).0 same), λ is. cc)
 run_usage (demo seed rows) answer kept events ran some = (λ same. absurd (subst (λ s. DemoOutcome s seed rows (given Out events) kept) same ran.outcome), λ is. cc)
 run_usage nothing answer kept events ran some = (λ same. refl, λ is. nothing_usage answer (given Out events) kept ran.outcome some)
 
-pub run_helped : (asked : Asked) (answer : status.Status) (kept : Option State) (events : List Event) → Ran asked answer kept events → answer ≡ status.TheVariants.Helped → asked ≡ help
+pub run_helped : (asked : R2u2Request) (answer : status.Status) (kept : Option State) (events : List Event) → Ran asked answer kept events → answer ≡ status.TheVariants.Helped → asked ≡ help
 run_helped help answer kept events ran is = refl
 run_helped (run asked) answer kept events ran is = absurd ((asks_over answer asked _ _ _ _ _ kept ran.outcome).1 is)
 run_helped (demo seed rows) answer kept events ran is = absurd (subst (λ s. DemoOutcome s seed rows (given Out events) kept) is ran.outcome)

@@ -17,9 +17,9 @@ use Rattle.mltl_base.specs.Programs.{output_of, outputs}
 use Rattle.mltl_base.specs.Reports.{IsRising, Output, formula, reports, reports_after, same_word}
 use Rattle.mltl_base.proofs.Telling.{reports_push, reports_rise}
 use Rattle.r2u2_monitor.specs.declared.state.State.{State}
-use Rattle.r2u2_monitor.specs.Monitoring.{IsDrained, Stands, TakesRow, open_of, program_of}
+use Rattle.r2u2_monitor.specs.Monitoring.{IsDrained, Stands, TakesRow, open_in, program_of}
 use Rattle.r2u2_cli.specs.declared.tally.Tally.{Tally}
-use Rattle.r2u2_cli.specs.Tallies.{AreCounted, AreTallies, count_in, count_of, none}
+use Rattle.r2u2_cli.specs.Tallies.{AreCounted, AreTallies, tallied, count_of, none}
 
 nil_plus : (n : ℕ) → 0 + n ≡ n
 nil_plus n = omega arith
@@ -61,7 +61,7 @@ room_for k w program rows told report more all own within =
 plus_none : (n : ℕ) → n + 0 ≡ n
 plus_none n = omega arith
 
-none_counted : (w : Word) → count_in none w ≡ 0
+none_counted : (w : Word) → tallied none w ≡ 0
 none_counted T = refl
 none_counted F = refl
 none_counted Inactive = refl
@@ -83,21 +83,21 @@ other_count k w told report other =
 tally_at : (tallies : List Tally) (k : ℕ) (w : Word) (told : List Report) (report : Report) (tally : Tally) (own : Bool) → (report.out == k) ≡ own
     → (own ≡ true → k ≡ report.out) → (own ≡ false → k ≢ report.out)
     → AreTallies tallies told → report.out < length tallies → k < length tallies
-    → ((v : Word) → count_in tally v ≡ count_in (slice_index_or tallies report.out none) v + (if same_word report.word v then 1 else 0))
-    → count_in (slice_index_or (slice_set tallies report.out tally) k none) w ≡ count_of k w (told ++ report ∷ [])
+    → ((v : Word) → tallied tally v ≡ tallied (slice_index_or tallies report.out none) v + (if same_word report.word v then 1 else 0))
+    → tallied (slice_index_or (slice_set tallies report.out tally) k none) w ≡ count_of k w (told ++ report ∷ [])
 tally_at tallies k w told report tally true is here there are within inside more =
     let e : k ≡ report.out = here refl in
-    ap (λ n. count_in (slice_index_or (slice_set tallies report.out tally) n none) w) e
-    ∙ ap (λ (t : Tally). count_in t w) (get_or-set_same tallies report.out tally none within)
+    ap (λ n. tallied (slice_index_or (slice_set tallies report.out tally) n none) w) e
+    ∙ ap (λ (t : Tally). tallied t w) (get_or-set_same tallies report.out tally none within)
     ∙ more w
-    ∙ ap (λ n. count_in (slice_index_or tallies n none) w + (if same_word report.word w then 1 else 0)) (sym e)
+    ∙ ap (λ n. tallied (slice_index_or tallies n none) w + (if same_word report.word w then 1 else 0)) (sym e)
     ∙ ap (λ n. n + (if same_word report.word w then 1 else 0)) (are.each k w inside)
     ∙ sym (same_count k w told report is)
 tally_at tallies k w told report tally false is here there are within inside more =
-    ap (λ (t : Tally). count_in t w) (get_or-set_other tallies report.out k tally none (there refl)) ∙ are.each k w inside ∙ sym (other_count k w told report is)
+    ap (λ (t : Tally). tallied t w) (get_or-set_other tallies report.out k tally none (there refl)) ∙ are.each k w inside ∙ sym (other_count k w told report is)
 
 pub tallies_step : (tallies : List Tally) (told : List Report) (report : Report) (tally : Tally) → AreTallies tallies told → report.out < length tallies
-    → ((w : Word) → count_in tally w ≡ count_in (slice_index_or tallies report.out none) w + (if same_word report.word w then 1 else 0))
+    → ((w : Word) → tallied tally w ≡ tallied (slice_index_or tallies report.out none) w + (if same_word report.word w then 1 else 0))
     → AreTallies (slice_set tallies report.out tally) (told ++ report ∷ [])
 tallies_step tallies told report tally are within more = record {
   each = λ k w inside. tally_at tallies k w told report tally (report.out == k) refl
@@ -107,16 +107,16 @@ tallies_step tallies told report tally are within more = record {
 
 -- nothing is told yet
 pub tallies_none : (tallies : List Tally) → ((k : ℕ) → k < length tallies → slice_index_or tallies k none ≡ none) → AreTallies tallies []
-tallies_none tallies all = record { each = λ k w inside. ap (λ (t : Tally). count_in t w) (all k inside) ∙ none_counted w }
+tallies_none tallies all = record { each = λ k w inside. ap (λ (t : Tally). tallied t w) (all k inside) ∙ none_counted w }
 
 -- of the reports of rows, those told so far and the next one
 pub counted_step_of : (tallies : List Tally) (tally : Tally) (before after : State) (rows : List Row) (report : Report)
-    → program_of after ≡ program_of before → open_of Each before rows ≡ report ∷ open_of Each after rows → report.out < length (program_of before).outs
-    → ((w : Word) → count_in tally w ≡ count_in (slice_index_or tallies report.out none) w + (if same_word report.word w then 1 else 0))
+    → program_of after ≡ program_of before → open_in Each before rows ≡ report ∷ open_in Each after rows → report.out < length (program_of before).outs
+    → ((w : Word) → tallied tally w ≡ tallied (slice_index_or tallies report.out none) w + (if same_word report.word w then 1 else 0))
     → AreCounted tallies before rows → AreCounted (slice_set tallies report.out tally) after rows
 counted_step_of tallies tally before after rows report program first exists more was = record {
   told = was.told ++ report ∷ [];
-  all = ap (λ (p : Program). reports Each (outputs p) rows) program ∙ was.all ∙ ap (λ rs. was.told ++ rs) first ∙ sym (append_assoc was.told (report ∷ []) (open_of Each after rows));
+  all = ap (λ (p : Program). reports Each (outputs p) rows) program ∙ was.all ∙ ap (λ rs. was.told ++ rs) first ∙ sym (append_assoc was.told (report ∷ []) (open_in Each after rows));
   counted = tallies_step tallies was.told report tally was.counted (omega (arith, exists, was.enough)) more;
   enough = length-set tallies report.out tally ∙ was.enough ∙ ap (λ (p : Program). length p.outs) (sym program);
 }
@@ -156,10 +156,10 @@ counted_none tallies monitor drained stands enough all = record {
 
 -- a tally has room for one more report
 pub room_at : (tallies : List Tally) (before after : State) (rows : List Row) (report : Report) → AreCounted tallies before rows
-    → open_of Each before rows ≡ report ∷ open_of Each after rows → report.out < length (program_of before).outs → report.time < 2 ^ 40
-    → count_in (slice_index_or tallies report.out none) report.word < 2 ^ 63
+    → open_in Each before rows ≡ report ∷ open_in Each after rows → report.out < length (program_of before).outs → report.time < 2 ^ 40
+    → tallied (slice_index_or tallies report.out none) report.word < 2 ^ 63
 room_at tallies before after rows report was first exists early =
-    let all : reports Each (outputs (program_of before)) rows ≡ was.told ++ report ∷ open_of Each after rows = was.all ∙ ap (λ rs. was.told ++ rs) first in
-    let room : count_of report.out report.word was.told ≤ report.time = room_for report.out report.word (program_of before) rows was.told report (open_of Each after rows) all refl exists in
-    let here : count_in (slice_index_or tallies report.out none) report.word ≡ count_of report.out report.word was.told = was.counted.each report.out report.word (omega (arith, exists, was.enough)) in
+    let all : reports Each (outputs (program_of before)) rows ≡ was.told ++ report ∷ open_in Each after rows = was.all ∙ ap (λ rs. was.told ++ rs) first in
+    let room : count_of report.out report.word was.told ≤ report.time = room_for report.out report.word (program_of before) rows was.told report (open_in Each after rows) all refl exists in
+    let here : tallied (slice_index_or tallies report.out none) report.word ≡ count_of report.out report.word was.told = was.counted.each report.out report.word (omega (arith, exists, was.enough)) in
     omega (arith, room, here, early)

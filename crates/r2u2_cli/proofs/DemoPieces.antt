@@ -8,7 +8,7 @@ use Rattle.c2po_ast.specs.ItemShape.{BodyShape, ItemShape}
 use Rattle.c2po_parse.specs.declared.fault.ParseFault.{ParseFault}
 use Rattle.c2po_parse.specs.declared.fault.ParseFault.TheVariants.{TooManyTokens}
 use Rattle.c2po_parse.specs.declared.section.Section.{Section}
-use Rattle.c2po_parse.specs.Sections.{Piece, section_of, braces_after, item_of, left_over, is_end, chosen, pieces, depth_within}
+use Rattle.c2po_parse.specs.Sections.{Statement, section_of, braces_after, item_of, unended_piece, is_end, chosen, pieces, depth_within}
 use Rattle.c2po_parse.specs.Specification.{piece_body, with_line, first_or, piece_trees}
 use Rattle.c2po_parse.proofs.Walks.{bind-some}
 
@@ -27,7 +27,7 @@ goes_on : (section : Option Section) (depth d : ℕ) (before : List Token) (t : 
     → depth_within section depth t.what ≡ Some d → pieces section depth before (t ∷ ts) ≡ pieces section d (before ++ t ∷ []) ts
 unfolding pieces
 goes_on section depth d before t ts h = chosen_on (section_of t.what) (is_end section depth t.what) (braces_after t.what depth) d
-    (λ next. left_over section before ++ pieces (Some next) 0 [] ts) (item_of section t.line before ∷ pieces section 0 [] ts)
+    (λ next. unended_piece section before ++ pieces (Some next) 0 [] ts) (item_of section t.line before ∷ pieces section 0 [] ts)
     (λ n. pieces section n (before ++ t ∷ []) ts) h
 
 span_on : (section : Option Section) (depth d : ℕ) (before xs rest : List Token) → span section depth xs ≡ Some d
@@ -63,7 +63,7 @@ joined_tree : (long : Bool) (line : ℕ) (o : Option BodyShape) (r : Result (Lis
 joined_tree long line o r body items short is all = rw (short, is, all) refl
 
 -- the tree of the first piece, and those of the others
-pub tree_in_front : (p : Piece) (ps : List Piece) (body : BodyShape) (items : List ItemShape) → nat_lt 1024 (length p.tokens) ≡ false
+pub tree_in_front : (p : Statement) (ps : List Statement) (body : BodyShape) (items : List ItemShape) → nat_lt 1024 (length p.tokens) ≡ false
     → piece_body p.section p.ended p.tokens ≡ Some body → piece_trees ps ≡ Ok items → piece_trees (p ∷ ps) ≡ Ok (record { line = p.line; body = body } ∷ items)
 unfolding piece_trees
 tree_in_front p ps body items short is all =

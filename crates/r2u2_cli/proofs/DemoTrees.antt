@@ -10,19 +10,19 @@ use Rattle.c2po_lexer.specs.declared.token.Token.{Token}
 use Rattle.c2po_ast.specs.Shape.{Shape, number, named, compare, logic, window}
 use Rattle.c2po_ast.specs.ItemShape.{ItemShape, type_named, input, formula, contract}
 use Rattle.c2po_parse.specs.Fronts.{◌>>=◌, interval_at, operator_at, start_at, middle_at}
-use Rattle.c2po_parse.specs.Splitting.{tree_of}
+use Rattle.c2po_parse.specs.Splitting.{parsed_tree}
 use Rattle.c2po_parse.specs.Climbing.{climb, climb_all}
 use Rattle.c2po_parse.proofs.Agree.{agree}
 use Rattle.c2po_parse.specs.declared.section.Section.TheVariants.{Input, Output}
-use Rattle.c2po_parse.specs.Sections.{Piece, item_of, pieces}
-use Rattle.c2po_parse.specs.Forms.{input_of, output_of, label_at, names_within, promise_at, type_within}
+use Rattle.c2po_parse.specs.Sections.{Statement, item_of, pieces}
+use Rattle.c2po_parse.specs.Forms.{input_of, output_item, label_at, names_within, promise_at, type_within}
 use Rattle.c2po_parse.specs.Specification.{spec_of, piece_trees}
 use Rattle.r2u2_cli.proofs.DemoPieces.{item_in_front, section_in_front, span, tree_in_front}
 use Rattle.r2u2_cli.proofs.DemoTokens as token
 use Rattle.r2u2_cli.proofs.DemoTokens.{truths, wholes, resp, low, agc, once}
 
 -- a tree that climbing reads
-climbed : (n : ℕ) (ts : List Token) (e : Shape) → 4 * length ts + 1 ≤ n → climb_all n ts ≡ Some e → tree_of ts ≡ Some e
+climbed : (n : ℕ) (ts : List Token) (e : Shape) → 4 * length ts + 1 ≤ n → climb_all n ts ≡ Some e → parsed_tree ts ≡ Some e
 climbed n ts e enough h = sym (agree n ts enough) ∙ h
 
 -- a -> F[0,3] b
@@ -73,35 +73,35 @@ wholes_read : input_of wholes ≡ Some (input (codes "x" ∷ []) (type_named (co
 unfolding input_of names_within type_within
 wholes_read = refl
 
-resp_form : output_of Ft resp ≡ (tree_of (drop 2 resp) >>= λ e. Some (formula Ft (Some (codes "resp")) e))
-unfolding output_of label_at promise_at
+resp_form : output_item Ft resp ≡ (parsed_tree (drop 2 resp) >>= λ e. Some (formula Ft (Some (codes "resp")) e))
+unfolding output_item label_at promise_at
 resp_form = refl
 
-low_form : output_of Ft low ≡ (tree_of (drop 2 low) >>= λ e. Some (formula Ft (Some (codes "low")) e))
-unfolding output_of label_at promise_at
+low_form : output_item Ft low ≡ (parsed_tree (drop 2 low) >>= λ e. Some (formula Ft (Some (codes "low")) e))
+unfolding output_item label_at promise_at
 low_form = refl
 
-agc_form : output_of Ft agc ≡ (tree_of (take 1 (drop 2 agc)) >>= λ e. tree_of (drop 2 (drop 2 agc)) >>= λ f. Some (contract Ft (Some (codes "agc")) e f))
-unfolding output_of label_at promise_at
+agc_form : output_item Ft agc ≡ (parsed_tree (take 1 (drop 2 agc)) >>= λ e. parsed_tree (drop 2 (drop 2 agc)) >>= λ f. Some (contract Ft (Some (codes "agc")) e f))
+unfolding output_item label_at promise_at
 agc_form = refl
 
-once_form : output_of Pt once ≡ (tree_of (drop 2 once) >>= λ e. Some (formula Pt (Some (codes "once")) e))
-unfolding output_of label_at promise_at
+once_form : output_item Pt once ≡ (parsed_tree (drop 2 once) >>= λ e. Some (formula Pt (Some (codes "once")) e))
+unfolding output_item label_at promise_at
 once_form = refl
 
-resp_read : output_of Ft resp ≡ Some (formula Ft (Some (codes "resp")) resp_tree)
+resp_read : output_item Ft resp ≡ Some (formula Ft (Some (codes "resp")) resp_tree)
 resp_read = resp_form ∙ ap (λ o. o >>= λ e. Some (formula Ft (Some (codes "resp")) e)) (climbed 37 (drop 2 resp) resp_tree (lit≤ tt) resp_climbs)
 
-low_read : output_of Ft low ≡ Some (formula Ft (Some (codes "low")) low_tree)
+low_read : output_item Ft low ≡ Some (formula Ft (Some (codes "low")) low_tree)
 low_read = low_form ∙ ap (λ o. o >>= λ e. Some (formula Ft (Some (codes "low")) e)) (climbed 45 (drop 2 low) low_tree (lit≤ tt) low_climbs)
 
-agc_read : output_of Ft agc ≡ Some (contract Ft (Some (codes "agc")) agc_left agc_right)
+agc_read : output_item Ft agc ≡ Some (contract Ft (Some (codes "agc")) agc_left agc_right)
 agc_read =
     agc_form
-    ∙ ap (λ o. o >>= λ e. tree_of (drop 2 (drop 2 agc)) >>= λ f. Some (contract Ft (Some (codes "agc")) e f)) (climbed 5 (take 1 (drop 2 agc)) agc_left (lit≤ tt) agc_left_climbs)
+    ∙ ap (λ o. o >>= λ e. parsed_tree (drop 2 (drop 2 agc)) >>= λ f. Some (contract Ft (Some (codes "agc")) e f)) (climbed 5 (take 1 (drop 2 agc)) agc_left (lit≤ tt) agc_left_climbs)
     ∙ ap (λ o. o >>= λ f. Some (contract Ft (Some (codes "agc")) agc_left f)) (climbed 29 (drop 2 (drop 2 agc)) agc_right (lit≤ tt) agc_right_climbs)
 
-once_read : output_of Pt once ≡ Some (formula Pt (Some (codes "once")) once_tree)
+once_read : output_item Pt once ≡ Some (formula Pt (Some (codes "once")) once_tree)
 once_read = once_form ∙ ap (λ o. o >>= λ e. Some (formula Pt (Some (codes "once")) e)) (climbed 29 (drop 2 once) once_tree (lit≤ tt) once_climbs)
 
 -- the pieces
@@ -119,7 +119,7 @@ low_piece : pieces (Some (Output Ft)) 0 [] token.from_low
 unfolding span
 low_piece = item_in_front (Some (Output Ft)) low token.end_of_low token.from_agc refl refl refl ∙ ap (λ ps. item_of (Some (Output Ft)) 2 low ∷ ps) agc_piece
 
-abbrev output_pieces : List Piece
+abbrev output_pieces : List Statement
 output_pieces = item_of (Some (Output Ft)) 2 resp ∷ item_of (Some (Output Ft)) 2 low ∷ item_of (Some (Output Ft)) 2 agc ∷ item_of (Some (Output Pt)) 3 once ∷ []
 
 resp_piece : pieces (Some (Output Ft)) 0 [] token.from_resp ≡ output_pieces
@@ -131,7 +131,7 @@ unfolding span
 wholes_piece = item_in_front (Some Input) wholes token.end_of_wholes token.from_future refl refl refl
     ∙ ap (λ ps. item_of (Some Input) 1 wholes ∷ ps) (section_in_front (Some Input) (Output Ft) token.word_of_future token.from_resp refl ∙ resp_piece)
 
-abbrev demo_pieces : List Piece
+abbrev demo_pieces : List Statement
 demo_pieces = item_of (Some Input) 1 truths ∷ item_of (Some Input) 1 wholes ∷ output_pieces
 
 pieces_found : pieces None 0 [] token.demo_tokens ≡ demo_pieces

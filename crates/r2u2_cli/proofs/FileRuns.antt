@@ -7,7 +7,7 @@ use Rattle.tool_io.specs.declared.host.Place as place
 use Rattle.tool_io.specs.declared.host.Place.TheVariants.{Trace, Out}
 use Rattle.tool_io.specs.declared.host.Place.TheVariants as at
 use Rattle.tool_io.specs.Log.{Event, Attached, Missed, Took, same_place, taken, given, ended_from, names_of, Reads, Prompt}
-use Rattle.tool_io.specs.Whole.{Takes}
+use Rattle.tool_io.specs.Whole.{Draws}
 use Rattle.tool_io.specs.Cutting.{HasNoNewline, lines_of}
 use Rattle.tool_io.proofs.LogLaws.{same_place-self, taken-append, given-append, ended_from-append, names_of-append, Reads-taken, Reads-taken_elsewhere, Reads-given, Reads-names, Reads-ended, Reads-ended_elsewhere}
 use Rattle.tool_io.proofs.Prompting.{PromptBy, PromptBy-append, PromptBy-from, Prompt-from_by}
@@ -69,7 +69,7 @@ pub record HasRead (kind : FileKind) (name bytes : List ℕ) (ended : Bool) (eve
   pub unopened : is_attached Trace events ≡ false
   pub early : ReadsFirstLine events
 
-has_read : (kind : FileKind) (name bytes : List ℕ) (ended : Bool) (log : List Event) → Takes (file_place kind) bytes ended log → HasRead kind name bytes ended (Attached (file_place kind) name ∷ log)
+has_read : (kind : FileKind) (name bytes : List ℕ) (ended : Bool) (log : List Event) → Draws (file_place kind) bytes ended log → HasRead kind name bytes ended (Attached (file_place kind) name ∷ log)
 has_read kind name bytes ended log takes =
     let p = file_place kind in
     let pieces = takes.pieces in

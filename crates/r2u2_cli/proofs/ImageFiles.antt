@@ -13,7 +13,7 @@ use Rattle.mltl_base.specs.Reports.{Output, reports}
 use Rattle.mltl_base.specs.Subformulas.{Asked}
 use Rattle.mltl_base.proofs.Telling.{told_words, reports_rise}
 use Rattle.mltl_base.proofs.Words.{word_settled, word_known}
-use Rattle.obs_files.specs.Layout.{Fits, spelling}
+use Rattle.obs_files.specs.Layout.{IsEncodable, spelling}
 use Rattle.obs_verify.specs.Bound.{bound}
 use Rattle.obs_verify.specs.WellFormed.{IsWellFormed}
 use Rattle.obs_files.specs.declared.fault.FileFault.{FileFault}
@@ -70,7 +70,7 @@ unfolding program_by
 opened_by file header program is = opened_found file header program (opened file) refl is
 
 -- the program that bytes spell is well-formed where it runs, and bound to the header
-spelled_bound : (p program : Program) (file : List ℕ) (header : Option (List ℕ)) → Fits p → file ≡ spelling p → program_by kinds.Program file header ≡ Ok program → IsWellFormed p × (bound_under header p ≡ Ok program)
+spelled_bound : (p program : Program) (file : List ℕ) (header : Option (List ℕ)) → IsEncodable p → file ≡ spelling p → program_by kinds.Program file header ≡ Ok program → IsWellFormed p × (bound_under header p ≡ Ok program)
 spelled_bound p program file header fits spells is =
     let by = opened_by file header program is in
     let found = opened_spelled p by.from file fits spells by.opens in

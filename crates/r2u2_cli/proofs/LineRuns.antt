@@ -28,7 +28,7 @@ use Rattle.c2po_compile.specs.Refusals.{unless_refused}
 use Rattle.r2u2_cli.specs.ProgramBy.{file_refusal, program_by, header_in, unless_long, program_over}
 use Rattle.r2u2_cli.specs.Outcome.{due_by, rows_by, AllTold, LinesOutcome}
 use Rattle.r2u2_cli.specs.Taken.{trace_of, trace_ended, lines_in, BegunFor, ReadsFirstLine}
-use Rattle.r2u2_cli.specs.Phases.{FirstRead, StandsFirst, IsFirst, header_of_row, header_at, FirstLog, RanLoop, RanRows, RanLines, status_of}
+use Rattle.r2u2_cli.specs.Phases.{FirstRead, StandsFirst, IsFirst, header_of_row, cut_header, FirstLog, RanLoop, RanRows, RanLines, ending_status}
 use Rattle.r2u2_cli.proofs.Refusing.{Refuses, IsMarked, program_refuses}
 
 -- no line says no row
@@ -103,7 +103,7 @@ found_over kind bytes row lines none has =
 told_all : (program : Program) (asked : RunAsked) (ended : Bool) (bytes out : List ℕ) (monitor : State) → IsTold program asked.style (rows_by asked program 1) ended bytes out monitor → AllTold asked (Ok program) ended bytes out (Some monitor)
 told_all program asked ended bytes out monitor told = record { out_is = told.told; keeps = told.kept }
 
-lines_outcome : (answer : watched.Watched) (program : Program) (asked : RunAsked) (ended : Bool) (bytes out : List ℕ) (monitor : State) → Outcome answer program asked.style (rows_by asked program 1) ended bytes out monitor → LinesOutcome (status_of answer) asked (Ok program) ended bytes out (Some monitor)
+lines_outcome : (answer : watched.Watched) (program : Program) (asked : RunAsked) (ended : Bool) (bytes out : List ℕ) (monitor : State) → Outcome answer program asked.style (rows_by asked program 1) ended bytes out monitor → LinesOutcome (ending_status answer) asked (Ok program) ended bytes out (Some monitor)
 lines_outcome watched.TheVariants.Done program asked ended bytes out monitor is = (is.0, is.1, told_all program asked ended bytes out monitor is.2)
 lines_outcome watched.TheVariants.TooLong program asked ended bytes out monitor is = (is.0, told_all program asked ended bytes out monitor is.1)
 lines_outcome (watched.TheVariants.BadTrace number why) program asked ended bytes out monitor is = inr (is.0, told_all program asked ended bytes out monitor is.1)
@@ -128,7 +128,7 @@ begun_for (status.TheVariants.Refused line why) ended raws is = is
 begun_for answer ended raws is = tt
 
 -- the loop ends by no refusal
-loop_begun : (answer : watched.Watched) (ended : Bool) (raws : List (List ℕ)) → BegunFor (status_of answer) ended raws
+loop_begun : (answer : watched.Watched) (ended : Bool) (raws : List (List ℕ)) → BegunFor (ending_status answer) ended raws
 loop_begun watched.TheVariants.Done ended raws = tt
 loop_begun watched.TheVariants.TooLong ended raws = tt
 loop_begun (watched.TheVariants.BadTrace number why) ended raws = tt
@@ -165,26 +165,26 @@ row_marked (Some raw) =
     elim (begins_header (line_text raw)) as (λ b. begins_header (line_text raw) ≡ b → IsMarked (if b then Some (line_text raw) else None)) [ true ↦ λ is. is | false ↦ λ is. tt ] refl
 
 -- what was found after the first line was read, and nothing more
-found_first : (asked : RunAsked) (bytes : List ℕ) (start : Cutting) (events : List Event) → FirstRead start events → IsFirst start → file_refusal asked.kind bytes ≡ None → program_over asked.kind bytes (lines_in events) ≡ program_by asked.kind bytes (header_at start)
+found_first : (asked : RunAsked) (bytes : List ℕ) (start : Cutting) (events : List Event) → FirstRead start events → IsFirst start → file_refusal asked.kind bytes ≡ None → program_over asked.kind bytes (lines_in events) ≡ program_by asked.kind bytes (cut_header start)
 found_first asked bytes start events has first none =
     let are : lines_in events ≡ lines_of start.ended (start.pending ++ []) = ap (λ v. lines_of v (taken Trace events)) (first_ended start events has) ∙ ap (lines_of start.ended) (first_taken start events has ∙ sym (append-nil start.pending)) in
     ap (program_over asked.kind bytes) are ∙ found_over asked.kind bytes start.row (lines_of start.ended (start.pending ++ [])) none (first_of_lines start.row start.pending start.ended first.stands start.ended [] (λ met. (met, refl)))
 
 -- the header or a limit refused the program
-lines_refused : (asked : RunAsked) (bytes : List ℕ) (start : Cutting) (answer : status.Status) (events : List Event) → FirstRead start events → IsFirst start → file_refusal asked.kind bytes ≡ None → program_by asked.kind bytes (header_at start) ≡ Err answer → RanLines asked bytes answer None events
+lines_refused : (asked : RunAsked) (bytes : List ℕ) (start : Cutting) (answer : status.Status) (events : List Event) → FirstRead start events → IsFirst start → file_refusal asked.kind bytes ≡ None → program_by asked.kind bytes (cut_header start) ≡ Err answer → RanLines asked bytes answer None events
 lines_refused asked bytes start answer events has first none is =
     let found = program_over asked.kind bytes (lines_in events) in
     let refused : found ≡ Err answer = found_first asked bytes start events has first none ∙ is in
     record {
       only = first_only start events has;
       prompt = Prompt-from_by (due_by asked found false) [] events (first_prompt asked found start events has);
-      outcome = refused_outcome answer asked found (trace_ended events) (trace_of events) (given Out events) (program_refuses asked.kind bytes (header_at start) answer (row_marked start.row) is) refused (first_given start events has);
+      outcome = refused_outcome answer asked found (trace_ended events) (trace_of events) (given Out events) (program_refuses asked.kind bytes (cut_header start) answer (row_marked start.row) is) refused (first_given start events has);
       begun = begun_for answer (trace_ended events) (lines_in events) (has_begun start events has first);
       early = refused_early answer start events has;
     }
 
 -- the loop never ends for want of memory
-never_memory : (answer : watched.Watched) → status_of answer ≡ status.TheVariants.Memory → ⊥
+never_memory : (answer : watched.Watched) → ending_status answer ≡ status.TheVariants.Memory → ⊥
 never_memory watched.TheVariants.Done is = cc
 never_memory watched.TheVariants.TooLong is = cc
 never_memory (watched.TheVariants.BadTrace number why) is = cc
@@ -192,7 +192,7 @@ never_memory watched.TheVariants.ReadFault is = cc
 never_memory watched.TheVariants.WriteFault is = cc
 
 -- the loop ran
-module _ (asked : RunAsked) (bytes : List ℕ) (start : Cutting) (answer : status.Status) (kept : Option State) (first second : List Event) (program : Program) (has : FirstRead start first) (is_first : IsFirst start) (none : file_refusal asked.kind bytes ≡ None) (is : program_by asked.kind bytes (header_at start) ≡ Ok program) (ran : RanLoop program asked start answer kept second) where
+module _ (asked : RunAsked) (bytes : List ℕ) (start : Cutting) (answer : status.Status) (kept : Option State) (first second : List Event) (program : Program) (has : FirstRead start first) (is_first : IsFirst start) (none : file_refusal asked.kind bytes ≡ None) (is : program_by asked.kind bytes (cut_header start) ≡ Ok program) (ran : RanLoop program asked start answer kept second) where
   abbrev all : List Event
   all = first ++ second
 
@@ -245,7 +245,7 @@ lines_alone : (asked : RunAsked) (bytes : List ℕ) (answer : status.Status) (ke
 lines_alone asked bytes answer kept first second no_monitor no_events ran =
     subst (λ k. RanLines asked bytes answer k (first ++ second)) (sym no_monitor) (subst (λ e. RanLines asked bytes answer None (first ++ e)) (sym no_events) (subst (RanLines asked bytes answer None) (sym (append-nil first)) ran))
 
-lines_stayed : (asked : RunAsked) (bytes : List ℕ) (start : Cutting) (answer : status.Status) (first : List Event) → FirstRead start first → IsFirst start → file_refusal asked.kind bytes ≡ None → (answer ≡ status.TheVariants.Memory) ⊎ (program_by asked.kind bytes (header_at start) ≡ Err answer) → RanLines asked bytes answer None first
+lines_stayed : (asked : RunAsked) (bytes : List ℕ) (start : Cutting) (answer : status.Status) (first : List Event) → FirstRead start first → IsFirst start → file_refusal asked.kind bytes ≡ None → (answer ≡ status.TheVariants.Memory) ⊎ (program_by asked.kind bytes (cut_header start) ≡ Err answer) → RanLines asked bytes answer None first
 lines_stayed asked bytes start answer first has is_first none (inl memory) = subst (λ s. RanLines asked bytes s None first) (sym memory) (lines_no_memory asked bytes start first has)
 lines_stayed asked bytes start answer first has is_first none (inr refused) = lines_refused asked bytes start answer first has is_first none refused
 

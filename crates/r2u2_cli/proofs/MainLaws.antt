@@ -13,7 +13,7 @@ use Rattle.tool_io.specs.Cutting.{lines_of}
 use Rattle.tool_io.specs.Whole.{PutAllLog}
 use Rattle.tool_io.proofs.LogLaws.{given-append, Writes-given}
 use Rattle.tool_io.proofs.Prompting.{PromptBy-append, PromptBy-from, Prompt-from_by, Writes-prompt}
-use Rattle.tool_words.specs.R2u2Words.{Asked, RunAsked, help, run, demo, nothing}
+use Rattle.tool_words.specs.R2u2Words.{R2u2Request, RunAsked, help, run, demo, nothing}
 use Rattle.r2u2_monitor.specs.declared.state.State.{State}
 use Rattle.r2u2_watch.specs.Trace.{Stop, Clean, Bad, Past}
 use Rattle.tool_words.specs.declared.message.Tool.TheVariants.{R2u2}
@@ -30,7 +30,7 @@ use Rattle.r2u2_cli.specs.Demo.{DemoOutcome}
 use Rattle.r2u2_cli.specs.ProgramBy.{file_refusal, program_over}
 use Rattle.r2u2_cli.specs.Outcome.{due_by, StopsBy, LinesOutcome}
 use Rattle.r2u2_cli.specs.Taken.{BegunFor, trace_of, trace_ended, lines_in}
-use Rattle.r2u2_cli.specs.Run.{RefusesAfter, file_of, file_ended, found_in, IsReadable, FileOutcome, HelpOutcome, NothingOutcome, OutcomeOf, TriesSecond, IsPrompt, TellsFormulas, Ran, CompletesBy, IsRun}
+use Rattle.r2u2_cli.specs.Run.{RefusesAfter, file_in, file_ended, found_in, IsReadable, FileOutcome, HelpOutcome, NothingOutcome, OutcomeOf, TriesSecond, IsPrompt, TellsFormulas, Ran, CompletesBy, IsRun}
 use Rattle.r2u2_cli.proofs.Telling.{settled_by}
 
 -- rows that end cleanly, and a program, where another end is told, or no program
@@ -89,11 +89,11 @@ demo_complete (status.TheVariants.WriteFault at.Err) seed rows out kept before b
 demo_complete (status.TheVariants.WriteFault p) seed rows out kept before between now cause same none is = absurd (rose_at before between now p cause same none (λ e. cc))
 demo_complete answer seed rows out kept before between now cause same none is = absurd is
 
-complete_run : (asked : Asked) (answer : status.Status) (kept : Option State) (before between now : place.Place → ℕ) (events : List Event) → RunCause answer before between → ((q : place.Place) → q ≢ at.Err → now q ≡ between q) → OutcomeOf answer asked events kept → NoOtherRose before now → CompletesBy asked answer events
+complete_run : (asked : R2u2Request) (answer : status.Status) (kept : Option State) (before between now : place.Place → ℕ) (events : List Event) → RunCause answer before between → ((q : place.Place) → q ≢ at.Err → now q ≡ between q) → OutcomeOf answer asked events kept → NoOtherRose before now → CompletesBy asked answer events
 complete_run nothing answer kept before between now events cause same is = λ none. tt
 complete_run help answer kept before between now events cause same is = λ none. help_complete answer (given Out events) kept before between now cause same none is
 complete_run (demo seed rows) answer kept before between now events cause same is = λ none. demo_complete answer seed rows (given Out events) kept before between now cause same none is
-complete_run (run asked) answer kept before between now events cause same is = λ none fits clean. file_complete answer asked (file_of asked events) (file_ended asked events) (trace_of events) (trace_ended events) (given Out events) kept before between now cause same none fits clean is
+complete_run (run asked) answer kept before between now events cause same is = λ none fits clean. file_complete answer asked (file_in asked events) (file_ended asked events) (trace_of events) (trace_ended events) (given Out events) kept before between now cause same none fits clean is
 
 -- a message after a run changes nothing but what Err was given
 module _ (first all : List Event) (leaves : Leaves first all) where
@@ -101,28 +101,28 @@ module _ (first all : List Event) (leaves : Leaves first all) where
   all_lines = ap (λ v. lines_of v (trace_of all)) (leaves.ends Trace) ∙ ap (lines_of (trace_ended first)) (leaves.bytes Trace)
 
   pub all_found : (asked : RunAsked) → found_in asked all ≡ found_in asked first
-  all_found asked = ap (λ b. program_over asked.kind b (lines_in all)) (leaves.bytes (file_place asked.kind)) ∙ ap (program_over asked.kind (file_of asked first)) all_lines
+  all_found asked = ap (λ b. program_over asked.kind b (lines_in all)) (leaves.bytes (file_place asked.kind)) ∙ ap (program_over asked.kind (file_in asked first)) all_lines
 
-  pub second_still : (asked : Asked) → TriesSecond asked first → TriesSecond asked all
+  pub second_still : (asked : R2u2Request) → TriesSecond asked first → TriesSecond asked all
   second_still help is = tt
   second_still nothing is = tt
   second_still (demo seed rows) is = tt
   second_still (run asked) is = λ two.
       subst (λ b. IsReadable asked b (file_ended asked all)) (sym (leaves.bytes (file_place asked.kind)))
-      (subst (IsReadable asked (file_of asked first)) (sym (leaves.ends (file_place asked.kind))) (is (subst (λ ns. 1 < length ns) leaves.names two)))
+      (subst (IsReadable asked (file_in asked first)) (sym (leaves.ends (file_place asked.kind))) (is (subst (λ ns. 1 < length ns) leaves.names two)))
 
-  pub outcome_still : (asked : Asked) (answer : status.Status) (kept : Option State) → OutcomeOf answer asked first kept → OutcomeOf answer asked all kept
+  pub outcome_still : (asked : R2u2Request) (answer : status.Status) (kept : Option State) → OutcomeOf answer asked first kept → OutcomeOf answer asked all kept
   outcome_still help answer kept is = subst (λ b. HelpOutcome answer b kept) (sym leaves.out) is
   outcome_still nothing answer kept is = subst (λ b. NothingOutcome answer b kept) (sym leaves.out) is
   outcome_still (demo seed rows) answer kept is = subst (λ b. DemoOutcome answer seed rows b kept) (sym leaves.out) is
   outcome_still (run asked) answer kept is =
       subst (λ b. FileOutcome answer asked b (file_ended asked all) (trace_of all) (trace_ended all) (given Out all) kept) (sym (leaves.bytes (file_place asked.kind)))
-      (subst (λ v. FileOutcome answer asked (file_of asked first) v (trace_of all) (trace_ended all) (given Out all) kept) (sym (leaves.ends (file_place asked.kind)))
-      (subst (λ b. FileOutcome answer asked (file_of asked first) (file_ended asked first) b (trace_ended all) (given Out all) kept) (sym (leaves.bytes Trace))
-      (subst (λ v. FileOutcome answer asked (file_of asked first) (file_ended asked first) (trace_of first) v (given Out all) kept) (sym (leaves.ends Trace))
-      (subst (λ b. FileOutcome answer asked (file_of asked first) (file_ended asked first) (trace_of first) (trace_ended first) b kept) (sym leaves.out) is))))
+      (subst (λ v. FileOutcome answer asked (file_in asked first) v (trace_of all) (trace_ended all) (given Out all) kept) (sym (leaves.ends (file_place asked.kind)))
+      (subst (λ b. FileOutcome answer asked (file_in asked first) (file_ended asked first) b (trace_ended all) (given Out all) kept) (sym (leaves.bytes Trace))
+      (subst (λ v. FileOutcome answer asked (file_in asked first) (file_ended asked first) (trace_of first) v (given Out all) kept) (sym (leaves.ends Trace))
+      (subst (λ b. FileOutcome answer asked (file_in asked first) (file_ended asked first) (trace_of first) (trace_ended first) b kept) (sym leaves.out) is))))
 
-  pub begun_still : (asked : Asked) (answer : status.Status) → RefusesAfter asked answer first → RefusesAfter asked answer all
+  pub begun_still : (asked : R2u2Request) (answer : status.Status) → RefusesAfter asked answer first → RefusesAfter asked answer all
   begun_still help answer is = tt
   begun_still (demo seed rows) answer is = tt
   begun_still nothing answer is = tt
@@ -135,7 +135,7 @@ module _ (first second : List Event) (sent : List ℕ) (writes : Writes at.Err s
   still_prompt : (due_of : List ℕ → List ℕ) → Prompt due_of [] first → Prompt due_of [] (first ++ second)
   still_prompt due_of is = Prompt-from_by due_of [] (first ++ second) (PromptBy-append due_of [] [] first second (PromptBy-from due_of [] first is) (Writes-prompt due_of (taken Trace first) (given Out first) at.Err sent second writes))
 
-  pub prompt_still : (asked : Asked) → IsPrompt asked first → IsPrompt asked (first ++ second)
+  pub prompt_still : (asked : R2u2Request) → IsPrompt asked first → IsPrompt asked (first ++ second)
   prompt_still help is = still_prompt (λ bytes. []) is
   prompt_still nothing is = still_prompt (λ bytes. []) is
   prompt_still (demo seed rows) is = still_prompt (λ bytes. []) is
@@ -143,14 +143,14 @@ module _ (first second : List Event) (sent : List ℕ) (writes : Writes at.Err s
       subst (λ f. Prompt (due_by asked f false) [] (first ++ second)) (sym (all_found first (first ++ second) (message_leaves first second sent writes) asked))
       (still_prompt (due_by asked (found_in asked first) false) is)
 
-tells_formulas : (asked : Asked) (events : List Event) → TellsFormulas asked events
+tells_formulas : (asked : R2u2Request) (events : List Event) → TellsFormulas asked events
 tells_formulas help events = tt
 tells_formulas nothing events = tt
 tells_formulas (demo seed rows) events = tt
-tells_formulas (run asked) events = settled_by asked (file_of asked events) (lines_in events) (trace_ended events) (trace_of events)
+tells_formulas (run asked) events = settled_by asked (file_in asked events) (lines_in events) (trace_ended events) (trace_of events)
 
 -- a run, and then a front of its message
-run_told : (asked : Asked) (answer : status.Status) (kept : Option State) (before between now : place.Place → ℕ) (first second : List Event) (sent unsent : List ℕ) → Ran asked answer kept first → RunCause answer before between → ((q : place.Place) → q ≢ at.Err → now q ≡ between q) → Writes at.Err sent second → told_to_user R2u2 answer ≡ sent ++ unsent → ToldWhole R2u2 answer (before at.Err) (now at.Err) (first ++ second) → IsRun asked answer kept before now (first ++ second)
+run_told : (asked : R2u2Request) (answer : status.Status) (kept : Option State) (before between now : place.Place → ℕ) (first second : List Event) (sent unsent : List ℕ) → Ran asked answer kept first → RunCause answer before between → ((q : place.Place) → q ≢ at.Err → now q ≡ between q) → Writes at.Err sent second → told_to_user R2u2 answer ≡ sent ++ unsent → ToldWhole R2u2 answer (before at.Err) (now at.Err) (first ++ second) → IsRun asked answer kept before now (first ++ second)
 run_told asked answer kept before between now first second sent unsent ran cause same writes split whole =
     let all = first ++ second in
     let leaves = message_leaves first second sent writes in
@@ -174,7 +174,7 @@ run_told asked answer kept before between now first second sent unsent ran cause
       complete = complete_run asked answer kept before between now all cause same outcome;
     }
 
-pub main_ran : (asked : Asked) (answer : status.Status) (kept : Option State) (before between now : place.Place → ℕ) (first second : List Event) (sending : put.Put) → Ran asked answer kept first → RunCause answer before between → WriteCause sending between now at.Err → PutAllLog sending at.Err (told_to_user R2u2 answer) second → IsRun asked answer kept before now (first ++ second)
+pub main_ran : (asked : R2u2Request) (answer : status.Status) (kept : Option State) (before between now : place.Place → ℕ) (first second : List Event) (sending : put.Put) → Ran asked answer kept first → RunCause answer before between → WriteCause sending between now at.Err → PutAllLog sending at.Err (told_to_user R2u2 answer) second → IsRun asked answer kept before now (first ++ second)
 main_ran asked answer kept before between now first second (put.TheVariants.Wrote n) ran cause wrote writes =
     let text = told_to_user R2u2 answer in
     let out : given at.Err (first ++ second) ≡ text = given-append at.Err first second ∙ ap (λ b. b ++ given at.Err second) (unused-given at.Err first ran.quiet) ∙ Writes-given at.Err text second writes in

@@ -8,7 +8,7 @@ use Rattle.c2po_types.specs.Signals.{signals_of}
 use Rattle.c2po_types.specs.Outputs.{outputs_of}
 use Rattle.obs_files.specs.declared.fault.FileFault.{FileFault}
 use Rattle.obs_files.specs.declared.fault.FileFault.TheVariants as file
-use Rattle.obs_files.specs.Faults.{Tells, opened}
+use Rattle.obs_files.specs.Faults.{ReturnsOpened, opened}
 use Rattle.trace_feed.specs.Header.{bound_to}
 use Rattle.c2po_compile.specs.declared.fault.CompileFault.{CompileFault}
 use Rattle.c2po_compile.specs.declared.fault.CompileFault.TheVariants as compile
@@ -20,14 +20,14 @@ use Rattle.c2po_compile.specs.Compiled.{columns_by}
 use Rattle.c2po_compile.proofs.CompiledLaws.{header_answer, back_answers, back_refuses}
 use Rattle.tool_words.specs.declared.file_kind.FileKind.{FileKind}
 use Rattle.tool_words.specs.declared.file_kind.FileKind.TheVariants as kinds
-use Rattle.r2u2_cli.specs.declared.opening.Opened.{Opened}
-use Rattle.r2u2_cli.specs.declared.opening.Opened.TheVariants as made
+use Rattle.r2u2_cli.specs.declared.program_file.Opened.{Opened}
+use Rattle.r2u2_cli.specs.declared.program_file.Opened.TheVariants as made
 use Rattle.tool_words.specs.declared.status.Status.{Status}
 use Rattle.tool_words.specs.declared.status.Status.TheVariants.{Memory}
 use Rattle.tool_words.specs.Files.{file_status}
 use Rattle.tool_words.specs.Statuses.{with_status}
 use Rattle.r2u2_cli.specs.ProgramBy.{compile_status, refusal_of, file_refusal, header_status, bound_under, opened_under, program_by}
-use Rattle.r2u2_cli.specs.Phases.{Opens}
+use Rattle.r2u2_cli.specs.Phases.{OpensFile}
 use Rattle.std.specs.Prelude.{option_map}
 
 -- a specification that is refused, or isn't
@@ -42,7 +42,7 @@ unfolding file_refusal
 spec_unrefused text none = ap (option_map compile_status) none
 
 -- a program file that is refused, or isn't
-pub program_refused : (bytes : List ℕ) (fault : FileFault) → Tells (Err fault) (opened bytes) → file_status fault ≢ Memory → file_refusal kinds.Program bytes ≡ Some (file_status fault)
+pub program_refused : (bytes : List ℕ) (fault : FileFault) → ReturnsOpened (Err fault) (opened bytes) → file_status fault ≢ Memory → file_refusal kinds.Program bytes ≡ Some (file_status fault)
 unfolding file_refusal
 program_refused bytes (file.Program fault) is some = ap refusal_of is
 program_refused bytes file.Memory is some = absurd (some refl)
@@ -100,21 +100,21 @@ under_line line program two =
     ap (λ (n : ℕ). if n == 2 then with_status header_status (bound_to program line) else Ok program) two
 
 -- what was opened isn't refused by itself
-pub opens_unrefused : (made : Opened) (kind : FileKind) (bytes : List ℕ) → Opens made kind bytes → file_refusal kind bytes ≡ None
+pub opens_unrefused : (made : Opened) (kind : FileKind) (bytes : List ℕ) → OpensFile made kind bytes → file_refusal kind bytes ≡ None
 opens_unrefused (made.Spec spec) kind bytes is = subst (λ s. file_refusal s bytes ≡ None) (sym is.0) (spec_unrefused bytes is.1)
 opens_unrefused (made.Program checked) kind bytes is = subst (λ s. file_refusal s bytes ≡ None) (sym is.0) (program_unrefused bytes checked is.1)
 
 -- a program file that was opened, under a header
 pub file_programs : (result : Result Program Status) (header : Option (List ℕ)) (program : Program) (opened_so : Opened) → opened_so ≡ made.Program program → IfOk result (λ bound. bound_under header program ≡ Ok bound)
-    → IfOk result (λ bound. (kind : FileKind) (bytes : List ℕ) → Opens opened_so kind bytes → program_by kind bytes header ≡ Ok bound)
+    → IfOk result (λ bound. (kind : FileKind) (bytes : List ℕ) → OpensFile opened_so kind bytes → program_by kind bytes header ≡ Ok bound)
 file_programs (Ok now) header program opened_so is found = λ kind bytes opens.
-    let spells = subst (λ o. Opens o kind bytes) is opens in
+    let spells = subst (λ o. OpensFile o kind bytes) is opens in
     file_program kind bytes header program (Ok now) spells.0 spells.1 found
 file_programs (Err answer) header program opened_so is found = tt
 
 pub file_refusals : (result : Result Program Status) (header : Option (List ℕ)) (program : Program) (opened_so : Opened) → opened_so ≡ made.Program program → IfErr result (λ answer. answer ≢ Memory → bound_under header program ≡ Err answer)
-    → IfErr result (λ answer. answer ≢ Memory → (kind : FileKind) (bytes : List ℕ) → Opens opened_so kind bytes → program_by kind bytes header ≡ Err answer)
+    → IfErr result (λ answer. answer ≢ Memory → (kind : FileKind) (bytes : List ℕ) → OpensFile opened_so kind bytes → program_by kind bytes header ≡ Err answer)
 file_refusals (Ok now) header program opened_so is refused = tt
 file_refusals (Err answer) header program opened_so is refused = λ some kind bytes opens.
-    let spells = subst (λ o. Opens o kind bytes) is opens in
+    let spells = subst (λ o. OpensFile o kind bytes) is opens in
     file_program kind bytes header program (Err answer) spells.0 spells.1 (refused some)

@@ -20,7 +20,7 @@ use Rattle.c2po_compile.specs.Compiled.{image_of_text}
 use Rattle.c2po_compile.specs.Image.{image}
 use Rattle.c2po_compile.proofs.TellingLaws.{text_reports}
 use Rattle.r2u2_cli.specs.DemoRow.{bit, demo_row, demo_value}
-use Rattle.r2u2_cli.specs.Summary.{demo_rows, demo_summary, listed, listed_out, summary_of}
+use Rattle.r2u2_cli.specs.Summary.{demo_rows, demo_summary, summary_entry, listed_out, summary_of}
 use Rattle.r2u2_cli.specs.Text.{demo_outputs, demo_text}
 use Rattle.r2u2_cli.proofs.DemoCompiles.{columns_are, compiles, demo_columns, demo_program, outputs_are}
 
@@ -72,7 +72,7 @@ fits_program p seed k width is = record {
 pub row_fits : (p : Program) (seed k : ℕ) → image_of_text demo_text None ≡ Ok p → IsFit p (demo_row seed k)
 row_fits p seed k h = subst (λ (q : Program). IsFit q (demo_row seed k)) (sym (program_is p h)) (fits_program demo_program seed k width_found bz_found)
 
-listed_found : map listed_out demo_program.outs ≡ map listed demo_outputs
+listed_found : map listed_out demo_program.outs ≡ map summary_entry demo_outputs
 unfolding image
 listed_found = refl
 
@@ -80,5 +80,5 @@ pub summary_is : (p : Program) (seed rows : ℕ) → image_of_text demo_text Non
     → summary_of rows (map listed_out p.outs) (reports Each (outputs p) (demo_rows seed rows)) ≡ demo_summary seed rows
 unfolding demo_summary
 summary_is p seed rows h =
-    ap₂ (summary_of rows) (ap (λ (q : Program). map listed_out q.outs) (program_is p h) ∙ listed_found ∙ ap (map listed) (sym outputs_are))
+    ap₂ (summary_of rows) (ap (λ (q : Program). map listed_out q.outs) (program_is p h) ∙ listed_found ∙ ap (map summary_entry) (sym outputs_are))
     (text_reports Each demo_text None demo_columns p (demo_rows seed rows) h columns_are)

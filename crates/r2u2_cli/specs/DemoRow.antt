@@ -11,9 +11,9 @@ abbrev pub bit : Bool → ℤ
 bit b = if b then pos 1 else pos 0
 
 -- the row that is made of a number: two Booleans and an integer
-abbrev pub row_of : ℕ → List ℤ
-row_of v = bit (v % 3 == 0) ∷ bit (nat_lt (v % 5) 2) ∷ (pos v -ℤ pos 500) ∷ []
+abbrev pub made_row : ℕ → List ℤ
+made_row v = bit (v % 3 == 0) ∷ bit (nat_lt (v % 5) 2) ∷ (pos v -ℤ pos 500) ∷ []
 
 -- row k, counted from 0: a, b and x
 abbrev pub demo_row : ℕ → ℕ → List ℤ
-demo_row seed k = row_of (demo_value seed k)
+demo_row seed k = made_row (demo_value seed k)

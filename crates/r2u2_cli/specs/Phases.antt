@@ -19,8 +19,8 @@ use Rattle.r2u2_monitor.specs.declared.state.State.{State}
 use Rattle.trace_feed.specs.declared.trace_why.TraceWhy.TheVariants.{LongLine}
 use Rattle.r2u2_watch.specs.declared.status.Watched as watched
 use Rattle.r2u2_watch.specs.Watch.{OnlyRun, IsWatch, first_of}
-use Rattle.r2u2_cli.specs.declared.opening.Opened.{Opened}
-use Rattle.r2u2_cli.specs.declared.opening.Opened.TheVariants as file
+use Rattle.r2u2_cli.specs.declared.program_file.Opened.{Opened}
+use Rattle.r2u2_cli.specs.declared.program_file.Opened.TheVariants as file
 use Rattle.tool_words.specs.declared.status.Status as status
 use Rattle.tool_words.specs.Attaching.{OpensAsTold, ReadsAttached}
 use Rattle.tool_words.specs.Files.{file_place}
@@ -30,10 +30,10 @@ use Rattle.r2u2_cli.specs.Outcome.{due_by, rows_by, Silent, LinesOutcome}
 use Rattle.r2u2_cli.specs.Taken.{BegunFor, trace_of, trace_ended, lines_in, ReadsFirstLine}
 
 -- what was made of a file: a specification that says its items, or the program that its bytes spell
-abbrev pub Opens : Opened → FileKind → List ℕ → Type 0
-Opens (file.Spec spec) kind bytes =
+abbrev pub OpensFile : Opened → FileKind → List ℕ → Type 0
+OpensFile (file.Spec spec) kind bytes =
     (kind ≡ kinds.Spec) × (first_refusal bytes ≡ None) × (spec_shape spec ≡ items_in bytes)
-Opens (file.Program checked) kind bytes = (kind ≡ kinds.Program) × (opened bytes ≡ Ok checked)
+OpensFile (file.Program checked) kind bytes = (kind ≡ kinds.Program) × (opened bytes ≡ Ok checked)
 
 -- the first line of the trace was read, and nothing was cut
 pub record FirstRead (cut : Cutting) (events : List Event) : Type 0 where
@@ -61,8 +61,8 @@ header_of_row None = None
 header_of_row (Some raw) = if begins_header (line_text raw) then Some (line_text raw) else None
 
 -- the same of the row that a cut has
-abbrev pub header_at : Cutting → Option (List ℕ)
-header_at cut = header_of_row cut.row
+abbrev pub cut_header : Cutting → Option (List ℕ)
+cut_header cut = header_of_row cut.row
 
 -- the log of reading the first line, or why it gives none
 abbrev pub FirstLog : Result Bool status.Status → Cutting → List Event → Type 0
@@ -74,12 +74,12 @@ FirstLog (Err (status.TheVariants.ReadFault place.TheVariants.Trace)) cut events
 FirstLog (Err answer) cut events = ⊥
 
 -- the status of a run whose loop ended so
-abbrev pub status_of : watched.Watched → status.Status
-status_of watched.TheVariants.Done = status.TheVariants.Done
-status_of (watched.TheVariants.BadTrace number why) = status.TheVariants.BadTrace number why
-status_of watched.TheVariants.TooLong = status.TheVariants.TooLong
-status_of watched.TheVariants.ReadFault = status.TheVariants.ReadFault place.TheVariants.Trace
-status_of watched.TheVariants.WriteFault = status.TheVariants.WriteFault place.TheVariants.Out
+abbrev pub ending_status : watched.Watched → status.Status
+ending_status watched.TheVariants.Done = status.TheVariants.Done
+ending_status (watched.TheVariants.BadTrace number why) = status.TheVariants.BadTrace number why
+ending_status watched.TheVariants.TooLong = status.TheVariants.TooLong
+ending_status watched.TheVariants.ReadFault = status.TheVariants.ReadFault place.TheVariants.Trace
+ending_status watched.TheVariants.WriteFault = status.TheVariants.WriteFault place.TheVariants.Out
 
 -- the loop ran over what the cut had and what was read, with a monitor that is kept; or it was out of memory before
 pub record RanLoop (program : Program) (asked : RunAsked) (start : Cutting) (answer : status.Status)
@@ -87,7 +87,7 @@ pub record RanLoop (program : Program) (asked : RunAsked) (start : Cutting) (ans
   pub cut : Cutting
   pub monitor : State
   pub ended_so : watched.Watched
-  pub is : answer ≡ status_of ended_so
+  pub is : answer ≡ ending_status ended_so
   pub watch : IsWatch program asked.style (rows_by asked program (first_of start)) start cut monitor ended_so events
   pub kept_is : kept ≡ Some monitor
 
@@ -105,7 +105,7 @@ LoopLog program asked start answer kept events =
 -- the header or a limit refused the program, or it was out of memory
 pub record NoProgram (asked : RunAsked) (bytes : List ℕ) (start : Cutting) (answer : status.Status)
     (kept : Option State) (events : List Event) : Type 0 where
-  pub why : (answer ≡ status.TheVariants.Memory) ⊎ (program_by asked.kind bytes (header_at start) ≡ Err answer)
+  pub why : (answer ≡ status.TheVariants.Memory) ⊎ (program_by asked.kind bytes (cut_header start) ≡ Err answer)
   pub no_monitor : kept ≡ None
   pub no_events : events ≡ []
 
@@ -113,7 +113,7 @@ pub record NoProgram (asked : RunAsked) (bytes : List ℕ) (start : Cutting) (an
 pub record HasProgram (asked : RunAsked) (bytes : List ℕ) (start : Cutting) (answer : status.Status)
     (kept : Option State) (events : List Event) : Type 0 where
   pub program : Program
-  pub is : program_by asked.kind bytes (header_at start) ≡ Ok program
+  pub is : program_by asked.kind bytes (cut_header start) ≡ Ok program
   pub loop : LoopLog program asked start answer kept events
 
 -- the log of a run whose first line was read

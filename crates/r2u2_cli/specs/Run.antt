@@ -6,7 +6,7 @@ use Rattle.mltl_base.specs.declared.program.Program.{Program}
 use Rattle.tool_io.specs.declared.host.Place as place
 use Rattle.tool_io.specs.Log.{Event, taken, given, ended_from, names_of, IsFront, IsProperFront, Prompt}
 use Rattle.tool_io.specs.Cutting.{lines_of}
-use Rattle.tool_words.specs.R2u2Words.{Asked, RunAsked, help, run, demo, nothing}
+use Rattle.tool_words.specs.R2u2Words.{R2u2Request, RunAsked, help, run, demo, nothing}
 use Rattle.r2u2_monitor.specs.declared.state.State.{State}
 use Rattle.r2u2_watch.specs.Trace.{Clean}
 use Rattle.tool_words.specs.declared.message.Tool.TheVariants.{R2u2}
@@ -24,8 +24,8 @@ use Rattle.r2u2_cli.specs.Taken.{trace_of, trace_ended, lines_in, ReadsFirstLine
 use Rattle.r2u2_cli.specs.Formulas.{IsSettledBy}
 
 -- the bytes of the file that were taken
-abbrev pub file_of : RunAsked → List Event → List ℕ
-file_of asked events = taken (file_place asked.kind) events
+abbrev pub file_in : RunAsked → List Event → List ℕ
+file_in asked events = taken (file_place asked.kind) events
 
 -- whether its end was met
 abbrev pub file_ended : RunAsked → List Event → Bool
@@ -33,7 +33,7 @@ file_ended asked events = ended_from false (file_place asked.kind) events
 
 -- the program that runs over the trace
 abbrev pub found_in : RunAsked → List Event → Result Program status.Status
-found_in asked events = program_over asked.kind (file_of asked events) (lines_in events)
+found_in asked events = program_over asked.kind (file_in asked events) (lines_in events)
 
 -- the file was read to its end, within its limit, and isn't refused by itself
 pub record IsReadable (asked : RunAsked) (file : List ℕ) (ended : Bool) : Type 0 where
@@ -42,20 +42,20 @@ pub record IsReadable (asked : RunAsked) (file : List ℕ) (ended : Bool) : Type
   pub unrefused : file_refusal asked.kind file ≡ None
 
 -- the trace, which comes second, is tried only after a file that is readable
-abbrev pub TriesSecond : Asked → List Event → Type 0
+abbrev pub TriesSecond : R2u2Request → List Event → Type 0
 TriesSecond (run asked) events =
-    1 < length (names_of events) → IsReadable asked (file_of asked events) (file_ended asked events)
+    1 < length (names_of events) → IsReadable asked (file_in asked events) (file_ended asked events)
 TriesSecond other events = ⊤
 
 -- before each read of the trace, the lines that are due for what was taken are out, and nothing else
-abbrev pub IsPrompt : Asked → List Event → Type 0
+abbrev pub IsPrompt : R2u2Request → List Event → Type 0
 IsPrompt (run asked) events = Prompt (due_by asked (found_in asked events) false) [] events
 IsPrompt other events = Prompt (λ bytes. []) [] events
 
 -- the lines report the formulas of the file
-abbrev pub TellsFormulas : Asked → List Event → Type 0
+abbrev pub TellsFormulas : R2u2Request → List Event → Type 0
 TellsFormulas (run asked) events =
-    IsSettledBy asked (file_of asked events) (header_in (lines_in events)) (found_in asked events) (trace_ended events)
+    IsSettledBy asked (file_in asked events) (header_in (lines_in events)) (found_in asked events) (trace_ended events)
     (trace_of events)
 TellsFormulas other events = ⊤
 
@@ -98,22 +98,22 @@ NothingOutcome status.TheVariants.Memory out kept = Silent out kept
 NothingOutcome answer out kept = ⊥
 
 -- how each result follows from the arguments and from the log
-abbrev pub OutcomeOf : status.Status → Asked → List Event → Option State → Type 0
+abbrev pub OutcomeOf : status.Status → R2u2Request → List Event → Option State → Type 0
 OutcomeOf answer help events kept = HelpOutcome answer (given place.TheVariants.Out events) kept
 OutcomeOf answer nothing events kept = NothingOutcome answer (given place.TheVariants.Out events) kept
 OutcomeOf answer (demo seed rows) events kept = DemoOutcome answer seed rows (given place.TheVariants.Out events) kept
 OutcomeOf answer (run asked) events kept =
-    FileOutcome answer asked (file_of asked events) (file_ended asked events) (trace_of events) (trace_ended events)
+    FileOutcome answer asked (file_in asked events) (file_ended asked events) (trace_of events) (trace_ended events)
     (given place.TheVariants.Out events) kept
 
 -- where the file isn't refused by itself, the limits of a program refuse it only after the trace has begun
-abbrev pub RefusesAfter : Asked → status.Status → List Event → Type 0
+abbrev pub RefusesAfter : R2u2Request → status.Status → List Event → Type 0
 RefusesAfter (run asked) answer events =
-    file_refusal asked.kind (file_of asked events) ≡ None → BegunFor answer (trace_ended events) (lines_in events)
+    file_refusal asked.kind (file_in asked events) ≡ None → BegunFor answer (trace_ended events) (lines_in events)
 RefusesAfter other answer events = ⊤
 
 -- the log of a run before its message
-pub record Ran (asked : Asked) (answer : status.Status) (kept : Option State) (events : List Event) : Type 0 where
+pub record Ran (asked : R2u2Request) (answer : status.Status) (kept : Option State) (events : List Event) : Type 0 where
   pub names : IsFront (names_of events) (asked_names asked)
   pub second : TriesSecond asked events
   pub attached : ReadsAttached [] events
@@ -126,9 +126,9 @@ pub record Ran (asked : Asked) (answer : status.Status) (kept : Option State) (e
 
 -- A file and a header that give a program, and a trace without a faulty line and within the mission time, give Done,
 -- unless out of memory, and so does a demo; help is given where it is asked for.
-abbrev pub CompletesBy : Asked → status.Status → List Event → Type 0
+abbrev pub CompletesBy : R2u2Request → status.Status → List Event → Type 0
 CompletesBy (run asked) answer events =
-    length (file_of asked events) ≤ file_limit asked.kind
+    length (file_in asked events) ≤ file_limit asked.kind
     → StopsBy Clean asked (found_in asked events) (trace_ended events) (trace_of events)
     → (answer ≡ status.TheVariants.Done) ⊎ (answer ≡ status.TheVariants.Memory)
 CompletesBy help answer events = (answer ≡ status.TheVariants.Helped) ⊎ (answer ≡ status.TheVariants.Memory)
@@ -137,7 +137,7 @@ CompletesBy nothing answer events = ⊤
 
 -- The log of a whole run: the message is out, or a prefix of it, and the run completes where no call failed but those
 -- at Err.
-pub record IsRun (asked : Asked) (answer : status.Status) (kept : Option State) (before now : place.Place → ℕ)
+pub record IsRun (asked : R2u2Request) (answer : status.Status) (kept : Option State) (before now : place.Place → ℕ)
     (events : List Event) : Type 0 where
   pub names : IsFront (names_of events) (asked_names asked)
   pub second : TriesSecond asked events

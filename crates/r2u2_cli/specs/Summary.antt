@@ -10,7 +10,7 @@ use Rattle.mltl_base.specs.declared.report.Word.{Word}
 use Rattle.mltl_base.specs.declared.report.Word.TheVariants.{T, F, Inactive, Invalid, Verified}
 use Rattle.mltl_base.specs.Atoms.{Row}
 use Rattle.mltl_base.specs.Lines.{word_text}
-use Rattle.mltl_base.specs.Programs.{name_of}
+use Rattle.mltl_base.specs.Programs.{out_name}
 use Rattle.mltl_base.specs.Reports.{Output, formula, contract, reports}
 use Rattle.mltl_base.specs.Subformulas.{Asked}
 use Rattle.r2u2_monitor.specs.Header.{columns_in_order}
@@ -26,43 +26,43 @@ pub record Listed : Type 0 where
   pub words : List Word
 
 -- the verdicts that a formula's reports may have
-abbrev pub formula_words : List Word
-formula_words = T ∷ F ∷ []
+abbrev pub formula_verdicts : List Word
+formula_verdicts = T ∷ F ∷ []
 
 -- the verdicts that a contract's reports may have
-abbrev pub contract_words : List Word
-contract_words = Inactive ∷ Invalid ∷ Verified ∷ []
+abbrev pub contract_verdicts : List Word
+contract_verdicts = Inactive ∷ Invalid ∷ Verified ∷ []
 
 -- the verdicts that the reports of a specification's output may have
 abbrev pub words_of : Output → List Word
-words_of (formula p) = formula_words
-words_of (contract p q) = contract_words
+words_of (formula p) = formula_verdicts
+words_of (contract p q) = contract_verdicts
 
 -- an output of a specification, as the summary lists it
-abbrev pub listed : Asked → Listed
-listed asked = record { name = asked.name; words = words_of asked.output }
+abbrev pub summary_entry : Asked → Listed
+summary_entry asked = record { name = asked.name; words = words_of asked.output }
 
 -- the verdicts that the reports of a program's output may have
 abbrev pub out_words : Out → List Word
-out_words (out.Formula engine i name) = formula_words
-out_words (out.Contract engine i j name) = contract_words
+out_words (out.Formula engine i name) = formula_verdicts
+out_words (out.Contract engine i j name) = contract_verdicts
 
 -- an output of a program, as the summary lists it
 abbrev pub listed_out : Out → Listed
-listed_out o = record { name = name_of o; words = out_words o }
+listed_out o = record { name = out_name o; words = out_words o }
 
 -- how often a verdict was reported
 abbrev pub count_text : Word → ℕ → List ℕ
 count_text w n = codes " " ++ word_text w ++ codes "=" ++ decimal n
 
 -- the line of an output: its name, and how often each of its verdicts was reported
-abbrev pub line_text : Listed → (Word → ℕ) → List ℕ
-line_text o count = o.name ++ codes ":" ++ concat (map (λ w. count_text w (count w)) o.words) ++ codes "\n"
+abbrev pub summary_line : Listed → (Word → ℕ) → List ℕ
+summary_line o count = o.name ++ codes ":" ++ concat (map (λ w. count_text w (count w)) o.words) ++ codes "\n"
 
 -- the lines of outputs, of which the first has the number k
 unfoldable pub lines_from : ℕ → List Listed → List Report → List ℕ
 lines_from k [] told = []
-lines_from k (o ∷ outs) told = line_text o (λ w. count_of k w told) ++ lines_from (suc k) outs told
+lines_from k (o ∷ outs) told = summary_line o (λ w. count_of k w told) ++ lines_from (suc k) outs told
 
 -- the number of rows, and a line for each output
 abbrev pub summary_of : ℕ → List Listed → List Report → List ℕ
@@ -78,4 +78,4 @@ demo_reports seed rows = reports Each (plain_outputs (columns_in_order 3) (outpu
 
 -- the summary of this many rows that are made from a seed
 unfoldable pub demo_summary : ℕ → ℕ → List ℕ
-demo_summary seed rows = summary_of rows (map listed (outputs_in demo_text)) (demo_reports seed rows)
+demo_summary seed rows = summary_of rows (map summary_entry (outputs_in demo_text)) (demo_reports seed rows)

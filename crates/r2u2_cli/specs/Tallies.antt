@@ -9,7 +9,7 @@ use Rattle.mltl_base.specs.Atoms.{Row}
 use Rattle.mltl_base.specs.Programs.{outputs}
 use Rattle.mltl_base.specs.Reports.{reports, same_word}
 use Rattle.r2u2_monitor.specs.declared.state.State.{State}
-use Rattle.r2u2_monitor.specs.Monitoring.{open_of, program_of}
+use Rattle.r2u2_monitor.specs.Monitoring.{open_in, program_of}
 use Rattle.r2u2_cli.specs.declared.tally.Tally.{Tally}
 
 -- how many reports of output k have a word
@@ -17,12 +17,12 @@ abbrev pub count_of : ℕ → Word → List Report → ℕ
 count_of k w told = count_by (λ r. r.out == k && same_word r.word w) told
 
 -- the number of a word in a tally
-abbrev pub count_in : Tally → Word → ℕ
-count_in tally T = tally.holds
-count_in tally F = tally.fails
-count_in tally Inactive = tally.inactive
-count_in tally Invalid = tally.invalid
-count_in tally Verified = tally.verified
+abbrev pub tallied : Tally → Word → ℕ
+tallied tally T = tally.holds
+tallied tally F = tally.fails
+tallied tally Inactive = tally.inactive
+tallied tally Invalid = tally.invalid
+tallied tally Verified = tally.verified
 
 -- no verdict was reported
 abbrev pub none : Tally
@@ -30,11 +30,11 @@ none = record { holds = 0; fails = 0; inactive = 0; invalid = 0; verified = 0 }
 
 -- the tallies count these reports, output by output
 pub record AreTallies (tallies : List Tally) (told : List Report) : Type 0 where
-  pub each : (k : ℕ) (w : Word) → k < length tallies → count_in (slice_index_or tallies k none) w ≡ count_of k w told
+  pub each : (k : ℕ) (w : Word) → k < length tallies → tallied (slice_index_or tallies k none) w ≡ count_of k w told
 
 -- The reports that a monitor has given of its rows are counted, one tally for each output.
 pub record AreCounted (tallies : List Tally) (monitor : State) (rows : List Row) : Type 0 where
   pub told : List Report
-  pub all : reports Each (outputs (program_of monitor)) rows ≡ told ++ open_of Each monitor rows
+  pub all : reports Each (outputs (program_of monitor)) rows ≡ told ++ open_in Each monitor rows
   pub counted : AreTallies tallies told
   pub enough : length tallies ≡ length (program_of monitor).outs

@@ -7,21 +7,21 @@
 #![tactic(auto)]
 
 mod demo;
+mod first_line;
 pub mod laws;
-mod opening;
+mod program_file;
 mod r2u2_run;
-mod reading;
 mod row;
 mod run;
-mod running;
 mod summary;
 mod tally;
 mod text;
 mod text_laws;
+mod trace_run;
 
 pub use r2u2_run::r2u2_main;
 pub use row::demo_row;
 pub use run::{Demo, run_demo};
-pub use running::run_bytes;
 pub use text::DEMO_TEXT;
 pub use text_laws::images_tell_their_texts;
+pub use trace_run::run_bytes;

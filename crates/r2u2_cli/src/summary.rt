@@ -3,8 +3,8 @@
 ghost use Rattle.std.specs.Prelude.{◌≡◌, ◌++◌, List as Seq, decimal, length, map, IfOk, OnOk};
 ghost use Rattle.std.specs.List.{concat};
 ghost use Rattle.mltl_base.specs.declared.report.Report.{Report};
-ghost use Rattle.r2u2_cli.specs.Summary.{count_text, line_text, listed_out, summary_of};
-ghost use Rattle.r2u2_cli.specs.Tallies.{AreTallies, count_in};
+ghost use Rattle.r2u2_cli.specs.Summary.{count_text, summary_line, listed_out, summary_of};
+ghost use Rattle.r2u2_cli.specs.Tallies.{AreTallies, tallied};
 
 use crate::tally::Tally;
 use itoa::Buffer;
@@ -34,7 +34,7 @@ pub(crate) fn summary_of(
 /// Adds the line of an output.
 fn add_line(text: &mut Vec<u8>, out: &Out, tally: &Tally) -> Result<(), AllocError>
     ensures { OnOk result (text.new.items
-        ≡ text.old.items ++ line_text (listed_out out.now) (count_in tally.now)) }
+        ≡ text.old.items ++ summary_line (listed_out out.now) (tallied tally.now)) }
 {
     text.extend_from_slice(out.name().bytes())?;
     text.extend_from_slice(b":")?;
@@ -55,7 +55,7 @@ fn add_line(text: &mut Vec<u8>, out: &Out, tally: &Tally) -> Result<(), AllocErr
 /// Adds how often a verdict was reported.
 fn add_count(text: &mut Vec<u8>, word: Word, tally: &Tally) -> Result<(), AllocError>
     ensures { OnOk result (text.new.items
-        ≡ text.old.items ++ count_text word (count_in tally.now word)) }
+        ≡ text.old.items ++ count_text word (tallied tally.now word)) }
 {
     text.extend_from_slice(b" ")?;
     text.extend_from_slice(word.text().as_bytes())?;

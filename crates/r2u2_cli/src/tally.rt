@@ -3,7 +3,7 @@
 ghost use Rattle.std.specs.Prelude.{◌≡◌, ◌+◌, ◌<◌, ◌^◌, if◌then◌else◌};
 ghost use Rattle.mltl_base.specs.Reports.{same_word};
 ghost use Rattle.mltl_base.specs.declared.report.Word.{Word as Told};
-ghost use Rattle.r2u2_cli.specs.Tallies.{count_in, none as no_words};
+ghost use Rattle.r2u2_cli.specs.Tallies.{tallied, none as no_words};
 
 use mltl_base::Word;
 
@@ -33,9 +33,9 @@ impl Tally {
 
     /// Counts a word once more.
     pub(crate) fn add(&mut self, word: Word)
-        requires room { count_in self.old word < 2 ^ 63 }
+        requires room { tallied self.old word < 2 ^ 63 }
         ensures { (w : Told)
-            → count_in self.new w ≡ count_in self.old w + (if same_word word w then 1 else 0) }
+            → tallied self.new w ≡ tallied self.old w + (if same_word word w then 1 else 0) }
     {
         match word {
             Word::T => self.holds += 1,
@@ -48,7 +48,7 @@ impl Tally {
 
     /// Returns how often a verdict was reported.
     pub(crate) fn count(&self, word: Word) -> u64
-        ensures { result ≡ count_in self.now word }
+        ensures { result ≡ tallied self.now word }
     {
         match word {
             Word::T => self.holds,

@@ -25,7 +25,7 @@ use Rattle.contract_status.proofs.Moving.{gives_none}
 use Rattle.contract_status.proofs.Placing.{entry_kept, named}
 use Rattle.contract_status.proofs.Stretching.{count_at}
 use Rattle.r2u2_monitor.specs.declared.running.Running.{Running}
-use Rattle.r2u2_monitor.specs.Running.{HasTaken, IsDrained, open_of}
+use Rattle.r2u2_monitor.specs.Running.{HasTaken, IsDrained, open_by}
 
 -- the words of an output that are known after some rows
 abbrev told_of : Running → List Row → out.Out → ℕ
@@ -99,7 +99,7 @@ no_more running rows other k (out.TheVariants.Contract engine.TheVariants.Ft i j
     known_once x y ws c none same value inside = let some : slice_get ws c ≡ Some (slice_index_or ws c T) = slice_get-get_or ws c T inside in cc
 
 -- so nothing is open after others either
-pub drained_alike : (running : Running) (style : Style) (rows : List Row) → HasTaken running rows → open_of style running rows ≡ [] → IsDrained running
+pub drained_alike : (running : Running) (style : Style) (rows : List Row) → HasTaken running rows → open_by style running rows ≡ [] → IsDrained running
 drained_alike running style rows taken none other_style other taken' =
     let program : Program = running.checked in
     let counts : running.outs ≡ known_counts_of program rows = drained_counts style program rows running.outs taken.stand.placed none in

@@ -18,7 +18,7 @@ use Rattle.mltl_base.specs.declared.report.Style.TheVariants.{Each, Runs}
 use Rattle.mltl_base.specs.declared.report.Word.{Word}
 use Rattle.mltl_base.specs.Atoms.{Atom, Row}
 use Rattle.mltl_base.specs.Formula.{Core, Formula, bpd, plain}
-use Rattle.mltl_base.specs.Programs.{atoms, core_at, formula_at, formula_of, formulas_after, output_of, outputs}
+use Rattle.mltl_base.specs.Programs.{atoms, core_at, formula_at, op_formula, formulas_after, output_of, outputs}
 use Rattle.mltl_base.specs.Queues.{HasBounds}
 use Rattle.mltl_base.specs.Reports.{Output, contract, delay, formula, goes_on, known_status, of_row, of_words, status, words}
 use Rattle.mltl_base.specs.Settled.{IsOrdered}
@@ -34,7 +34,7 @@ use Rattle.r2u2_monitor.specs.declared.state.State.{State}
 use Rattle.r2u2_monitor.specs.Bursts.{OpensFew, most_of, most_reports}
 use Rattle.r2u2_monitor.specs.Monitoring.{program_of}
 use Rattle.r2u2_monitor.specs.Monitoring as monitoring
-use Rattle.r2u2_monitor.specs.Running.{TakesRow}
+use Rattle.r2u2_monitor.specs.Running.{EnginesTakeRow}
 
 -- there are no more reports than words, in either style
 each_few : (k t : ℕ) (ws : List Word) → length (of_words Each k t ws) ≤ length ws
@@ -60,7 +60,7 @@ reports_few Runs k t ws = runs_few k t ws
 abbrev AreOrdered : List Core → Type 0
 AreOrdered cores = (n : ℕ) → IsOrdered (plain (core_at cores n))
 
-ordered_op : (loaded : List Atom) (before : List Core) (op : FtOp) → AreOrdered before → HasBounds MAX_BOUND op → IsOrdered (plain (formula_of loaded before op))
+ordered_op : (loaded : List Atom) (before : List Core) (op : FtOp) → AreOrdered before → HasBounds MAX_BOUND op → IsOrdered (plain (op_formula loaded before op))
 unfolding plain
 ordered_op loaded before ft.True h b = tt
 ordered_op loaded before (ft.Load a) h b = tt
@@ -79,7 +79,7 @@ ordered_after : (loaded : List Atom) (before : List Core) (ops : List FtOp) → 
 unfolding formulas_after
 ordered_after loaded before [] h b = h
 ordered_after loaded before (op ∷ ops) h b =
-    ordered_after loaded (before ++ formula_of loaded before op ∷ []) ops (ordered_next before (formula_of loaded before op) h (ordered_op loaded before op h b.0)) b.1
+    ordered_after loaded (before ++ op_formula loaded before op ∷ []) ops (ordered_next before (op_formula loaded before op) h (ordered_op loaded before op h b.0)) b.1
 
 ordered_none : AreOrdered []
 unfolding plain
@@ -141,7 +141,7 @@ row_few program style k (o ∷ outs) rows r h =
     omega (arith, both, sum_by-cons (most_of program) o outs, h o, reports_few style k (length old) new, row_few program style (suc k) outs rows r h)
 
 -- after what runs took a row
-pub running_few : (row : Row) (before after : State) → TakesRow row before.running after.running → OpensFew row before after
+pub running_few : (row : Row) (before after : State) → EnginesTakeRow row before.running after.running → OpensFew row before after
 running_few row before after takes style rows stands =
     let program : Program = program_of before in
     subst (λ (n : ℕ). n ≤ most_reports program) (sym (ap (λ (rs : List Report). length rs) (takes.opens style rows stands.taken)))

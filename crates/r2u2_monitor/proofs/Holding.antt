@@ -5,13 +5,13 @@ use Rattle.std.proofs.lemmas.List.{length-map}
 use Rattle.mltl_base.specs.Queues.{best_delays, best_of, worst_delays, worst_of}
 use Rattle.mltl_base.specs.declared.program.Program.{Program}
 use Rattle.delay_sizes.proofs.DelayLaws.{length-numbered_after}
-use Rattle.obs_verify.specs.Readers.{signal_read, signals_read}
+use Rattle.obs_verify.specs.SignalNumbers.{signal_read, signals_read}
 use Rattle.trace_feed.proofs.ReadingLaws.{length-readings_of}
 use Rattle.r2u2_monitor.specs.Bytes.{bytes_of, monitor_bytes}
 use Rattle.r2u2_monitor.specs.declared.state.State.{State}
-use Rattle.r2u2_monitor.specs.Monitoring.{IsSound, program_of}
+use Rattle.r2u2_monitor.specs.Monitoring.{MonitorIsSound, program_of}
 
-pub holds_what_it_takes : (monitor : State) → IsSound monitor → bytes_of monitor ≡ monitor_bytes (program_of monitor)
+pub holds_what_it_takes : (monitor : State) → MonitorIsSound monitor → bytes_of monitor ≡ monitor_bytes (program_of monitor)
 holds_what_it_takes monitor sound =
     let program : Program = program_of monitor in
     let stand = sound.some.1.taken.stand in

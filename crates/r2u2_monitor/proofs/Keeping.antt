@@ -14,20 +14,20 @@ use Rattle.mltl_base.specs.Reports.{Output, delay, words}
 use Rattle.mltl_base.proofs.Words.{words_in_time}
 use Rattle.obs_verify.proofs.RunLaws.{runs_future, runs_past}
 use Rattle.ft_engine.specs.declared.Ft.{Ft}
-use Rattle.ft_engine.specs.Standing.{instruction_count, lowest_at, slots_at, width_of}
+use Rattle.ft_engine.specs.Standing.{instruction_count, lowest_at, slots_at, queue_width}
 use Rattle.contract_status.specs.Open.{known_counts_of}
 use Rattle.contract_status.proofs.Draining.{drained_wide, entries_kept}
 use Rattle.r2u2_monitor.specs.declared.running.Running.{Running}
 use Rattle.r2u2_monitor.specs.declared.state.State.{State}
 use Rattle.r2u2_monitor.specs.Running.{HasTaken}
 use Rattle.r2u2_monitor.specs.Running as running
-use Rattle.r2u2_monitor.specs.Monitoring.{IsDrained, IsSame, IsSound, Stands, last_of, places_of, program_of, read_of, room_total_of, slot_total_of, slots_of}
+use Rattle.r2u2_monitor.specs.Monitoring.{IsDrained, IsSame, MonitorIsSound, Stands, last_of, places_of, program_of, read_of, room_total_of, slot_total_of, slots_of}
 use Rattle.r2u2_monitor.proofs.LastRows.{all_last, ends_with, same_last}
 use Rattle.r2u2_monitor.proofs.Taking.{drained_places}
 
 -- a sound monitor that takes a row is sound
-pub sound_after : (before after : State) (row : Row) → IsSound before → running.TakesRow row before.running after.running → before.running.taken < 2 ^ 40 → last_of after ≡ row
-    → length after.running.bz ≡ length (program_of before).bz → length (last_of after) ≡ (program_of before).width → length (read_of after) ≡ (program_of before).width → IsSound after
+pub sound_after : (before after : State) (row : Row) → MonitorIsSound before → running.EnginesTakeRow row before.running after.running → before.running.taken < 2 ^ 40 → last_of after ≡ row
+    → length after.running.bz ≡ length (program_of before).bz → length (last_of after) ≡ (program_of before).width → length (read_of after) ≡ (program_of before).width → MonitorIsSound after
 sound_after before after row sound takes early last numbers wide wide' = record {
   some = (
     sound.some.0 ++ row ∷ [],
@@ -63,9 +63,9 @@ told_places monitor rows stands drained = drained_places monitor.running rows st
 
 -- which lie no further behind than the width of each instruction that the output reports
 pub told_wide : (monitor : State) (rows : List Row) (k g : ℕ) (output : Out) → Stands monitor rows → IsDrained monitor → slice_get (program_of monitor).outs k ≡ Some output → Contains (reported output) g
-    → length rows ≤ slice_index (places_of monitor) k + width_of (program_of monitor) g
+    → length rows ≤ slice_index (places_of monitor) k + queue_width (program_of monitor) g
 told_wide monitor rows k g output stands drained there among =
-    subst (λ (next_times : List ℕ). length rows ≤ slice_index next_times k + width_of (program_of monitor) g) (sym (told_places monitor rows stands drained))
+    subst (λ (next_times : List ℕ). length rows ≤ slice_index next_times k + queue_width (program_of monitor) g) (sym (told_places monitor rows stands drained))
     (drained_wide (program_of monitor) rows k g output stands.taken.formed there among)
 
 -- the queues keep what outputs read

@@ -32,14 +32,14 @@ module _ (old new : Running) (rows : List Row) (taken : HasTaken old rows) (same
   start_of = start ∙ ap (λ (n : ℕ). replicate n 0) (taken.stand.placed.count ∙ ap (λ (p : Program). length p.outs) (sym same))
 
   -- it stands for no rows, and nothing is open
-  pub begun : future.Stands old.checked [] new.ft → past.Stands old.checked [] new.pt → HasTaken new []
+  pub begun : future.FtHasTaken old.checked [] new.ft → past.PtHasTaken old.checked [] new.pt → HasTaken new []
   begun ahead behind = record {
     layout = subst HasLayout (sym same) taken.layout;
     formed = subst IsWellFormed (sym same) taken.formed;
     fit = λ k d inside. absurd (omega arith);
     stand = record {
-      future = subst (λ (p : Program). future.Stands p [] new.ft) (sym same) ahead;
-      past = subst (λ (p : Program). past.Stands p [] new.pt) (sym same) behind;
+      future = subst (λ (p : Program). future.FtHasTaken p [] new.ft) (sym same) ahead;
+      past = subst (λ (p : Program). past.PtHasTaken p [] new.pt) (sym same) behind;
       placed = placed_at_start new.checked new.outs start_of;
       count = sym none;
     };

@@ -15,7 +15,7 @@ use Rattle.mltl_base.proofs.Telling.{tells_words}
 use Rattle.mltl_base.proofs.Words.{word_settled}
 use Rattle.contract_status.specs.Open.{left_open}
 use Rattle.r2u2_monitor.specs.declared.state.State.{State}
-use Rattle.r2u2_monitor.specs.Monitoring.{open_of, places_of, program_of}
+use Rattle.r2u2_monitor.specs.Monitoring.{open_in, places_of, program_of}
 
 -- a report of output k tells its word of each time from t on, up to its own, of which these are the words
 record IsHead (k t : ℕ) (ws : List Word) (report : Report) : Type 0 where
@@ -90,7 +90,7 @@ drop_at ws next_time d w there =
     ∙ ap Some (sym (get_or-drop next_time ws d w) ∙ get_or_from_slice_get (drop next_time ws) d w w there)
 
 -- the first open report of all covers the times from its output's next time up to its own
-pub first_covers : (style : Style) (monitor : State) (rows : List Row) (report : Report) (more : List Report) → open_of style monitor rows ≡ report ∷ more → slice_index (places_of monitor) report.out ≤ report.time
+pub first_covers : (style : Style) (monitor : State) (rows : List Row) (report : Report) (more : List Report) → open_in style monitor rows ≡ report ∷ more → slice_index (places_of monitor) report.out ≤ report.time
 first_covers style monitor rows report more is =
     let next_times : List ℕ = places_of monitor in
     let first = open_head style rows 0 (outputs (program_of monitor)) next_times report more is in
@@ -98,7 +98,7 @@ first_covers style monitor rows report more is =
     subst (λ (n : ℕ). slice_index next_times n ≤ report.time) number first.3.upward
 
 -- and its word is settled at each of them
-pub first_is_settled : (style : Style) (monitor : State) (rows : List Row) (report : Report) (more : List Report) (o : Output) (t : ℕ) → open_of style monitor rows ≡ report ∷ more → slice_get (outputs (program_of monitor)) report.out ≡ Some o
+pub first_is_settled : (style : Style) (monitor : State) (rows : List Row) (report : Report) (more : List Report) (o : Output) (t : ℕ) → open_in style monitor rows ≡ report ∷ more → slice_get (outputs (program_of monitor)) report.out ≡ Some o
     → slice_index (places_of monitor) report.out ≤ t → t ≤ report.time → IsSettled rows o t report.word
 first_is_settled style monitor rows report more o t is named from upto =
     let outs : List Output = outputs (program_of monitor) in

@@ -17,7 +17,7 @@ use Rattle.contract_status.specs.Open as status
 use Rattle.contract_status.proofs.Draining.{counts_drained, drained_counts, placed_after_row}
 use Rattle.contract_status.proofs.Opening.{open_after_row}
 use Rattle.r2u2_monitor.specs.declared.running.Running.{Running}
-use Rattle.r2u2_monitor.specs.Running.{HasTaken, IsDrained, TakesRow}
+use Rattle.r2u2_monitor.specs.Running.{HasTaken, IsDrained, EnginesTakeRow}
 
 -- where nothing is open, the next time of each output is the number of its known words
 pub drained_places : (running : Running) (rows : List Row) → HasTaken running rows → IsDrained running → running.outs ≡ known_counts_of running.checked rows
@@ -29,9 +29,9 @@ GoesOn program numbers before after = (rows : List Row) (row : Row) → length r
 
 -- so a row that both engines took is taken, and what it brings is open
 pub takes_row : (running : Running) (row : Row) (numbers : List ℤ) (ft : Ft) (pt : Pt) → IsDrained running → running.taken < 2 ^ 40 → IsFit running.checked row → numbers ≡ numbers_on row running.checked.bz
-    → GoesOn running.checked numbers (λ rows. future.Stands running.checked rows running.ft) (λ rows. future.Stands running.checked rows ft)
-    → GoesOn running.checked numbers (λ rows. past.Stands running.checked rows running.pt) (λ rows. past.Stands running.checked rows pt)
-    → TakesRow row running (record running { bz = numbers; ft = ft; pt = pt; taken = running.taken + 1 })
+    → GoesOn running.checked numbers (λ rows. future.FtHasTaken running.checked rows running.ft) (λ rows. future.FtHasTaken running.checked rows ft)
+    → GoesOn running.checked numbers (λ rows. past.PtHasTaken running.checked rows running.pt) (λ rows. past.PtHasTaken running.checked rows pt)
+    → EnginesTakeRow row running (record running { bz = numbers; ft = ft; pt = pt; taken = running.taken + 1 })
 takes_row running row numbers ft pt drained early fit given ahead ahead' = record {
   program = refl;
   taken = refl;

@@ -14,7 +14,7 @@ use Rattle.mltl_base.specs.Atoms.{Row}
 use Rattle.mltl_base.specs.Formula.{Core, bpd, core_wpd}
 use Rattle.mltl_base.specs.Programs.{formula_at}
 use Rattle.r2u2_monitor.specs.declared.state.State.{State}
-use Rattle.r2u2_monitor.specs.Monitoring.{Stands, open_of, program_of}
+use Rattle.r2u2_monitor.specs.Monitoring.{Stands, open_in, program_of}
 
 -- the most words that one row brings, where the first of two formulas decides a word at the earliest, and both do at the
 -- latest
@@ -39,4 +39,4 @@ most_reports program = sum_by (most_of program) program.outs
 abbrev pub OpensFew : Row → State → State → Type 0
 OpensFew row before after =
     (style : Style) (rows : List Row) → Stands before rows
-    → length (open_of style after (rows ++ row ∷ [])) ≤ most_reports (program_of before)
+    → length (open_in style after (rows ++ row ∷ [])) ≤ most_reports (program_of before)

@@ -6,7 +6,7 @@ use Rattle.std.specs.Prelude.{ℕ, ◌+◌, ◌*◌, length, sum}
 use Rattle.mltl_base.specs.declared.program.Program.{Program}
 use Rattle.mltl_base.specs.Queues.{best_delays, worst_delays}
 use Rattle.mltl_base.specs.Room.{room}
-use Rattle.obs_verify.specs.Readers.{signals_read}
+use Rattle.obs_verify.specs.SignalNumbers.{signals_read}
 use Rattle.ft_engine.specs.declared.bytes.TheConstants.{QUEUE_BYTES, SLOT_BYTES}
 use Rattle.ft_engine.specs.Standing as future
 use Rattle.pt_boxes.specs.declared.bytes.TheConstants.{NODE_BYTES, SPAN_BYTES}

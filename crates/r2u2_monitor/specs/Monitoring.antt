@@ -53,8 +53,8 @@ pub record Stands (monitor : State) (rows : List Row) : Type 0 where
   pub last : (before : List Row) (row : Row) → rows ≡ before ++ row ∷ [] → last_of monitor ≡ row
 
 -- the reports that a monitor of these rows has still to return
-abbrev pub open_of : Style → State → List Row → List Report
-open_of style monitor rows = running.open_of style monitor.running rows
+abbrev pub open_in : Style → State → List Row → List Report
+open_in style monitor rows = running.open_by style monitor.running rows
 
 -- it has no report to give, in either style
 abbrev pub IsDrained : State → Type 0
@@ -65,8 +65,8 @@ abbrev pub left_to_tell : State → ℕ
 left_to_tell monitor = running.left_to_tell monitor.running
 
 -- the result is the first of the reports that were open, and the others still are
-abbrev pub GivesFirst : Style → Option Report → State → State → List Row → Type 0
-GivesFirst style result before after rows = running.GivesFirst style result before.running after.running rows
+abbrev pub ReturnsFirst : Style → Option Report → State → State → List Row → Type 0
+ReturnsFirst style result before after rows = running.YieldsFirst style result before.running after.running rows
 
 -- the report was given, and nothing else changed
 pub record HasGiven (report : Report) (before after : State) : Type 0 where
@@ -76,7 +76,7 @@ pub record HasGiven (report : Report) (before after : State) : Type 0 where
 
 -- A report was returned: it is of an existing output, at a time that was taken, among the first 2 ^ 40. Nothing else
 -- changed, and fewer times are left to report.
-pub record IsGiven (report : Report) (before after : State) : Type 0 where
+pub record IsReturned (report : Report) (before after : State) : Type 0 where
   pub moved : HasGiven report before after
   pub exists : report.out < length (program_of before).outs
   pub taken : report.time < taken_by before
@@ -85,13 +85,13 @@ pub record IsGiven (report : Report) (before after : State) : Type 0 where
 
 -- The first report that was open in a style was returned, and the others are still open; where there was none,
 -- nothing changed. The monitor represents the same rows.
-pub record GivesNext (style : Style) (result : Option Report) (before after : State) : Type 0 where
-  pub first : (rows : List Row) → Stands before rows → GivesFirst style result before after rows
+pub record ReturnsNext (style : Style) (result : Option Report) (before after : State) : Type 0 where
+  pub first : (rows : List Row) → Stands before rows → ReturnsFirst style result before after rows
   pub stands : (rows : List Row) → Stands before rows → Stands after rows
   pub none : IsNone result ↔ IsDrained before
   pub same : IfNone result (after ≡ before)
   pub drained : IfNone result (IsDrained after)
-  pub given : IfSome result (λ report. IsGiven report before after)
+  pub given : IfSome result (λ report. IsReturned report before after)
   pub program : program_of after ≡ program_of before
   pub as_many : taken_by after ≡ taken_by before
 
@@ -107,10 +107,10 @@ pub record TakesRow (row : Row) (before after : State) : Type 0 where
   pub last : last_of after ≡ row
   pub stands : (rows : List Row) → Stands before rows → Stands after (rows ++ row ∷ [])
   pub opens : (style : Style) (rows : List Row) → Stands before rows
-      → open_of style after (rows ++ row ∷ []) ≡ of_row style 0 (outputs (program_of before)) rows row
+      → open_in style after (rows ++ row ∷ []) ≡ of_row style 0 (outputs (program_of before)) rows row
 
 -- what holds of each monitor: it represents some rows, at most 2 ^ 40 of them, and has room for a row
-pub record IsSound (monitor : State) : Type 0 where
+pub record MonitorIsSound (monitor : State) : Type 0 where
   pub some : (rows : List Row) × Stands monitor rows
   pub early : taken_by monitor ≤ MAX_MISSION
   pub numbers : length monitor.running.bz ≡ length (program_of monitor).bz

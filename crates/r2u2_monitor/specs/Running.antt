@@ -26,12 +26,12 @@ pub record HasTaken (running : Running) (rows : List Row) : Type 0 where
   pub stand : StandFor running.checked rows running.taken running.ft running.pt running.outs
 
 -- the reports that are open after these rows
-abbrev pub open_of : Style → Running → List Row → List Report
-open_of style running rows = status.open_of style running.checked rows running.outs
+abbrev pub open_by : Style → Running → List Row → List Report
+open_by style running rows = status.open_of style running.checked rows running.outs
 
 -- no report is open, in either style
 abbrev pub IsDrained : Running → Type 0
-IsDrained running = (style : Style) (rows : List Row) → HasTaken running rows → open_of style running rows ≡ []
+IsDrained running = (style : Style) (rows : List Row) → HasTaken running rows → open_by style running rows ≡ []
 
 -- the times of outputs that are left, at most
 abbrev pub left_to_tell : Running → ℕ
@@ -43,28 +43,28 @@ after_report report running = record running { outs = slice_set running.outs rep
 
 -- A report was given: it is of an output that there is, at a time that was taken. Nothing but the next time of this
 -- output moved, so fewer times are left.
-pub record IsGiven (report : Report) (before after : Running) : Type 0 where
+pub record Yields (report : Report) (before after : Running) : Type 0 where
   pub exists : report.out < length before.checked.outs
   pub taken : report.time < before.taken
   pub moved : after ≡ after_report report before
   pub fewer : left_to_tell after < left_to_tell before
 
 -- the search for open reports may go on at this cursor
-abbrev pub Fits : Running → Cursor → Type 0
-Fits running cursor = FitsCursor running.checked running.taken running.ft running.pt running.outs cursor
+abbrev pub ResumesAt : Running → Cursor → Type 0
+ResumesAt running cursor = FitsCursor running.checked running.taken running.ft running.pt running.outs cursor
 
 -- the result is the first of the reports that were open, and the others still are
-abbrev pub GivesFirst : Style → Option Report → Running → Running → List Row → Type 0
-GivesFirst style None before after rows = open_of style before rows ≡ []
-GivesFirst style (Some report) before after rows = open_of style before rows ≡ report ∷ open_of style after rows
+abbrev pub YieldsFirst : Style → Option Report → Running → Running → List Row → Type 0
+YieldsFirst style None before after rows = open_by style before rows ≡ []
+YieldsFirst style (Some report) before after rows = open_by style before rows ≡ report ∷ open_by style after rows
 
 -- one more row was taken, and all reports that it brings are open
-pub record TakesRow (row : Row) (before after : Running) : Type 0 where
+pub record EnginesTakeRow (row : Row) (before after : Running) : Type 0 where
   pub program : after.checked ≡ before.checked
   pub taken : after.taken ≡ before.taken + 1
   pub stands : (rows : List Row) → HasTaken before rows → HasTaken after (rows ++ row ∷ [])
   pub opens : (style : Style) (rows : List Row) → HasTaken before rows
-      → open_of style after (rows ++ row ∷ []) ≡ of_row style 0 (outputs before.checked) rows row
+      → open_by style after (rows ++ row ∷ []) ≡ of_row style 0 (outputs before.checked) rows row
 
 -- the most steps of one row, in both engines
 abbrev pub row_work : Program → ℕ

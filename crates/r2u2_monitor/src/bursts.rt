@@ -18,7 +18,8 @@ pub fn most_reports(checked: &Checked) -> u64
 }
 
 fn most_of_outputs(checked: &Checked, outs: &[Out]) -> u64
-    requires named { All (NamesInstructions (length checked.now.ft) (length checked.now.pt)) outs.now }
+    requires named { All (NamesInstructions (length checked.now.ft) (length checked.now.pt))
+        outs.now }
     requires few { length outs.now < 2 ^ 32 }
     ensures { result ≡ sum_by (most_of checked.now) outs.now }
 {
@@ -58,7 +59,8 @@ fn most_of_two(checked: &Checked, engine: Engine, i: u32, j: u32) -> u64
 fn most_of_future(checked: &Checked, i: u32, j: u32) -> u64
     requires first { i < length checked.now.ft }
     requires second { j < length checked.now.ft }
-    ensures most { result ≡ spread (formula_at checked.now Future i) (formula_at checked.now Future j) }
+    ensures most { result
+        ≡ spread (formula_at checked.now Future i) (formula_at checked.now Future j) }
     ensures few { result ≤ 2 ^ 32 }
 {
     let worsts = checked.delays().worst.as_slice();

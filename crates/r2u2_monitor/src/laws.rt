@@ -9,13 +9,13 @@ ghost use Rattle.mltl_base.specs.Atoms.{Row};
 ghost use Rattle.mltl_base.specs.Programs.{IsFit, outputs};
 ghost use Rattle.mltl_base.specs.Queues.{queue_lengths, reported, slot_count};
 ghost use Rattle.mltl_base.specs.Reports.{IsSettled, Output, delay};
-ghost use Rattle.ft_engine.specs.Standing.{lowest_at, width_of};
+ghost use Rattle.ft_engine.specs.Standing.{lowest_at, queue_width};
 ghost use Rattle.contract_status.specs.Open.{known_counts_of};
 ghost use Rattle.trace_feed.specs.Rows.{reading_of};
 ghost use Rattle.r2u2_monitor.specs.declared.state.State.{State as Shown};
 ghost use Rattle.r2u2_monitor.specs.Bursts.{OpensFew};
 ghost use Rattle.r2u2_monitor.specs.Bytes.{bytes_of, monitor_bytes};
-ghost use Rattle.r2u2_monitor.specs.Monitoring.{IsDrained, IsSound, Stands, TakesRow, open_of, places_of, program_of, room_total_of, slot_total_of, slots_of};
+ghost use Rattle.r2u2_monitor.specs.Monitoring.{IsDrained, MonitorIsSound, Stands, TakesRow, open_in, places_of, program_of, room_total_of, slot_total_of, slots_of};
 ghost use Rattle.r2u2_monitor.specs.RowFaults.{FitsColumn};
 
 /// Each future-time instruction has the slots that are stored for it, which are as many as it needs.
@@ -44,7 +44,7 @@ pub fn no_slot_is_left_over()
 /// A monitor holds the bytes that its program says, at any time.
 #[tactic(auto, using(crate::proofs::Holding::holds_what_it_takes))]
 pub fn monitors_keep_their_bytes()
-    ensures { (monitor : Shown) → IsSound monitor
+    ensures { (monitor : Shown) → MonitorIsSound monitor
         → bytes_of monitor ≡ monitor_bytes (program_of monitor) }
 {}
 
@@ -52,7 +52,7 @@ pub fn monitors_keep_their_bytes()
 /// style.
 pub fn drained_is_nothing_open()
     ensures { (style : Form) (monitor : Shown) (rows : List Row) → Stands monitor rows
-        → IsDrained monitor ↔ (open_of style monitor rows ≡ []) }
+        → IsDrained monitor ↔ (open_in style monitor rows ≡ []) }
 {}
 
 /// The queues keep the verdicts that an output reads from its next time on. Where all reports were given, this time is
@@ -69,7 +69,7 @@ pub fn reads_are_kept()
     ensures wide { (monitor : Shown) (rows : List Row) (k g : ℕ) (output : Reported) →
         Stands monitor rows → IsDrained monitor
         → slice_get (program_of monitor).outs k ≡ Some output → Contains (reported output) g
-        → length rows ≤ slice_index (places_of monitor) k + width_of (program_of monitor) g }
+        → length rows ≤ slice_index (places_of monitor) k + queue_width (program_of monitor) g }
 {}
 
 /// The first report that is open covers the times from its output's next time up to its own, and its word is settled at
@@ -77,11 +77,11 @@ pub fn reads_are_kept()
 #[tactic(auto, using(crate::proofs::Settled::first_covers, crate::proofs::Settled::first_is_settled))]
 pub fn reports_are_settled()
     ensures upward { (style : Form) (monitor : Shown) (rows : List Row)
-        (report : Given) (more : List Given) → open_of style monitor rows ≡ report ∷ more
+        (report : Given) (more : List Given) → open_in style monitor rows ≡ report ∷ more
         → slice_index (places_of monitor) report.out ≤ report.time }
     ensures settled { (style : Form) (monitor : Shown) (rows : List Row)
         (report : Given) (more : List Given) (o : Output) (t : ℕ) →
-        open_of style monitor rows ≡ report ∷ more
+        open_in style monitor rows ≡ report ∷ more
         → slice_get (outputs (program_of monitor)) report.out ≡ Some o
         → slice_index (places_of monitor) report.out ≤ t → t ≤ report.time
         → IsSettled rows o t report.word }

@@ -32,8 +32,8 @@ impl Model for Monitor {
     ghost use Rattle.r2u2_monitor.specs.declared.state.State.{State as Shown};
     ghost use Rattle.r2u2_monitor.specs.contracts.state.State.{the_row};
     ghost use Rattle.std.specs.Prelude.{◌≡◌};
-    ghost use Rattle.r2u2_monitor.specs.Monitoring.{IsSound, program_of};
-    ghost use Rattle.r2u2_monitor.specs.Running.{Fits};
+    ghost use Rattle.r2u2_monitor.specs.Monitoring.{MonitorIsSound, program_of};
+    ghost use Rattle.r2u2_monitor.specs.Running.{ResumesAt};
     ghost use Rattle.trace_feed.specs.Readings.{readings_of};
 
     ghost Value = { Shown };
@@ -42,8 +42,8 @@ impl Model for Monitor {
 
     ghost view = { λ monitor. monitor.state };
 
-    ghost invariant = { λ monitor. IsSound monitor.state
-        × Fits monitor.state.running monitor.cursor
+    ghost invariant = { λ monitor. MonitorIsSound monitor.state
+        × ResumesAt monitor.state.running monitor.cursor
         × (monitor.readings ≡ readings_of (program_of monitor.state)) };
 }
 
@@ -59,9 +59,9 @@ impl Monitor {
     ghost use Rattle.r2u2_monitor.specs.Bytes.{bytes_of, monitor_bytes};
     ghost use Rattle.r2u2_monitor.specs.Bursts.{OpensFew};
     ghost use Rattle.r2u2_monitor.specs.Running.{row_work};
-    ghost use Rattle.trace_feed.specs.Rows.{Tells, line_meaning};
+    ghost use Rattle.trace_feed.specs.Rows.{IsMeaningOf, line_meaning};
     ghost use Rattle.r2u2_monitor.specs.TakingLines.{TakesLine};
-    ghost use Rattle.r2u2_monitor.specs.Monitoring.{GivesNext, IsDrained, IsSame, Stands, TakesRow, last_of, open_of, program_of, read_of, taken_by};
+    ghost use Rattle.r2u2_monitor.specs.Monitoring.{ReturnsNext, IsDrained, IsSame, Stands, TakesRow, last_of, open_in, program_of, read_of, taken_by};
     ghost use Rattle.r2u2_monitor.specs.RowFaults.{IsReady, IsRowCause, IsUnfitAt};
 
     /// Makes a monitor that has taken no rows. It allocates all memory here, in blocks of as many bytes as its
@@ -191,7 +191,7 @@ impl Monitor {
 
     /// Reads the row of a line, if the line is one, and keeps it aside. Nothing else changes.
     pub fn read_line(&mut self, line: &[u8]) -> RowAnswer
-        ensures told { Tells result (read_of self.new)
+        ensures told { IsMeaningOf result (read_of self.new)
             (line_meaning (program_of self.old) line.now) }
         ensures fit { result ≡ RowAnswer.Good → IsFit (program_of self.old) (read_of self.new) }
         ensures same { IsSame self.old self.new }
@@ -234,14 +234,14 @@ impl Monitor {
     /// The next report of the last row, in a style. `None`, and no change, where none is left.
     #[inline(always)]
     pub fn next(&mut self, style: Style) -> Option<Report>
-        ensures { GivesNext style result self.old self.new }
+        ensures { ReturnsNext style result self.old self.new }
     {
         self.state.running.next(style, &mut self.cursor)
     }
 
     /// The next report of the last row, one for each newly known time. `None`, and no change, where none is left.
     pub fn next_report(&mut self) -> Option<Report>
-        ensures { GivesNext Each result self.old self.new }
+        ensures { ReturnsNext Each result self.old self.new }
     {
         self.next(Style::Each)
     }
@@ -249,7 +249,7 @@ impl Monitor {
     /// The next report of the last row, one for each longest stretch of newly known times with one word, with its last
     /// time. `None`, and no change, where none is left.
     pub fn next_run(&mut self) -> Option<Report>
-        ensures { GivesNext Runs result self.old self.new }
+        ensures { ReturnsNext Runs result self.old self.new }
     {
         self.next(Style::Runs)
     }
@@ -268,7 +268,7 @@ impl Monitor {
     pub fn is_drained(&self) -> bool
         ensures drained { IsTrue result ↔ IsDrained self.now }
         ensures open { (style : Form) (rows : List Row) → Stands self.now rows
-            → IsTrue result ↔ (open_of style self.now rows ≡ []) }
+            → IsTrue result ↔ (open_in style self.now rows ≡ []) }
     {
         self.state.running.is_drained(self.cursor)
     }

@@ -54,7 +54,7 @@ impl Running {
     ghost use Rattle.mltl_base.specs.declared.report.Style.{Style as Form};
     ghost use Rattle.mltl_base.specs.Atoms.{Row};
     ghost use Rattle.mltl_base.specs.Programs.{IsFit};
-    ghost use Rattle.r2u2_monitor.specs.Running.{Fits, GivesFirst, HasTaken, IsDrained, IsGiven, TakesRow, open_of, row_work};
+    ghost use Rattle.r2u2_monitor.specs.Running.{ResumesAt, YieldsFirst, HasTaken, IsDrained, Yields, EnginesTakeRow, open_by, row_work};
 
     /// Makes the engines of a program, before the first row; the only allocation.
     pub fn load(alloc: Global, checked: Checked) -> Result<Running, AllocError>
@@ -97,7 +97,7 @@ impl Running {
         requires early { self.old.taken < MAX_MISSION }
         requires numbers { length self.old.bz ≡ length self.old.checked.bz }
         requires fit { IsFit self.old.checked fields.now }
-        ensures takes { TakesRow fields.now self.old self.new }
+        ensures takes { EnginesTakeRow fields.now self.old self.new }
         ensures numbers { length self.new.bz ≡ length self.old.checked.bz }
         ensures counted { steps.new ≤ steps.old + row_work self.old.checked }
     {
@@ -112,13 +112,13 @@ impl Running {
     pub fn next(&mut self, style: Style, cursor: &mut Cursor) -> Option<Report>
         requires some { (rows : List Row) × HasTaken self.old rows }
         requires early { self.old.taken ≤ MAX_MISSION }
-        requires cursor { Fits self.old cursor.old }
+        requires cursor { ResumesAt self.old cursor.old }
         ensures first { (rows : List Row) → HasTaken self.old rows
-            → GivesFirst style result self.old self.new rows }
+            → YieldsFirst style result self.old self.new rows }
         ensures stands { (rows : List Row) → HasTaken self.old rows → HasTaken self.new rows }
-        ensures cursor { Fits self.new cursor.new }
+        ensures cursor { ResumesAt self.new cursor.new }
         ensures none { IsNone result → self.new ≡ self.old }
-        ensures given { IfSome result (λ report. IsGiven report self.old self.new) }
+        ensures given { IfSome result (λ report. Yields report self.old self.new) }
     {
         self.outs.next_at(style, cursor, &self.checked, &self.ft, &self.pt, self.taken)
     }
@@ -127,9 +127,9 @@ impl Running {
     #[inline(always)]
     pub fn is_drained(&self, cursor: Cursor) -> bool
         requires some { (rows : List Row) × HasTaken self.now rows }
-        requires cursor { Fits self.now cursor }
+        requires cursor { ResumesAt self.now cursor }
         ensures open { (style : Form) (rows : List Row) → HasTaken self.now rows
-            → IsTrue result ↔ (open_of style self.now rows ≡ []) }
+            → IsTrue result ↔ (open_by style self.now rows ≡ []) }
     {
         self.outs
             .drained_at(cursor, &self.checked, &self.ft, &self.pt, self.taken)

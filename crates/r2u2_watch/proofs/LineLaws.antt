@@ -12,7 +12,7 @@ use Rattle.tool_io.specs.Cutting.{Cutting, HasNoNewline, IsLastRow, IsRow, lines
 use Rattle.tool_io.proofs.CutLaws.{lines_of-row, lines_of-last}
 use Rattle.tool_io.proofs.Prompting.{PromptBy}
 use Rattle.trace_feed.specs.declared.trace_why.TraceWhy.TheVariants.{LongLine}
-use Rattle.r2u2_watch.specs.Feed.{Feed, IsPast, IsFaulty, text_meaning, meaning}
+use Rattle.r2u2_watch.specs.Feed.{Feed, IsPast, IsFaulty, text_meaning, meaning_of_line}
 use Rattle.r2u2_watch.specs.Trace.{is_marked, is_header, after_header}
 use Rattle.r2u2_watch.specs.Watch.{OnlyRun, first_of}
 
@@ -42,21 +42,21 @@ marked_first number text is = grind (arith, nat_tests, is)
 
 -- what a line is that is neither past the mission time by its number nor too long, that is too long, that is past it
 pub meaning-text : (program : Program) (mission before : ℕ) (feed : Feed) (raw : List ℕ) → before < mission → is_long raw ≡ false
-    → meaning program mission before feed raw ≡ text_meaning program mission feed (line_text raw)
+    → meaning_of_line program mission before feed raw ≡ text_meaning program mission feed (line_text raw)
 meaning-text program mission before feed raw within short =
     let early : nat_lt before mission ≡ true = grind (arith, nat_tests, within) in
     ap (λ v. if v then (if is_long raw then IsFaulty LongLine else text_meaning program mission feed (line_text raw)) else IsPast) early
     ∙ ap (λ v. if v then IsFaulty LongLine else text_meaning program mission feed (line_text raw)) short
 
 pub meaning-long : (program : Program) (mission before : ℕ) (feed : Feed) (raw : List ℕ) → before < mission → is_long raw ≡ true
-    → meaning program mission before feed raw ≡ IsFaulty LongLine
+    → meaning_of_line program mission before feed raw ≡ IsFaulty LongLine
 meaning-long program mission before feed raw within long =
     let early : nat_lt before mission ≡ true = grind (arith, nat_tests, within) in
     ap (λ v. if v then (if is_long raw then IsFaulty LongLine else text_meaning program mission feed (line_text raw)) else IsPast) early
     ∙ ap (λ v. if v then IsFaulty LongLine else text_meaning program mission feed (line_text raw)) long
 
 pub meaning-past : (program : Program) (mission before : ℕ) (feed : Feed) (raw : List ℕ) → before ≡ mission
-    → meaning program mission before feed raw ≡ IsPast
+    → meaning_of_line program mission before feed raw ≡ IsPast
 meaning-past program mission before feed raw at_end =
     let late : nat_lt before mission ≡ false = grind (arith, nat_tests, at_end) in
     ap (λ v. if v then (if is_long raw then IsFaulty LongLine else text_meaning program mission feed (line_text raw)) else IsPast) late

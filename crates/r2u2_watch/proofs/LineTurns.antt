@@ -18,10 +18,10 @@ use Rattle.r2u2_watch.specs.declared.reader.Reader.{Reader}
 use Rattle.trace_feed.specs.declared.trace_why.TraceWhy.TheVariants.{LongLine}
 use Rattle.r2u2_watch.specs.declared.status.Watched as watched
 use Rattle.r2u2_watch.specs.declared.trace_loop.Course.{Course}
-use Rattle.r2u2_watch.specs.Feed.{Feed, Meaning, IsPast, IsFaulty, Brings, meaning, text_meaning}
-use Rattle.r2u2_watch.specs.Trace.{TraceRows, Past, Bad, is_marked, is_header, after_header, put_in_front, rows_of, fed_rows}
+use Rattle.r2u2_watch.specs.Feed.{Feed, Meaning, IsPast, IsFaulty, Brings, meaning_of_line, text_meaning}
+use Rattle.r2u2_watch.specs.Trace.{TraceRows, Past, Bad, is_marked, is_header, after_header, put_line_in_front, rows_of, fed_rows}
 use Rattle.r2u2_watch.specs.Telling.{WritesNone}
-use Rattle.r2u2_watch.specs.Turns.{HasStopped, HasTaken, LineSteps, StandsAt, Takes, Turns, line_of, text_of}
+use Rattle.r2u2_watch.specs.Turns.{HasStopped, TookLine, LineSteps, ReaderIsAt, TakesAs, Turns, cut_meaning, cut_text}
 use Rattle.r2u2_watch.specs.Watch.{HasTold, IsWatch, first_of}
 use Rattle.r2u2_watch.proofs.LineLaws.{after_header-header, after_header-line, is_header-long, marked_first, meaning-text, meaning-long, meaning-past}
 use Rattle.r2u2_watch.proofs.WatchLaws.{IsLedBy-same, HasWatched, HasWatched-none, HasWatched-line, HasWatched-quiet, line_short, line_is, line_marked, line_next}
@@ -45,16 +45,16 @@ turns_by result log_before log_between log_now program before now feed rows star
 }
 
 -- no line ends the loop as if the trace had ended or couldn't be read
-not_done : (what : Meaning) (number : ℕ) (program : Program) (before now : Course) (rows : List Row) (monitor : State) (events : List Event) → Takes (Break watched.TheVariants.Done) what number program before now rows monitor events → ⊥
+not_done : (what : Meaning) (number : ℕ) (program : Program) (before now : Course) (rows : List Row) (monitor : State) (events : List Event) → TakesAs (Break watched.TheVariants.Done) what number program before now rows monitor events → ⊥
 not_done what number program before now rows monitor events takes = absurd takes
 
-not_unread : (what : Meaning) (number : ℕ) (program : Program) (before now : Course) (rows : List Row) (monitor : State) (events : List Event) → Takes (Break watched.TheVariants.ReadFault) what number program before now rows monitor events → ⊥
+not_unread : (what : Meaning) (number : ℕ) (program : Program) (before now : Course) (rows : List Row) (monitor : State) (events : List Event) → TakesAs (Break watched.TheVariants.ReadFault) what number program before now rows monitor events → ⊥
 not_unread what number program before now rows monitor events takes = absurd takes
 
 is_step : (result : ControlFlow watched.Watched ⊤) (program : Program) (before now : Course) (feed : Feed) (rows : List Row) (cut : Cutting) (monitor : State) (events : List Event) → LineSteps result program before now feed rows cut monitor events → IsStep result
 is_step (Continue u) program before now feed rows cut monitor events steps = tt
-is_step (Break watched.TheVariants.Done) program before now feed rows cut monitor events steps = not_done (line_of program before feed cut) cut.number program before now rows monitor events steps.takes
-is_step (Break watched.TheVariants.ReadFault) program before now feed rows cut monitor events steps = not_unread (line_of program before feed cut) cut.number program before now rows monitor events steps.takes
+is_step (Break watched.TheVariants.Done) program before now feed rows cut monitor events steps = not_done (cut_meaning program before feed cut) cut.number program before now rows monitor events steps.takes
+is_step (Break watched.TheVariants.ReadFault) program before now feed rows cut monitor events steps = not_unread (cut_meaning program before feed cut) cut.number program before now rows monitor events steps.takes
 is_step (Break watched.TheVariants.TooLong) program before now feed rows cut monitor events steps = tt
 is_step (Break (watched.TheVariants.BadTrace number why)) program before now feed rows cut monitor events steps = tt
 is_step (Break watched.TheVariants.WriteFault) program before now feed rows cut monitor events steps = tt
@@ -67,23 +67,23 @@ Turns-step result log_before log_between log_now program before now feed rows st
 -- after some lines
 abbrev pub HasLinesAt : Program → (List (List ℕ) → TraceRows) → Cutting → Cutting → State → ℕ → Style → ℕ → Reader → Feed → List Event → Type 0
 HasLinesAt program rows_in start cut monitor mission style lines reader feed events =
-    HasWatched program style rows_in start cut monitor (rows_of program mission lines feed) lines (StandsAt feed reader lines) events
+    HasWatched program style rows_in start cut monitor (rows_of program mission lines feed) lines (ReaderIsAt feed reader lines) events
 
 abbrev pub HasLines : Program → (List (List ℕ) → TraceRows) → Cutting → Cutting → State → Course → Feed → List Event → Type 0
 HasLines program rows_in start cut monitor course feed events = HasLinesAt program rows_in start cut monitor course.mission course.style course.lines course.reader feed events
 
 -- before the first
-pub HasLines-none : (program : Program) (course : Course) (feed : Feed) (start : Cutting) (monitor : State) → start.number ≤ 1 → HasTold program monitor [] → course.lines ≡ 0 → StandsAt feed course.reader 0 []
+pub HasLines-none : (program : Program) (course : Course) (feed : Feed) (start : Cutting) (monitor : State) → start.number ≤ 1 → HasTold program monitor [] → course.lines ≡ 0 → ReaderIsAt feed course.reader 0 []
     → HasLines program (fed_rows feed program course.mission (first_of start)) start start monitor course feed []
 HasLines-none program course feed start monitor low told none stands =
     subst (λ n. HasLinesAt program (fed_rows feed program course.mission (first_of start)) start start monitor course.mission course.style n course.reader feed []) (sym none)
-    (HasWatched-none program course.style start monitor (rows_of program course.mission 0 feed) (StandsAt feed course.reader 0) low told refl stands)
+    (HasWatched-none program course.style start monitor (rows_of program course.mission 0 feed) (ReaderIsAt feed course.reader 0) low told refl stands)
 
 -- the rows of lines, by the first
-rows_of-line : (program : Program) (mission before number : ℕ) (feed : Feed) (raw : List ℕ) (raws : List (List ℕ)) (what : Meaning) → is_header number raw ≡ false → meaning program mission before feed raw ≡ what
-    → rows_of program mission before feed (after_header number (raw ∷ raws)) ≡ put_in_front what number (λ next. rows_of program mission (before + 1) next (after_header (number + 1) raws))
+rows_of-line : (program : Program) (mission before number : ℕ) (feed : Feed) (raw : List ℕ) (raws : List (List ℕ)) (what : Meaning) → is_header number raw ≡ false → meaning_of_line program mission before feed raw ≡ what
+    → rows_of program mission before feed (after_header number (raw ∷ raws)) ≡ put_line_in_front what number (λ next. rows_of program mission (before + 1) next (after_header (number + 1) raws))
 rows_of-line program mission before number feed raw raws what plain is =
-    ap (rows_of program mission before feed) (after_header-line number raw raws plain) ∙ ap (λ m. put_in_front m number (λ next. rows_of program mission (before + 1) next (after_header (number + 1) raws))) is
+    ap (rows_of program mission before feed) (after_header-line number raw raws plain) ∙ ap (λ m. put_line_in_front m number (λ next. rows_of program mission (before + 1) next (after_header (number + 1) raws))) is
 
 module _ (program : Program) (rows_in : List (List ℕ) → TraceRows) (start cut new : Cutting) (monitor after : State) (course : Course) (feed : Feed) (events : List Event) (has : HasLines program rows_in start cut monitor course feed events) where
   -- the rows that follow, also after one more line
@@ -94,23 +94,23 @@ module _ (program : Program) (rows_in : List (List ℕ) → TraceRows) (start cu
   rest_after next = rows_of program course.mission (course.lines + 1) next
 
   abbrev Keeps : List Row → Type 0
-  Keeps = StandsAt feed course.reader course.lines
+  Keeps = ReaderIsAt feed course.reader course.lines
 
   -- the line that was cut
   abbrev here : Meaning
-  here = line_of program course feed new
+  here = cut_meaning program course feed new
 
-  marked_is : (reads : List Event) (cuts : CutsLine Trace cut new line_answer.TheVariants.Row reads) (marked : Bool) → is_marked new.number (text_of new) ≡ marked → is_header (next_number cut) cuts.answer.0 ≡ marked
+  marked_is : (reads : List Event) (cuts : CutsLine Trace cut new line_answer.TheVariants.Row reads) (marked : Bool) → is_marked new.number (cut_text new) ≡ marked → is_header (next_number cut) cuts.answer.0 ≡ marked
   marked_is reads cuts marked is = line_marked program course.style rows_in start cut new monitor rest course.lines Keeps events reads has cuts marked is
 
   next_is : (reads : List Event) (cuts : CutsLine Trace cut new line_answer.TheVariants.Row reads) → course.lines ≤ course.mission → course.mission ≤ 2 ^ 40 → next_number new ≡ next_number cut + 1
   next_is reads cuts within far = line_next program course.style rows_in start cut new monitor rest course.lines Keeps events reads has cuts (omega (arith, within, far))
 
-  starts : (reads : List Event) (cuts : CutsLine Trace cut new line_answer.TheVariants.Row reads) (what : Meaning) (raws : List (List ℕ)) → is_marked new.number (text_of new) ≡ false → meaning program course.mission course.lines feed cuts.answer.0 ≡ what
-      → rest (after_header (next_number cut) (cuts.answer.0 ∷ raws)) ≡ put_in_front what (next_number cut) (λ next. rest_after next (after_header (next_number cut + 1) raws))
+  starts : (reads : List Event) (cuts : CutsLine Trace cut new line_answer.TheVariants.Row reads) (what : Meaning) (raws : List (List ℕ)) → is_marked new.number (cut_text new) ≡ false → meaning_of_line program course.mission course.lines feed cuts.answer.0 ≡ what
+      → rest (after_header (next_number cut) (cuts.answer.0 ∷ raws)) ≡ put_line_in_front what (next_number cut) (λ next. rest_after next (after_header (next_number cut + 1) raws))
   starts reads cuts what raws plain is = rows_of-line program course.mission course.lines (next_number cut) feed cuts.answer.0 raws what (marked_is reads cuts false plain) is
 
-  here_is : (reads : List Event) (cuts : CutsLine Trace cut new line_answer.TheVariants.Row reads) → course.lines < course.mission → meaning program course.mission course.lines feed cuts.answer.0 ≡ here
+  here_is : (reads : List Event) (cuts : CutsLine Trace cut new line_answer.TheVariants.Row reads) → course.lines < course.mission → meaning_of_line program course.mission course.lines feed cuts.answer.0 ≡ here
   here_is reads cuts within =
       meaning-text program course.mission course.lines feed cuts.answer.0 within (line_short program course.style rows_in start cut new monitor rest course.lines Keeps events reads has cuts)
       ∙ ap (text_meaning program course.mission feed) (line_is program course.style rows_in start cut new monitor rest course.lines Keeps events reads has cuts)
@@ -128,10 +128,10 @@ module _ (program : Program) (rows_in : List (List ℕ) → TraceRows) (start cu
   GoesOn-same now then_ all is goes = subst (λ c. GoesOn c all) (sym is) goes
 
   -- the header
-  header_goes : (reads wrote : List Event) → course.lines ≤ course.mission → course.mission ≤ 2 ^ 40 → (cuts : CutsLine Trace cut new line_answer.TheVariants.Row reads) → is_marked new.number (text_of new) ≡ true → WritesNone program has.rows after wrote → GoesOn course ((events ++ reads) ++ wrote)
+  header_goes : (reads wrote : List Event) → course.lines ≤ course.mission → course.mission ≤ 2 ^ 40 → (cuts : CutsLine Trace cut new line_answer.TheVariants.Row reads) → is_marked new.number (cut_text new) ≡ true → WritesNone program has.rows after wrote → GoesOn course ((events ++ reads) ++ wrote)
   header_goes reads wrote within far cuts marked none =
       let next = next_is reads cuts within far in
-      let is_first : next_number cut ≡ 1 = sym cuts.answer.1.number ∙ marked_first new.number (text_of new) marked in
+      let is_first : next_number cut ≡ 1 = sym cuts.answer.1.number ∙ marked_first new.number (cut_text new) marked in
       record {
         next = feed;
         same_mission = refl;
@@ -148,20 +148,20 @@ module _ (program : Program) (rows_in : List (List ℕ) → TraceRows) (start cu
     pub next : Feed
     pub has_lines : HasLinesAt program rows_in start new after course.mission course.style (course.lines + 1) reader next all
 
-  line_goes : (what : Meaning) (now : Course) (reads wrote : List Event) → course.lines < course.mission → course.mission ≤ 2 ^ 40 → (cuts : CutsLine Trace cut new line_answer.TheVariants.Row reads) → is_marked new.number (text_of new) ≡ false
-      → meaning program course.mission course.lines feed cuts.answer.0 ≡ what → Takes (Continue tt) what new.number program course now has.rows after wrote → LineGoes now.reader ((events ++ reads) ++ wrote)
+  line_goes : (what : Meaning) (now : Course) (reads wrote : List Event) → course.lines < course.mission → course.mission ≤ 2 ^ 40 → (cuts : CutsLine Trace cut new line_answer.TheVariants.Row reads) → is_marked new.number (cut_text new) ≡ false
+      → meaning_of_line program course.mission course.lines feed cuts.answer.0 ≡ what → TakesAs (Continue tt) what new.number program course now has.rows after wrote → LineGoes now.reader ((events ++ reads) ++ wrote)
   line_goes (Brings more next_feed) now reads wrote within far cuts plain is takes =
       let next = next_is reads cuts (omega (arith, within)) far in
       record {
         next = next_feed;
-        has_lines = HasWatched-line program course.style rows_in start cut new monitor rest course.lines Keeps events reads has after (rest_after next_feed) (course.lines + 1) (StandsAt next_feed now.reader (course.lines + 1)) more wrote cuts
-            (λ raws. IsLedBy-same _ _ _ _ (starts reads cuts (Brings more next_feed) raws plain is ∙ ap (λ n. put_in_front (Brings more next_feed) (next_number cut) (λ f. rest_after f (after_header n raws))) (sym next)) (record { rows = refl; stop = refl }))
+        has_lines = HasWatched-line program course.style rows_in start cut new monitor rest course.lines Keeps events reads has after (rest_after next_feed) (course.lines + 1) (ReaderIsAt next_feed now.reader (course.lines + 1)) more wrote cuts
+            (λ raws. IsLedBy-same _ _ _ _ (starts reads cuts (Brings more next_feed) raws plain is ∙ ap (λ n. put_line_in_front (Brings more next_feed) (next_number cut) (λ f. rest_after f (after_header n raws))) (sym next)) (record { rows = refl; stop = refl }))
             refl takes.tells takes.stands (omega (arith, next, has.early));
       }
   line_goes (IsFaulty why) now reads wrote within far cuts plain is takes = absurd takes
   line_goes IsPast now reads wrote within far cuts plain is takes = absurd takes
 
-  taken_goes : (now : Course) (reads wrote : List Event) → course.mission ≤ 2 ^ 40 → CutsLine Trace cut new line_answer.TheVariants.Row reads → HasTaken program course now feed has.rows new after wrote → GoesOn now ((events ++ reads) ++ wrote)
+  taken_goes : (now : Course) (reads wrote : List Event) → course.mission ≤ 2 ^ 40 → CutsLine Trace cut new line_answer.TheVariants.Row reads → TookLine program course now feed has.rows new after wrote → GoesOn now ((events ++ reads) ++ wrote)
   taken_goes now reads wrote far cuts taken =
       let counts = taken.counts in
       let next = next_is reads cuts (omega (arith, counts.within)) far in
@@ -193,8 +193,8 @@ module _ (program : Program) (rows_in : List (List ℕ) → TraceRows) (start cu
   unwritten answer reads wrote none is = subst (IsWatch program course.style rows_in start new after answer) (sym (ap (λ w. (events ++ reads) ++ w) none ∙ append-nil (events ++ reads))) is
 
   -- the rows end at a line that was cut
-  cut_ends : (answer : watched.Watched) (what : Meaning) (now : Course) (reads wrote : List Event) (cuts : CutsLine Trace cut new line_answer.TheVariants.Row reads) → is_marked new.number (text_of new) ≡ false → meaning program course.mission course.lines feed cuts.answer.0 ≡ what
-      → Takes (Break answer) what new.number program course now has.rows after wrote → IsWatch program course.style rows_in start new after answer ((events ++ reads) ++ wrote)
+  cut_ends : (answer : watched.Watched) (what : Meaning) (now : Course) (reads wrote : List Event) (cuts : CutsLine Trace cut new line_answer.TheVariants.Row reads) → is_marked new.number (cut_text new) ≡ false → meaning_of_line program course.mission course.lines feed cuts.answer.0 ≡ what
+      → TakesAs (Break answer) what new.number program course now has.rows after wrote → IsWatch program course.style rows_in start new after answer ((events ++ reads) ++ wrote)
   cut_ends watched.TheVariants.WriteFault (Brings more next) now reads wrote cuts plain is tells =
       let tail = rest_after next (after_header (next_number cut + 1) (lines_of new.ended new.pending)) in
       write_ends program course.style rows_in start cut new monitor after rest course.lines Keeps events reads has more tail.rows tail.stop wrote cuts

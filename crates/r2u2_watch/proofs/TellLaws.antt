@@ -17,7 +17,7 @@ use Rattle.tool_io.specs.Log.{Event, Writes, WritesFront}
 use Rattle.tool_io.proofs.ListLaws.{some-append}
 use Rattle.tool_io.proofs.LogLaws.{Writes-none, Writes-then, WritesFront-then}
 use Rattle.r2u2_monitor.specs.declared.state.State.{State}
-use Rattle.r2u2_monitor.specs.Monitoring.{program_of, open_of, Stands, TakesRow}
+use Rattle.r2u2_monitor.specs.Monitoring.{program_of, open_in, Stands, TakesRow}
 use Rattle.r2u2_watch.specs.Watch.{HasTold}
 use Rattle.r2u2_watch.specs.Telling.{SendsText, IsDrainedIf, text_after, TellsAll, TakesFront, TellsFront, TellsRows}
 
@@ -63,11 +63,11 @@ next_line names now all rest report text piece first same written sent =
     ap (lines_of_reports names) first ∙ ap (λ bytes. bytes ++ lines_of_reports names rest) (sym is)
 
 -- what is due for one more row
-pub due_row : (style : Style) (rows : List Row) (row : Row) (before between : State) → TakesRow row before between → Stands before rows → lines_of_reports (output_names (program_of between)) (open_of style between (rows ++ row ∷ [])) ≡ lines_of_reports (output_names (program_of before)) (reports_after style (outputs (program_of before)) rows (row ∷ []))
+pub due_row : (style : Style) (rows : List Row) (row : Row) (before between : State) → TakesRow row before between → Stands before rows → lines_of_reports (output_names (program_of between)) (open_in style between (rows ++ row ∷ [])) ≡ lines_of_reports (output_names (program_of before)) (reports_after style (outputs (program_of before)) rows (row ∷ []))
 unfolding reports_after
 due_row style rows row before between took stands =
     let names = output_names (program_of before) in
-    ap (λ (p : Program). lines_of_reports (output_names p) (open_of style between (rows ++ row ∷ []))) took.program ∙ ap (lines_of_reports names) (took.opens style rows stands ∙ sym (append-nil (of_row style 0 (outputs (program_of before)) rows row)))
+    ap (λ (p : Program). lines_of_reports (output_names p) (open_in style between (rows ++ row ∷ []))) took.program ∙ ap (lines_of_reports names) (took.opens style rows stands ∙ sym (append-nil (of_row style 0 (outputs (program_of before)) rows row)))
 
 -- the lines of rows and of further rows
 told_after : (style : Style) (names : List (List ℕ)) (outs : List Output) (rows more further : List Row) → lines_of_reports names (reports_after style outs rows (more ++ further)) ≡ lines_of_reports names (reports_after style outs rows more) ++ lines_of_reports names (reports_after style outs (rows ++ more) further)
@@ -157,7 +157,7 @@ TellsFront-more program style rows more further monitor events a =
     }
 
 -- one row was taken, and then told
-pub TellsRows-tell : (whole : Bool) (style : Style) (rows : List Row) (row : Row) (before between after : State) (events : List Event) → TakesRow row before between → Stands before rows → SendsText whole (lines_of_reports (output_names (program_of between)) (open_of style between (rows ++ row ∷ []))) events
+pub TellsRows-tell : (whole : Bool) (style : Style) (rows : List Row) (row : Row) (before between after : State) (events : List Event) → TakesRow row before between → Stands before rows → SendsText whole (lines_of_reports (output_names (program_of between)) (open_in style between (rows ++ row ∷ []))) events
     → program_of after ≡ program_of between → (Stands between (rows ++ row ∷ []) → Stands after (rows ++ row ∷ [])) → IsDrainedIf whole after → TellsRows whole (program_of before) style rows (row ∷ []) after events
 TellsRows-tell true style rows row before between after events took stands sends kept told drained = record {
   sends = subst (λ bytes. Writes Out bytes events) (due_row style rows row before between took stands) sends;
@@ -181,7 +181,7 @@ TellsRows-tell false style rows row before between after events took stands send
 
 -- one more row was taken, and then told
 pub TellsRows-one : (whole : Bool) (program : Program) (style : Style) (rows more : List Row) (row : Row) (before between after : State) (first second : List Event) → TellsAll program style rows more before first → TakesRow row before between
-    → SendsText whole (lines_of_reports (output_names (program_of between)) (open_of style between ((rows ++ more) ++ row ∷ []))) second → program_of after ≡ program_of between
+    → SendsText whole (lines_of_reports (output_names (program_of between)) (open_in style between ((rows ++ more) ++ row ∷ []))) second → program_of after ≡ program_of between
     → (Stands between ((rows ++ more) ++ row ∷ []) → Stands after ((rows ++ more) ++ row ∷ [])) → IsDrainedIf whole after → TellsRows whole program style rows (more ++ row ∷ []) after (first ++ second)
 TellsRows-one whole program style rows more row before between after first second was took sends kept told drained =
     let now : TellsRows whole (program_of before) style (rows ++ more) (row ∷ []) after second = TellsRows-tell whole style (rows ++ more) row before between after second took was.told.stands sends kept told drained in

@@ -22,7 +22,7 @@ use Rattle.tool_io.proofs.Prompting.{PromptBy, PromptBy-append, Writes-prompt}
 use Rattle.r2u2_monitor.specs.declared.state.State.{State}
 use Rattle.r2u2_watch.specs.Trace.{TraceRows, Clean, ends_by, is_marked, is_header, after_header, due}
 use Rattle.r2u2_watch.specs.Telling.{TellsAll, WritesNone}
-use Rattle.r2u2_watch.specs.Turns.{text_of}
+use Rattle.r2u2_watch.specs.Turns.{cut_text}
 use Rattle.r2u2_watch.specs.Watch.{OnlyRun, ReadsNoMore, HasTold, first_of}
 use Rattle.r2u2_watch.proofs.LineLaws.{is_header-short, first_early, OnlyRun-reads, OnlyRun-writes, OnlyRun-append, Follows, reads_prompt, no_reads, true_false, row_follows, row_line}
 
@@ -158,11 +158,11 @@ module _ (program : Program) (style : Style) (rows_in : List (List ℕ) → Trac
   pub line_short : (cuts : CutsLine Trace cut new line_answer.TheVariants.Row reads) → is_long cuts.answer.0 ≡ false
   line_short cuts = let gives = cuts.answer.1 in is_long-row cuts.answer.0 new.pending new.ended gives.fits gives.line
 
-  pub line_is : (cuts : CutsLine Trace cut new line_answer.TheVariants.Row reads) → line_text cuts.answer.0 ≡ text_of new
+  pub line_is : (cuts : CutsLine Trace cut new line_answer.TheVariants.Row reads) → line_text cuts.answer.0 ≡ cut_text new
   line_is cuts = ap (λ r. line_text (unwrap_or r [])) (sym cuts.answer.1.row)
 
   -- it is the header or isn't
-  pub line_marked : (cuts : CutsLine Trace cut new line_answer.TheVariants.Row reads) (marked : Bool) → is_marked new.number (text_of new) ≡ marked → is_header (next_number cut) cuts.answer.0 ≡ marked
+  pub line_marked : (cuts : CutsLine Trace cut new line_answer.TheVariants.Row reads) (marked : Bool) → is_marked new.number (cut_text new) ≡ marked → is_header (next_number cut) cuts.answer.0 ≡ marked
   line_marked cuts marked is =
       is_header-short (next_number cut) cuts.answer.0 marked (line_short cuts) (ap (λ n. is_marked n (line_text cuts.answer.0)) (sym cuts.answer.1.number) ∙ ap (is_marked new.number) (line_is cuts) ∙ is)
 

@@ -37,9 +37,9 @@ abbrev pub plain_row : Row → Meaning
 plain_row values = Brings (values ∷ []) Plain
 
 -- the time of the last row
-abbrev pub time_of : Option (ℕ × Row) → Option ℕ
-time_of None = None
-time_of (Some last) = Some last.0
+abbrev pub last_time : Option (ℕ × Row) → Option ℕ
+last_time None = None
+last_time (Some last) = Some last.0
 
 -- the last row, once for each time strictly between its own and this one
 abbrev pub held : Option (ℕ × Row) → ℕ → List Row
@@ -63,12 +63,12 @@ stamped_line program last text stamp.TheVariants.Late = IsPast
 abbrev pub text_meaning : Program → ℕ → Feed → List ℕ → Meaning
 text_meaning program mission Plain text = fields_mean plain_row (Brings [] Plain) (line_meaning program text)
 text_meaning program mission (Stamped last) text =
-    stamped_line program last text (stamp_meaning text (time_of last) mission)
+    stamped_line program last text (stamp_meaning text (last_time last) mission)
 
 -- A line with this many lines after the header before it. A line that meets several ends is past the mission time by
 -- its number first, then too long, and its stamp and its fields come last.
-abbrev pub meaning : Program → ℕ → ℕ → Feed → List ℕ → Meaning
-meaning program mission before feed raw =
+abbrev pub meaning_of_line : Program → ℕ → ℕ → Feed → List ℕ → Meaning
+meaning_of_line program mission before feed raw =
     if nat_lt before mission
     then (if is_long raw then IsFaulty LongLine else text_meaning program mission feed (line_text raw))
     else IsPast

@@ -10,7 +10,7 @@ use Rattle.mltl_base.specs.Lines.{lines}
 use Rattle.tool_io.specs.Cutting.{line_text, lines_of, is_long}
 use Rattle.trace_feed.specs.Header.{begins_header}
 use Rattle.trace_feed.specs.declared.trace_why.TraceWhy.{TraceWhy}
-use Rattle.r2u2_watch.specs.Feed.{Feed, Plain, Stamped, Meaning, IsPast, IsFaulty, Brings, meaning}
+use Rattle.r2u2_watch.specs.Feed.{Feed, Plain, Stamped, Meaning, IsPast, IsFaulty, Brings, meaning_of_line}
 
 -- whether a line is the first of the trace and begins with `#`
 abbrev pub is_marked : ℕ → List ℕ → Bool
@@ -44,16 +44,16 @@ abbrev pub led_by : List Row → TraceRows → TraceRows
 led_by rows rest = record { rows = rows ++ rest.rows; stop = rest.stop }
 
 -- a line of this number before others, whose rows are read as the lines after it hold them
-abbrev pub put_in_front : Meaning → ℕ → (Feed → TraceRows) → TraceRows
-put_in_front (Brings rows next) number rest = led_by rows (rest next)
-put_in_front (IsFaulty why) number rest = ends_by (Bad number why)
-put_in_front IsPast number rest = ends_by Past
+abbrev pub put_line_in_front : Meaning → ℕ → (Feed → TraceRows) → TraceRows
+put_line_in_front (Brings rows next) number rest = led_by rows (rest next)
+put_line_in_front (IsFaulty why) number rest = ends_by (Bad number why)
+put_line_in_front IsPast number rest = ends_by Past
 
 -- the rows of lines after the header up to the first line that ends them, where this many lines come before them
 abbrev pub rows_of : Program → ℕ → ℕ → Feed → List (ℕ × List ℕ) → TraceRows
 rows_of program mission before feed [] = ends_by Clean
 rows_of program mission before feed (line ∷ rest) =
-    put_in_front (meaning program mission before feed line.1) line.0
+    put_line_in_front (meaning_of_line program mission before feed line.1) line.0
     (λ next. rows_of program mission (before + 1) next rest)
 
 -- the rows of all lines of a trace, of which the first has the number `first`

@@ -24,7 +24,7 @@ use Rattle.r2u2_watch.specs.declared.reader.Reader as reader
 use Rattle.r2u2_watch.specs.declared.reader.Found as found
 use Rattle.r2u2_watch.specs.declared.trace_loop.Course.{Course}
 use Rattle.r2u2_watch.specs.Endings.{why_of}
-use Rattle.r2u2_watch.specs.Feed.{Feed, Plain, Stamped, Meaning, IsPast, IsFaulty, Brings, time_of, text_meaning}
+use Rattle.r2u2_watch.specs.Feed.{Feed, Plain, Stamped, Meaning, IsPast, IsFaulty, Brings, last_time, text_meaning}
 use Rattle.r2u2_watch.specs.Trace.{is_marked}
 use Rattle.r2u2_watch.specs.Watch.{HasTold}
 use Rattle.r2u2_watch.specs.Telling.{TellsAll, TellsFront, WritesNone}
@@ -35,10 +35,10 @@ IsLast None rows = rows ≡ []
 IsLast (Some last) rows = (front : List Row) × (rows ≡ front ++ last.1 ∷ []) × (length rows ≡ last.0 + 1)
 
 -- a reader that has taken these rows from this many lines is where lines are read so
-abbrev pub StandsAt : Feed → reader.Reader → ℕ → List Row → Type 0
-StandsAt Plain reader.TheVariants.Plain lines rows = length rows ≤ lines
-StandsAt (Stamped last) (reader.TheVariants.Stamped time) lines rows = (time_of last ≡ time) × IsLast last rows
-StandsAt feed now lines rows = ⊥
+abbrev pub ReaderIsAt : Feed → reader.Reader → ℕ → List Row → Type 0
+ReaderIsAt Plain reader.TheVariants.Plain lines rows = length rows ≤ lines
+ReaderIsAt (Stamped last) (reader.TheVariants.Stamped time) lines rows = (last_time last ≡ time) × IsLast last rows
+ReaderIsAt feed now lines rows = ⊥
 
 -- how many times there are up to a last one
 abbrev pub times_until : Option ℕ → ℕ
@@ -58,7 +58,7 @@ begins_at (reader.TheVariants.Stamped last) = Stamped None
 -- no line was taken
 pub record IsAtStart (course : Course) : Type 0 where
   pub no_lines : course.lines ≡ 0
-  pub no_rows : StandsAt (begins_at course.reader) course.reader 0 []
+  pub no_rows : ReaderIsAt (begins_at course.reader) course.reader 0 []
 
 -- Between lines all reports are given, the rows that were taken are counted, and the mission time isn't too long.
 pub record IsUnderWay (course : Course) (monitor : State) : Type 0 where
@@ -78,20 +78,20 @@ pub record CanTake (copies : ℕ) (monitor : State) : Type 0 where
   pub early : taken_by monitor + copies < MAX_MISSION
 
 -- the fault of fields, if they have one; blanks are none in a plain line
-abbrev pub fault_of : reader.Reader → LineMeaning → Option LineFault
-fault_of now (row values) = None
-fault_of reader.TheVariants.Plain blank = None
-fault_of (reader.TheVariants.Stamped last) blank = Some Width
-fault_of now too_few = Some Width
-fault_of now (not_whole column) = Some (NotWhole column)
-fault_of now (out_of_range column) = Some (OutOfRange column)
+abbrev pub line_fault : reader.Reader → LineMeaning → Option LineFault
+line_fault now (row values) = None
+line_fault reader.TheVariants.Plain blank = None
+line_fault (reader.TheVariants.Stamped last) blank = Some Width
+line_fault now too_few = Some Width
+line_fault now (not_whole column) = Some (NotWhole column)
+line_fault now (out_of_range column) = Some (OutOfRange column)
 
 -- what fields were found to be: this row after this many copies, no row, or faulty
 abbrev pub FindsFields : found.Found → ℕ → reader.Reader → LineMeaning → Row → Type 0
 FindsFields (found.TheVariants.Row times next) copies now what values =
     (times ≡ copies) × (next ≡ now) × (what ≡ row values)
 FindsFields found.TheVariants.Blank copies now what values = (now ≡ reader.TheVariants.Plain) × (what ≡ blank)
-FindsFields (found.TheVariants.Bad fault) copies now what values = fault_of now what ≡ Some fault
+FindsFields (found.TheVariants.Bad fault) copies now what values = line_fault now what ≡ Some fault
 FindsFields found.TheVariants.Past copies now what values = ⊥
 
 -- this many copies of the last row, and then the row that was read
@@ -103,7 +103,7 @@ pub record FindsRow (copies : ℕ) (now : reader.Reader) (what : Meaning) (lines
     (before after : State) : Type 0 where
   pub next : Feed
   pub brings : what ≡ Brings (rows_found copies before after) next
-  pub stands : StandsAt next now (lines + 1) (rows ++ rows_found copies before after)
+  pub stands : ReaderIsAt next now (lines + 1) (rows ++ rows_found copies before after)
 
 -- what a line was found to be, after these rows from this many lines
 abbrev pub Finds : found.Found → Feed → Meaning → ℕ → List Row → State → State → Type 0
@@ -114,37 +114,37 @@ Finds (found.TheVariants.Bad fault) feed what lines rows before after = what ≡
 Finds found.TheVariants.Past feed what lines rows before after = what ≡ IsPast
 
 -- the text of the line that a cut gave
-abbrev pub text_of : Cutting → List ℕ
-text_of cut = line_text (cutting.row_of cut)
+abbrev pub cut_text : Cutting → List ℕ
+cut_text cut = line_text (cutting.row_of cut)
 
 -- what it is
-abbrev pub line_of : Program → Course → Feed → Cutting → Meaning
-line_of program course feed cut = text_meaning program course.mission feed (text_of cut)
+abbrev pub cut_meaning : Program → Course → Feed → Cutting → Meaning
+cut_meaning program course feed cut = text_meaning program course.mission feed (cut_text cut)
 
 -- its rows were taken and printed, and the reader is after them
 pub record TakesRows (more : List Row) (next : Feed) (program : Program) (before now : Course) (rows : List Row)
     (monitor : State) (events : List Event) : Type 0 where
-  pub stands : StandsAt next now.reader (before.lines + 1) (rows ++ more)
+  pub stands : ReaderIsAt next now.reader (before.lines + 1) (rows ++ more)
   pub tells : TellsAll program before.style rows more monitor events
 
 -- the effect of a line of this number: its rows, or a prefix of them; else how the loop ends
-abbrev pub Takes : ControlFlow watched.Watched ⊤ → Meaning → ℕ → Program → Course → Course → List Row → State
+abbrev pub TakesAs : ControlFlow watched.Watched ⊤ → Meaning → ℕ → Program → Course → Course → List Row → State
     → List Event → Type 0
-Takes (Continue u) (Brings more next) number program before now rows monitor events =
+TakesAs (Continue u) (Brings more next) number program before now rows monitor events =
     TakesRows more next program before now rows monitor events
-Takes (Break watched.TheVariants.WriteFault) (Brings more next) number program before now rows monitor events =
+TakesAs (Break watched.TheVariants.WriteFault) (Brings more next) number program before now rows monitor events =
     TellsFront program before.style rows more monitor events
-Takes (Break (watched.TheVariants.BadTrace line why)) (IsFaulty cause) number program before now rows monitor events =
+TakesAs (Break (watched.TheVariants.BadTrace line why)) (IsFaulty cause) number program before now rows monitor events =
     (line ≡ number) × (why ≡ cause) × WritesNone program rows monitor events
-Takes (Break watched.TheVariants.TooLong) IsPast number program before now rows monitor events =
+TakesAs (Break watched.TheVariants.TooLong) IsPast number program before now rows monitor events =
     WritesNone program rows monitor events
-Takes answer what number program before now rows monitor events = ⊥
+TakesAs answer what number program before now rows monitor events = ⊥
 
 -- what the line that a cut gave brought
-abbrev pub TakesLine : ControlFlow watched.Watched ⊤ → Program → Course → Course → Feed → List Row → Cutting → State
+abbrev pub TakesCut : ControlFlow watched.Watched ⊤ → Program → Course → Course → Feed → List Row → Cutting → State
     → List Event → Type 0
-TakesLine answer program before now feed rows cut monitor events =
-    Takes answer (line_of program before feed cut) cut.number program before now rows monitor events
+TakesCut answer program before now feed rows cut monitor events =
+    TakesAs answer (cut_meaning program before feed cut) cut.number program before now rows monitor events
 
 -- nothing changed but the reader
 pub record MovesReader (before now : Course) : Type 0 where
@@ -155,44 +155,44 @@ pub record MovesReader (before now : Course) : Type 0 where
 -- the line that a cut gave counts: it isn't the header, and is within the mission time
 pub record Counts (mission before : ℕ) (cut : Cutting) : Type 0 where
   pub within : before < mission
-  pub no_header : is_marked cut.number (text_of cut) ≡ false
+  pub no_header : is_marked cut.number (cut_text cut) ≡ false
 
 -- the line that a cut gave is the header
 pub record IsHeader (program : Program) (before now : Course) (rows : List Row) (cut : Cutting) (monitor : State)
     (events : List Event) : Type 0 where
   pub same : now ≡ before
-  pub marked : is_marked cut.number (text_of cut) ≡ true
+  pub marked : is_marked cut.number (cut_text cut) ≡ true
   pub writes : WritesNone program rows monitor events
 
 -- it is another line, and was taken
-pub record HasTaken (program : Program) (before now : Course) (feed : Feed) (rows : List Row) (cut : Cutting)
+pub record TookLine (program : Program) (before now : Course) (feed : Feed) (rows : List Row) (cut : Cutting)
     (monitor : State) (events : List Event) : Type 0 where
   pub mission : now.mission ≡ before.mission
   pub style : now.style ≡ before.style
   pub lines : now.lines ≡ before.lines + 1
   pub counts : Counts before.mission before.lines cut
-  pub takes : TakesLine (Continue tt) program before now feed rows cut monitor events
+  pub takes : TakesCut (Continue tt) program before now feed rows cut monitor events
 
 -- it is past the mission time by its number
-pub record IsOver (program : Program) (course : Course) (rows : List Row) (cut : Cutting) (monitor : State)
+pub record IsPastMission (program : Program) (course : Course) (rows : List Row) (cut : Cutting) (monitor : State)
     (events : List Event) : Type 0 where
   pub at_end : course.lines ≡ course.mission
-  pub no_header : is_marked cut.number (text_of cut) ≡ false
+  pub no_header : is_marked cut.number (cut_text cut) ≡ false
   pub writes : WritesNone program rows monitor events
 
 -- it ended the loop so
 pub record HasStopped (answer : watched.Watched) (program : Program) (before now : Course) (feed : Feed)
     (rows : List Row) (cut : Cutting) (monitor : State) (events : List Event) : Type 0 where
   pub counts : Counts before.mission before.lines cut
-  pub takes : TakesLine (Break answer) program before now feed rows cut monitor events
+  pub takes : TakesCut (Break answer) program before now feed rows cut monitor events
 
 -- what the line that a cut gave was, and what it brought; else how the loop ends
 abbrev pub LineSteps : ControlFlow watched.Watched ⊤ → Program → Course → Course → Feed → List Row → Cutting → State
     → List Event → Type 0
 LineSteps (Continue u) program before now feed rows cut monitor events =
-    IsHeader program before now rows cut monitor events ⊎ HasTaken program before now feed rows cut monitor events
+    IsHeader program before now rows cut monitor events ⊎ TookLine program before now feed rows cut monitor events
 LineSteps (Break watched.TheVariants.TooLong) program before now feed rows cut monitor events =
-    IsOver program before rows cut monitor events
+    IsPastMission program before rows cut monitor events
     ⊎ HasStopped watched.TheVariants.TooLong program before now feed rows cut monitor events
 LineSteps (Break answer) program before now feed rows cut monitor events =
     HasStopped answer program before now feed rows cut monitor events

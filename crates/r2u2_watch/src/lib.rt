@@ -3,8 +3,8 @@
 
 pub mod laws;
 mod reader;
+mod report_lines;
 mod status;
-mod telling;
 mod trace_loop;
 
 pub use status::Watched;

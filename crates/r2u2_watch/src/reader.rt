@@ -7,7 +7,7 @@ ghost use Rattle.mltl_base.specs.Atoms.{Row as Values};
 ghost use Rattle.r2u2_monitor.specs.Monitoring.{program_of, taken_by, read_of, IsSame, Stands};
 ghost use Rattle.sparse_feed.specs.Stamps.{stamp_meaning};
 ghost use Rattle.trace_feed.specs.Rows.{line_meaning};
-ghost use Rattle.r2u2_watch.specs.Feed.{Stamped as StampedRows, stamped_line, time_of};
+ghost use Rattle.r2u2_watch.specs.Feed.{Stamped as StampedRows, stamped_line, last_time};
 ghost use Rattle.r2u2_watch.specs.Turns.{CanTake, Finds, FindsFields, IfRow, IsLast, times_until};
 
 use crate::status::LineFault;
@@ -76,7 +76,7 @@ pub(crate) fn read_stamped(
     requires counted { taken_by monitor.old ≡ times_until last }
     requires mission { mission ≤ MAX_MISSION }
     ensures told { (lines : ℕ) (rows : List Values) (before : Option (ℕ × Values)) →
-        Stands monitor.old rows → IsLast before rows → time_of before ≡ last
+        Stands monitor.old rows → IsLast before rows → last_time before ≡ last
         → Finds result (StampedRows before)
         (stamped_line (program_of monitor.old) before line.now
         (stamp_meaning line.now last mission)) lines rows monitor.old monitor.new }

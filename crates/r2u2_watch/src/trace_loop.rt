@@ -9,12 +9,12 @@ ghost use Rattle.r2u2_watch.specs.Trace.{is_marked, fed_rows, trace_rows, stampe
 ghost use Rattle.r2u2_watch.specs.Watch.{CanWatch, IsWatch, WatchCause, first_of};
 ghost use Rattle.r2u2_watch.specs.Endings.{told_as};
 ghost use Rattle.r2u2_watch.specs.Telling.{StepCause};
-ghost use Rattle.r2u2_watch.specs.Turns.{CanTake, Finds, IfRow, IsAtStart, IsUnderWay, LineSteps, MovesReader, StandsAt, TakesLine, Turns, begins_at, text_of};
+ghost use Rattle.r2u2_watch.specs.Turns.{CanTake, Finds, IfRow, IsAtStart, IsUnderWay, LineSteps, MovesReader, ReaderIsAt, TakesCut, Turns, begins_at, cut_text};
 
 use crate::Watched;
 use crate::reader::{Found, Reader, read_fields, read_stamped};
+use crate::report_lines::take_after;
 use crate::status::{Ending, LineFault};
-use crate::telling::take_after;
 use mltl_base::Style;
 use mltl_base::steps::Steps;
 use r2u2_monitor::Monitor;
@@ -26,7 +26,7 @@ use tool_io::{Host, Line, LineCut, Place};
 /// Whether the line of the last Row is the first of the trace and begins with `#`.
 fn is_header(cut: &LineCut) -> bool
     requires row { IsSome cut.now.row }
-    ensures { result ≡ is_marked cut.now.number (text_of cut.now) }
+    ensures { result ≡ is_marked cut.now.number (cut_text cut.now) }
 {
     cut.number() == 1 && matches!(cut.line(), [b'#', ..])
 }
@@ -65,7 +65,7 @@ impl Course {
         requires under_way { IsUnderWay self.now monitor.old }
         requires within { self.now.lines < self.now.mission }
         ensures told { (rows : List Row) (feed : Feed) → Stands monitor.old rows
-            → StandsAt feed self.now.reader self.now.lines rows
+            → ReaderIsAt feed self.now.reader self.now.lines rows
             → Finds result feed
             (text_meaning (program_of monitor.old) self.now.mission feed line.now)
             self.now.lines rows monitor.old monitor.new }
@@ -93,9 +93,9 @@ impl Course {
         requires within { self.old.lines < self.old.mission }
         ensures cause { StepCause (told_as result) (H.faults host.old) (H.faults host.new) }
         ensures log { (rows : List Row) (feed : Feed) → Stands monitor.old rows
-            → StandsAt feed self.old.reader self.old.lines rows
+            → ReaderIsAt feed self.old.reader self.old.lines rows
             → OnLog (H.log host.old) (H.log host.new)
-            (TakesLine (told_as result) (program_of monitor.old) self.old self.new feed rows
+            (TakesCut (told_as result) (program_of monitor.old) self.old self.new feed rows
             cut.now monitor.new) }
         ensures program { program_of monitor.new ≡ program_of monitor.old }
         ensures moves { MovesReader self.old self.new }
@@ -129,7 +129,7 @@ impl Course {
         requires within { self.old.lines ≤ self.old.mission }
         ensures cause { StepCause (told_as result) (H.faults host.old) (H.faults host.new) }
         ensures log { (rows : List Row) (feed : Feed) → Stands monitor.old rows
-            → StandsAt feed self.old.reader self.old.lines rows
+            → ReaderIsAt feed self.old.reader self.old.lines rows
             → OnLog (H.log host.old) (H.log host.new)
             (LineSteps (told_as result) (program_of monitor.old) self.old self.new feed rows
             cut.now monitor.new) }
@@ -159,7 +159,7 @@ impl Course {
         requires within { self.old.lines ≤ self.old.mission }
         ensures cause { StepCause (told_as result) (H.faults host.old) (H.faults host.new) }
         ensures log { (rows : List Row) (feed : Feed) → Stands monitor.old rows
-            → StandsAt feed self.old.reader self.old.lines rows
+            → ReaderIsAt feed self.old.reader self.old.lines rows
             → OnLog (H.log host.old) (H.log host.new)
             (Turns (told_as result) (program_of monitor.old) self.old self.new feed rows
             cut.old cut.new monitor.new) }

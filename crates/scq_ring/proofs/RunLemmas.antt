@@ -3,7 +3,7 @@ use Rattle.std.proofs.Common.{◌≡◌, ◌≢◌, ℕ, Bool, ◌+◌, ◌-◌,
 use Rattle.std.proofs.lemmas.Bool.Decides.{nat_tests}
 use Rattle.std.proofs.lemmas.Bool.{cases_lt}
 use Rattle.scq_ring.specs.declared.runs.Slot.{Slot}
-use Rattle.scq_ring.specs.Runs.{Alternate, Belongs, Spans, first_value, low_of, no_slot, ring_index_of, runs_from, runs_of, runs_to, upto_at, value_in, verdict_at}
+use Rattle.scq_ring.specs.Runs.{Alternate, Belongs, Spans, first_value, low_of, no_slot, ring_index_of, runs_from, runs_of, runs_to, upto_at, holds_in, verdict_at}
 use Rattle.scq_ring.proofs.Windows.{get_or-window, length-window}
 use Rattle.scq_ring.specs.declared.runs.Ring.{Ring}
 
@@ -18,14 +18,14 @@ Spans-push low [] end r s h = (omega arith, refl)
 Spans-push low (q ∷ qs) end r s h = (s.0, Spans-push (q.upto + 1) qs end r s.1 h)
 
 -- before the end of the first runs their verdicts count, and from there on those of the others
-pub value_in_before : (low : ℕ) (runs more : List Slot) (end t : ℕ) → Spans low runs end → low ≤ t → t < end → value_in (runs ++ more) t ≡ value_in runs t
+pub value_in_before : (low : ℕ) (runs more : List Slot) (end t : ℕ) → Spans low runs end → low ≤ t → t < end → holds_in (runs ++ more) t ≡ holds_in runs t
 value_in_before low [] more end t s from to = absurd (omega arith)
 value_in_before low (r ∷ rs) more end t s from to = elim (cases_lt r.upto t) [
   | inl past ↦ let rest = value_in_before (r.upto + 1) rs more end t s.1 (omega arith) to in grind (arith, nat_tests, rest)
   | inr here ↦ grind (arith, nat_tests)
 ]
 
-pub value_in_after : (low : ℕ) (runs more : List Slot) (end t : ℕ) → Spans low runs end → end ≤ t → value_in (runs ++ more) t ≡ value_in more t
+pub value_in_after : (low : ℕ) (runs more : List Slot) (end t : ℕ) → Spans low runs end → end ≤ t → holds_in (runs ++ more) t ≡ holds_in more t
 value_in_after low [] more end t s from = refl
 value_in_after low (r ∷ rs) more end t s from =
     let room = Spans-room (r.upto + 1) rs end s.1 in
@@ -34,20 +34,20 @@ value_in_after low (r ∷ rs) more end t s from =
     grind (arith, nat_tests, rest)
 
 -- a single run has its value up to its end
-pub value_in_one : (r : Slot) (t : ℕ) → t ≤ r.upto → value_in (r ∷ []) t ≡ r.value
+pub value_in_one : (r : Slot) (t : ℕ) → t ≤ r.upto → holds_in (r ∷ []) t ≡ r.value
 value_in_one r t h = grind (arith, nat_tests)
 
 -- what a run after the others leaves
 pub record Pushed (low : ℕ) (old new : List Slot) (end : ℕ) (r : Slot) : Type 0 where
   pub spans : Spans low new (r.upto + 1)
-  pub kept : (t : ℕ) → low ≤ t → t < end → value_in new t ≡ value_in old t
-  pub written : (t : ℕ) → end ≤ t → t ≤ r.upto → value_in new t ≡ r.value
+  pub kept : (t : ℕ) → low ≤ t → t < end → holds_in new t ≡ holds_in old t
+  pub written : (t : ℕ) → end ≤ t → t ≤ r.upto → holds_in new t ≡ r.value
 
 pub pushed : (low : ℕ) (old : List Slot) (end : ℕ) (r : Slot) → Spans low old end → end ≤ r.upto → (new : List Slot) → new ≡ old ++ r ∷ [] → Pushed low old new end r
 pushed low old end r s ahead new e = record {
   spans = subst (λ (rs : List Slot). Spans low rs (r.upto + 1)) (sym e) (Spans-push low old end r s ahead);
-  kept = λ t from to. ap (λ (rs : List Slot). value_in rs t) e ∙ value_in_before low old (r ∷ []) end t s from to;
-  written = λ t from to. ap (λ (rs : List Slot). value_in rs t) e ∙ value_in_after low old (r ∷ []) end t s from ∙ value_in_one r t to;
+  kept = λ t from to. ap (λ (rs : List Slot). holds_in rs t) e ∙ value_in_before low old (r ∷ []) end t s from to;
+  written = λ t from to. ap (λ (rs : List Slot). holds_in rs t) e ∙ value_in_after low old (r ∷ []) end t s from ∙ value_in_one r t to;
 }
 
 -- what is left without the first run
@@ -55,7 +55,7 @@ pub record Shortened (low : ℕ) (first : Slot) (rest : List Slot) (end : ℕ) :
   pub spans : Spans (first.upto + 1) rest end
   pub rises : low ≤ first.upto
   pub room : first.upto + 1 + length rest ≤ end
-  pub kept : (t : ℕ) → first.upto + 1 ≤ t → value_in rest t ≡ value_in (first ∷ rest) t
+  pub kept : (t : ℕ) → first.upto + 1 ≤ t → holds_in rest t ≡ holds_in (first ∷ rest) t
 
 pub shortened : (low : ℕ) (first : Slot) (rest : List Slot) (end : ℕ) → Spans low (first ∷ rest) end → Shortened low first rest end
 shortened low first rest end s = record {
@@ -96,12 +96,12 @@ Spans-rising low (r ∷ rs) end s (suc j) zero jk k_in = absurd (omega arith)
 Spans-rising low (r ∷ rs) end s (suc j) (suc k) jk k_in = Spans-rising (r.upto + 1) rs end s.1 j k (omega arith) (omega arith)
 
 -- the first run that reaches a time has its verdict, and that of the times up to the run's end
-pub value_in_first : (runs : List Slot) (k from : ℕ) → k < length runs → ((j : ℕ) → j < k → (get_or runs j no_slot).upto < from) → (t : ℕ) → from ≤ t → t ≤ (get_or runs k no_slot).upto → value_in runs t ≡ (get_or runs k no_slot).value
+pub value_in_first : (runs : List Slot) (k from : ℕ) → k < length runs → ((j : ℕ) → j < k → (get_or runs j no_slot).upto < from) → (t : ℕ) → from ≤ t → t ≤ (get_or runs k no_slot).upto → holds_in runs t ≡ (get_or runs k no_slot).value
 value_in_first [] k from k_in below t t_from t_to = absurd (omega arith)
 value_in_first (r ∷ rs) zero from k_in below t t_from t_to = grind (arith, nat_tests)
 value_in_first (r ∷ rs) (suc k) from k_in below t t_from t_to =
     let past : r.upto < from = below 0 (omega arith) in
-    let rest : value_in rs t ≡ (get_or rs k no_slot).value = value_in_first rs k from (omega arith) (λ j jk. below (suc j) (omega arith)) t t_from t_to in
+    let rest : holds_in rs t ≡ (get_or rs k no_slot).value = value_in_first rs k from (omega arith) (λ j jk. below (suc j) (omega arith)) t t_from t_to in
     grind (arith, nat_tests, rest)
 
 -- the later a time, the fewer runs end at or after it
@@ -135,18 +135,18 @@ Alternate-none (r ∷ rs) newest none = absurd (omega arith)
 
 -- at the end of a run the value turns
 value_in_turns : (low : ℕ) (runs : List Slot) (end : ℕ) (newest : Bool) → Spans low runs end → Alternate runs newest → (k : ℕ) → k < length runs → (get_or runs k no_slot).upto + 1 < end
-    → value_in runs ((get_or runs k no_slot).upto + 1) ≢ (get_or runs k no_slot).value
+    → holds_in runs ((get_or runs k no_slot).upto + 1) ≢ (get_or runs k no_slot).value
 value_in_turns low [] end newest s a k k_in further = absurd (omega arith)
 value_in_turns low (r ∷ []) end newest s a zero k_in further = absurd (omega (arith, s.1))
 value_in_turns low (r ∷ q ∷ qs) end newest s a zero k_in further =
     let next_reaches : r.upto + 1 ≤ q.upto = s.1.0 in
-    let next : value_in (r ∷ q ∷ qs) (r.upto + 1) ≡ q.value = grind (arith, nat_tests) in
+    let next : holds_in (r ∷ q ∷ qs) (r.upto + 1) ≡ q.value = grind (arith, nat_tests) in
     λ same. a.0 (sym same ∙ next)
 value_in_turns low (r ∷ rs) end newest s a (suc k) k_in further =
     let later : r.upto + 1 ≤ (get_or rs k no_slot).upto = Spans-from (r.upto + 1) rs end s.1 k (omega arith) in
     let after : ℕ = (get_or rs k no_slot).upto + 1 in
     let past : r.upto < after = omega arith in
-    let rest : value_in (r ∷ rs) after ≡ value_in rs after = grind (arith, nat_tests) in
+    let rest : holds_in (r ∷ rs) after ≡ holds_in rs after = grind (arith, nat_tests) in
     λ same. value_in_turns (r.upto + 1) rs end newest s.1 a.1 k (omega arith) further (sym rest ∙ same)
 
 newest_differs : (low : ℕ) (runs : List Slot) (end : ℕ) (newest : Bool) → Spans low runs end → Alternate runs newest → (k : ℕ) → k < length runs → (get_or runs k no_slot).upto + 1 ≡ end → newest ≢ (get_or runs k no_slot).value
@@ -166,7 +166,7 @@ unfolding verdict_at
 verdict_newest ring slots t from = grind (arith, nat_tests)
 
 -- and before it those of the runs in the slots
-pub verdict_before : (ring : Ring) (slots : List Slot) (t : ℕ) → t < ring.since → verdict_at ring slots t ≡ value_in (runs_of ring slots) t
+pub verdict_before : (ring : Ring) (slots : List Slot) (t : ℕ) → t < ring.since → verdict_at ring slots t ≡ holds_in (runs_of ring slots) t
 unfolding verdict_at
 verdict_before ring slots t to = grind (arith, nat_tests)
 

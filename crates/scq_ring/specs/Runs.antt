@@ -16,9 +16,9 @@ abbrev pub ring_index_of : ℕ → ℕ → ℕ → ℕ
 ring_index_of oldest k n = if nat_lt k (n - oldest) then oldest + k else k - (n - oldest)
 
 -- the verdict at t is that of the first run that reaches up to t
-abbrev pub value_in : List Slot → ℕ → Bool
-value_in [] t = false
-value_in (run ∷ runs) t = if nat_le t run.upto then run.value else value_in runs t
+abbrev pub holds_in : List Slot → ℕ → Bool
+holds_in [] t = false
+holds_in (run ∷ runs) t = if nat_le t run.upto then run.value else holds_in runs t
 
 -- past the end of a list of runs
 abbrev pub no_slot : Slot
@@ -57,7 +57,7 @@ low_of ring = ring.low
 
 -- the verdict at a time from the low time to the frontier - 1: that of the newest run from where this begins
 unfoldable pub verdict_at : Ring → List Slot → ℕ → Bool
-verdict_at ring slots t = if nat_le ring.since t then ring.value else value_in (runs_of ring slots) t
+verdict_at ring slots t = if nat_le ring.since t then ring.value else holds_in (runs_of ring slots) t
 
 -- the slots are those of the ring: they hold the runs before the newest one, which has some time after the first write
 pub record Belongs (ring : Ring) (slots : List Slot) : Type 0 where
@@ -84,7 +84,7 @@ pub record IsClosed (old : Ring) (old_slots : List Slot) (new : Ring) (new_slots
   pub frontier : new.frontier ≡ old.frontier
   pub rises : old.low ≤ new.low
   pub bounded : (new.low ≡ old.low) ⊎ (new.low + length old_slots ≤ old.frontier)
-  pub kept : (t : ℕ) → new.low ≤ t → t < old.frontier → value_in (runs_of new new_slots) t ≡ verdict_at old old_slots t
+  pub kept : (t : ℕ) → new.low ≤ t → t < old.frontier → holds_in (runs_of new new_slots) t ≡ verdict_at old old_slots t
 
 -- the ring has got the value at each time from its frontier up to this one; where the slots were full, the oldest run
 -- was let go

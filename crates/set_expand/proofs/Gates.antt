@@ -12,12 +12,12 @@ use Rattle.mltl_base.specs.Tables.{Table}
 use Rattle.count_sets.specs.Counting as counting
 use Rattle.count_sets.specs.Counting.{Counted, least}
 use Rattle.count_sets.specs.declared.gate.Gate.{Gate}
-use Rattle.count_sets.specs.Gates.{formula_at, formula_of as gate_formula, formulas, last_formula, IsOver, IsNetwork}
+use Rattle.count_sets.specs.Gates.{formula_of_gate, gate_meaning as gate_formula, gate_formulas, last_formula, IsOver, IsNetwork}
 use Rattle.count_sets.proofs.Thresholds.{least_above}
 use Rattle.count_sets.proofs.Unfolding.{formulas_push}
 use Rattle.c2po_nodes.specs.declared.nodes.Plain.{Plain}
 use Rattle.c2po_nodes.specs.declared.nodes.Plain.TheVariants as plain
-use Rattle.c2po_nodes.specs.Nodes.{Tree, number, formula, formula_at as nodes_formula_at, constant_formula, tree_of, trees, Has, Grows, IsFormula}
+use Rattle.c2po_nodes.specs.Nodes.{Tree, number, formula, node_formula as nodes_formula_at, constant_formula, tree_of, trees, Has, Grows, IsFormula}
 use Rattle.c2po_nodes.proofs.Pushing.{formula_in_place, is_formula}
 use Rattle.c2po_nodes.proofs.Places.{at_push}
 use Rattle.c2po_unfold.specs.Values.{Value, formula_of, counted_formula}
@@ -141,10 +141,10 @@ pub place_is : (nodes : List Plain) (ns : List ℕ) (i : ℕ) → AreFormulas no
 place_is nodes ns i h inside = h.each i (get_or ns i 0) (slice_get-get_or ns i 0 inside)
 
 pub earlier_has : (nodes : List Plain) (ns : List ℕ) (ps : List Formula) (cs : List Counted) (i : ℕ) →
-    HaveFormulas nodes ns (map (counted_formula ps) cs) → i < length ns → Has nodes (get_or ns i 0) (formula (counted_formula ps (formula_at cs i)))
+    HaveFormulas nodes ns (map (counted_formula ps) cs) → i < length ns → Has nodes (get_or ns i 0) (formula (counted_formula ps (formula_of_gate cs i)))
 earlier_has nodes ns ps cs i h inside =
     let within : i < length cs = omega (arith, h.count, length-map cs (counted_formula ps)) in
-    h.each i (get_or ns i 0) (counted_formula ps (formula_at cs i)) (slice_get-get_or ns i 0 inside)
+    h.each i (get_or ns i 0) (counted_formula ps (formula_of_gate cs i)) (slice_get-get_or ns i 0 inside)
     (slice_get-map (counted_formula ps) cs i ∙ ap (option_map (counted_formula ps)) (slice_get-get_or cs i (counting.truth false) within))
 
 pub truth_has : (new : List Plain) (n : ℕ) (ps : List Formula) (v : Bool) → Has new n (formula (constant_formula v)) →
@@ -183,11 +183,11 @@ pub record SplicedSoFar (names : Table Declared) (old now : List Plain) (gates :
   pub count : length done ≡ i
   pub bodies_are : AreFormulas now bodies
   pub done_are : AreFormulas now done
-  pub have : (ps : List Formula) → HaveFormulas old bodies ps → HaveFormulas now done (map (counted_formula ps) (formulas (take i gates)))
+  pub have : (ps : List Formula) → HaveFormulas old bodies ps → HaveFormulas now done (map (counted_formula ps) (gate_formulas (take i gates)))
 
 pub spliced_start : (names : Table Declared) (nodes : List Plain) (gates : List Gate) (bodies : List ℕ) → AreFormulas nodes bodies
     → SplicedSoFar names nodes nodes gates bodies [] 0
-unfolding formulas
+unfolding gate_formulas
 spliced_start names nodes gates bodies h = record {
   more = more_same names nodes;
   count = refl;
@@ -207,8 +207,8 @@ spliced_more names old now new gates bodies done i n gate s at next is has = rec
   bodies_are = are_grows now new bodies next.grows s.bodies_are;
   done_are = are_push new done n (are_grows now new done next.grows s.done_are) is;
   have = λ ps h.
-      let cs = formulas (take i gates) in
-      let more : formulas (take (i + 1) gates) ≡ cs ++ gate_formula cs gate ∷ [] = ap formulas (take_next gates i gate at) ∙ formulas_push (take i gates) gate in
+      let cs = gate_formulas (take i gates) in
+      let more : gate_formulas (take (i + 1) gates) ≡ cs ++ gate_formula cs gate ∷ [] = ap gate_formulas (take_next gates i gate at) ∙ formulas_push (take i gates) gate in
       subst (λ xs. HaveFormulas new (done ++ n ∷ []) xs)
       (sym (ap (map (counted_formula ps)) more ∙ map-append (counted_formula ps) cs (gate_formula cs gate ∷ [])))
       (have_push new done (map (counted_formula ps) cs) n (counted_formula ps (gate_formula cs gate))
@@ -222,11 +222,11 @@ pub spliced_last : (names : Table Declared) (old now : List Plain) (gates : List
     1 ≤ length gates → Has now (get_or done (length gates - 1) 0) (formula (counted_formula ps c))
 spliced_last names old now gates bodies done i ps c s all h last some =
     let whole : take i gates ≡ gates = take_all i gates (omega arith) in
-    let have : HaveFormulas now done (map (counted_formula ps) (formulas gates)) =
-    subst (λ gs. HaveFormulas now done (map (counted_formula ps) (formulas gs))) whole (s.have ps h) in
+    let have : HaveFormulas now done (map (counted_formula ps) (gate_formulas gates)) =
+    subst (λ gs. HaveFormulas now done (map (counted_formula ps) (gate_formulas gs))) whole (s.have ps h) in
     have.each (length gates - 1) (get_or done (length gates - 1) 0) (counted_formula ps c)
     (slice_get-get_or done (length gates - 1) 0 (omega (arith, s.count)))
-    (slice_get-map (counted_formula ps) (formulas gates) (length gates - 1) ∙ ap (option_map (counted_formula ps)) last)
+    (slice_get-map (counted_formula ps) (gate_formulas gates) (length gates - 1) ∙ ap (option_map (counted_formula ps)) last)
 
 -- a gate of a network
 pub gate_over : (n i : ℕ) (gates : List Gate) (gate : Gate) (k : ℕ) → IsNetwork n gates → slice_get gates i ≡ Some gate → k ≡ i → IsOver n k gate

@@ -12,7 +12,7 @@ use Rattle.mltl_base.specs.Formula.{Formula, atom, negation}
 use Rattle.mltl_base.specs.Tables.{Table}
 use Rattle.c2po_nodes.specs.declared.nodes.Plain.{Plain}
 use Rattle.c2po_nodes.specs.declared.nodes.Plain.TheVariants as plain
-use Rattle.c2po_nodes.specs.Nodes.{Grows, Tree, number, formula, term_at, formula_at, arithmetic, comparison, connected, windowed, ranged, tree_of, trees, Has, IsFormed}
+use Rattle.c2po_nodes.specs.Nodes.{Grows, Tree, number, formula, node_term, node_formula, arithmetic, comparison, connected, windowed, ranged, tree_of, trees, Has, IsFormed}
 use Rattle.c2po_nodes.proofs.Pushing.{grows_same, grows_then, grows_push, sound_push, formula_in_place, number_at}
 use Rattle.set_expand.specs.declared.names.Declared.{Declared}
 use Rattle.set_expand.specs.Names.{SignalsBelow}
@@ -76,22 +76,22 @@ module _ (old new : List Plain) (n : ℕ) where
       → Has old x (number a) → Has old y (number b) → Has new n (number (arithmetic op a b))
   arith_has op x y a b h p q =
       subst (λ r. Has new n (number (arithmetic op a r))) (number_at old y b q)
-      (subst (λ r. Has new n (number (arithmetic op r (term_at (trees old) y)))) (number_at old x a p) h)
+      (subst (λ r. Has new n (number (arithmetic op r (node_term (trees old) y)))) (number_at old x a p) h)
 
   pub compare_has : (op : CompareOp) (x y : ℕ) (a b : Term) → Has new n (tree_of (trees old) (plain.Compare op x y))
       → Has old x (number a) → Has old y (number b) → Has new n (formula (atom (comparison op a b)))
   compare_has op x y a b h p q =
       subst (λ r. Has new n (formula (atom (comparison op a r)))) (number_at old y b q)
-      (subst (λ r. Has new n (formula (atom (comparison op r (term_at (trees old) y))))) (number_at old x a p) h)
+      (subst (λ r. Has new n (formula (atom (comparison op r (node_term (trees old) y))))) (number_at old x a p) h)
 
   pub logic_has : (op : LogicOp) (x y : ℕ) (p q : Formula) → Has new n (tree_of (trees old) (plain.Logic op x y))
       → Has old x (formula p) → Has old y (formula q) → Has new n (formula (connected op p q))
   logic_has op x y p q h a b =
       subst (λ r. Has new n (formula (connected op p r))) (formula_in_place old y q b)
-      (subst (λ r. Has new n (formula (connected op r (formula_at (trees old) y)))) (formula_in_place old x p a) h)
+      (subst (λ r. Has new n (formula (connected op r (node_formula (trees old) y)))) (formula_in_place old x p a) h)
 
   pub between_has : (op : BetweenOp) (i : Interval) (x y : ℕ) (p q : Formula) → Has new n (tree_of (trees old) (plain.Between op i x y))
       → Has old x (formula p) → Has old y (formula q) → Has new n (formula (ranged op i p q))
   between_has op i x y p q h a b =
       subst (λ r. Has new n (formula (ranged op i p r))) (formula_in_place old y q b)
-      (subst (λ r. Has new n (formula (ranged op i r (formula_at (trees old) y)))) (formula_in_place old x p a) h)
+      (subst (λ r. Has new n (formula (ranged op i r (node_formula (trees old) y)))) (formula_in_place old x p a) h)

@@ -15,7 +15,7 @@ use Rattle.c2po_nodes.specs.declared.nodes.Plain.{Plain}
 use Rattle.c2po_nodes.specs.declared.nodes.Plain.TheVariants.{Truth, Flag, Number, Signal as Column, Minus, Arith, Compare, Not, Logic, Window, Between}
 use Rattle.c2po_nodes.specs.declared.nodes.PlainOut.{PlainOut}
 use Rattle.c2po_nodes.specs.declared.nodes.PlainOut.TheVariants as out
-use Rattle.c2po_nodes.specs.Nodes.{Tree, formula, formula_at, trees, Has, IsFormed, AreSound}
+use Rattle.c2po_nodes.specs.Nodes.{Tree, formula, node_formula, trees, Has, IsFormed, AreSound}
 use Rattle.c2po_nodes.specs.Outputs.{NamesFormulas, IsSound, asked_by}
 use Rattle.c2po_nodes.proofs.Pushing.{formula_in_place, is_formula, sound_nil}
 use Rattle.c2po_ast.specs.declared.item.Item.{Item}
@@ -124,7 +124,7 @@ pub stands-formula : (u : Unfolded) (nodes : List Plain) (place : Place) (told :
 stands-formula u nodes place told engine label e node name h more named has =
     let own : Has nodes node (formula (formula_of (value_of e place.values))) = subst (λ env. Has nodes node (formula (formula_of (value_of e env)))) h.values has in
     stands-out u nodes place told (out.Formula engine node name) _ h more (is_formula nodes node _ own)
-    (ap (λ (x : List ℕ). record { engine = engine; name = x; output = output.formula (formula_at (trees nodes) node) }) (named ∙ ap (λ k. name_of k label) h.counted)
+    (ap (λ (x : List ℕ). record { engine = engine; name = x; output = output.formula (node_formula (trees nodes) node) }) (named ∙ ap (λ k. name_of k label) h.counted)
     ∙ ap (λ p. record { engine = engine; name = name_of place.outputs label; output = output.formula p }) (formula_in_place nodes node _ own))
 
 -- an output with a contract
@@ -134,7 +134,7 @@ pub stands-contract : (u : Unfolded) (nodes : List Plain) (place : Place) (told 
     → StandsAt (record u { nodes = nodes; outs = u.outs ++ out.Contract engine left right name ∷ [] }) (place_after (item.contract engine label e f) place)
     (told ++ asked_at (item.contract engine label e f) place)
 stands-contract u nodes place told engine label e f left right name h more named has also =
-    let at : ℕ → Formula = λ k. formula_at (trees nodes) k in
+    let at : ℕ → Formula = λ k. node_formula (trees nodes) k in
     let own : Has nodes left (formula (formula_of (value_of e place.values))) = subst (λ env. Has nodes left (formula (formula_of (value_of e env)))) h.values has in
     let other : Has nodes right (formula (formula_of (value_of f place.values))) = subst (λ env. Has nodes right (formula (formula_of (value_of f env)))) h.values also in
     stands-out u nodes place told (out.Contract engine left right name) _ h more (is_formula nodes left _ own, is_formula nodes right _ other)

@@ -1,6 +1,7 @@
 -- What names stand for. Names are numbered in the order of declaration, and a definition knows how many came before it.
 
-use Rattle.std.specs.Prelude.{ℕ, suc, ◌≡◌, ◌≤◌, ◌<◌, ◌-◌, min, nat_lt, List, [], ◌∷◌, ◌++◌, Option, Some, None, fold, length, map}
+use Rattle.std.specs.Prelude.{ℕ, suc, ◌≡◌, ◌≤◌, ◌<◌, ◌-◌, min, nat_lt, List, [], ◌∷◌, ◌++◌, Option, Some, None, fold}
+use Rattle.std.specs.Prelude.{length, map}
 use Rattle.std.specs.Prelude.{get_or, slice_get, if◌then◌else◌, ⊤}
 use Rattle.mltl_base.specs.Tables.{Table, entry_of, is_named}
 use Rattle.c2po_ast.specs.Shape.{shape}

@@ -4,7 +4,7 @@ ghost use Rattle.std.specs.Prelude.{◌≡◌, ◌+◌, ◌<◌, ◌≤◌, ℕ,
 ghost use Rattle.mltl_base.specs.declared.limits.TheConstants.{MAX_WEIGHT};
 ghost use Rattle.mltl_base.specs.Formula.{Formula};
 ghost use Rattle.count_sets.specs.Counting.{Counted, counting};
-ghost use Rattle.count_sets.specs.Gates.{IsNetwork, IsOver, formula_of, last_formula};
+ghost use Rattle.count_sets.specs.Gates.{IsNetwork, IsOver, gate_meaning, last_formula};
 ghost use Rattle.c2po_nodes.specs.Nodes.{Has, IsFormula, formula, trees};
 ghost use Rattle.c2po_unfold.specs.Values.{counted_formula, counting_weight};
 ghost use Rattle.set_expand.specs.Nodes.{AreFormulas, HaveFormulas, IsMore};
@@ -95,7 +95,7 @@ impl<'a> Names<'a> {
             → HaveFormulas nodes.old bodies.now ps
             → HaveFormulas nodes.old earlier.now (map (counted_formula ps) cs)
             → IfOk result
-            (λ n. Has nodes.new n (formula (counted_formula ps (formula_of cs gate)))) }
+            (λ n. Has nodes.new n (formula (counted_formula ps (gate_meaning cs gate)))) }
     {
         match gate {
             Gate::Truth(truth) => {

@@ -126,7 +126,8 @@ impl<'a> Names<'a> {
     fn entry_of(&self, e: &'a Expr, count: u32, made: Option<Made>) -> Entry<'a>
         requires count { count ≡ length self.now }
         requires all { env_of self.now count ≡ env_now self.now }
-        ensures means { meaning self.now result ≡ value (value_of (shape e.now) (env_now self.now)) }
+        ensures means { meaning self.now result
+            ≡ value (value_of (shape e.now) (env_now self.now)) }
         ensures early { IsEarly (length self.now) result }
         ensures fields { (structs : Seq (Seq (Seq ℕ))) → HasFields structs result }
         ensures below { (n : ℕ) → SignalsBelow n self.now → EntryBelow n result }

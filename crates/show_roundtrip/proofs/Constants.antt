@@ -19,7 +19,7 @@ use Rattle.mltl_simplify.proofs.Ending.{kept_by}
 use Rattle.mltl_simplify.proofs.Forms.{simp_each_atom}
 use Rattle.c2po_compile.specs.Simplified.{are_smaller, smaller_outputs}
 use Rattle.c2po_compile.specs.Image.{over_columns}
-use Rattle.show_roundtrip.specs.Named.{AreCounted}
+use Rattle.show_roundtrip.specs.Named.{HaveNoNegatives}
 use Rattle.show_roundtrip.proofs.Naturals.{TermNatural, AtomNatural, Natural, IsNaturalOutput}
 
 -- ---- core forms
@@ -128,7 +128,7 @@ cores_natural : (outs : List Asked) → Each IsNaturalOutput outs → Each CoreN
 cores_natural [] h = tt
 cores_natural (a ∷ outs) h = each_append CoreNatural (cores_of_output a.output) (all_cores outs) (output_cores a.output (each_from_all Natural (formulas_of a.output) h.0)) (cores_natural outs h.1)
 
-instructions_counted : (all es : List Expression) → AreNatural es → AreCounted (map (bz_instruction all) es)
+instructions_counted : (all es : List Expression) → AreNatural es → HaveNoNegatives (map (bz_instruction all) es)
 instructions_counted all [] h = tt
 instructions_counted all (whole (column c) ∷ es) h = (tt, instructions_counted all es h.1)
 instructions_counted all (whole (constant n) ∷ es) h = (h.0, instructions_counted all es h.1)
@@ -214,11 +214,11 @@ smaller_natural columns outs h = go (are_smaller (over_columns columns (simple_o
 
 -- ---- programs
 
-pub image_counted : (columns : Columns) (outs : List Asked) → All IsNaturalOutput outs → AreCounted (bz_list (over_columns columns outs))
+pub image_counted : (columns : Columns) (outs : List Asked) → All IsNaturalOutput outs → HaveNoNegatives (bz_list (over_columns columns outs))
 image_counted columns outs h =
     let over : Each IsNaturalOutput (over_columns columns outs) = each_natural_over columns.of_signal outs (each_from_all IsNaturalOutput outs h) in
     let es : List Expression = bz_expressions (over_columns columns outs) in
     instructions_counted es es (fold_natural (all_cores (over_columns columns outs)) [] (cores_natural (over_columns columns outs) over) tt)
 
-pub simple_counted : (columns : Columns) (outs : List Asked) → All IsNaturalOutput outs → AreCounted (bz_list (over_columns columns (smaller_outputs columns outs)))
+pub simple_counted : (columns : Columns) (outs : List Asked) → All IsNaturalOutput outs → HaveNoNegatives (bz_list (over_columns columns (smaller_outputs columns outs)))
 simple_counted columns outs h = image_counted columns (smaller_outputs columns outs) (smaller_natural columns outs h)

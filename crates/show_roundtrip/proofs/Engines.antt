@@ -16,7 +16,7 @@ use Rattle.mltl_base.specs.declared.program.Program.{Program}
 use Rattle.mltl_base.specs.Atoms.{Atom, is_true}
 use Rattle.mltl_base.specs.Formula as full
 use Rattle.mltl_base.specs.Formula.{Formula, Core, ctrue, catom, cnot, cand, cuntil, csince, plain, formula_over}
-use Rattle.mltl_base.specs.Programs.{Expression, whole, truth, atom_of, atoms, expressions, core_at, formula_of, past_formula_of, formulas_after, past_formulas_after, cores_of}
+use Rattle.mltl_base.specs.Programs.{Expression, whole, truth, atom_of, atoms, expressions, core_at, op_formula, past_formula_of, formulas_after, past_formulas_after, cores_of}
 use Rattle.obs_verify.specs.WellFormed.{is_truth, is_window, has_future_operands, has_future_window, has_past_operands, has_past_window}
 use Rattle.c2po_unfold.specs.Values.{truth_value, interval}
 use Rattle.c2po_unfold.specs.Environment.{Env, value_of}
@@ -141,7 +141,7 @@ FtKnown program count es cores p = CoresKnown (ft_reference program) (columns_in
 
 ft_means : (program : Program) (count : ℕ) (es : List Expression) (p : Place) (i : ℕ) (before : List Core) (op : ft.FtOp) → length es ≡ length program.bz → es ≡ expressions program.bz → length before ≡ i
     → has_future_operands program i op ≡ true → has_future_window op ≡ true → FtKnown program count es before p
-    → OptionMeans (columns_in program) p.values (ft_form program op) (plain (formula_of (atoms program.bz) before op)) (ft_name program i) (ft_called program i (Some op))
+    → OptionMeans (columns_in program) p.values (ft_form program op) (plain (op_formula (atoms program.bz) before op)) (ft_name program i) (ft_called program i (Some op))
 unfolding plain
 ft_means program count es p i before ft.TheVariants.True le all len ok w h = always_means (columns_in program) p.values
 ft_means program count es p i before (ft.TheVariants.Load a) le all len ok w h = loaded_means program count es p a h.base le all ok
@@ -170,14 +170,14 @@ HaveFutureOperands program i (op ∷ ops) = (has_future_operands program i op �
 future_kept : (loaded : List Atom) (ops : List ft.FtOp) (before : List Core) (i : ℕ) (c : Core) → slice_get before i ≡ Some c → slice_get (formulas_after loaded before ops) i ≡ Some c
 unfolding formulas_after
 future_kept loaded [] before i c h = h
-future_kept loaded (op ∷ ops) before i c h = future_kept loaded ops (before ++ formula_of loaded before op ∷ []) i c (get_kept before (formula_of loaded before op ∷ []) i c h)
+future_kept loaded (op ∷ ops) before i c h = future_kept loaded ops (before ++ op_formula loaded before op ∷ []) i c (get_kept before (op_formula loaded before op ∷ []) i c h)
 
 future_here : (program : Program) (op : ft.FtOp) (ops : List ft.FtOp) (before : List Core) → formulas_after (atoms program.bz) before (op ∷ ops) ≡ cores_of program Ft
-    → slice_get (cores_of program Ft) (length before) ≡ Some (formula_of (atoms program.bz) before op)
+    → slice_get (cores_of program Ft) (length before) ≡ Some (op_formula (atoms program.bz) before op)
 unfolding formulas_after
 future_here program op ops before ends =
     ap (λ (cs : List Core). slice_get cs (length before)) (sym ends)
-    ∙ future_kept (atoms program.bz) ops (before ++ formula_of (atoms program.bz) before op ∷ []) (length before) (formula_of (atoms program.bz) before op) (get_seam before (formula_of (atoms program.bz) before op) [])
+    ∙ future_kept (atoms program.bz) ops (before ++ op_formula (atoms program.bz) before op ∷ []) (length before) (op_formula (atoms program.bz) before op) (get_seam before (op_formula (atoms program.bz) before op) [])
 
 pub walk_ft : (program : Program) (count : ℕ) (es : List Expression) (front ops : List ft.FtOp) (before : List Core) (i n : ℕ) (more : List Line) (p : Place)
     → program.ft ≡ front ++ ops → length front ≡ i → length before ≡ i → length es ≡ length program.bz → es ≡ expressions program.bz → HaveFutureOperands program i ops → formulas_after (atoms program.bz) before ops ≡ cores_of program Ft
@@ -188,7 +188,7 @@ unfolding formulas_after
 walk_ft program count es front [] before i n more p all fronts len le whole_es ok ends h new = reaches_at_once program n more p (FtKnown program count es before) new h
 walk_ft program count es front (op ∷ ops) before i n more p all fronts len le whole_es ok ends h new =
     let at : slice_get program.ft i ≡ Some op = ap (λ (xs : List ft.FtOp). slice_get xs i) all ∙ ap (λ (k : ℕ). slice_get (front ++ op ∷ ops) k) (sym fronts) ∙ get_seam front op ops in
-    let c : Core = formula_of (atoms program.bz) before op in
+    let c : Core = op_formula (atoms program.bz) before op in
     let lines : lines_from (ft_line program) i (op ∷ ops) ++ more ≡ put (ft_name program i) (ft_form program op) (lines_from (ft_line program) (i + 1) ops ++ more) = put_is (ft_name program i) (ft_form program op) (lines_from (ft_line program) (i + 1) ops) more in
     let m : OptionMeans (columns_in program) p.values (ft_form program op) (plain c) (ft_name program i) (ft_reference program i) =
     subst (λ (o : Option ft.FtOp). OptionMeans (columns_in program) p.values (ft_form program op) (plain c) (ft_name program i) (ft_called program i o)) (sym at)

@@ -16,17 +16,17 @@ use Rattle.mltl_base.specs.declared.program.Program.{Program}
 use Rattle.mltl_base.specs.declared.program.StoredSignal.{StoredSignal}
 use Rattle.mltl_base.specs.Queues.{worst_delays}
 use Rattle.obs_verify.specs.declared.fault.VerifyFault.{VerifyFault}
-use Rattle.obs_verify.specs.WellFormed.{unless, or_else, first_in, width_fault, is_new_signal, signal_fault, has_operands, bz_fault, has_future_operands, has_future_window, ft_fault, late_fault, has_past_operands, has_past_window, pt_fault, reports_within, output_fault, IsWellFormed}
+use Rattle.obs_verify.specs.WellFormed.{unless, earlier_of, first_in, width_fault, is_new_signal, signal_fault, has_operands, bz_fault, has_future_operands, has_future_window, ft_fault, late_fault, has_past_operands, has_past_window, pt_fault, reports_within, output_fault, IsWellFormed}
 use Rattle.obs_verify.proofs.SoundOps.{all_sound}
 use Rattle.show_roundtrip.proofs.Walk.{HaveOwnColumns, HaveOperands}
 use Rattle.show_roundtrip.proofs.Engines.{HaveFutureOperands, HavePastOperands}
 use Rattle.show_roundtrip.proofs.Whole.{HaveReports, CanBeSaid}
 
-pub none_left : (a b : Option VerifyFault) → or_else a b ≡ None → a ≡ None
+pub none_left : (a b : Option VerifyFault) → earlier_of a b ≡ None → a ≡ None
 none_left None b e = refl
 none_left (Some f) b e = absurd (cc)
 
-pub none_right : (a b : Option VerifyFault) → or_else a b ≡ None → b ≡ None
+pub none_right : (a b : Option VerifyFault) → earlier_of a b ≡ None → b ≡ None
 none_right None b e = e
 none_right (Some f) b e = absurd (cc)
 

@@ -7,7 +7,7 @@ use Rattle.std.proofs.lemmas.List.Elements.{All-cons}
 use Rattle.c2po_lexer.specs.Spelling.{keyword_of}
 use Rattle.mltl_base.specs.Letters.{is_in_word}
 use Rattle.c2po_lexer.specs.Cut.{begins_word, front_of, size_of, piece_at, pieces_from}
-use Rattle.c2po_lexer.specs.Tokens.{reserved_or_name, line_at, what_of, reading_of, result_map, before, all_of, tokens_of, token_of}
+use Rattle.c2po_lexer.specs.Tokens.{reserved_or_name, line_at, what_of, read_piece, result_map, comes_first, all_of, tokens_of, token_of}
 use Rattle.std.proofs.lemmas.Bool.Decides.{nat_tests}
 use Rattle.c2po_lexer.proofs.Names.{IsWord, piece_word}
 use Rattle.show_roundtrip.specs.Written.{IsToken}
@@ -49,21 +49,21 @@ what_good line front.Stray bytes word = tt
 abbrev GoodTokens : Result (List Token) LexFault → Type 0
 GoodTokens r = IfOk r (All (λ t. IsToken t.what))
 
-before_good : (token : What → Token) → ((w : What) → (token w).what ≡ w) → (r : Result (Option What) LexFault) (rest : Result (List Token) LexFault) → GoodReading r → GoodTokens rest → GoodTokens (before (result_map (option_map token) r) rest)
+before_good : (token : What → Token) → ((w : What) → (token w).what ≡ w) → (r : Result (Option What) LexFault) (rest : Result (List Token) LexFault) → GoodReading r → GoodTokens rest → GoodTokens (comes_first (result_map (option_map token) r) rest)
 before_good token same (Err f) rest plain others = tt
 before_good token same (Ok None) rest plain others = others
 before_good token same (Ok (Some w)) (Err f) plain others = tt
 before_good token same (Ok (Some w)) (Ok ts) plain others =
     All-cons (λ t. IsToken t.what) (token w) ts (subst IsToken (sym (same w)) plain) others
 
-pieces_good : (text : List ℕ) (k s : ℕ) (xs : List ℕ) → GoodTokens (all_of (map (reading_of text) (pieces_from k s xs)))
+pieces_good : (text : List ℕ) (k s : ℕ) (xs : List ℕ) → GoodTokens (all_of (map (read_piece text) (pieces_from k s xs)))
 unfolding pieces_from all_of
 pieces_good text zero s [] = λ k d inside. absurd (omega arith)
 pieces_good text (suc k) s [] = λ k d inside. absurd (omega arith)
 pieces_good text (suc k) s (x ∷ xs) = pieces_good text k (suc s) xs
 pieces_good text zero s (x ∷ xs) =
     before_good (token_of text (piece_at s (x ∷ xs))) (λ w. refl) (what_of (line_at text s) (front_of (x ∷ xs)) (take (size_of (front_of (x ∷ xs))) (x ∷ xs)))
-    (all_of (map (reading_of text) (pieces_from (size_of (front_of (x ∷ xs)) - 1) (suc s) xs)))
+    (all_of (map (read_piece text) (pieces_from (size_of (front_of (x ∷ xs)) - 1) (suc s) xs)))
     (what_good (line_at text s) (front_of (x ∷ xs)) (take (size_of (front_of (x ∷ xs))) (x ∷ xs)) (piece_word (x ∷ xs)))
     (pieces_good text (size_of (front_of (x ∷ xs)) - 1) (suc s) xs)
 

@@ -23,11 +23,11 @@ use Rattle.c2po_lexer.specs.declared.token.What.TheVariants as what
 use Rattle.c2po_ast.specs.declared.operator.Atom.{Atom}
 use Rattle.c2po_ast.specs.declared.operator.Atom.TheVariants.{Number, Truth, Ref}
 use Rattle.c2po_ast.specs.Shape.{Shape, Shapes, of_list}
-use Rattle.show_roundtrip.specs.Written.{IsNumber, IsToken}
+use Rattle.show_roundtrip.specs.Written.{IsNumeral, IsToken}
 use Rattle.c2po_parse.specs.Tokens.{left_level, right_level}
 use Rattle.c2po_ast.specs.Parts.{joined, prefixed, enclosed, quantified, leaf}
 use Rattle.c2po_parse.specs.Fronts.{infix_level, prefix_level, closing, past, name_at, interval_at, named_or_called, bound_start, word_start, word_quantifier, sign_start, start_in, start_at, ◌>>=◌}
-use Rattle.c2po_parse.specs.Splitting.{tree_of}
+use Rattle.c2po_parse.specs.Splitting.{parsed_tree}
 use Rattle.c2po_unfold.proofs.ValueWalk.{AllConstantsHave, ConstantsHave}
 use Rattle.c2po_parse.proofs.Words.{words-head, words-tail, words-left, words-right}
 use Rattle.show_roundtrip.proofs.GoodWords.{GoodWords}
@@ -39,10 +39,10 @@ use Rattle.c2po_parse.proofs.Agree.{tree-derives}
 
 -- the numbers of a tree are numbers of the language
 abbrev pub HasNumbers : Shape → Type 0
-HasNumbers e = ConstantsHave IsNumber e
+HasNumbers e = ConstantsHave IsNumeral e
 
 abbrev HaveNumbers : Shapes → Type 0
-HaveNumbers es = AllConstantsHave IsNumber es
+HaveNumbers es = AllConstantsHave IsNumeral es
 
 -- a start that is no number
 abbrev NotNumber : Option (Start × List Token) → Type 0
@@ -101,13 +101,13 @@ same_number l line m n ts rest e =
     let same : ◌≡◌ {A = Start} (Leaf l (Number m)) (Leaf line (Number n)) = (some_pair_parts (Leaf l (Number m)) (Leaf line (Number n)) ts rest e).0 in
     cc
 
-number_in : (w : What) (l line : ℕ) (n : ℤ) (ts rest : List Token) → start_in l w ts ≡ Some (Leaf line (Number n), rest) → IsToken w → IsNumber n
-number_in (what.Number m) l line n ts rest e h = subst IsNumber (same_number l line m n ts rest e) h
+number_in : (w : What) (l line : ℕ) (n : ℤ) (ts rest : List Token) → start_in l w ts ≡ Some (Leaf line (Number n), rest) → IsToken w → IsNumeral n
+number_in (what.Number m) l line n ts rest e h = subst IsNumeral (same_number l line m n ts rest e) h
 number_in (what.Word x) l line n ts rest e h = absurd (subst NotNumber e (name_no_number l x ts (past sign.LeftRound ts)))
 number_in (what.Reserved k) l line n ts rest e h = absurd (subst NotNumber e (word_no_number l k ts))
 number_in (what.Sign s) l line n ts rest e h = absurd (subst NotNumber e (sign_no_number l s ts))
 
-number_at_start : (ts : List Token) (line : ℕ) (n : ℤ) (rest : List Token) → start_at ts ≡ Some (Leaf line (Number n), rest) → GoodWords ts → IsNumber n
+number_at_start : (ts : List Token) (line : ℕ) (n : ℤ) (rest : List Token) → start_at ts ≡ Some (Leaf line (Number n), rest) → GoodWords ts → IsNumeral n
 unfolding start_at
 number_at_start [] line n rest e words = absurd (cc)
 number_at_start (t ∷ ts) line n rest e words = number_in t.what t.line line n ts rest e (words-head IsToken t ts words)
@@ -158,5 +158,5 @@ mutual
   all-numbers _ _ _ (and_more s c t d e es dc comma ds) words =
       (derived-numbers 1 c e dc (words-left IsToken c (t ∷ d) words), all-numbers s d es ds (words-tail IsToken t d (words-right IsToken c (t ∷ d) words)))
 
-pub tree-numbers : (ts : List Token) (e : Shape) → tree_of ts ≡ Some e → GoodWords ts → HasNumbers e
+pub tree-numbers : (ts : List Token) (e : Shape) → parsed_tree ts ≡ Some e → GoodWords ts → HasNumbers e
 tree-numbers ts e h words = derived-numbers 1 ts e (tree-derives ts e h) words

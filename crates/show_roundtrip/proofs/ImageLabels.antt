@@ -10,7 +10,7 @@ use Rattle.mltl_base.specs.declared.program.Out as out
 use Rattle.mltl_base.specs.declared.program.Program.{Program}
 use Rattle.mltl_base.specs.declared.program.StoredSignal.{StoredSignal}
 use Rattle.mltl_base.specs.declared.signal.Signal.{Signal}
-use Rattle.mltl_base.specs.Programs.{name_of as name_in_program}
+use Rattle.mltl_base.specs.Programs.{out_name as name_in_program}
 use Rattle.mltl_base.specs.Subformulas.{Asked}
 use Rattle.mltl_base.proofs.Graphs.{program_names}
 use Rattle.mltl_simplify.specs.Outputs.{simple_outputs}
@@ -37,7 +37,7 @@ use Rattle.c2po_compile.proofs.ImageLaws.{image_of}
 use Rattle.c2po_compile.proofs.TellingLaws.{no_fault}
 use Rattle.obs_show.specs.Lines.{Form, Line, define}
 use Rattle.obs_show.specs.Naming.{bz_name, ft_name, pt_name}
-use Rattle.obs_show.specs.Text.{signal_line, bz_form, ft_form, pt_form, label_of, output_line, output_lines, lines}
+use Rattle.obs_show.specs.Text.{signal_line, bz_form, ft_form, pt_form, shown_label, output_line, output_lines, shown_lines}
 use Rattle.show_roundtrip.proofs.Passing.{label_in, LabelsPass}
 use Rattle.show_roundtrip.proofs.Walk.{lines_from}
 use Rattle.show_roundtrip.proofs.Fresh.{entry_push}
@@ -197,9 +197,9 @@ both_more x few many h y g = let parts = entry_push y x tt many g in still_new y
 -- the labels of names that outputs count from a number on are new, after others
 abbrev AreNewNames : Labels → ℕ → List (List ℕ) → Type 0
 AreNewNames labels k [] = ⊤
-AreNewNames labels k (x ∷ xs) = IsNewLabel (label_of k x) labels × AreNewNames (joined (label_of k x) labels) (k + 1) xs
+AreNewNames labels k (x ∷ xs) = IsNewLabel (shown_label k x) labels × AreNewNames (joined (shown_label k x) labels) (k + 1) xs
 
-number_unlabelled : (k : ℕ) → label_of k (decimal k) ≡ None
+number_unlabelled : (k : ℕ) → shown_label k (decimal k) ≡ None
 number_unlabelled k = ap (λ (b : Bool). let o : Option (List ℕ) = if b then None else Some (decimal k) in o) ((bytes_eq-Decides (decimal k) (decimal k)).1 refl)
 
 names_new : (os : List (Option (List ℕ))) (k : ℕ) (few many : Labels) → AreFewer few many → AreNewLabels many os → AreNewNames few k (names_from k os)
@@ -246,11 +246,11 @@ outs_pass : (program : Program) (outs : List out.Out) (k n : ℕ) (labels : Labe
 unfolding LabelsPass
 outs_pass program [] k n labels h = tt
 outs_pass program (out.TheVariants.Formula engine i name ∷ outs) k n labels h =
-    (joined (label_of k name) labels, label_passes n (label_of k name) labels h.0, outs_pass program outs (k + 1) (n + 1) (joined (label_of k name) labels) h.1)
+    (joined (shown_label k name) labels, label_passes n (shown_label k name) labels h.0, outs_pass program outs (k + 1) (n + 1) (joined (shown_label k name) labels) h.1)
 outs_pass program (out.TheVariants.Contract engine i j name ∷ outs) k n labels h =
-    (joined (label_of k name) labels, label_passes n (label_of k name) labels h.0, outs_pass program outs (k + 1) (n + 1) (joined (label_of k name) labels) h.1)
+    (joined (shown_label k name) labels, label_passes n (shown_label k name) labels h.0, outs_pass program outs (k + 1) (n + 1) (joined (shown_label k name) labels) h.1)
 
-program_pass : (program : Program) → AreNewNames [] 0 (map name_in_program program.outs) → LabelsPass 1 (lines program) []
+program_pass : (program : Program) → AreNewNames [] 0 (map name_in_program program.outs) → LabelsPass 1 (shown_lines program) []
 program_pass program h =
     pass_by (map signal_line program.signals) _ 1 [] (signals_unlabelled program.signals)
     (λ n. pass_by (defined_from (bz_name program) (bz_form program) 0 program.bz) _ n [] (defined_unlabelled (bz_name program) (bz_form program) 0 program.bz)
@@ -261,20 +261,20 @@ program_pass program h =
 -- ---- images
 
 image_pass : (signals : List Signal) (columns : Columns) (outs : List Asked) (program : Program) (os : List (Option (List ℕ))) → IsImageOf signals columns outs program
-    → names_in outs ≡ names_from 0 os → AreNewLabels [] os → LabelsPass 1 (lines program) []
+    → names_in outs ≡ names_from 0 os → AreNewLabels [] os → LabelsPass 1 (shown_lines program) []
 image_pass signals columns outs program os of names new =
     let same : map name_in_program program.outs ≡ names_from 0 os = program_names program (map (asked_over columns.of_signal) outs) of.lists ∙ over_names columns.of_signal outs ∙ names in
     program_pass program (subst (AreNewNames [] 0) (sym same) (names_new os 0 [] [] (λ x g. g) new))
 
 -- each label in the text of an image is new, also where the image is simplified
-pub labels_pass : (source : List ℕ) (columns : Columns) (program : Program) → first_refusal source ≡ None → program ≡ image_in source columns → LabelsPass 1 (lines program) []
+pub labels_pass : (source : List ℕ) (columns : Columns) (program : Program) → first_refusal source ≡ None → program ≡ image_in source columns → LabelsPass 1 (shown_lines program) []
 labels_pass source columns program h is =
     let signals : List Signal = signals_in source in
     let outs : List Asked = outputs_in source in
     image_pass signals columns outs program (labels_of (items_in source)) (subst (IsImageOf signals columns outs) (sym is) (image_of columns signals outs))
     (source_names (items_in source)) (source_new (items_in source) (no_fault source h))
 
-pub simple_labels_pass : (source : List ℕ) (columns : Columns) (program : Program) → first_refusal source ≡ None → program ≡ simple_image_in source columns → LabelsPass 1 (lines program) []
+pub simple_labels_pass : (source : List ℕ) (columns : Columns) (program : Program) → first_refusal source ≡ None → program ≡ simple_image_in source columns → LabelsPass 1 (shown_lines program) []
 simple_labels_pass source columns program h is =
     let signals : List Signal = signals_in source in
     let outs : List Asked = smaller_outputs columns (outputs_in source) in

@@ -8,7 +8,7 @@ use Rattle.mltl_base.specs.declared.interval.Engine.{Engine}
 use Rattle.mltl_base.specs.declared.program.Columns.{Columns}
 use Rattle.mltl_base.specs.declared.program.Program.{Program}
 use Rattle.mltl_base.specs.declared.signal.Signal.{Signal}
-use Rattle.mltl_base.specs.Programs.{name_of as name_in_program}
+use Rattle.mltl_base.specs.Programs.{out_name as name_in_program}
 use Rattle.mltl_base.specs.Reports.{Output, formula, contract}
 use Rattle.mltl_base.specs.Formula.{Core}
 use Rattle.mltl_base.specs.Subformulas.{Asked, IsTensed, out_by, subformulas}

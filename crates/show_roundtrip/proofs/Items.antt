@@ -18,7 +18,7 @@ use Rattle.mltl_base.specs.declared.operators.ArithOp as arith_op
 use Rattle.mltl_base.specs.declared.operators.BetweenOp as between_op
 use Rattle.mltl_base.specs.declared.operators.CompareOp as compare_op
 use Rattle.mltl_base.specs.declared.operators.LogicOp as logic_op
-use Rattle.show_roundtrip.specs.Written.{Mark, token, space, newline, token_text, tokens_by, written}
+use Rattle.show_roundtrip.specs.Written.{Mark, token, space, newline, token_text, tokens_by, marks_text}
 use Rattle.show_roundtrip.specs.Said.{reference_token, arith_sign, compare_sign, logic_sign, between_word, form_marks, kind_word, section_word, label_marks, body_marks, line_marks, lines_marks, line_item, line_items, HaveWords}
 use Rattle.show_roundtrip.proofs.Reading.{written_tokens}
 use Rattle.show_roundtrip.proofs.Lines.{lines_readable, lines_written}
@@ -108,7 +108,7 @@ begins k s b f x y e = rw e refl
 -- quiet tokens are taken into the item, up to its `;`
 run : (s : Section) (before : List Token) (line start : ℕ) (ms : List Mark) (rest : List Mark) → AreQuiet ms
     → pieces (Some s) 0 before (tokens_by line start (ms ++ token (what.Sign sign.Semicolon) ∷ newline ∷ rest))
-    ≡ item_of (Some s) line (before ++ tokens_by line start ms) ∷ pieces (Some s) 0 [] (tokens_by (line + 1) (start + length (written ms) + 2) rest)
+    ≡ item_of (Some s) line (before ++ tokens_by line start ms) ∷ pieces (Some s) 0 [] (tokens_by (line + 1) (start + length (marks_text ms) + 2) rest)
 unfolding pieces tokens_by
 run s before line start [] rest h =
     let same : start + 1 + 1 ≡ start + 0 + 2 = omega arith in
@@ -118,14 +118,14 @@ run s before line start (token w ∷ ms) rest h =
     let next = start + length (token_text w) in
     let t = at_place line start next w in
     let tail = tokens_by line next (ms ++ token (what.Sign sign.Semicolon) ∷ newline ∷ rest) in
-    let same : next + length (written ms) + 2 ≡ start + length (written (token w ∷ ms)) + 2 = omega (arith, length-append (token_text w) (written ms)) in
+    let same : next + length (marks_text ms) + 2 ≡ start + length (marks_text (token w ∷ ms)) + 2 = omega (arith, length-append (token_text w) (marks_text ms)) in
     goes_on (section_of w) (is_sign sign.Semicolon w) _ _ _ h.0.0 h.0.1
     ∙ ap (λ d. pieces (Some s) d (before ++ t ∷ []) tail) h.0.2
     ∙ run s (before ++ t ∷ []) line next ms rest h.1
-    ∙ ap (λ b. item_of (Some s) line b ∷ pieces (Some s) 0 [] (tokens_by (line + 1) (next + length (written ms) + 2) rest)) (append_assoc before (t ∷ []) (tokens_by line next ms))
+    ∙ ap (λ b. item_of (Some s) line b ∷ pieces (Some s) 0 [] (tokens_by (line + 1) (next + length (marks_text ms) + 2) rest)) (append_assoc before (t ∷ []) (tokens_by line next ms))
     ∙ ap (λ n. item_of (Some s) line (before ++ t ∷ tokens_by line next ms) ∷ pieces (Some s) 0 [] (tokens_by (line + 1) n rest)) same
 run s before line start (space ∷ ms) rest h =
-    let same : start + 1 + length (written ms) + 2 ≡ start + length (written (space ∷ ms)) + 2 = omega arith in
+    let same : start + 1 + length (marks_text ms) + 2 ≡ start + length (marks_text (space ∷ ms)) + 2 = omega arith in
     run s before line (start + 1) ms rest h
     ∙ ap (λ n. item_of (Some s) line (before ++ tokens_by line (start + 1) ms) ∷ pieces (Some s) 0 [] (tokens_by (line + 1) n rest)) same
 run s before line start (newline ∷ ms) rest h = absurd h
@@ -135,7 +135,7 @@ abbrev body_start : ℕ → Line → ℕ
 body_start start l = start + length (token_text (what.Reserved (section_word l))) + 1
 
 abbrev next_start : ℕ → Line → ℕ
-next_start start l = body_start start l + length (written (body_marks l)) + 2
+next_start start l = body_start start l + length (marks_text (body_marks l)) + 2
 
 line_pieces : (sec : Option Section) (line start : ℕ) (l : Line) (rest : List Mark)
     → pieces sec 0 [] (tokens_by line start (line_marks l ++ rest))

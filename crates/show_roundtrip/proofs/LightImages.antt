@@ -25,7 +25,7 @@ use Rattle.mltl_base.proofs.Graphs.{bz_list_unfolds, cores_listed, program_unfol
 use Rattle.c2po_compile.specs.Images.{IsImageOf, stored_signals}
 use Rattle.c2po_compile.proofs.Parts.{InTerm, InOperands, AtCore, fold_expressions_all}
 use Rattle.c2po_compile.proofs.Cores.{each_then}
-use Rattle.obs_show.specs.Weight.{term_weight, atom_weight, formula_weight, output_weight, weight}
+use Rattle.obs_show.specs.Weight.{term_weight, atom_weight, formula_weight, output_weight, program_weight}
 use Rattle.obs_show.specs.Weighing.{expression_weight}
 use Rattle.c2po_types.proofs.OwnNames as own
 use Rattle.c2po_compile.specs.Front.{items_in, first_refusal}
@@ -125,7 +125,7 @@ engine_light outs program engine i has tense light =
     (subst (Each (IsLightCore MAX_WEIGHT)) (sym listed) (fold_all (IsLightCore MAX_WEIGHT) (cores_for engine outs) [] cores tt)) true_light
 
 -- no instruction of an image weighs more than the image's outputs together
-pub image_light : (outs : List Asked) (program : Program) → HasListsOf outs program → All IsTensed outs → weight program ≤ MAX_WEIGHT → IsLight program
+pub image_light : (outs : List Asked) (program : Program) → HasListsOf outs program → All IsTensed outs → program_weight program ≤ MAX_WEIGHT → IsLight program
 image_light outs program has tense few =
     let light : Each (IsLightCore MAX_WEIGHT) (all_cores outs) =
     outputs_light MAX_WEIGHT outs (subst (λ (os : List Output). sum_by output_weight os ≤ MAX_WEIGHT) (program_unfolds program outs has tense) few) in
@@ -141,16 +141,16 @@ image_light outs program has tense few =
     }
 
 -- so of the image of a text, simplified or not
-of_light : (signals : List Signal) (columns : Columns) (outs : List Asked) (program : Program) → IsImageOf signals columns outs program → All IsTensed outs → weight program ≤ MAX_WEIGHT → IsLight program
+of_light : (signals : List Signal) (columns : Columns) (outs : List Asked) (program : Program) → IsImageOf signals columns outs program → All IsTensed outs → program_weight program ≤ MAX_WEIGHT → IsLight program
 of_light signals columns outs program of tense few = image_light _ program of.lists (tensed_over columns.of_signal outs tense) few
 
-pub plain_light : (source : List ℕ) (columns : Columns) (program : Program) → first_refusal source ≡ None → program ≡ image_in source columns → weight program ≤ MAX_WEIGHT → IsLight program
+pub plain_light : (source : List ℕ) (columns : Columns) (program : Program) → first_refusal source ≡ None → program ≡ image_in source columns → program_weight program ≤ MAX_WEIGHT → IsLight program
 plain_light source columns program h is few =
     let signals : List Signal = signals_in source in
     let outs : List Asked = outputs_in source in
     of_light signals columns outs program (subst (IsImageOf signals columns outs) (sym is) (image_of columns signals outs)) (tensed source h) few
 
-pub simple_light : (source : List ℕ) (columns : Columns) (program : Program) → first_refusal source ≡ None → program ≡ simple_image_in source columns → weight program ≤ MAX_WEIGHT → IsLight program
+pub simple_light : (source : List ℕ) (columns : Columns) (program : Program) → first_refusal source ≡ None → program ≡ simple_image_in source columns → program_weight program ≤ MAX_WEIGHT → IsLight program
 simple_light source columns program h is few =
     let signals : List Signal = signals_in source in
     let outs : List Asked = smaller_outputs columns (outputs_in source) in

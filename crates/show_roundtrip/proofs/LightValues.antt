@@ -16,7 +16,7 @@ use Rattle.mltl_base.specs.declared.program.Out as out
 use Rattle.mltl_base.specs.declared.program.Program.{Program}
 use Rattle.mltl_base.specs.Atoms.{Atom, is_true}
 use Rattle.mltl_base.specs.Formula.{Formula, Core, ctrue, plain, formula_over}
-use Rattle.mltl_base.specs.Programs.{Expression, whole, truth, term_of, atom_of, term_at, expression_of, expressions_after, expressions, atoms, core_at, formula_of, past_formula_of, formulas_after, past_formulas_after, cores_of, formula_at, output_of}
+use Rattle.mltl_base.specs.Programs.{Expression, whole, truth, expression_term, atom_of, term_at, expression_of, expressions_after, expressions, atoms, core_at, op_formula, past_formula_of, formulas_after, past_formulas_after, cores_of, formula_at, output_of}
 use Rattle.mltl_base.specs.Ranges.{NoRange, Ranged, divisor, wide, range}
 use Rattle.c2po_nodes.specs.Faults.{why_none, or_later, term_fault, atom_fault, formula_fault}
 use Rattle.c2po_nodes.specs.Tenses.{has_past, has_future}
@@ -25,12 +25,12 @@ use Rattle.c2po_unfold.specs.Values.{Value, weight}
 use Rattle.c2po_unfold.specs.Environment.{Env, value_of}
 use Rattle.c2po_types.specs.Outputs.{Place, before, place_after}
 use Rattle.c2po_types.specs.FirstFault.{is_mixed}
-use Rattle.obs_verify.specs.WellFormed.{IsWellFormed, bz_fault, range_fault}
+use Rattle.obs_verify.specs.WellFormed.{IsWellFormed, bz_fault, no_range_fault}
 use Rattle.obs_verify.proofs.RuleLaws.{or_none}
 use Rattle.obs_verify.proofs.SoundLaws.{each}
 use Rattle.obs_show.specs.Lines.{Reference, formula, contract}
 use Rattle.obs_show.specs.Naming.{ft_reference, pt_reference}
-use Rattle.obs_show.specs.Text.{label_of, output_line, lines}
+use Rattle.obs_show.specs.Text.{shown_label, output_line, shown_lines}
 use Rattle.obs_show.specs.Weight.{formula_weight, output_weight}
 use Rattle.show_roundtrip.specs.Said.{reference_shape, line_body}
 use Rattle.show_roundtrip.specs.Unfolded.{AreNew}
@@ -49,7 +49,7 @@ neither_holds a b e f = ap (λ t. t || b) e ∙ f
 
 -- ---- the Booleanizer
 
-no_fault : (i : ℕ) (r : Ranged) → range_fault i r ≡ None → why_none r ≡ None
+no_fault : (i : ℕ) (r : Ranged) → no_range_fault i r ≡ None → why_none r ≡ None
 no_fault i (Ok r) h = refl
 no_fault i (Err divisor) h = absurd (cc)
 no_fault i (Err wide) h = absurd (cc)
@@ -68,7 +68,7 @@ unfolding range
 ranges_in program formed i = go (slice_get (expressions program.bz) i) refl
   where
     go : (o : Option Expression) → slice_get (expressions program.bz) i ≡ o → term_fault (term_at (expressions program.bz) i) ≡ None
-    go None at = ap (λ (o : Option Expression). term_fault (term_of o)) at
+    go None at = ap (λ (o : Option Expression). term_fault (expression_term o)) at
     go (Some e) at = bz_ranged program i formed (omega (arith, slice_get_within (expressions program.bz) i e at, expressions_count program.bz []))
 
 -- each of the expressions has ranges
@@ -79,13 +79,13 @@ term_ranged : (es : List Expression) → HaveRanges es → (a : ℕ) → term_fa
 unfolding range
 term_ranged es h a = go (slice_get es a) refl
   where
-    go : (o : Option Expression) → slice_get es a ≡ o → term_fault (term_of (slice_get es a)) ≡ None
-    go None at = ap (λ (o : Option Expression). term_fault (term_of o)) at
-    go (Some (truth t)) at = ap (λ (o : Option Expression). term_fault (term_of o)) at
-    go (Some (whole t)) at = ap (λ (o : Option Expression). term_fault (term_of o)) at ∙ h a (whole t) at
+    go : (o : Option Expression) → slice_get es a ≡ o → term_fault (expression_term (slice_get es a)) ≡ None
+    go None at = ap (λ (o : Option Expression). term_fault (expression_term o)) at
+    go (Some (truth t)) at = ap (λ (o : Option Expression). term_fault (expression_term o)) at
+    go (Some (whole t)) at = ap (λ (o : Option Expression). term_fault (expression_term o)) at ∙ h a (whole t) at
 
 -- an instruction over such expressions has ranges, where its whole number has one
-expression_ranged : (es : List Expression) (op : bz.BzOp) → HaveRanges es → term_fault (term_of (Some (expression_of es op))) ≡ None → expression_fault (expression_of es op) ≡ None
+expression_ranged : (es : List Expression) (op : bz.BzOp) → HaveRanges es → term_fault (expression_term (Some (expression_of es op))) ≡ None → expression_fault (expression_of es op) ≡ None
 expression_ranged es (bz.TheVariants.Column c) h e = e
 expression_ranged es (bz.TheVariants.IsTrue c) h e = refl
 expression_ranged es (bz.TheVariants.Const n) h e = e
@@ -111,7 +111,7 @@ ranges_after [] es h k = h
 ranges_after (op ∷ ops) es h k =
     let d : Expression = expression_of es op in
     let at : slice_get (expressions_after (es ++ d ∷ []) ops) (length es) ≡ Some d = expressions_kept ops (es ++ d ∷ []) (length es) d (get_seam es d []) in
-    ranges_after ops (es ++ d ∷ []) (ranges_push es d h (expression_ranged es op h (ap (λ (o : Option Expression). term_fault (term_of o)) (sym at) ∙ k (length es)))) k
+    ranges_after ops (es ++ d ∷ []) (ranges_push es d h (expression_ranged es op h (ap (λ (o : Option Expression). term_fault (expression_term o)) (sym at) ∙ k (length es)))) k
 
 expressions_ranged : (program : Program) → IsWellFormed program → HaveRanges (expressions program.bz)
 expressions_ranged program formed = ranges_after program.bz [] (λ i e at. absurd (cc)) (ranges_in program formed)
@@ -142,7 +142,7 @@ cores_push P [] c h k (suc j) = h j
 cores_push P (d ∷ cs) c h k zero = h zero
 cores_push P (d ∷ cs) c h k (suc j) = cores_push P cs c (λ i. h (suc i)) k j
 
-future_ranged : (loaded : List Atom) (cs : List Core) (op : ft.FtOp) → AreRanged loaded → ((j : ℕ) → IsFutureRanged (core_at cs j)) → IsFutureRanged (formula_of loaded cs op)
+future_ranged : (loaded : List Atom) (cs : List Core) (op : ft.FtOp) → AreRanged loaded → ((j : ℕ) → IsFutureRanged (core_at cs j)) → IsFutureRanged (op_formula loaded cs op)
 unfolding plain formula_fault has_past
 future_ranged loaded cs ft.TheVariants.True l h = (refl, refl)
 future_ranged loaded cs (ft.TheVariants.Load a) l h = (l a, refl)
@@ -161,7 +161,7 @@ past_ranged loaded cs (pt.TheVariants.Since x y window) l h = (no_later _ _ (h x
 futures_ranged : (loaded : List Atom) (ops : List ft.FtOp) (cs : List Core) → AreRanged loaded → ((j : ℕ) → IsFutureRanged (core_at cs j)) → (j : ℕ) → IsFutureRanged (core_at (formulas_after loaded cs ops) j)
 unfolding formulas_after
 futures_ranged loaded [] cs l h = h
-futures_ranged loaded (op ∷ ops) cs l h = futures_ranged loaded ops (cs ++ formula_of loaded cs op ∷ []) l (cores_push IsFutureRanged cs (formula_of loaded cs op) h (future_ranged loaded cs op l h))
+futures_ranged loaded (op ∷ ops) cs l h = futures_ranged loaded ops (cs ++ op_formula loaded cs op ∷ []) l (cores_push IsFutureRanged cs (op_formula loaded cs op) h (future_ranged loaded cs op l h))
 
 pasts_ranged : (loaded : List Atom) (ops : List pt.PtOp) (cs : List Core) → AreRanged loaded → ((j : ℕ) → IsPastRanged (core_at cs j)) → (j : ℕ) → IsPastRanged (core_at (past_formulas_after loaded cs ops) j)
 unfolding past_formulas_after
@@ -242,15 +242,15 @@ module _ (program : Program) (n total : ℕ) (p : Place) (known : EnginesKnown p
 
   output_passes : (k : ℕ) (o : out.Out) → Within program o → total + output_weight (output_of program o) ≤ MAX_WEIGHT
       → ValuePasses n (output_line program k o) p total × (added n (output_line program k o) p ≡ output_weight (output_of program o))
-  output_passes k (out.TheVariants.Formula Ft i name) w light = formula_passes Ft (label_of k name) (ft_reference program i) (plain (formula_at program Ft i)) (ft_reported i (under i (length program.ft) w)) light
-  output_passes k (out.TheVariants.Formula Pt i name) w light = formula_passes Pt (label_of k name) (pt_reference program i) (plain (formula_at program Pt i)) (pt_reported i (under i (length program.pt) w)) light
+  output_passes k (out.TheVariants.Formula Ft i name) w light = formula_passes Ft (shown_label k name) (ft_reference program i) (plain (formula_at program Ft i)) (ft_reported i (under i (length program.ft) w)) light
+  output_passes k (out.TheVariants.Formula Pt i name) w light = formula_passes Pt (shown_label k name) (pt_reference program i) (plain (formula_at program Pt i)) (pt_reported i (under i (length program.pt) w)) light
   output_passes k (out.TheVariants.Contract Ft i j name) w light =
       let parts = and_parts (nat_lt i (length program.ft)) (nat_lt j (length program.ft)) w in
-      contract_passes Ft (label_of k name) (ft_reference program i) (ft_reference program j) (plain (formula_at program Ft i)) (plain (formula_at program Ft j))
+      contract_passes Ft (shown_label k name) (ft_reference program i) (ft_reference program j) (plain (formula_at program Ft i)) (plain (formula_at program Ft j))
       (ft_reported i (under i (length program.ft) parts.0)) (ft_reported j (under j (length program.ft) parts.1)) light
   output_passes k (out.TheVariants.Contract Pt i j name) w light =
       let parts = and_parts (nat_lt i (length program.pt)) (nat_lt j (length program.pt)) w in
-      contract_passes Pt (label_of k name) (pt_reference program i) (pt_reference program j) (plain (formula_at program Pt i)) (plain (formula_at program Pt j))
+      contract_passes Pt (shown_label k name) (pt_reference program i) (pt_reference program j) (plain (formula_at program Pt i)) (plain (formula_at program Pt j))
       (pt_reported i (under i (length program.pt) parts.0)) (pt_reported j (under j (length program.pt) parts.1)) light
 
 outputs_pass : (program : Program) (outs : List out.Out) (n k total : ℕ) (p : Place) → EnginesKnown program p.values → EnginesRanged program → HaveReports program outs
@@ -268,7 +268,7 @@ outputs_pass program (o ∷ outs) n k total p known ranged w light =
     )
 
 -- no value of the lines of a light program is refused
-pub values_pass : (program : Program) → IsWellFormed program → program.version ≡ 2 → AreNew 1 (lines program) before → IsLight program → ValuesPass 1 (lines program) before 0
+pub values_pass : (program : Program) → IsWellFormed program → program.version ≡ 2 → AreNew 1 (shown_lines program) before → IsLight program → ValuesPass 1 (shown_lines program) before 0
 values_pass program formed version new light =
     let said : CanBeSaid program = well_formed_said program formed version in
     let r = lines_reach program said new in

@@ -16,7 +16,7 @@ use Rattle.mltl_base.specs.declared.operators.CompareOp.{CompareOp}
 use Rattle.mltl_base.specs.declared.operators.CompareOp.TheVariants.{Eq, Ne, Lt, Le, Gt, Ge}
 use Rattle.mltl_base.specs.Atoms.{Term, column, constant, negative, plus, minus, times, quotient, remainder, Atom, is_true, equal, less, at_most, different, greater, at_least}
 use Rattle.mltl_base.specs.Formula.{EachAtom, Formula}
-use Rattle.show_roundtrip.specs.Written.{IsNumber}
+use Rattle.show_roundtrip.specs.Written.{IsNumeral}
 use Rattle.show_roundtrip.proofs.GoodTrees.{HasNumbers}
 use Rattle.show_roundtrip.proofs.GoodItems.{GoodBody, GoodItems}
 use Rattle.mltl_base.specs.Subformulas.{Asked, formulas_of}
@@ -34,7 +34,7 @@ use Rattle.c2po_unfold.proofs.ValueWalk.{EnvHas, Keeps, ValueHas, declare_has, f
 -- constants are numbers of the language
 abbrev pub TermNatural : Term → Type 0
 TermNatural (column s) = ⊤
-TermNatural (constant n) = IsNumber n
+TermNatural (constant n) = IsNumeral n
 TermNatural (negative a) = TermNatural a
 TermNatural (plus a b) = TermNatural a × TermNatural b
 TermNatural (minus a b) = TermNatural a × TermNatural b
@@ -92,7 +92,7 @@ between_natural U a b p q g h = (g, h)
 between_natural R a b p q g h = (g, h)
 between_natural S a b p q g h = (g, h)
 
-natural_kept : Keeps IsNumber TermNatural Natural
+natural_kept : Keeps IsNumeral TermNatural Natural
 natural_kept = record {
   constants = λ n h. h;
   zero_has = omega arith;
@@ -110,10 +110,10 @@ abbrev EnvNatural : Env → Type 0
 EnvNatural env = EnvHas TermNatural Natural env
 
 value_natural : (e : Shape) (env : Env) → HasNumbers e → EnvNatural env → ValueHas TermNatural Natural (value_of e env)
-value_natural e env k h = value_has IsNumber TermNatural Natural natural_kept e env k h
+value_natural e env k h = value_has IsNumeral TermNatural Natural natural_kept e env k h
 
 formula_natural : (e : Shape) (env : Env) → HasNumbers e → EnvNatural env → Natural (formula_of (value_of e env))
-formula_natural e env k h = formula_has IsNumber TermNatural Natural natural_kept (value_of e env) (value_natural e env k h)
+formula_natural e env k h = formula_has IsNumeral TermNatural Natural natural_kept (value_of e env) (value_natural e env k h)
 
 -- ---- outputs
 

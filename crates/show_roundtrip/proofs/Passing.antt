@@ -91,4 +91,4 @@ pub record IsLight (program : Program) : Type 0 where
   pub bz : (i : ℕ) (e : Expression) → slice_get (expressions program.bz) i ≡ Some e → expression_weight e ≤ MAX_WEIGHT
   pub ft : (i : ℕ) → i < length program.ft → shown.formula_weight (plain (formula_at program Ft i)) ≤ MAX_WEIGHT
   pub pt : (i : ℕ) → i < length program.pt → shown.formula_weight (plain (formula_at program Pt i)) ≤ MAX_WEIGHT
-  pub outputs : shown.weight program ≤ MAX_WEIGHT
+  pub outputs : shown.program_weight program ≤ MAX_WEIGHT

@@ -16,8 +16,8 @@ use Rattle.std.proofs.lemmas.Fmt.{decimal_nonempty, digits_decimal, digits_value
 use Rattle.std.proofs.lemmas.Str.Parse.{IsNumeralModel, numerals_by_value, tells_all_ascii_digits}
 use Rattle.c2po_lexer.specs.Spelling.{keyword_text, keyword_of, sign_text}
 use Rattle.mltl_base.specs.Letters.{is_in_word}
-use Rattle.c2po_lexer.specs.Cut.{is_blank, begins_word, front_of, size_of, piece_at, pieces_from}
-use Rattle.c2po_lexer.specs.Tokens.{what_of, reserved_or_name, line_at, reading_of, reading_at, size_at, before, all_of, tokens_of, result_map}
+use Rattle.c2po_lexer.specs.Cut.{is_white, begins_word, front_of, size_of, piece_at, pieces_from}
+use Rattle.c2po_lexer.specs.Tokens.{what_of, reserved_or_name, line_at, read_piece, token_at, size_at, comes_first, all_of, tokens_of, result_map}
 use Rattle.c2po_lexer.specs.declared.token.Keyword.{Keyword}
 use Rattle.c2po_lexer.specs.declared.token.Keyword.TheVariants as keyword
 use Rattle.c2po_lexer.specs.declared.token.Sign.{Sign}
@@ -28,7 +28,7 @@ use Rattle.c2po_lexer.specs.declared.front.Front.{Front}
 use Rattle.c2po_lexer.specs.declared.front.Front.TheVariants as front
 use Rattle.c2po_lexer.specs.declared.token.Token.{Token}
 use Rattle.c2po_lexer.specs.declared.fault.LexFault.{LexFault}
-use Rattle.show_roundtrip.specs.Written.{Mark, token, space, newline, IsName, IsToken, Ends, token_text, ends_before, AreReadable, tokens_by, written}
+use Rattle.show_roundtrip.specs.Written.{Mark, token, space, newline, IsName, IsToken, Ends, token_text, ends_before, MarksAreReadable, tokens_by, marks_text}
 
 -- a run that a further byte ends
 run_ends : (p : ℕ → Bool) (xs : List ℕ) (b : ℕ) (rest : List ℕ) → list_all p xs ≡ true → p b ≡ false → prefix_len p (xs ++ b ∷ rest) ≡ length xs
@@ -91,24 +91,24 @@ keyword_word keyword.O = (refl, refl, refl)
 keyword_word keyword.H = (refl, refl, refl)
 
 -- a text that begins with a word, and with digits
-front_is_word : (text : List ℕ) → is_blank (slice_index text 0) ≡ false → starts_with nat_eq text (codes "--") ≡ false → begins_word (slice_index text 0) ≡ true → front_of text ≡ front.Word (prefix_len is_in_word text)
+front_is_word : (text : List ℕ) → is_white (slice_index text 0) ≡ false → starts_with nat_eq text (codes "--") ≡ false → begins_word (slice_index text 0) ≡ true → front_of text ≡ front.Word (prefix_len is_in_word text)
 unfolding front_of
 front_is_word text a b c = rw a (rw b (rw c refl))
 
-front_is_digits : (text : List ℕ) → is_blank (slice_index text 0) ≡ false → starts_with nat_eq text (codes "--") ≡ false → begins_word (slice_index text 0) ≡ false → is_ascii_digit (slice_index text 0) ≡ true → front_of text ≡ front.Digits (prefix_len is_ascii_digit text)
+front_is_digits : (text : List ℕ) → is_white (slice_index text 0) ≡ false → starts_with nat_eq text (codes "--") ≡ false → begins_word (slice_index text 0) ≡ false → is_ascii_digit (slice_index text 0) ≡ true → front_of text ≡ front.Digits (prefix_len is_ascii_digit text)
 unfolding front_of
 front_is_digits text a b c d = rw a (rw b (rw c (rw d refl)))
 
 no_comment : (c : ℕ) (text : List ℕ) → nat_eq 45 c ≡ false → starts_with nat_eq (c ∷ text) (codes "--") ≡ false
 no_comment c text e = rw e refl
 
-word_no_blank : (c : ℕ) → begins_word c ≡ true → is_blank c ≡ false
+word_no_blank : (c : ℕ) → begins_word c ≡ true → is_white c ≡ false
 word_no_blank c h = grind (arith, nat_tests)
 
 word_no_dash : (c : ℕ) → begins_word c ≡ true → nat_eq 45 c ≡ false
 word_no_dash c h = grind (arith, nat_tests)
 
-digit_no_blank : (c : ℕ) → is_ascii_digit c ≡ true → is_blank c ≡ false
+digit_no_blank : (c : ℕ) → is_ascii_digit c ≡ true → is_white c ≡ false
 digit_no_blank c h = grind (arith, nat_tests)
 
 digit_no_dash : (c : ℕ) → is_ascii_digit c ≡ true → nat_eq 45 c ≡ false
@@ -312,54 +312,54 @@ abbrev pub piece_token : (line start end : ℕ) → Option What → Option Token
 piece_token line start end o = option_map (λ w. record { what = w; line = line; start = start; end = end }) o
 
 reading_is : (text : List ℕ) (start line breaks : ℕ) (o : Option What) (bytes tail : List ℕ) → At text start line (bytes ++ tail) → Reads o breaks bytes tail
-    → reading_at text start ≡ Ok (piece_token line start (start + length bytes) o)
+    → token_at text start ≡ Ok (piece_token line start (start + length bytes) o)
 reading_is text start line breaks o bytes tail at r =
     let cut : take (size_of (front_of (bytes ++ tail))) (bytes ++ tail) ≡ bytes = ap (λ f. take (size_of f) (bytes ++ tail)) r.front ∙ ap (λ n. take n (bytes ++ tail)) r.size ∙ take_front bytes tail in
-    ap (λ rest. reading_of text (piece_at start rest)) at.here
-    ∙ ap (λ bs. reading_of text (record { front = front_of (bytes ++ tail); start = start; bytes = bs })) cut
-    ∙ ap (λ f. reading_of text (record { front = f; start = start; bytes = bytes })) r.front
+    ap (λ rest. read_piece text (piece_at start rest)) at.here
+    ∙ ap (λ bs. read_piece text (record { front = front_of (bytes ++ tail); start = start; bytes = bs })) cut
+    ∙ ap (λ f. read_piece text (record { front = f; start = start; bytes = bytes })) r.front
     ∙ ap (λ l. result_map (option_map (λ w. record { what = w; line = l; start = start; end = start + length bytes })) (what_of l r.kind bytes)) at.line_is
     ∙ ap (λ res. result_map (option_map (λ w. record { what = w; line = line; start = start; end = start + length bytes })) res) (r.token line)
 
 step : (text : List ℕ) (start line breaks : ℕ) (o : Option What) (bytes tail : List ℕ) → At text start line (bytes ++ tail) → Reads o breaks bytes tail
-    → tokens_from text start ≡ before (Ok (piece_token line start (start + length bytes) o)) (tokens_from text (start + length bytes))
+    → tokens_from text start ≡ comes_first (Ok (piece_token line start (start + length bytes) o)) (tokens_from text (start + length bytes))
 step text start line breaks o bytes tail at r =
     let size : size_at text start ≡ length bytes = ap (λ rest. size_of (front_of rest)) at.here ∙ ap size_of r.front ∙ r.size in
     let some : 1 ≤ size_at text start = omega (arith, size, r.some) in
     let more : start < length text = omega (arith, length-drop start text, ap length at.here, length-append bytes tail, r.some) in
     tokens_step text start more some
-    ∙ ap (λ n. before (reading_at text start) (tokens_from text (start + n))) size
-    ∙ ap (λ res. before res (tokens_from text (start + length bytes))) (reading_is text start line breaks o bytes tail at r)
+    ∙ ap (λ n. comes_first (token_at text start) (tokens_from text (start + n))) size
+    ∙ ap (λ res. comes_first res (tokens_from text (start + length bytes))) (reading_is text start line breaks o bytes tail at r)
 
 at_end : (text : List ℕ) (start : ℕ) → drop start text ≡ [] → tokens_from text start ≡ Ok []
 unfolding tokens_from all_of pieces_from
 at_end text start none = rw none refl
 
-tokens_written : (text : List ℕ) (start line : ℕ) (marks : List Mark) → At text start line (written marks) → AreReadable marks → tokens_from text start ≡ Ok (tokens_by line start marks)
-unfolding tokens_by AreReadable
+tokens_written : (text : List ℕ) (start line : ℕ) (marks : List Mark) → At text start line (marks_text marks) → MarksAreReadable marks → tokens_from text start ≡ Ok (tokens_by line start marks)
+unfolding tokens_by MarksAreReadable
 tokens_written text start line [] at h = at_end text start at.here
 tokens_written text start line (token w ∷ marks) at h =
-    let r : Reads (Some w) 0 (token_text w) (written marks) = reads_token w (written marks) h.0 h.1 in
-    let next : At text (start + length (token_text w)) (line + 0) (written marks) = at_next text start line 0 (token_text w) (written marks) at r.lines in
+    let r : Reads (Some w) 0 (token_text w) (marks_text marks) = reads_token w (marks_text marks) h.0 h.1 in
+    let next : At text (start + length (token_text w)) (line + 0) (marks_text marks) = at_next text start line 0 (token_text w) (marks_text marks) at r.lines in
     let same : line + 0 ≡ line = omega arith in
-    step text start line 0 (Some w) (token_text w) (written marks) at r
-    ∙ ap (λ rest. before (Ok (piece_token line start (start + length (token_text w)) (Some w))) rest)
-    (tokens_written text (start + length (token_text w)) line marks (subst (λ n. At text (start + length (token_text w)) n (written marks)) same next) h.2)
+    step text start line 0 (Some w) (token_text w) (marks_text marks) at r
+    ∙ ap (λ rest. comes_first (Ok (piece_token line start (start + length (token_text w)) (Some w))) rest)
+    (tokens_written text (start + length (token_text w)) line marks (subst (λ n. At text (start + length (token_text w)) n (marks_text marks)) same next) h.2)
 tokens_written text start line (space ∷ marks) at h =
-    let r : Reads None 0 (32 ∷ []) (written marks) = reads_blank (written marks) in
-    let next : At text (start + 1) (line + 0) (written marks) = at_next text start line 0 (32 ∷ []) (written marks) at r.lines in
+    let r : Reads None 0 (32 ∷ []) (marks_text marks) = reads_blank (marks_text marks) in
+    let next : At text (start + 1) (line + 0) (marks_text marks) = at_next text start line 0 (32 ∷ []) (marks_text marks) at r.lines in
     let same : line + 0 ≡ line = omega arith in
-    step text start line 0 None (32 ∷ []) (written marks) at r
-    ∙ tokens_written text (start + 1) line marks (subst (λ n. At text (start + 1) n (written marks)) same next) h
+    step text start line 0 None (32 ∷ []) (marks_text marks) at r
+    ∙ tokens_written text (start + 1) line marks (subst (λ n. At text (start + 1) n (marks_text marks)) same next) h
 tokens_written text start line (newline ∷ marks) at h =
-    let r : Reads None 1 (10 ∷ []) (written marks) = reads_break (written marks) in
-    step text start line 1 None (10 ∷ []) (written marks) at r
-    ∙ tokens_written text (start + 1) (line + 1) marks (at_next text start line 1 (10 ∷ []) (written marks) at r.lines) h
+    let r : Reads None 1 (10 ∷ []) (marks_text marks) = reads_break (marks_text marks) in
+    step text start line 1 None (10 ∷ []) (marks_text marks) at r
+    ∙ tokens_written text (start + 1) (line + 1) marks (at_next text start line 1 (10 ∷ []) (marks_text marks) at r.lines) h
 
 onto_none : (rest : Result (List Token) LexFault) (ts : List Token) → rest ≡ Ok ts → onto [] rest ≡ Ok ts
 onto_none rest ts e = ap (λ r. onto [] r) e
 
-pub written_tokens : (marks : List Mark) → AreReadable marks → tokens_of (written marks) ≡ Ok (tokens_by 1 0 marks)
+pub written_tokens : (marks : List Mark) → MarksAreReadable marks → tokens_of (marks_text marks) ≡ Ok (tokens_by 1 0 marks)
 written_tokens marks h =
-    tokens_begin (written marks)
-    ∙ onto_none (tokens_from (written marks) 0) (tokens_by 1 0 marks) (tokens_written (written marks) 0 1 marks (record { here = refl; line_is = refl }) h)
+    tokens_begin (marks_text marks)
+    ∙ onto_none (tokens_from (marks_text marks) 0) (tokens_by 1 0 marks) (tokens_written (marks_text marks) 0 1 marks (record { here = refl; line_is = refl }) h)

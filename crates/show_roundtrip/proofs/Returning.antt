@@ -20,7 +20,7 @@ use Rattle.c2po_compile.specs.Compiled.{signals_in, outputs_in}
 use Rattle.c2po_compile.specs.ImageFiles.{image_in, stored_columns}
 use Rattle.c2po_compile.proofs.ImageLaws.{image_is}
 use Rattle.c2po_compile.proofs.TellingLaws.{no_fault}
-use Rattle.obs_show.specs.Text.{lines, text}
+use Rattle.obs_show.specs.Text.{shown_lines, text}
 use Rattle.show_roundtrip.specs.Said.{HaveWords, line_items}
 use Rattle.show_roundtrip.specs.Unfolded.{declared_by}
 use Rattle.show_roundtrip.proofs.Items.{lines_tokens, lines_items}
@@ -29,17 +29,17 @@ use Rattle.show_roundtrip.proofs.Meaning.{program_asks}
 use Rattle.c2po_compile.proofs.Tenses.{tensed_over}
 
 -- the items that the text of a program says are those of its lines
-pub items_said : (program : Program) → HaveWords (lines program) → items_in (text program) ≡ line_items 1 (lines program)
+pub items_said : (program : Program) → HaveWords (shown_lines program) → items_in (text program) ≡ line_items 1 (shown_lines program)
 items_said program h =
-    ap (λ r. result_unwrap_or (spec_of (result_unwrap_or r [])) []) (lines_tokens (lines program) h)
-    ∙ ap (λ r. result_unwrap_or r []) (lines_items (lines program))
+    ap (λ r. result_unwrap_or (spec_of (result_unwrap_or r [])) []) (lines_tokens (shown_lines program) h)
+    ∙ ap (λ r. result_unwrap_or r []) (lines_items (shown_lines program))
 
 -- the text of a program is that of a specification whose image the program is
 pub program_returns : (signals : List Signal) (columns : Columns) (outs : List Asked) (program : Program) → IsImageOf signals columns outs program → All IsTensed outs
-    → IsWellFormed program → HaveWords (lines program) → first_refusal (text program) ≡ None → image_in (text program) (stored_columns program) ≡ program
+    → IsWellFormed program → HaveWords (shown_lines program) → first_refusal (text program) ≡ None → image_in (text program) (stored_columns program) ≡ program
 program_returns signals columns outs program is tensed formed words none =
-    let items : items_in (text program) ≡ line_items 1 (lines program) = items_said program words in
-    let faultless : first_fault (line_items 1 (lines program)) ≡ None = ap first_fault (sym items) ∙ no_fault (text program) none in
+    let items : items_in (text program) ≡ line_items 1 (shown_lines program) = items_said program words in
+    let faultless : first_fault (line_items 1 (shown_lines program)) ≡ None = ap first_fault (sym items) ∙ no_fault (text program) none in
     let asks : map (asked_over (map (λ signal. signal.column) program.signals)) (outputs_in (text program)) ≡ unfolded_outputs program =
     ap (λ (xs : List ItemShape). map (asked_over (map (λ signal. signal.column) program.signals)) (outputs_of xs)) items ∙ program_asks program formed is.version faultless in
     let declares : signals_in (text program) ≡ map declared_by program.signals = ap signals_of items ∙ program_declares program in

@@ -35,7 +35,7 @@ use Rattle.obs_verify.proofs.ExpressionLaws.{slice_get-take}
 use Rattle.obs_verify.proofs.SignalLaws.{any-push}
 use Rattle.obs_show.specs.Lines.{arith as computes, compare, Line}
 use Rattle.obs_show.specs.Naming.{is_operation, is_future_operation, is_past_operation, bz_operations, ft_operations, pt_operations, operations, defined_name, is_signal_name, name_in, bz_name, bz_called, bz_reference, ft_name, ft_called, ft_reference, pt_name, pt_called, pt_reference}
-use Rattle.obs_show.specs.Text.{signal_line, bz_form, bz_line, ft_form, ft_line, pt_form, pt_line, output_line, output_lines, lines_by, lines}
+use Rattle.obs_show.specs.Text.{signal_line, bz_form, bz_line, ft_form, ft_line, pt_form, pt_line, output_line, output_lines, numbered_lines, shown_lines}
 use Rattle.obs_show.proofs.FreeLaws.{defined_is_new}
 use Rattle.show_roundtrip.proofs.Walk.{get_push, HaveOwnColumns, InColumn, in_column, kind_for, HaveOperands}
 use Rattle.show_roundtrip.proofs.Engines.{is_within, HaveFutureOperands, HavePastOperands}
@@ -299,13 +299,13 @@ both_stay program names later g h = (
   kinds_stay (ft_reference program) gives_truth (length program.ft) names later g h.1,
 )
 
-pub kinds_pass : (program : Program) → HasLayout program → IsWellFormed program → program.version ≡ 2 → length program.signals ≤ MAX_SIGNALS → KindsPass 1 (lines program) nothing
+pub kinds_pass : (program : Program) → HasLayout program → IsWellFormed program → program.version ≡ 2 → length program.signals ≤ MAX_SIGNALS → KindsPass 1 (shown_lines program) nothing
 kinds_pass program layout formed version few =
     let said = well_formed_said program formed version in
     let outs : List Line = output_lines program program.outs in
-    let pts : List Line = lines_by (pt_line program) program.pt ++ outs in
-    let fts : List Line = lines_by (ft_line program) program.ft ++ pts in
-    let bzs : List Line = lines_by (bz_line program) program.bz ++ fts in
+    let pts : List Line = numbered_lines (pt_line program) program.pt ++ outs in
+    let fts : List Line = numbered_lines (ft_line program) program.ft ++ pts in
+    let bzs : List Line = numbered_lines (bz_line program) program.bz ++ fts in
     let bz_few : 0 + bz_operations program.bz ≤ operations program = omega arith in
     let ft_few : bz_operations program.bz + ft_operations program.ft ≤ operations program = omega arith in
     let pt_few : bz_operations program.bz + ft_operations program.ft + pt_operations program.pt ≤ operations program = omega arith in

@@ -24,8 +24,8 @@ use Rattle.c2po_compile.specs.Simplified.{simple_image_in}
 use Rattle.obs_show.specs.declared.fault.ShowFault.{ShowFault}
 use Rattle.obs_show.specs.declared.fault.ShowFault.TheVariants.{TooLong, Wide}
 use Rattle.obs_show.specs.Limits.{show_fault}
-use Rattle.obs_show.specs.Text.{lines, text}
-use Rattle.obs_show.specs.Weight.{weight}
+use Rattle.obs_show.specs.Text.{shown_lines, text}
+use Rattle.obs_show.specs.Weight.{program_weight}
 use Rattle.show_roundtrip.specs.Said.{HaveWords, lines_marks, line_items}
 use Rattle.show_roundtrip.specs.Written.{tokens_by}
 use Rattle.show_roundtrip.specs.Named.{HasOwnWords}
@@ -42,12 +42,12 @@ use Rattle.show_roundtrip.proofs.LightImages.{plain_light, simple_light, few_sig
 use Rattle.show_roundtrip.proofs.ImageLabels.{labels_pass, simple_labels_pass}
 
 -- the text of lines without a fault isn't refused
-text_passes : (program : Program) → HaveWords (lines program) → first_fault (line_items 1 (lines program)) ≡ None → first_refusal (text program) ≡ None
+text_passes : (program : Program) → HaveWords (shown_lines program) → first_fault (line_items 1 (shown_lines program)) ≡ None → first_refusal (text program) ≡ None
 text_passes program words faultless =
-    let found : List Token = tokens_by 1 0 (lines_marks (lines program)) in
+    let found : List Token = tokens_by 1 0 (lines_marks (shown_lines program)) in
     let items : List ItemShape = items_in (text program) in
-    let lexed : tokens_of (text program) ≡ Ok found = lines_tokens (lines program) words in
-    let parsed : spec_of (tokens_in (text program)) ≡ Ok (line_items 1 (lines program)) = ap (λ r. spec_of (result_unwrap_or r [])) lexed ∙ lines_items (lines program) in
+    let lexed : tokens_of (text program) ≡ Ok found = lines_tokens (shown_lines program) words in
+    let parsed : spec_of (tokens_in (text program)) ≡ Ok (line_items 1 (shown_lines program)) = ap (λ r. spec_of (result_unwrap_or r [])) lexed ∙ lines_items (shown_lines program) in
     ap (λ r. option_or (refusal_in token_refusal r) (option_or (refusal_in tree_refusal (spec_of (tokens_in (text program)))) (option_map check_refusal (first_fault items)))) lexed
     ∙ ap (λ r. option_or (refusal_in tree_refusal r) (option_map check_refusal (first_fault items))) parsed
     ∙ ap (λ (is : List ItemShape). option_map check_refusal (first_fault is)) (items_said program words)
@@ -62,17 +62,17 @@ second_off true wide h = absurd (cc)
 second_off false true h = absurd (cc)
 second_off false false h = refl
 
-within_weight : (program : Program) → show_fault program ≡ None → weight program ≤ MAX_WEIGHT
+within_weight : (program : Program) → show_fault program ≡ None → program_weight program ≤ MAX_WEIGHT
 within_weight program h =
-    not_above MAX_WEIGHT (weight program) (second_off (nat_lt MAX_SHOWN_BYTES (length (text program))) (nat_lt MAX_WEIGHT (weight program)) h)
+    not_above MAX_WEIGHT (program_weight program) (second_off (nat_lt MAX_SHOWN_BYTES (length (text program))) (nat_lt MAX_WEIGHT (program_weight program)) h)
 
 -- the text of a program of version 2 with words of its own, few signals, light instructions, and labels that differ
 program_passes : (program : Program) → HasLayout program → IsWellFormed program → program.version ≡ 2 → HasOwnWords program → length program.signals ≤ MAX_SIGNALS → IsLight program
-    → LabelsPass 1 (lines program) [] → first_refusal (text program) ≡ None
+    → LabelsPass 1 (shown_lines program) [] → first_refusal (text program) ≡ None
 program_passes program few formed version words narrow light names =
-    let kinds : KindsPass 1 (lines program) nothing = kinds_pass program few formed version narrow in
+    let kinds : KindsPass 1 (shown_lines program) nothing = kinds_pass program few formed version narrow in
     text_passes program (program_words program few formed version words)
-    (lines_pass (lines program) kinds names (values_pass program formed version (new_of_kinds (lines program) kinds) light))
+    (lines_pass (shown_lines program) kinds names (values_pass program formed version (new_of_kinds (shown_lines program) kinds) light))
 
 -- the text of an image isn't refused
 pub image_passes : (source : List ℕ) (columns : Columns) (program : Program) → first_refusal source ≡ None → program ≡ image_in source columns → HasLayout program → IsWellFormed program → show_fault program ≡ None

@@ -13,7 +13,7 @@ use Rattle.c2po_types.specs.Signals.{body_signals, signals_of}
 use Rattle.c2po_compile.specs.Images.{stored_signals}
 use Rattle.obs_show.specs.Lines.{Form, Line, input, define, formula, contract}
 use Rattle.obs_show.specs.Naming.{bz_name, ft_name, pt_name}
-use Rattle.obs_show.specs.Text.{signal_line, bz_form, bz_line, ft_form, ft_line, pt_form, pt_line, output_line, lines_by, output_lines, lines}
+use Rattle.obs_show.specs.Text.{signal_line, bz_form, bz_line, ft_form, ft_line, pt_form, pt_line, output_line, numbered_lines, output_lines, shown_lines}
 use Rattle.show_roundtrip.specs.Said.{line_body, line_items}
 use Rattle.show_roundtrip.specs.Unfolded.{declared_by}
 use Rattle.show_roundtrip.proofs.Walk.{lines_from, put, put_is}
@@ -73,13 +73,13 @@ outs_none : (program : Program) (k : ℕ) (outs : List out.Out) → all_signals 
 outs_none program k [] = refl
 outs_none program k (o ∷ outs) = ap₂ (λ (a b : List Signal). a ++ b) (out_none program k o) (outs_none program (k + 1) outs)
 
-pub program_declares : (program : Program) → signals_of (line_items 1 (lines program)) ≡ map declared_by program.signals
+pub program_declares : (program : Program) → signals_of (line_items 1 (shown_lines program)) ≡ map declared_by program.signals
 program_declares program =
     let outs : List Line = output_lines program program.outs in
-    let pts : List Line = lines_by (pt_line program) program.pt ++ outs in
-    let fts : List Line = lines_by (ft_line program) program.ft ++ pts in
-    let bzs : List Line = lines_by (bz_line program) program.bz ++ fts in
-    items_are (lines program) 1 ∙ inputs_are program.signals bzs
+    let pts : List Line = numbered_lines (pt_line program) program.pt ++ outs in
+    let fts : List Line = numbered_lines (ft_line program) program.ft ++ pts in
+    let bzs : List Line = numbered_lines (bz_line program) program.bz ++ fts in
+    items_are (shown_lines program) 1 ∙ inputs_are program.signals bzs
     ∙ ap (λ (a : List Signal). map declared_by program.signals ++ a) (bz_none program 0 program.bz fts ∙ ft_none program 0 program.ft pts ∙ pt_none program 0 program.pt outs ∙ outs_none program 0 program.outs)
     ∙ append-nil (map declared_by program.signals)
 

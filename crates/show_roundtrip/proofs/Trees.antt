@@ -29,7 +29,7 @@ use Rattle.c2po_ast.specs.ItemShape.{BodyShape, ItemShape}
 use Rattle.c2po_parse.specs.Tokens.{is_sign, depth_after, left_level, right_level}
 use Rattle.c2po_ast.specs.Parts.{joined, prefixed, leaf}
 use Rattle.c2po_parse.specs.Fronts.{infix_level, prefix_level, start_at, operator_at, interval_at}
-use Rattle.c2po_parse.specs.Splitting.{tree_of}
+use Rattle.c2po_parse.specs.Splitting.{parsed_tree}
 use Rattle.c2po_parse.proofs.Rules.{Derives, down, joins, behind, alone}
 use Rattle.c2po_parse.proofs.Starts.{StartFront, start_at-front}
 use Rattle.c2po_parse.proofs.Operators.{OperatorFront, operator_at-front}
@@ -37,7 +37,7 @@ use Rattle.c2po_parse.proofs.Agree.{derived-tree}
 use Rattle.c2po_parse.specs.declared.section.Section.{Section}
 use Rattle.c2po_parse.specs.declared.section.Section.TheVariants.{Input, Define, Output}
 use Rattle.c2po_parse.specs.Sections.{section_of, line_or, item_of}
-use Rattle.c2po_parse.specs.Forms.{body_of, define_of, input_of, names_within, type_within, output_of, output_at, label_at, promise_at}
+use Rattle.c2po_parse.specs.Forms.{body_of, define_of, input_of, names_within, type_within, output_item, output_at, label_at, promise_at}
 use Rattle.c2po_parse.specs.Specification.{with_line, piece_tree}
 use Rattle.c2po_parse.specs.declared.fault.ParseFault.TheVariants.{TooManyTokens}
 use Rattle.obs_show.specs.Lines.{Reference, always, named, number, Form, minus, arith as computes, compare, negation, logic, between, Line, input, define, formula, contract}
@@ -162,10 +162,10 @@ form_derives (between op window x y) line s =
     two_derive line (Between op window.lo window.hi) (at_place line s _ (reference_token x)) (at_place line _ _ (reference_token y)) (between_tokens op window line (s + length (token_text (reference_token x)) + 1)) (reference_shape line x) (reference_shape line y)
     (between_reads op window line (s + length (token_text (reference_token x)) + 1) _) (reference_derives line _ _ x) (reference_derives line _ _ y)
 
-form_tree : (f : Form) (line s : ℕ) → tree_of (tokens_by line s (form_marks f)) ≡ Some (form_shape line f)
+form_tree : (f : Form) (line s : ℕ) → parsed_tree (tokens_by line s (form_marks f)) ≡ Some (form_shape line f)
 form_tree f line s = derived-tree (tokens_by line s (form_marks f)) (form_shape line f) (form_derives f line s)
 
-reference_tree : (x : Reference) (line s n : ℕ) → tree_of (at_place line s n (reference_token x) ∷ []) ≡ Some (reference_shape line x)
+reference_tree : (x : Reference) (line s n : ℕ) → parsed_tree (at_place line s n (reference_token x) ∷ []) ≡ Some (reference_shape line x)
 reference_tree x line s n = derived-tree (at_place line s n (reference_token x) ∷ []) (reference_shape line x) (lowered 12 1 _ _ (omega arith) (omega arith) (reference_derives line s n x))
 
 -- the section of a line
@@ -199,7 +199,7 @@ abbrev said_as : Engine → Option (List ℕ) → Option Shape → Option BodySh
 said_as engine label o = option_and_then (λ e. Some (item.formula engine label e)) o
 
 formula_reads : (engine : Engine) (label : Option (List ℕ)) (x : Reference) (line s : ℕ) → body_of (Output engine) (tokens_by line s (body_marks (formula engine label x))) ≡ Some (line_body line (formula engine label x))
-unfolding tokens_by output_of label_at promise_at
+unfolding tokens_by output_item label_at promise_at
 formula_reads engine None always line s = ap (said_as engine None) (reference_tree always line _ _)
 formula_reads engine None (named y) line s = ap (said_as engine None) (reference_tree (named y) line _ _)
 formula_reads engine None (number n) line s = ap (said_as engine None) (reference_tree (number n) line _ _)
@@ -240,12 +240,12 @@ after_label : (engine : Engine) (label : Option (List ℕ)) (x y : Reference) (l
     → output_at engine label (contract_tokens line a b c d e f x y) (promise_at 0 0 (contract_tokens line a b c d e f x y)) ≡ Some (line_body line (contract engine label x y))
 after_label engine label x y line a b c d e f =
     ap (output_at engine label (contract_tokens line a b c d e f x y)) (promise_here x y line a b c d e f)
-    ∙ ap (λ (o : Option ℕ). if is_some o then None else promise engine label (tree_of (at_place line a b (reference_token x) ∷ [])) (tree_of (at_place line e f (reference_token y) ∷ []))) (no_promise y line e f)
-    ∙ ap (λ o. promise engine label o (tree_of (at_place line e f (reference_token y) ∷ []))) (reference_tree x line a b)
+    ∙ ap (λ (o : Option ℕ). if is_some o then None else promise engine label (parsed_tree (at_place line a b (reference_token x) ∷ [])) (parsed_tree (at_place line e f (reference_token y) ∷ []))) (no_promise y line e f)
+    ∙ ap (λ o. promise engine label o (parsed_tree (at_place line e f (reference_token y) ∷ []))) (reference_tree x line a b)
     ∙ ap (λ o. promise engine label (Some (reference_shape line x)) o) (reference_tree y line e f)
 
 contract_reads : (engine : Engine) (label : Option (List ℕ)) (x y : Reference) (line s : ℕ) → body_of (Output engine) (tokens_by line s (body_marks (contract engine label x y))) ≡ Some (line_body line (contract engine label x y))
-unfolding tokens_by output_of label_at
+unfolding tokens_by output_item label_at
 contract_reads engine None always y line s = after_label engine None always y line _ _ _ _ _ _
 contract_reads engine None (named x) y line s = after_label engine None (named x) y line _ _ _ _ _ _
 contract_reads engine None (number n) y line s = after_label engine None (number n) y line _ _ _ _ _ _

@@ -18,9 +18,9 @@ use Rattle.mltl_base.specs.Atoms.{term_over, atom_over}
 use Rattle.mltl_base.specs.Formula as full
 use Rattle.mltl_base.specs.Formula.{Formula, Core, ctrue, catom, cnot, cand, cuntil, csince, plain, formula_over}
 use Rattle.mltl_base.specs.Programs as programs
-use Rattle.mltl_base.specs.Programs.{Expression, whole, truth, term_at, expression_of, expressions_after, expressions, core_at, formula_of, past_formula_of, formulas_after, past_formulas_after}
+use Rattle.mltl_base.specs.Programs.{Expression, whole, truth, term_at, expression_of, expressions_after, expressions, core_at, op_formula, past_formula_of, formulas_after, past_formulas_after}
 use Rattle.obs_verify.specs.WellFormed.{is_truth, has_kind, has_operands}
-use Rattle.obs_verify.specs.Soundness.{IsWhole, IsWholeExpression, AreWhole, IsSound, AreSound}
+use Rattle.obs_verify.specs.Soundness.{IsWhole, IsWholeExpression, AreWhole, SoundOp, SoundOps}
 use Rattle.c2po_nodes.specs.Nodes.{arithmetic, comparison}
 use Rattle.c2po_unfold.specs.Values.{number_value}
 use Rattle.c2po_unfold.specs.Environment.{Env, nothing, value, signal_value, value_of}
@@ -107,10 +107,10 @@ knows_push program env before e h k j d i = pick (get_push before e d j i)
 operand : (program : Program) (env : Env) (before : List Expression) (a : ℕ) → Knows program env before → IsWhole before a → Means (columns_in program) env (bz_reference program a) (whole (term_at before a))
 operand program env before a h is = go (slice_get before a) refl is
   where
-    go : (o : Option Expression) → slice_get before a ≡ o → IsWholeExpression o → Means (columns_in program) env (bz_reference program a) (whole (programs.term_of (slice_get before a)))
+    go : (o : Option Expression) → slice_get before a ≡ o → IsWholeExpression o → Means (columns_in program) env (bz_reference program a) (whole (programs.expression_term (slice_get before a)))
     go None e g = absurd g
     go (Some (truth t)) e g = absurd g
-    go (Some (whole t)) e g = subst (λ (o : Option Expression). Means (columns_in program) env (bz_reference program a) (whole (programs.term_of o))) (sym e) (h a (whole t) e).means
+    go (Some (whole t)) e g = subst (λ (o : Option Expression). Means (columns_in program) env (bz_reference program a) (whole (programs.expression_term o))) (sym e) (h a (whole t) e).means
 
 -- what a form says, where there is one
 abbrev pub OptionSays : List ℕ → Env → Option Form → Expression → Type 0
@@ -129,7 +129,7 @@ compare_operands program env before op a b h are =
     compare_says (columns_in program) env op (bz_reference program a) (bz_reference program b) (term_at before a) (term_at before b)
     (operand program env before a h are.0) (operand program env before b h are.1)
 
-bz_says : (program : Program) (env : Env) (before : List Expression) (op : bz.BzOp) → Knows program env before → IsSound program.width before op
+bz_says : (program : Program) (env : Env) (before : List Expression) (op : bz.BzOp) → Knows program env before → SoundOp program.width before op
     → OptionSays (columns_in program) env (bz_form program op) (expression_of before op)
 bz_says program env before (bz.TheVariants.Column c) h ok = tt
 bz_says program env before (bz.TheVariants.IsTrue c) h ok = tt
@@ -328,7 +328,7 @@ bz_means program env i op e at m kind = record {
 
 step_bz : (program : Program) (i n outputs : ℕ) (op : bz.BzOp) (before es : List Expression) (ls more : List Line) (p : Place) (o : Option Form)
     → bz_form program op ≡ o → slice_get program.bz i ≡ Some op → length before ≡ i → has_operands program i op ≡ true → program.version ≡ 2 → HaveOwnColumns program.signals
-    → IsSound program.width before op → (AreDefinable program → IsDefinable (expression_of before op)) → BzKnown program outputs before p
+    → SoundOp program.width before op → (AreDefinable program → IsDefinable (expression_of before op)) → BzKnown program outputs before p
     → ((m : ℕ) (q : Place) → BzKnown program outputs (before ++ expression_of before op ∷ []) q → AreNew m (ls ++ more) q → Reaches program m (ls ++ more) q more (BzKnown program outputs es))
     → AreNew n (put (bz_name program i) o (ls ++ more)) p → Reaches program n (put (bz_name program i) o (ls ++ more)) p more (BzKnown program outputs es)
 step_bz program i n outputs op before es ls more p None none at len ok version own sound definable h go new =
@@ -380,9 +380,9 @@ expression_here program op ops before ends =
 
 pub walk_bz : (program : Program) (front ops : List bz.BzOp) (before : List Expression) (i n outputs : ℕ) (more : List Line) (p : Place)
     → program.bz ≡ front ++ ops → length front ≡ i → length before ≡ i → HaveOperands program i ops → program.version ≡ 2 → HaveOwnColumns program.signals
-    → AreSound program.width before ops → expressions_after before ops ≡ expressions program.bz → BzKnown program outputs before p
+    → SoundOps program.width before ops → expressions_after before ops ≡ expressions program.bz → BzKnown program outputs before p
     → AreNew n (lines_from (bz_line program) i ops ++ more) p → Reaches program n (lines_from (bz_line program) i ops ++ more) p more (BzKnown program outputs (expressions_after before ops))
-unfolding expressions_after AreSound
+unfolding expressions_after SoundOps
 walk_bz program front [] before i n outputs more p all fronts len ok version own sound ends h new = reaches_at_once program n more p (BzKnown program outputs before) new h
 walk_bz program front (op ∷ ops) before i n outputs more p all fronts len ok version own sound ends h new =
     let at : slice_get program.bz i ≡ Some op = ap (λ (xs : List bz.BzOp). slice_get xs i) all ∙ ap (λ (k : ℕ). slice_get (front ++ op ∷ ops) k) (sym fronts) ∙ get_seam front op ops in

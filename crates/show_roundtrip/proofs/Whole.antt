@@ -20,17 +20,17 @@ use Rattle.mltl_base.specs.Formula.{Formula, Core, plain, formula_over}
 use Rattle.mltl_base.specs.Atoms.{Atom}
 use Rattle.mltl_base.specs.Reports as reports
 use Rattle.mltl_base.specs.Reports.{Output}
-use Rattle.mltl_base.specs.Programs.{Expression, expression_of, expressions_after, expressions, atoms, formula_of, past_formula_of, formulas_after, past_formulas_after, formula_at}
-use Rattle.mltl_base.specs.Subformulas.{Asked, asked_by, unfolded_outputs}
+use Rattle.mltl_base.specs.Programs.{Expression, expression_of, expressions_after, expressions, atoms, op_formula, past_formula_of, formulas_after, past_formulas_after, formula_at}
+use Rattle.mltl_base.specs.Subformulas.{Asked, asked_of_program, unfolded_outputs}
 use Rattle.c2po_nodes.specs.Outputs.{asked_over}
-use Rattle.obs_verify.specs.Soundness.{AreSound}
+use Rattle.obs_verify.specs.Soundness.{SoundOps}
 use Rattle.obs_verify.specs.WellFormed.{reports_within}
 use Rattle.c2po_unfold.specs.Values as values
 use Rattle.c2po_unfold.specs.Environment.{Env, nothing, value, declare, signal_value, value_of}
 use Rattle.c2po_types.specs.Outputs.{Place, before, place_after, name_of, asked_at, asked_from, outputs_of}
 use Rattle.obs_show.specs.Lines.{Reference, Line, input}
 use Rattle.obs_show.specs.Naming.{ft_reference, pt_reference}
-use Rattle.obs_show.specs.Text.{signal_line, bz_line, ft_line, pt_line, label_of, output_line, lines_by, output_lines, lines}
+use Rattle.obs_show.specs.Text.{signal_line, bz_line, ft_line, pt_line, shown_label, output_line, numbered_lines, output_lines, shown_lines}
 use Rattle.show_roundtrip.specs.Said.{reference_shape, line_body, line_items}
 use Rattle.show_roundtrip.specs.Unfolded.{AreNew}
 use Rattle.show_roundtrip.proofs.Passing.{ValuesPass}
@@ -90,7 +90,7 @@ walk_signals program count front (s ∷ signals) n more p all len h outs new =
     (signals_push front s p.signals p.values q.values len later here h) (more_outs ∙ outs) head.1)
 
 -- the name of an output is its label, or its number
-name_kept : (k : ℕ) (name : List ℕ) → name_of k (label_of k name) ≡ name
+name_kept : (k : ℕ) (name : List ℕ) → name_of k (shown_label k name) ≡ name
 name_kept k name = go (bytes_eq name (decimal k)) refl
   where
     go : (b : Bool) → bytes_eq name (decimal k) ≡ b → name_of k (if b then None else Some name) ≡ name
@@ -120,22 +120,22 @@ abbrev said : Program → Place → ℕ → Reference → Formula
 said program p n x = formula_over (columns_in program) (values.formula_of (value_of (reference_shape n x) p.values))
 
 output_asks : (program : Program) (n k : ℕ) (p : Place) (o : out.Out) → p.outputs ≡ k → EnginesKnown program p.values → Within program o
-    → map (asked_over (columns_in program)) (asked_at (line_body n (output_line program k o)) p) ≡ asked_by program o ∷ []
+    → map (asked_over (columns_in program)) (asked_at (line_body n (output_line program k o)) p) ≡ asked_of_program program o ∷ []
 output_asks program n k p (out.TheVariants.Formula Ft i name) e h w =
-    ap₂ (λ (x : List ℕ) (f : Formula). one_asked Ft x f ∷ []) (ap (λ (m : ℕ). name_of m (label_of k name)) e ∙ name_kept k name)
+    ap₂ (λ (x : List ℕ) (f : Formula). one_asked Ft x f ∷ []) (ap (λ (m : ℕ). name_of m (shown_label k name)) e ∙ name_kept k name)
     (formula_by (columns_in program) p.values n (ft_reference program i) (plain (formula_at program Ft i)) (h.ft i (under i (length program.ft) w)))
 output_asks program n k p (out.TheVariants.Formula Pt i name) e h w =
-    ap₂ (λ (x : List ℕ) (f : Formula). one_asked Pt x f ∷ []) (ap (λ (m : ℕ). name_of m (label_of k name)) e ∙ name_kept k name)
+    ap₂ (λ (x : List ℕ) (f : Formula). one_asked Pt x f ∷ []) (ap (λ (m : ℕ). name_of m (shown_label k name)) e ∙ name_kept k name)
     (formula_by (columns_in program) p.values n (pt_reference program i) (plain (formula_at program Pt i)) (h.pt i (under i (length program.pt) w)))
 output_asks program n k p (out.TheVariants.Contract Ft i j name) e h w =
     let parts : (nat_lt i (length program.ft) ≡ true) × (nat_lt j (length program.ft) ≡ true) = and_parts (nat_lt i (length program.ft)) (nat_lt j (length program.ft)) w in
-    ap (λ (x : List ℕ). two_asked Ft x (said program p n (ft_reference program i)) (said program p n (ft_reference program j)) ∷ []) (ap (λ (m : ℕ). name_of m (label_of k name)) e ∙ name_kept k name)
+    ap (λ (x : List ℕ). two_asked Ft x (said program p n (ft_reference program i)) (said program p n (ft_reference program j)) ∷ []) (ap (λ (m : ℕ). name_of m (shown_label k name)) e ∙ name_kept k name)
     ∙ ap₂ (λ (f g : Formula). two_asked Ft name f g ∷ [])
     (formula_by (columns_in program) p.values n (ft_reference program i) (plain (formula_at program Ft i)) (h.ft i (under i (length program.ft) parts.0)))
     (formula_by (columns_in program) p.values n (ft_reference program j) (plain (formula_at program Ft j)) (h.ft j (under j (length program.ft) parts.1)))
 output_asks program n k p (out.TheVariants.Contract Pt i j name) e h w =
     let parts : (nat_lt i (length program.pt) ≡ true) × (nat_lt j (length program.pt) ≡ true) = and_parts (nat_lt i (length program.pt)) (nat_lt j (length program.pt)) w in
-    ap (λ (x : List ℕ). two_asked Pt x (said program p n (pt_reference program i)) (said program p n (pt_reference program j)) ∷ []) (ap (λ (m : ℕ). name_of m (label_of k name)) e ∙ name_kept k name)
+    ap (λ (x : List ℕ). two_asked Pt x (said program p n (pt_reference program i)) (said program p n (pt_reference program j)) ∷ []) (ap (λ (m : ℕ). name_of m (shown_label k name)) e ∙ name_kept k name)
     ∙ ap₂ (λ (f g : Formula). two_asked Pt name f g ∷ [])
     (formula_by (columns_in program) p.values n (pt_reference program i) (plain (formula_at program Pt i)) (h.pt i (under i (length program.pt) parts.0)))
     (formula_by (columns_in program) p.values n (pt_reference program j) (plain (formula_at program Pt j)) (h.pt j (under j (length program.pt) parts.1)))
@@ -150,7 +150,7 @@ HaveReports program [] = ⊤
 HaveReports program (o ∷ outs) = Within program o × HaveReports program outs
 
 outputs_ask : (program : Program) (outs : List out.Out) (n k : ℕ) (p : Place) → p.outputs ≡ k → EnginesKnown program p.values → HaveReports program outs
-    → map (asked_over (columns_in program)) (asked_from (line_items n (map (λ x. output_line program x.0 x.1) (enumerate_from k outs))) p) ≡ map (asked_by program) outs
+    → map (asked_over (columns_in program)) (asked_from (line_items n (map (λ x. output_line program x.0 x.1) (enumerate_from k outs))) p) ≡ map (asked_of_program program) outs
 unfolding asked_from line_items
 outputs_ask program [] n k p e h w = refl
 outputs_ask program (o ∷ outs) n k p e h w =
@@ -166,7 +166,7 @@ pub record CanBeSaid (program : Program) : Type 0 where
   pub version : program.version ≡ 2
   pub columns : HaveOwnColumns program.signals
   pub bz : HaveOperands program 0 program.bz
-  pub sound : AreSound program.width [] program.bz
+  pub sound : SoundOps program.width [] program.bz
   pub ft : HaveFutureOperands program 0 program.ft
   pub pt : HavePastOperands program 0 program.pt
   pub reports : HaveReports program program.outs
@@ -179,7 +179,7 @@ expressions_count (op ∷ ops) before = omega (arith, expressions_count ops (bef
 pub formulas_count : (loaded : List Atom) (ops : List FtOp) (before : List Core) → length (formulas_after loaded before ops) ≡ length before + length ops
 unfolding formulas_after
 formulas_count loaded [] before = omega arith
-formulas_count loaded (op ∷ ops) before = omega (arith, formulas_count loaded ops (before ++ formula_of loaded before op ∷ []), length-append before (formula_of loaded before op ∷ []))
+formulas_count loaded (op ∷ ops) before = omega (arith, formulas_count loaded ops (before ++ op_formula loaded before op ∷ []), length-append before (op_formula loaded before op ∷ []))
 
 pub past_count : (loaded : List Atom) (ops : List PtOp) (before : List Core) → length (past_formulas_after loaded before ops) ≡ length before + length ops
 unfolding past_formulas_after
@@ -210,12 +210,12 @@ no_cores : (reference : ℕ → Reference) (columns : List ℕ) (env : Env) → 
 no_cores reference columns env j c i = absurd (cc)
 
 -- through all lines of a program up to those of its outputs
-pub lines_reach : (program : Program) → CanBeSaid program → AreNew 1 (lines program) before → Reaches program 1 (lines program) before (output_lines program program.outs) (AllKnown program)
+pub lines_reach : (program : Program) → CanBeSaid program → AreNew 1 (shown_lines program) before → Reaches program 1 (shown_lines program) before (output_lines program program.outs) (AllKnown program)
 lines_reach program h new =
     let outs : List Line = output_lines program program.outs in
-    let pts : List Line = lines_by (pt_line program) program.pt ++ outs in
-    let fts : List Line = lines_by (ft_line program) program.ft ++ pts in
-    let bzs : List Line = lines_by (bz_line program) program.bz ++ fts in
+    let pts : List Line = numbered_lines (pt_line program) program.pt ++ outs in
+    let fts : List Line = numbered_lines (ft_line program) program.ft ++ pts in
+    let bzs : List Line = numbered_lines (bz_line program) program.bz ++ fts in
     let first = walk_signals program 0 [] program.signals 1 bzs before refl refl (no_signals before.values) refl new in
     let second = walk_bz program [] program.bz [] 0 first.line 0 fts first.place refl refl refl h.bz h.version h.columns h.sound refl
     (record { knows = no_expressions program first.place.values; signals = first.holds.signals; outputs = first.holds.outputs }) first.new in
@@ -224,14 +224,14 @@ lines_reach program h new =
     (record { base = second.holds; known = no_cores (ft_reference program) (columns_in program) second.place.values }) second.new in
     let fourth = walk_pt program 0 (expressions program.bz) (formulas_after (atoms program.bz) [] program.ft) [] program.pt [] 0 third.line outs third.place refl refl refl count refl h.pt refl
     (record { base = third.holds; known = no_cores (pt_reference program) (columns_in program) third.place.values }) third.new in
-    reaches_on program 1 (lines program) bzs outs before (SignalsKnown program 0) (AllKnown program) first
+    reaches_on program 1 (shown_lines program) bzs outs before (SignalsKnown program 0) (AllKnown program) first
     (reaches_on program first.line bzs fts outs first.place (BzKnown program 0 (expressions program.bz)) (AllKnown program) second
     (reaches_on program second.line fts pts outs second.place
     (CoresKnown (ft_reference program) (columns_in program) (BzKnown program 0 (expressions program.bz)) (formulas_after (atoms program.bz) [] program.ft)) (AllKnown program) third fourth))
 
 -- the lines of a program ask for what its outputs unfold to
-pub lines_ask : (program : Program) → CanBeSaid program → AreNew 1 (lines program) before
-    → map (asked_over (columns_in program)) (outputs_of (line_items 1 (lines program))) ≡ unfolded_outputs program
+pub lines_ask : (program : Program) → CanBeSaid program → AreNew 1 (shown_lines program) before
+    → map (asked_over (columns_in program)) (outputs_of (line_items 1 (shown_lines program))) ≡ unfolded_outputs program
 unfolding outputs_of
 lines_ask program h new =
     let r = lines_reach program h new in

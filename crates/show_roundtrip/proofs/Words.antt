@@ -20,16 +20,16 @@ use Rattle.mltl_base.specs.declared.operators.PtOp as pt
 use Rattle.mltl_base.specs.declared.program.Out as out
 use Rattle.mltl_base.specs.declared.program.Program.{Program}
 use Rattle.mltl_base.specs.declared.program.StoredSignal.{StoredSignal}
-use Rattle.mltl_base.specs.Programs.{name_of}
+use Rattle.mltl_base.specs.Programs.{out_name}
 use Rattle.mltl_base.specs.Letters.{is_in_word}
 use Rattle.obs_verify.specs.Layout.{HasLayout}
 use Rattle.obs_verify.specs.WellFormed.{IsWellFormed, has_future_window, has_past_window, is_window, has_kind}
 use Rattle.obs_show.specs.Lines.{Form, Line}
 use Rattle.obs_show.specs.Naming.{is_operation, is_future_operation, is_past_operation, operations, numbered_name, is_signal_name, free_numbers, defined_name, name_in, bz_name, ft_name, pt_name, bz_called, bz_reference, ft_called, ft_reference, pt_called, pt_reference}
-use Rattle.obs_show.specs.Text.{signal_line, bz_form, bz_line, ft_form, ft_line, pt_form, pt_line, label_of, reference_in, output_line, lines}
-use Rattle.show_roundtrip.specs.Written.{IsName, IsNumber}
+use Rattle.obs_show.specs.Text.{signal_line, bz_form, bz_line, ft_form, ft_line, pt_form, pt_line, shown_label, reference_in, output_line, shown_lines}
+use Rattle.show_roundtrip.specs.Written.{IsName, IsNumeral}
 use Rattle.show_roundtrip.specs.Said.{HasToken, HasTokens, HasName, HasWords, HaveWords}
-use Rattle.show_roundtrip.specs.Named.{AreNamed, AreLabelled, IsCounted, AreCounted, HasOwnWords}
+use Rattle.show_roundtrip.specs.Named.{AreNamed, AreLabelled, HasNoNegative, HaveNoNegatives, HasOwnWords}
 use Rattle.show_roundtrip.proofs.Reading.{decimals, digits_in_word}
 use Rattle.show_roundtrip.proofs.Walk.{HaveOwnColumns, InColumn, in_column, HasKindFor, kind_for, HaveOperands, lines_from, put, put_is}
 use Rattle.show_roundtrip.proofs.Engines.{HaveFutureOperands, HavePastOperands}
@@ -96,9 +96,9 @@ column_named signals c b names own kind =
 -- what is known of each instruction of the Booleanizer
 record IsFine (program : Program) (op : bz.BzOp) : Type 0 where
   kind : HasKindFor program op
-  counted : IsCounted op
+  counted : HasNoNegative op
 
-fine_at : (program : Program) (i : ℕ) (ops : List bz.BzOp) (j : ℕ) (op : bz.BzOp) → program.version ≡ 2 → HaveOperands program i ops → AreCounted ops → slice_get ops j ≡ Some op → IsFine program op
+fine_at : (program : Program) (i : ℕ) (ops : List bz.BzOp) (j : ℕ) (op : bz.BzOp) → program.version ≡ 2 → HaveOperands program i ops → HaveNoNegatives ops → slice_get ops j ≡ Some op → IsFine program op
 fine_at program i [] j op v h g e = absurd (cc)
 fine_at program i (x ∷ ops) zero op v h g e = subst (IsFine program) (same_Some x op e) (record { kind = kind_for program i x v h.0; counted = g.0 })
 fine_at program i (x ∷ ops) (suc j) op v h g e = fine_at program (i + 1) ops j op v h.1 g.1 e
@@ -171,7 +171,7 @@ bz_tokens program (bz.TheVariants.Eq a b) h = (bz_token program a h, bz_token pr
 bz_tokens program (bz.TheVariants.Lt a b) h = (bz_token program a h, bz_token program b h)
 bz_tokens program (bz.TheVariants.Le a b) h = (bz_token program a h, bz_token program b h)
 
-window_numbers : (i : Interval) → is_window i ≡ true → IsNumber (pos i.lo) × IsNumber (pos i.hi)
+window_numbers : (i : Interval) → is_window i ≡ true → IsNumeral (pos i.lo) × IsNumeral (pos i.hi)
 window_numbers i h =
     let parts : (nat_le i.lo i.hi ≡ true) × (nat_le i.hi MAX_BOUND ≡ true) = and_parts (nat_le i.lo i.hi) (nat_le i.hi MAX_BOUND) h in
     let low : i.lo ≤ i.hi = at_most i.lo i.hi parts.0 in
@@ -218,7 +218,7 @@ pt_words program i (op ∷ ops) more h ok g =
     subst HaveWords (sym (put_is (pt_name program i) (pt_form program op) (lines_from (pt_line program) (i + 1) ops) more))
     (put_words (pt_name program i) (pt_form program op) (lines_from (pt_line program) (i + 1) ops ++ more) (defined_named program _ h.few) (pt_tokens program op h ok.1) (pt_words program (i + 1) ops more h ok.2 g))
 
-label_words : (k : ℕ) (name : List ℕ) → (name ≡ decimal k) ⊎ IsName name → HasName (label_of k name)
+label_words : (k : ℕ) (name : List ℕ) → (name ≡ decimal k) ⊎ IsName name → HasName (shown_label k name)
 label_words k name h = go (bytes_eq name (decimal k)) refl h
   where
     go : (b : Bool) → bytes_eq name (decimal k) ≡ b → (name ≡ decimal k) ⊎ IsName name → HasName (if b then None else Some name)
@@ -230,7 +230,7 @@ engine_token : (program : Program) (engine : Engine) (i : ℕ) → HasAll progra
 engine_token program Ft i h = ft_token program i h
 engine_token program Pt i h = pt_token program i h
 
-out_words : (program : Program) (k : ℕ) (o : out.Out) → HasAll program → (name_of o ≡ decimal k) ⊎ IsName (name_of o) → HasWords (output_line program k o)
+out_words : (program : Program) (k : ℕ) (o : out.Out) → HasAll program → (out_name o ≡ decimal k) ⊎ IsName (out_name o) → HasWords (output_line program k o)
 out_words program k (out.TheVariants.Formula engine i name) h g = (label_words k name g, engine_token program engine i h)
 out_words program k (out.TheVariants.Contract engine i j name) h g = (label_words k name g, engine_token program engine i h, engine_token program engine j h)
 
@@ -242,7 +242,7 @@ signals_words : (signals : List StoredSignal) → AreNamed signals → HaveWords
 signals_words [] h = tt
 signals_words (s ∷ signals) h = (h.0, signals_words signals h.1)
 
-pub program_words : (program : Program) → HasLayout program → IsWellFormed program → program.version ≡ 2 → HasOwnWords program → HaveWords (lines program)
+pub program_words : (program : Program) → HasLayout program → IsWellFormed program → program.version ≡ 2 → HasOwnWords program → HaveWords (shown_lines program)
 program_words program few formed version words =
     let h : HasAll program = record { few = few; said = well_formed_said program formed version; words = words } in
     words_append (map signal_line program.signals) _ (signals_words program.signals words.signals)

@@ -20,7 +20,7 @@ use Rattle.c2po_ast.specs.ItemShape as item
 use Rattle.c2po_ast.specs.ItemShape.{BodyShape, ItemShape, type_named}
 use Rattle.obs_show.specs.Lines.{Reference, always, named, number, Form, minus, arith, compare, negation, logic}
 use Rattle.obs_show.specs.Lines.{between, Line, input, define, formula, contract}
-use Rattle.show_roundtrip.specs.Written.{Mark, token, space, newline, IsName, IsToken, IsNumber}
+use Rattle.show_roundtrip.specs.Written.{Mark, token, space, newline, IsName, IsToken, IsNumeral}
 
 -- the token of a reference
 abbrev pub reference_token : Reference → What
@@ -127,7 +127,7 @@ HasTokens (arith op x y) = HasToken x × HasToken y
 HasTokens (compare op x y) = HasToken x × HasToken y
 HasTokens (negation x) = HasToken x
 HasTokens (logic op x y) = HasToken x × HasToken y
-HasTokens (between op window x y) = IsNumber (pos window.lo) × IsNumber (pos window.hi) × HasToken x × HasToken y
+HasTokens (between op window x y) = IsNumeral (pos window.lo) × IsNumeral (pos window.hi) × HasToken x × HasToken y
 
 -- a label, where there is one, is a name of the language
 abbrev pub HasName : Option (List ℕ) → Type 0

@@ -34,8 +34,8 @@ mark_text space = 32 ∷ []
 mark_text newline = 10 ∷ []
 
 -- the text that is written
-abbrev pub written : List Mark → List ℕ
-written marks = flat_map mark_text marks
+abbrev pub marks_text : List Mark → List ℕ
+marks_text marks = flat_map mark_text marks
 
 -- the tokens of the text from a place on, each with its line
 unfoldable pub tokens_by : (line start : ℕ) → List Mark → List Token
@@ -54,15 +54,15 @@ pub record IsName (x : List ℕ) : Type 0 where
   pub free : keyword_of x ≡ None
 
 -- a number that a text can have
-abbrev pub IsNumber : ℤ → Type 0
-IsNumber (pos n) = n ≤ 9223372036854775807
-IsNumber (negsuc n) = ⊥
+abbrev pub IsNumeral : ℤ → Type 0
+IsNumeral (pos n) = n ≤ 9223372036854775807
+IsNumeral (negsuc n) = ⊥
 
 -- a token that a text can have
 abbrev pub IsToken : What → Type 0
 IsToken (what.Word x) = IsName x
 IsToken (what.Reserved k) = ⊤
-IsToken (what.Number n) = IsNumber n
+IsToken (what.Number n) = IsNumeral n
 IsToken (what.Sign s) = ⊤
 
 -- whether a sign ends before a byte, so that no longer sign and no comment begins with it
@@ -87,8 +87,8 @@ Ends w [] = ⊥
 Ends w (b ∷ bytes) = token_ends w b ≡ true
 
 -- each token can occur in a text, and ends before what follows it
-unfoldable pub AreReadable : List Mark → Type 0
-AreReadable [] = ⊤
-AreReadable (token w ∷ marks) = IsToken w × Ends w (written marks) × AreReadable marks
-AreReadable (space ∷ marks) = AreReadable marks
-AreReadable (newline ∷ marks) = AreReadable marks
+unfoldable pub MarksAreReadable : List Mark → Type 0
+MarksAreReadable [] = ⊤
+MarksAreReadable (token w ∷ marks) = IsToken w × Ends w (marks_text marks) × MarksAreReadable marks
+MarksAreReadable (space ∷ marks) = MarksAreReadable marks
+MarksAreReadable (newline ∷ marks) = MarksAreReadable marks

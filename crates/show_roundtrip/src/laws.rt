@@ -20,16 +20,16 @@ ghost use Rattle.c2po_types.specs.Outputs.{outputs_of};
 ghost use Rattle.c2po_lexer.specs.Tokens.{tokens_of};
 ghost use Rattle.c2po_parse.specs.Specification.{spec_of};
 ghost use Rattle.obs_show.specs.Lines.{Line};
-ghost use Rattle.obs_show.specs.Text.{lines, lines_text, text};
+ghost use Rattle.obs_show.specs.Text.{shown_lines, lines_text, text};
 ghost use Rattle.show_roundtrip.specs.Unfolded.{declared_by};
 ghost use Rattle.show_roundtrip.specs.Said.{HaveWords, line_items, lines_marks};
-ghost use Rattle.show_roundtrip.specs.Written.{AreReadable, Mark, tokens_by, written};
+ghost use Rattle.show_roundtrip.specs.Written.{MarksAreReadable, Mark, tokens_by, marks_text};
 
 /// The tokens of a written text are those that were written, each at its line and its place.
 #[tactic(auto, using(crate::proofs::Reading::written_tokens))]
 pub fn written_tokens_are_read()
-    ensures tokens { (marks : List Mark) → AreReadable marks →
-        tokens_of (written marks) ≡ Ok (tokens_by 1 0 marks) }
+    ensures tokens { (marks : List Mark) → MarksAreReadable marks →
+        tokens_of (marks_text marks) ≡ Ok (tokens_by 1 0 marks) }
 {}
 
 /// Lines whose names are names of the language, and whose numbers aren't negative, are read again:
@@ -37,10 +37,10 @@ pub fn written_tokens_are_read()
 /// that line.
 #[tactic(auto, using(crate::proofs::Items::lines_tokens, crate::proofs::Items::lines_items))]
 pub fn written_lines_are_read()
-    ensures tokens { (lines : List Line) → HaveWords lines →
-        tokens_of (lines_text lines) ≡ Ok (tokens_by 1 0 (lines_marks lines)) }
-    ensures items { (lines : List Line) →
-        spec_of (tokens_by 1 0 (lines_marks lines)) ≡ Ok (line_items 1 lines) }
+    ensures tokens { (shown_lines : List Line) → HaveWords shown_lines →
+        tokens_of (lines_text shown_lines) ≡ Ok (tokens_by 1 0 (lines_marks shown_lines)) }
+    ensures items { (shown_lines : List Line) →
+        spec_of (tokens_by 1 0 (lines_marks shown_lines)) ≡ Ok (line_items 1 shown_lines) }
 {}
 
 /// The lines of a well-formed program of version 2 mean its formulas: where their items have no
@@ -49,11 +49,11 @@ pub fn written_lines_are_read()
 #[tactic(auto, using(crate::proofs::Meaning::program_asks, crate::proofs::Signals::program_declares))]
 pub fn written_lines_mean_their_formulas()
     ensures outputs { (program : Observer) → IsWellFormed program → program.version ≡ 2 →
-        first_fault (line_items 1 (lines program)) ≡ None →
+        first_fault (line_items 1 (shown_lines program)) ≡ None →
         map (asked_over (map (λ signal. signal.column) program.signals))
-        (outputs_of (line_items 1 (lines program))) ≡ unfolded_outputs program }
+        (outputs_of (line_items 1 (shown_lines program))) ≡ unfolded_outputs program }
     ensures signals { (program : Observer) →
-        signals_of (line_items 1 (lines program)) ≡ map declared_by program.signals }
+        signals_of (line_items 1 (shown_lines program)) ≡ map declared_by program.signals }
 {}
 
 /// A program that is the image of a specification returns when it is shown: where its text has no
@@ -62,7 +62,7 @@ pub fn written_lines_mean_their_formulas()
 pub fn shown_programs_return()
     ensures returns { (signals : List Declared) (columns : Places) (outs : List Asked)
         (program : Observer) → IsImageOf signals columns outs program → All IsTensed outs →
-        IsWellFormed program → HaveWords (lines program) → first_refusal (text program) ≡ None →
+        IsWellFormed program → HaveWords (shown_lines program) → first_refusal (text program) ≡ None →
         image_in (text program) (stored_columns program) ≡ program }
 {}
 
@@ -70,8 +70,8 @@ pub fn shown_programs_return()
 /// and their numbers aren't negative, it says one item for each line.
 #[tactic(auto, using(crate::proofs::Returning::items_said))]
 pub fn shown_text_is_read()
-    ensures items { (program : Observer) → HaveWords (lines program) →
-        items_in (text program) ≡ line_items 1 (lines program) }
+    ensures items { (program : Observer) → HaveWords (shown_lines program) →
+        items_in (text program) ≡ line_items 1 (shown_lines program) }
 {}
 
 /// The lines of a well-formed program of version 2 can be read where its own names and constants
@@ -79,7 +79,7 @@ pub fn shown_text_is_read()
 #[tactic(auto, using(crate::proofs::Words::program_words))]
 pub fn programs_with_words_are_readable()
     ensures words { (program : Observer) → HasLayout program → IsWellFormed program →
-        program.version ≡ 2 → HasOwnWords program → HaveWords (lines program) }
+        program.version ≡ 2 → HasOwnWords program → HaveWords (shown_lines program) }
 {}
 
 /// The names and constants of an image can be written: those of its text are names and numbers of

@@ -37,8 +37,8 @@ abbrev pub time_of : List ℕ → ℕ
 time_of line = digits_value 10 (stamp_digits line)
 
 -- the place after the stamp and its comma, or the line's length where it has none
-abbrev pub place_after : List ℕ → ℕ
-place_after line = min (length line) (length (stamp_digits line) + 2)
+abbrev pub after_stamp : List ℕ → ℕ
+after_stamp line = min (length line) (length (stamp_digits line) + 2)
 
 -- the first time is 0, and times rise
 abbrev pub may_follow : Option ℕ → ℕ → Bool
@@ -54,7 +54,7 @@ timed last mission place time =
 abbrev pub stamp_meaning : List ℕ → Option ℕ → ℕ → Stamp
 stamp_meaning line last mission =
     if is_blank_line line then Blank
-    else if has_stamp line then timed last mission (place_after line) (time_of line)
+    else if has_stamp line then timed last mission (after_stamp line) (time_of line)
     else Bad
 
 -- a fact of a time and a place, where a line has them

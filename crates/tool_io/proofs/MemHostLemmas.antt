@@ -12,14 +12,14 @@ use Rattle.tool_io.specs.declared.host.Put as put
 use Rattle.tool_io.specs.declared.counts.Counts.{Counts}
 use Rattle.tool_io.specs.Log.{Event, Attached, Missed, Took, Gave}
 use Rattle.tool_io.specs.Host.{IsSource, RoseByOne, RoseAt, AttachCause, ReadCause, ReadLeft, WriteCause, LeftElsewhere}
-use Rattle.tool_io.specs.Counts.{count_at, raised}
+use Rattle.tool_io.specs.Counts.{count_at, counted_up}
 use Rattle.tool_io.specs.Tape.{has_room}
-use Rattle.tool_io.specs.MemFiles.{Stored, Reading, Readings, reading_at, left_of, with_reading, opened, skipped, file_of}
-use Rattle.tool_io.specs.MemHost.{Held, faults_of, left_in, counted, failed, told, told_in_room, stands, attach_fails, attach_answer, after_attach, at_most, read_bytes, read_fails, gives, read_answer, after_read, read_into, write_fails, write_answer, after_write}
+use Rattle.tool_io.specs.MemFiles.{Stored, Reading, Readings, reading_at, left_of, with_reading, with_file_at, skipped, file_of}
+use Rattle.tool_io.specs.MemHost.{Held, faults_of, left_in, noted, failed, logged, told_in_room, stands, attach_fails, attach_answer, after_attach, at_most, read_bytes, read_fails, gives, read_answer, after_read, read_into, write_fails, write_answer, after_write}
 
 -- ---- counts
 
-raised-rose : (counts : Counts) (place : Place) → RoseByOne (count_at counts place) (count_at (raised counts place) place)
+raised-rose : (counts : Counts) (place : Place) → RoseByOne (count_at counts place) (count_at (counted_up counts place) place)
 raised-rose counts Spec = refl
 raised-rose counts Header = refl
 raised-rose counts Program = refl
@@ -27,7 +27,7 @@ raised-rose counts Trace = refl
 raised-rose counts Out = refl
 raised-rose counts Err = refl
 
-raised-other : (counts : Counts) (place other : Place) → other ≢ place → count_at (raised counts place) other ≡ count_at counts other
+raised-other : (counts : Counts) (place other : Place) → other ≢ place → count_at (counted_up counts place) other ≡ count_at counts other
 raised-other counts Spec Spec differs = absurd (differs refl)
 raised-other counts Header Header differs = absurd (differs refl)
 raised-other counts Program Program differs = absurd (differs refl)
@@ -37,7 +37,7 @@ raised-other counts Err Err differs = absurd (differs refl)
 raised-other counts place other differs = refl
 
 -- a counter that was raised is a fault at its place
-pub raised-cause : (counts : Counts) (place : Place) → RoseAt (count_at counts) (count_at (raised counts place)) place
+pub raised-cause : (counts : Counts) (place : Place) → RoseAt (count_at counts) (count_at (counted_up counts place)) place
 raised-cause counts place = record { rose = raised-rose counts place; others = raised-other counts place }
 
 -- ---- what is left
@@ -57,7 +57,7 @@ reading_at-same readings Trace reading source = refl
 reading_at-same readings Out reading source = absurd source
 reading_at-same readings Err reading source = absurd source
 
-left-opened : (stored : Stored) (place other : Place) (name : List ℕ) → other ≢ place → left_of (opened stored place name) other ≡ left_of stored other
+left-opened : (stored : Stored) (place other : Place) (name : List ℕ) → other ≢ place → left_of (with_file_at stored place name) other ≡ left_of stored other
 left-opened stored place other name differs =
     elim (file_of stored name) as (λ found. left_of (option_map_or (λ bytes. record stored { readings = with_reading stored.readings place (record { name = name; left = bytes }) }) found stored) other ≡ left_of stored other) [
       | None ↦ refl
@@ -87,10 +87,10 @@ left-skipped-same stored place count left source had =
 -- ---- attach
 
 faults-told_in_room : (host : Held) (event : Event) (count : ℕ) → (told_in_room host event count).faults ≡ host.faults
-faults-told_in_room host event count = elim (has_room host.tape count) as (λ room. (if room then told host event else host).faults ≡ host.faults) [ true ↦ refl | false ↦ refl ]
+faults-told_in_room host event count = elim (has_room host.tape count) as (λ room. (if room then logged host event else host).faults ≡ host.faults) [ true ↦ refl | false ↦ refl ]
 
 store-told_in_room : (host : Held) (event : Event) (count : ℕ) → (told_in_room host event count).store ≡ host.store
-store-told_in_room host event count = elim (has_room host.tape count) as (λ room. (if room then told host event else host).store ≡ host.store) [ true ↦ refl | false ↦ refl ]
+store-told_in_room host event count = elim (has_room host.tape count) as (λ room. (if room then logged host event else host).store ≡ host.store) [ true ↦ refl | false ↦ refl ]
 
 faults-stands : (host : Held) (place : Place) (name : List ℕ) → (stands host place name).faults ≡ host.faults
 faults-stands host Out name = refl
@@ -100,16 +100,16 @@ faults-stands host place name = refl
 pub attach-cause : (host : Held) (place : Place) (name : List ℕ) → AttachCause (attach_answer host place name) (faults_of host) (faults_of (after_attach host place name)) place
 attach-cause host place name =
     elim (attach_fails host place name) as (λ fails. AttachCause (if fails then attached.TheVariants.Failed else attached.TheVariants.Ready) (faults_of host)
-    (faults_of (if fails then told_in_room (failed host place) (Missed place name) (length name) else told (stands (counted host place) place name) (Attached place name))) place) [
+    (faults_of (if fails then told_in_room (failed host place) (Missed place name) (length name) else logged (stands (noted host place) place name) (Attached place name))) place) [
       | true ↦ subst (λ (counts : Counts). RoseAt (count_at host.faults) (count_at counts) place) (sym (faults-told_in_room (failed host place) (Missed place name) (length name))) (raised-cause host.faults place)
-      | false ↦ λ other. ap (λ (counts : Counts). count_at counts other) (faults-stands (counted host place) place name)
+      | false ↦ λ other. ap (λ (counts : Counts). count_at counts other) (faults-stands (noted host place) place name)
     ]
 
 pub attach-elsewhere : (host : Held) (place : Place) (name : List ℕ) → LeftElsewhere (left_in host) (left_in (after_attach host place name)) place
 attach-elsewhere host place name = λ other differs.
-    elim (attach_fails host place name) as (λ fails. left_in (if fails then told_in_room (failed host place) (Missed place name) (length name) else told (stands (counted host place) place name) (Attached place name)) other ≡ left_in host other) [
+    elim (attach_fails host place name) as (λ fails. left_in (if fails then told_in_room (failed host place) (Missed place name) (length name) else logged (stands (noted host place) place name) (Attached place name)) other ≡ left_in host other) [
       | true ↦ ap (λ (stored : Stored). left_of stored other) (store-told_in_room (failed host place) (Missed place name) (length name))
-      | false ↦ left-stands (counted host place) place other name differs
+      | false ↦ left-stands (noted host place) place other name differs
     ]
 
 -- ---- read
@@ -133,14 +133,14 @@ read-cause host place room = elim (read-gives (read_fails host place room) (leng
 
 pub read-elsewhere : (host : Held) (place : Place) (room : ℕ) → LeftElsewhere (left_in host) (left_in (after_read host place room)) place
 read-elsewhere host place room = λ other differs.
-    elim (read_fails host place room) as (λ fails. left_in (if fails then failed host place else told (record (counted host place) { store = skipped host.store place (length (read_bytes host place room)) }) (Took place (read_bytes host place room))) other ≡ left_in host other) [
+    elim (read_fails host place room) as (λ fails. left_in (if fails then failed host place else logged (record (noted host place) { store = skipped host.store place (length (read_bytes host place room)) }) (Took place (read_bytes host place room))) other ≡ left_in host other) [
       | true ↦ refl
       | false ↦ left-skipped host.store place other (length (read_bytes host place room)) differs
     ]
 
 pub write-cause : (host : Held) (place : Place) (piece : List ℕ) → WriteCause (write_answer host place piece) (faults_of host) (faults_of (after_write host place piece)) place
 write-cause host place piece =
-    elim (write_fails host place piece) as (λ fails. WriteCause (if fails then put.TheVariants.Failed else put.TheVariants.Wrote (length piece)) (faults_of host) (faults_of (if fails then failed host place else told (counted host place) (Gave place piece))) place) [
+    elim (write_fails host place piece) as (λ fails. WriteCause (if fails then put.TheVariants.Failed else put.TheVariants.Wrote (length piece)) (faults_of host) (faults_of (if fails then failed host place else logged (noted host place) (Gave place piece))) place) [
       | true ↦ raised-cause host.faults place
       | false ↦ λ other. refl
     ]

@@ -10,7 +10,7 @@ use Rattle.tool_io.specs.declared.tape.Mark.{Mark}
 use Rattle.tool_io.specs.Log.{Event, Attached, Missed, Took, Gave, given, same_place}
 use Rattle.tool_io.specs.declared.tape.Tape.TheInside.{Inside}
 use Rattle.tool_io.specs.Tape.{Taped, event_bytes, bytes_in, has_room}
-use Rattle.tool_io.specs.TapeInside.{event_of, events_of, bytes_of, view_of, IsTape}
+use Rattle.tool_io.specs.TapeInside.{event_of, events_of, marked_bytes, view_of, IsTape}
 
 pub length-events_of : (marks : List Mark) (bytes : List ℕ) → length (events_of marks bytes) ≡ length marks
 length-events_of [] bytes = refl
@@ -23,25 +23,25 @@ event_bytes-event_of Take place bytes = refl
 event_bytes-event_of Give place bytes = refl
 
 -- the buffer holds the bytes of the log and no others
-pub bytes_in-events_of : (marks : List Mark) (bytes : List ℕ) → bytes_of marks ≡ length bytes → bytes_in (events_of marks bytes) ≡ length bytes
+pub bytes_in-events_of : (marks : List Mark) (bytes : List ℕ) → marked_bytes marks ≡ length bytes → bytes_in (events_of marks bytes) ≡ length bytes
 bytes_in-events_of [] bytes covered = covered
 bytes_in-events_of (mark ∷ marks) bytes covered =
-    let rest : bytes_of marks ≡ length (drop mark.len bytes) = rw length-drop (omega arith) in
+    let rest : marked_bytes marks ≡ length (drop mark.len bytes) = rw length-drop (omega arith) in
     rw (event_bytes-event_of mark.deed mark.place (take mark.len bytes), bytes_in-events_of marks (drop mark.len bytes) rest, length-take, length-drop) (omega arith)
 
 -- a mark and its bytes at the end are one event at the end
-pub events_of-append : (marks : List Mark) (bytes : List ℕ) (mark : Mark) (piece : List ℕ) → bytes_of marks ≡ length bytes → mark.len ≡ length piece
+pub events_of-append : (marks : List Mark) (bytes : List ℕ) (mark : Mark) (piece : List ℕ) → marked_bytes marks ≡ length bytes → mark.len ≡ length piece
     → events_of (marks ++ mark ∷ []) (bytes ++ piece) ≡ events_of marks bytes ++ event_of mark.deed mark.place piece ∷ []
 events_of-append [] bytes mark piece covered whole =
     let none : bytes ≡ [] = nil_from_length bytes (sym covered) in
     let all : take mark.len piece ≡ piece = take_all mark.len piece (omega arith) in
     rw (none, all)
 events_of-append (first ∷ marks) bytes mark piece covered whole =
-    let rest : bytes_of marks ≡ length (drop first.len bytes) = rw length-drop (omega arith) in
+    let rest : marked_bytes marks ≡ length (drop first.len bytes) = rw length-drop (omega arith) in
     let fits : first.len ≤ length bytes = omega arith in
     rw (take-append-le, drop-append-le, events_of-append marks (drop first.len bytes) mark piece rest whole)
 
-pub bytes_of-append : (marks : List Mark) (mark : Mark) → bytes_of (marks ++ mark ∷ []) ≡ bytes_of marks + mark.len
+pub bytes_of-append : (marks : List Mark) (mark : Mark) → marked_bytes (marks ++ mark ∷ []) ≡ marked_bytes marks + mark.len
 bytes_of-append [] mark = omega arith
 bytes_of-append (first ∷ marks) mark = omega (arith, bytes_of-append marks mark)
 

@@ -5,7 +5,7 @@ use Rattle.std.proofs.lemmas.List.Folds.{concat-append}
 use Rattle.std.specs.List.{concat}
 use Rattle.tool_io.specs.declared.host.Place.{Place}
 use Rattle.tool_io.specs.Log.{Event, Took, Gave, is_empty, Appends, OnLog, Writes, WritesFront}
-use Rattle.tool_io.specs.Whole.{Takes}
+use Rattle.tool_io.specs.Whole.{Draws}
 use Rattle.tool_io.proofs.ListLaws.{take-plus, is_empty-some}
 use Rattle.tool_io.proofs.LogLaws.{Appends-then, meets_end-append, Reads-then, Writes-one, Writes-then}
 
@@ -45,11 +45,11 @@ Writes-stop before between now place piece sent more log none =
     }
 
 -- no read
-pub Takes-none : (place : Place) → Takes place [] false []
+pub Takes-none : (place : Place) → Draws place [] false []
 Takes-none place = record { pieces = []; are = refl; joined = refl; end = refl }
 
 -- one more read, of this piece
-pub Takes-piece : (place : Place) (bytes piece : List ℕ) (ended : Bool) (events : List Event) → Takes place bytes ended events → Takes place (bytes ++ piece) (is_empty piece) (events ++ Took place piece ∷ [])
+pub Takes-piece : (place : Place) (bytes piece : List ℕ) (ended : Bool) (events : List Event) → Draws place bytes ended events → Draws place (bytes ++ piece) (is_empty piece) (events ++ Took place piece ∷ [])
 Takes-piece place bytes piece ended events takes =
     record {
       pieces = takes.pieces ++ piece ∷ [];
@@ -59,7 +59,7 @@ Takes-piece place bytes piece ended events takes =
     }
 
 -- one more read gives bytes
-pub Takes-more : (before between now : Option (List Event)) (place : Place) (bytes block : List ℕ) (n : ℕ) (ended : Bool) → 0 < n → n ≤ length block → OnLog before between (Takes place bytes ended) → Appends between now (Took place (take n block) ∷ []) → OnLog before now (Takes place (bytes ++ take n block) false)
+pub Takes-more : (before between now : Option (List Event)) (place : Place) (bytes block : List ℕ) (n : ℕ) (ended : Bool) → 0 < n → n ≤ length block → OnLog before between (Draws place bytes ended) → Appends between now (Took place (take n block) ∷ []) → OnLog before now (Draws place (bytes ++ take n block) false)
 Takes-more before between now place bytes block n ended some within log more =
     let len : length (take n block) ≡ n = length-take-le n block within in
     let full : is_empty (take n block) ≡ false = is_empty-some (take n block) (rw len some) in
@@ -67,17 +67,17 @@ Takes-more before between now place bytes block n ended some within log more =
       events = log.events ++ Took place (take n block) ∷ [];
       appended = Appends-then before between now log.events (Took place (take n block) ∷ []) log.appended more;
       holds =
-          subst (λ v. Takes place (bytes ++ take n block) v (log.events ++ Took place (take n block) ∷ [])) full
+          subst (λ v. Draws place (bytes ++ take n block) v (log.events ++ Took place (take n block) ∷ [])) full
           (Takes-piece place bytes (take n block) ended log.events log.holds);
     }
 
 -- one more read meets the end
-pub Takes-end : (before between now : Option (List Event)) (place : Place) (bytes : List ℕ) (ended : Bool) → OnLog before between (Takes place bytes ended) → Appends between now (Took place [] ∷ []) → OnLog before now (Takes place bytes true)
+pub Takes-end : (before between now : Option (List Event)) (place : Place) (bytes : List ℕ) (ended : Bool) → OnLog before between (Draws place bytes ended) → Appends between now (Took place [] ∷ []) → OnLog before now (Draws place bytes true)
 Takes-end before between now place bytes ended log more =
     record {
       events = log.events ++ Took place [] ∷ [];
       appended = Appends-then before between now log.events (Took place [] ∷ []) log.appended more;
       holds =
-          subst (λ all. Takes place all true (log.events ++ Took place [] ∷ [])) (append-nil bytes)
+          subst (λ all. Draws place all true (log.events ++ Took place [] ∷ [])) (append-nil bytes)
           (Takes-piece place bytes [] ended log.events log.holds);
     }

@@ -22,10 +22,10 @@ abbrev pub one_more : ℕ → ℕ
 one_more count = if count == 2 ^ 64 - 1 then count else count + 1
 
 -- the counters after one more at a place
-abbrev pub raised : Counts → Place → Counts
-raised counts Spec = record counts { spec = one_more counts.spec }
-raised counts Header = record counts { header = one_more counts.header }
-raised counts Program = record counts { program = one_more counts.program }
-raised counts Trace = record counts { trace = one_more counts.trace }
-raised counts Out = record counts { out = one_more counts.out }
-raised counts Err = record counts { err = one_more counts.err }
+abbrev pub counted_up : Counts → Place → Counts
+counted_up counts Spec = record counts { spec = one_more counts.spec }
+counted_up counts Header = record counts { header = one_more counts.header }
+counted_up counts Program = record counts { program = one_more counts.program }
+counted_up counts Trace = record counts { trace = one_more counts.trace }
+counted_up counts Out = record counts { out = one_more counts.out }
+counted_up counts Err = record counts { err = one_more counts.err }

@@ -136,11 +136,11 @@ Answer line.TheVariants.ReadFault all old new =
     GivesNone all old new × (length all < MAX_LINE_BYTES) × (new.ended ≡ false)
 
 -- a line is ready after a Row, and after no other result
-abbrev pub IsReady : line.Line → Cutting → Type 0
-IsReady line.TheVariants.Row cut = IsSome cut.row
-IsReady line.TheVariants.End cut = cut.row ≡ None
-IsReady line.TheVariants.LongLine cut = cut.row ≡ None
-IsReady line.TheVariants.ReadFault cut = cut.row ≡ None
+abbrev pub HasLine : line.Line → Cutting → Type 0
+HasLine line.TheVariants.Row cut = IsSome cut.row
+HasLine line.TheVariants.End cut = cut.row ≡ None
+HasLine line.TheVariants.LongLine cut = cut.row ≡ None
+HasLine line.TheVariants.ReadFault cut = cut.row ≡ None
 
 -- a line that was kept comes once more, and nothing is read for it
 pub record GivesAgain (outcome : line.Line) (old new : Cutting) (pieces : List (List ℕ)) : Type 0 where

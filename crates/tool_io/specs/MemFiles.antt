@@ -32,12 +32,12 @@ abbrev pub no_files : Stored
 no_files = record { files = []; readings = record { spec = None; header = None; program = None; trace = None } }
 
 -- whether a file has this name
-abbrev pub is_named : List ℕ → NamedBytes → Bool
-is_named name file = bytes_eq file.name name
+abbrev pub has_file_name : List ℕ → NamedBytes → Bool
+has_file_name name file = bytes_eq file.name name
 
 -- the bytes of the file of this name
 abbrev pub file_of : Stored → List ℕ → Option (List ℕ)
-file_of stored name = option_map (λ file. file.bytes) (find (is_named name) stored.files)
+file_of stored name = option_map (λ file. file.bytes) (find (has_file_name name) stored.files)
 
 -- what a place reads; Out and Err are not read
 abbrev pub reading_at : Readings → Place → Option Reading
@@ -70,8 +70,8 @@ abbrev pub with_place : Stored → Place → Reading → Stored
 with_place stored place reading = record stored { readings = with_reading stored.readings place reading }
 
 -- the files after a place was attached to the file of this name, which changes nothing where there is none
-abbrev pub opened : Stored → Place → List ℕ → Stored
-opened stored place name =
+abbrev pub with_file_at : Stored → Place → List ℕ → Stored
+with_file_at stored place name =
     option_map_or (λ bytes. with_place stored place (record { name = name; left = bytes })) (file_of stored name) stored
 
 -- the files after a place passed over this many bytes

@@ -13,25 +13,25 @@ abbrev pub file_at : List NamedBytes → ℕ → NamedBytes
 file_at files i = slice_index_or files i (record { name = []; bytes = [] })
 
 -- what a cursor reads
-abbrev pub reading_of : List NamedBytes → Cursor → Reading
-reading_of files cursor =
+abbrev pub cursor_reading : List NamedBytes → Cursor → Reading
+cursor_reading files cursor =
     let file = file_at files cursor.file in record {
       name = file.name;
       left = drop (length file.bytes - cursor.left) file.bytes;
     }
 
 -- what all cursors read
-abbrev pub readings_of : List NamedBytes → Cursors → Readings
-readings_of files cursors = record {
-  spec = option_map (reading_of files) cursors.spec;
-  header = option_map (reading_of files) cursors.header;
-  program = option_map (reading_of files) cursors.program;
-  trace = option_map (reading_of files) cursors.trace;
+abbrev pub cursor_readings : List NamedBytes → Cursors → Readings
+cursor_readings files cursors = record {
+  spec = option_map (cursor_reading files) cursors.spec;
+  header = option_map (cursor_reading files) cursors.header;
+  program = option_map (cursor_reading files) cursors.program;
+  trace = option_map (cursor_reading files) cursors.trace;
 }
 
 -- the files that are kept so, and what each place reads of them
 abbrev pub stored_of : Inside → Stored
-stored_of inside = record { files = inside.files.items; readings = readings_of inside.files.items inside.cursors }
+stored_of inside = record { files = inside.files.items; readings = cursor_readings inside.files.items inside.cursors }
 
 -- a cursor names a file, and has no more bytes left than that file has
 pub record IsWithin (files : List NamedBytes) (cursor : Cursor) : Type 0 where

@@ -11,9 +11,9 @@ use Rattle.tool_io.specs.declared.host.Put as put
 use Rattle.tool_io.specs.declared.counts.Counts.{Counts}
 use Rattle.tool_io.specs.declared.mem_host.Listed.{Listed}
 use Rattle.tool_io.specs.Log.{Event, Attached, Missed, Took, Gave, same_place}
-use Rattle.tool_io.specs.Counts.{count_at, raised, no_counts}
+use Rattle.tool_io.specs.Counts.{count_at, counted_up, no_counts}
 use Rattle.tool_io.specs.Tape.{Taped, new_tape, has_room, with_event}
-use Rattle.tool_io.specs.MemFiles.{Stored, no_files, file_of, left_of, opened, skipped}
+use Rattle.tool_io.specs.MemFiles.{Stored, no_files, file_of, left_of, with_file_at, skipped}
 
 -- the files and what each place reads of them, the log with its room, the counts of calls and of faults,
 -- the calls that are to fail, and the most bytes that a read gives, if there is such a limit
@@ -61,26 +61,26 @@ is_missing host Err name = false
 is_missing host place name = is_none (file_of host.store name)
 
 -- the host after a call that didn't fail was counted
-abbrev pub counted : Held → Place → Held
-counted host place = record host { calls = raised host.calls place }
+abbrev pub noted : Held → Place → Held
+noted host place = record host { calls = counted_up host.calls place }
 
 -- the host after a call failed: the call and its fault are counted
 abbrev pub failed : Held → Place → Held
-failed host place = record host { calls = raised host.calls place; faults = raised host.faults place }
+failed host place = record host { calls = counted_up host.calls place; faults = counted_up host.faults place }
 
 -- the host with one more event in its log
-abbrev pub told : Held → Event → Held
-told host event = record host { tape = with_event host.tape event }
+abbrev pub logged : Held → Event → Held
+logged host event = record host { tape = with_event host.tape event }
 
 -- the host with one more event in its log, if there is room for it
 abbrev pub told_in_room : Held → Event → ℕ → Held
-told_in_room host event count = if has_room host.tape count then told host event else host
+told_in_room host event count = if has_room host.tape count then logged host event else host
 
 -- the host after a place was attached to a name
 abbrev pub stands : Held → Place → List ℕ → Held
 stands host Out name = host
 stands host Err name = host
-stands host place name = record host { store = opened host.store place name }
+stands host place name = record host { store = with_file_at host.store place name }
 
 -- ---- attach
 
@@ -98,7 +98,7 @@ attach_answer host place name =
 abbrev pub after_attach : Held → Place → List ℕ → Held
 after_attach host place name =
     if attach_fails host place name then told_in_room (failed host place) (Missed place name) (length name)
-    else told (stands (counted host place) place name) (Attached place name)
+    else logged (stands (noted host place) place name) (Attached place name)
 
 -- ---- read
 
@@ -129,7 +129,7 @@ read_answer host place room =
 abbrev pub after_read : Held → Place → ℕ → Held
 after_read host place room =
     if read_fails host place room then failed host place
-    else told (record (counted host place) { store = skipped host.store place (length (read_bytes host place room)) })
+    else logged (record (noted host place) { store = skipped host.store place (length (read_bytes host place room)) })
     (Took place (read_bytes host place room))
 
 -- the slice after a read
@@ -158,4 +158,4 @@ write_answer host place piece =
 -- a failed write logs nothing, another one takes the whole piece
 abbrev pub after_write : Held → Place → List ℕ → Held
 after_write host place piece =
-    if write_fails host place piece then failed host place else told (counted host place) (Gave place piece)
+    if write_fails host place piece then failed host place else logged (noted host place) (Gave place piece)

@@ -7,7 +7,7 @@ use Rattle.tool_io.specs.declared.host.Got as got
 use Rattle.tool_io.specs.declared.host.Put as put
 use Rattle.tool_io.specs.declared.counts.Counts.{Counts}
 use Rattle.tool_io.specs.Log.{Event}
-use Rattle.tool_io.specs.Counts.{count_at, raised, no_counts}
+use Rattle.tool_io.specs.Counts.{count_at, counted_up, no_counts}
 
 -- the counts of faults, and whether each place that is read is attached
 pub record Edge : Type 0 where
@@ -31,17 +31,17 @@ is_open edge Out = true
 is_open edge Err = true
 
 -- a place was attached
-abbrev pub opened : Edge → Place → Edge
-opened edge Spec = record edge { spec = true }
-opened edge Header = record edge { header = true }
-opened edge Program = record edge { program = true }
-opened edge Trace = record edge { trace = true }
-opened edge Out = edge
-opened edge Err = edge
+abbrev pub after_attaching : Edge → Place → Edge
+after_attaching edge Spec = record edge { spec = true }
+after_attaching edge Header = record edge { header = true }
+after_attaching edge Program = record edge { program = true }
+after_attaching edge Trace = record edge { trace = true }
+after_attaching edge Out = edge
+after_attaching edge Err = edge
 
 -- a call of a place failed
 abbrev pub faulted : Edge → Place → Edge
-faulted edge place = record edge { faults = raised edge.faults place }
+faulted edge place = record edge { faults = counted_up edge.faults place }
 
 -- the count of a place's faults
 abbrev pub faults_of : Edge → Place → ℕ
@@ -57,7 +57,7 @@ none_left edge place = None
 
 -- the host after an attach: its place is attached, or one more fault is counted
 abbrev pub after_attach : Edge → Place → attached.Attached → Edge
-after_attach edge place attached.TheVariants.Ready = opened edge place
+after_attach edge place attached.TheVariants.Ready = after_attaching edge place
 after_attach edge place attached.TheVariants.Failed = faulted edge place
 
 -- the host after a read: one more fault is counted where it failed

@@ -23,9 +23,9 @@ events_of (mark ∷ marks) bytes =
     event_of mark.deed mark.place (take mark.len bytes) ∷ events_of marks (drop mark.len bytes)
 
 -- how many bytes marks speak of
-abbrev pub bytes_of : List Mark → ℕ
-bytes_of [] = 0
-bytes_of (mark ∷ marks) = mark.len + bytes_of marks
+abbrev pub marked_bytes : List Mark → ℕ
+marked_bytes [] = 0
+marked_bytes (mark ∷ marks) = mark.len + marked_bytes marks
 
 -- the log that a tape keeps
 abbrev pub view_of : Inside → Taped
@@ -38,7 +38,7 @@ view_of tape =
 
 -- the marks cover the buffer, what Out and Err were given is next to it, and none outgrows its room
 pub record IsTape (tape : Inside) : Type 0 where
-  pub covered : bytes_of tape.marks.items ≡ length tape.bytes.items
+  pub covered : marked_bytes tape.marks.items ≡ length tape.bytes.items
   pub out : tape.out.items ≡ given Out (events_of tape.marks.items tape.bytes.items)
   pub err : tape.err.items ≡ given Err (events_of tape.marks.items tape.bytes.items)
   pub within : length tape.bytes.items ≤ tape.most_bytes

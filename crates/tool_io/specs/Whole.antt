@@ -20,7 +20,7 @@ PutAllLog (put.TheVariants.Wrote n) place piece events = Writes place piece even
 PutAllLog put.TheVariants.Failed place piece events = WritesFront place piece events
 
 -- the events are reads of these bytes, the last of which met the end or didn't
-pub record Takes (place : Place) (bytes : List ℕ) (ended : Bool) (events : List Event) : Type 0 where
+pub record Draws (place : Place) (bytes : List ℕ) (ended : Bool) (events : List Event) : Type 0 where
   pub pieces : List (List ℕ)
   pub are : Reads place pieces events
   pub joined : bytes ≡ concat pieces
@@ -28,13 +28,13 @@ pub record Takes (place : Place) (bytes : List ℕ) (ended : Bool) (events : Lis
 
 -- the bytes up to the end; or more than the limit; or no more than the limit, and then no end
 abbrev pub WholeLog : Result (Vec ℕ Global) WholeFault → Place → ℕ → List Event → Type 0
-WholeLog (Ok whole) place limit events = Takes place whole.items true events × (length whole.items ≤ limit)
+WholeLog (Ok whole) place limit events = Draws place whole.items true events × (length whole.items ≤ limit)
 WholeLog (Err fault.TooLong) place limit events =
-    (bytes : List ℕ) × Takes place bytes false events × (limit < length bytes)
+    (bytes : List ℕ) × Draws place bytes false events × (limit < length bytes)
 WholeLog (Err fault.ReadFault) place limit events =
-    (bytes : List ℕ) × Takes place bytes false events × (length bytes ≤ limit)
+    (bytes : List ℕ) × Draws place bytes false events × (length bytes ≤ limit)
 WholeLog (Err fault.Memory) place limit events =
-    (bytes : List ℕ) × Takes place bytes false events × (length bytes ≤ limit)
+    (bytes : List ℕ) × Draws place bytes false events × (length bytes ≤ limit)
 
 -- a read that failed raised the count of its place, and nothing else changes a count
 abbrev pub WholeCause : Result (Vec ℕ Global) WholeFault → (Place → ℕ) → (Place → ℕ) → Place → Type 0

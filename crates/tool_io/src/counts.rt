@@ -1,7 +1,7 @@
 //! One counter for each place.
 
 ghost use Rattle.std.specs.Prelude.{◌≡◌};
-ghost use Rattle.tool_io.specs.Counts.{count_at, raised, no_counts};
+ghost use Rattle.tool_io.specs.Counts.{count_at, counted_up, no_counts};
 
 use crate::host::Place;
 
@@ -47,7 +47,7 @@ impl Counts {
 
     /// Counts one more at a place.
     pub fn raise(&mut self, place: Place)
-        ensures { self.new ≡ raised self.old place }
+        ensures { self.new ≡ counted_up self.old place }
     {
         match place {
             Place::Spec => self.spec = self.spec.saturating_add(1),

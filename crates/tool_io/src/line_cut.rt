@@ -4,7 +4,7 @@ ghost use Rattle.std.specs.Prelude.{◌≡◌, ◌+◌, ◌-◌, ◌<◌, ◌≤
 ghost use Rattle.tool_io.specs.Log.{OnLog};
 ghost use Rattle.tool_io.specs.Filling.{Fills};
 ghost use Rattle.tool_io.specs.Host.{IsSource, ReadCause, LeftElsewhere};
-ghost use Rattle.tool_io.specs.Cutting.{HasNoNewline, EndsLine, IsRow, fresh, keeps, row_of, line_text, IsReady, CutsLine, LineCause};
+ghost use Rattle.tool_io.specs.Cutting.{HasNoNewline, EndsLine, IsRow, fresh, keeps, row_of, line_text, HasLine, CutsLine, LineCause};
 
 use crate::host::{Got, Host, Place};
 use fixed_list::Fixed;
@@ -118,7 +118,7 @@ impl LineCut {
     pub fn next_line<H: Host>(&mut self, host: &mut H, place: Place) -> Line
         requires { IsSource place }
         ensures cause { LineCause result (H.faults host.old) (H.faults host.new) place }
-        ensures ready { IsReady result self.new }
+        ensures ready { HasLine result self.new }
         ensures log { OnLog (H.log host.old) (H.log host.new)
             (CutsLine place self.old self.new result) }
         ensures elsewhere { LeftElsewhere (H.left host.old) (H.left host.new) place }
@@ -223,7 +223,7 @@ impl LineCut {
         requires source { IsSource place }
         requires plain { self.old.kept ≡ false }
         ensures cause { LineCause result (H.faults host.old) (H.faults host.new) place }
-        ensures ready { IsReady result self.new }
+        ensures ready { HasLine result self.new }
         ensures log { OnLog (H.log host.old) (H.log host.new)
             (CutsLine place self.old self.new result) }
         ensures elsewhere { LeftElsewhere (H.left host.old) (H.left host.new) place }

@@ -4,7 +4,7 @@ ghost use Rattle.std.specs.Prelude.{◌≡◌, ◌≢◌, ◌≤◌, ℕ, List, 
 ghost use Rattle.std.specs.Option.{ForSome, option_copied, is_some};
 ghost use Rattle.tool_io.specs.Host.{IsSource};
 ghost use Rattle.tool_io.specs.Cursors.{cursor_at, with_cursor, no_cursors};
-ghost use Rattle.tool_io.specs.MemFiles.{is_named, file_of, left_of, opened, skipped, IsUnread, no_files};
+ghost use Rattle.tool_io.specs.MemFiles.{has_file_name, file_of, left_of, with_file_at, skipped, IsUnread, no_files};
 
 use crate::host::Place;
 use std::alloc::{AllocError, Global};
@@ -39,7 +39,7 @@ impl MemFile {
 
     /// Whether the file has this name.
     pub fn is_named(&self, name: &str) -> bool
-        ensures { result ≡ is_named name.now self.now }
+        ensures { result ≡ has_file_name name.now self.now }
     {
         self.name.as_str() == name
     }
@@ -168,7 +168,7 @@ impl MemFiles {
     pub fn open(&mut self, place: Place, name: &str) -> bool
         requires { IsSource place }
         ensures found { result ≡ is_some (file_of self.old name.now) }
-        ensures after { self.new ≡ opened self.old place name.now }
+        ensures after { self.new ≡ with_file_at self.old place name.now }
     {
         let Some(file) = position_of(&self.files, name) else {
             return false;
@@ -200,7 +200,7 @@ impl MemFiles {
 
 /// The first file of this name.
 fn position_of(files: &[MemFile], name: &str) -> Option<usize>
-    ensures { result ≡ position (is_named name.now) files.now }
+    ensures { result ≡ position (has_file_name name.now) files.now }
 {
     files.iter().position(|file| file.is_named(name))
 }

@@ -4,7 +4,7 @@ ghost use Rattle.std.specs.Prelude.{◌≡◌, ◌≢◌, ◌≤◌, ◌<◌, �
 ghost use Rattle.tool_io.specs.Host.{IsSource, IsSink, AttachCause, AttachLog, ReadRange, ReadCause, ReadLog, ReadLeft, WriteRange, WriteCause, WriteLog, LeftElsewhere, LeftAlone};
 ghost use Rattle.tool_io.specs.Log.{given};
 ghost use Rattle.tool_io.specs.MemFiles.{file_of, IsUnread};
-ghost use Rattle.tool_io.specs.MemHost.{new_host, faults_of, log_of, left_in, is_listed, is_missing, counted, failed, stands, at_most, attach_answer, after_attach, Reads, write_answer, after_write};
+ghost use Rattle.tool_io.specs.MemHost.{new_host, faults_of, log_of, left_in, is_listed, is_missing, noted, failed, stands, at_most, attach_answer, after_attach, Reads, write_answer, after_write};
 
 use crate::counts::Counts;
 use crate::host::{Attached, Got, Host, Place, Put};
@@ -121,7 +121,7 @@ impl MemHost {
     /// Counts a call of a place, and says whether it is listed.
     fn begin(&mut self, place: Place) -> bool
         ensures listed { result ≡ is_listed self.old place }
-        ensures after { self.new ≡ counted self.old place }
+        ensures after { self.new ≡ noted self.old place }
     {
         let call = self.calls.at(place);
         self.calls.raise(place);

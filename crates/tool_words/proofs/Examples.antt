@@ -11,11 +11,11 @@ use Rattle.tool_words.specs.R2u2Words as r2u2
 use Rattle.tool_words.specs.C2poWords as c2po
 
 -- a run of a program without options, but for its mission time
-abbrev plain_run : ℕ → Text → r2u2.Asked
+abbrev plain_run : ℕ → Text → r2u2.R2u2Request
 plain_run mission file = r2u2.run (record { kind = Program; style = Each; timed = false; mission = mission; file = file; trace = codes "-" })
 
 -- an image that is written to a file
-abbrev plain_image : Text → Text → c2po.Asked
+abbrev plain_image : Text → Text → c2po.C2poRequest
 plain_image out spec = c2po.compile (record { header = None; out = Some out; table = false; simplify = false; spec = spec })
 
 help_alone : r2u2.ask (codes "-h" ∷ []) ≡ r2u2.help

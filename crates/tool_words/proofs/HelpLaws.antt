@@ -8,7 +8,7 @@ use Rattle.clap.specs.Words.{Row, Text, first_of}
 use Rattle.tool_words.specs.R2u2Words as r2u2
 use Rattle.tool_words.specs.C2poWords as c2po
 use Rattle.tool_words.specs.Texts.{are_texts}
-use Rattle.tool_words.specs.Reading.{found_in, is_help}
+use Rattle.tool_words.specs.Reading.{parsed_rows, is_help}
 
 -- a test that each value passes, and the value for none
 passes_or : {X Y : Type 0} (test : Y → Bool) (f : X → Y) (o : Option X) (y : Y) → ((x : X) → test (f x) ≡ false) → test y ≡ false → test (option_map_or f o y) ≡ false
@@ -20,7 +20,7 @@ chosen : {Y : Type 0} (test : Y → Bool) (b : Bool) (x y : Y) → test x ≡ tr
 chosen test true x y here there h = refl
 chosen test false x y here there h = absurd (both_ways (test y) there (ap test h ∙ here))
 
-abbrev is_r2u2_help : r2u2.Asked → Bool
+abbrev is_r2u2_help : r2u2.R2u2Request → Bool
 is_r2u2_help r2u2.help = true
 is_r2u2_help asked = false
 
@@ -31,15 +31,15 @@ demo_no_help true (Some seed) None = refl
 demo_no_help true None rows = refl
 
 texts_r2u2_help : (words : List Text) → r2u2.ask_of_texts words ≡ r2u2.help → is_help words ≡ true
-texts_r2u2_help words h = chosen is_r2u2_help (is_help words) r2u2.help _ refl (passes_or is_r2u2_help r2u2.asked_in (found_in r2u2.command words) r2u2.nothing
+texts_r2u2_help words h = chosen is_r2u2_help (is_help words) r2u2.help _ refl (passes_or is_r2u2_help r2u2.r2u2_request_in (parsed_rows r2u2.command words) r2u2.nothing
     (λ found. passes_or is_r2u2_help _ (first_of _ found) _ (λ word. demo_no_help (r2u2.is_demo_alone found) _ _)
     (passes_or is_r2u2_help r2u2.run (r2u2.run_in found) r2u2.nothing (λ run. refl) refl)) refl) h
 
-abbrev is_c2po_help : c2po.Asked → Bool
+abbrev is_c2po_help : c2po.C2poRequest → Bool
 is_c2po_help c2po.help = true
 is_c2po_help asked = false
 
-by_no_help : (upgrades shows compiles : Bool) (found : List Row) (file : Text) → c2po.is_compiling found ≡ compiles → is_c2po_help (c2po.asked_by upgrades shows found file) ≡ false
+by_no_help : (upgrades shows compiles : Bool) (found : List Row) (file : Text) → c2po.is_compiling found ≡ compiles → is_c2po_help (c2po.request_by upgrades shows found file) ≡ false
 by_no_help false false compiles found file is = refl
 by_no_help true true compiles found file is = refl
 by_no_help true false true found file is = rw is refl
@@ -48,7 +48,7 @@ by_no_help false true true found file is = rw is refl
 by_no_help false true false found file is = rw is refl
 
 texts_c2po_help : (words : List Text) → c2po.ask_of_texts words ≡ c2po.help → is_help words ≡ true
-texts_c2po_help words h = chosen is_c2po_help (is_help words) c2po.help _ refl (passes_or is_c2po_help c2po.asked_in (found_in c2po.command words) c2po.nothing
+texts_c2po_help words h = chosen is_c2po_help (is_help words) c2po.help _ refl (passes_or is_c2po_help c2po.c2po_request_in (parsed_rows c2po.command words) c2po.nothing
     (λ found. passes_or is_c2po_help _ (first_of _ found) _ (λ file. by_no_help _ _ _ found file refl) refl) refl) h
 
 r2u2_help_if : (b : Bool) (words : List Text) → (if b then r2u2.ask_of_texts words else r2u2.nothing) ≡ r2u2.help → is_help words ≡ true

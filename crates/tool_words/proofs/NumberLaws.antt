@@ -7,7 +7,7 @@ use Rattle.std.specs.Str.Parse.{ParsesUnsigned, digits_value}
 use Rattle.std.specs.declared.num.ParseIntError.{ParseIntError}
 use Rattle.std.proofs.lemmas.Bool.{and_parts, and_from, cond-true, ltb-true, leb-true, lt-ltb, le-leb, false_from_ne_true}
 use Rattle.std.proofs.lemmas.Str.Parse.{IsNumeralModel, numerals_by_value, tells_all_ascii_digits, parse_plain}
-use Rattle.tool_words.specs.Reading.{is_number, number_in}
+use Rattle.tool_words.specs.Reading.{is_number, word_value}
 
 own : IsNumeralModel (λ ds. all_ascii_digits ds ≡ true) (digits_value 10)
 own = numerals_by_value _ tells_all_ascii_digits
@@ -34,7 +34,7 @@ is_number-from digits least greatest word h =
 
 -- what `parse` reads within the bounds
 pub number_in-read : (digits least greatest : ℕ) (word : List ℕ) (n : ℕ) → ParsesUnsigned {E = ParseIntError} 64 10 word (Ok n) → get_or word 0 0 ≢ 43
-    → length word ≤ digits → least ≤ n → n ≤ greatest → Some n ≡ number_in digits least greatest word
+    → length word ≤ digits → least ≤ n → n ≤ greatest → Some n ≡ word_value digits least greatest word
 number_in-read digits least greatest word n read no_plus few low high =
     let number = parse_plain own {E = ParseIntError} 64 word (Ok n) read no_plus in
     let fits : IsNumber digits least greatest word = record { plain = number.0.0; some = number.0.1; few = few; low = omega (arith, number.1, low); high = omega (arith, number.1, high) } in
@@ -42,7 +42,7 @@ number_in-read digits least greatest word n read no_plus few low high =
 
 -- no number in bounds below 2 ^ 64 is refused by `parse`
 pub number_in-refused : (digits least greatest : ℕ) (word : List ℕ) (e : ParseIntError) → ParsesUnsigned {E = ParseIntError} 64 10 word (Err e) → get_or word 0 0 ≢ 43
-    → greatest < 2 ^ 64 → None ≡ number_in digits least greatest word
+    → greatest < 2 ^ 64 → None ≡ word_value digits least greatest word
 number_in-refused digits least greatest word e refused no_plus small =
     let no = parse_plain own {E = ParseIntError} 64 word (Err e) refused no_plus in
     let none : is_number digits least greatest word ≡ false = false_from_ne_true _ (λ h.

@@ -7,7 +7,7 @@ use Rattle.std.proofs.lemmas.Str.{IsUtf8-from_is_utf8, is_utf8-from_IsUtf8}
 use Rattle.std.specs.Str.{IsUtf8, is_utf8}
 use Rattle.std.specs.Option.{option_map_or}
 use Rattle.clap.specs.Words.{App, Row, Text}
-use Rattle.tool_words.specs.Reading.{found_in, is_help}
+use Rattle.tool_words.specs.Reading.{parsed_rows, is_help}
 use Rattle.tool_words.specs.R2u2Words as r2u2
 use Rattle.tool_words.specs.C2poWords as c2po
 use Rattle.tool_words.specs.Texts.{are_texts, text_of}
@@ -44,14 +44,14 @@ r2u2_told words h = ap r2u2.ask_of_texts (texts_told words h) ∙ sym (cond-true
 pub c2po_told : (words : List Text) → are_texts words ≡ true → c2po.ask_of_texts (map text_of words) ≡ c2po.ask words
 c2po_told words h = ap c2po.ask_of_texts (texts_told words h) ∙ sym (cond-true (are_texts words) (c2po.ask_of_texts words) c2po.nothing h)
 
-pub r2u2_found : (words : List Text) (app : App) (o : Option (List Row)) → is_help words ≡ false → app ≡ r2u2.command → o ≡ found_in app words
-    → option_map_or r2u2.asked_in o r2u2.nothing ≡ r2u2.ask_of_texts words
+pub r2u2_found : (words : List Text) (app : App) (o : Option (List Row)) → is_help words ≡ false → app ≡ r2u2.command → o ≡ parsed_rows app words
+    → option_map_or r2u2.r2u2_request_in o r2u2.nothing ≡ r2u2.ask_of_texts words
 r2u2_found words app o h e is =
-    ap (λ p. option_map_or r2u2.asked_in p r2u2.nothing) (is ∙ ap (λ a. found_in a words) e)
-    ∙ sym (cond-false (is_help words) r2u2.help (option_map_or r2u2.asked_in (found_in r2u2.command words) r2u2.nothing) h)
+    ap (λ p. option_map_or r2u2.r2u2_request_in p r2u2.nothing) (is ∙ ap (λ a. parsed_rows a words) e)
+    ∙ sym (cond-false (is_help words) r2u2.help (option_map_or r2u2.r2u2_request_in (parsed_rows r2u2.command words) r2u2.nothing) h)
 
-pub c2po_found : (words : List Text) (app : App) (o : Option (List Row)) → is_help words ≡ false → app ≡ c2po.command → o ≡ found_in app words
-    → option_map_or c2po.asked_in o c2po.nothing ≡ c2po.ask_of_texts words
+pub c2po_found : (words : List Text) (app : App) (o : Option (List Row)) → is_help words ≡ false → app ≡ c2po.command → o ≡ parsed_rows app words
+    → option_map_or c2po.c2po_request_in o c2po.nothing ≡ c2po.ask_of_texts words
 c2po_found words app o h e is =
-    ap (λ p. option_map_or c2po.asked_in p c2po.nothing) (is ∙ ap (λ a. found_in a words) e)
-    ∙ sym (cond-false (is_help words) c2po.help (option_map_or c2po.asked_in (found_in c2po.command words) c2po.nothing) h)
+    ap (λ p. option_map_or c2po.c2po_request_in p c2po.nothing) (is ∙ ap (λ a. parsed_rows a words) e)
+    ∙ sym (cond-false (is_help words) c2po.help (option_map_or c2po.c2po_request_in (parsed_rows c2po.command words) c2po.nothing) h)

@@ -7,7 +7,7 @@ use Rattle.clap.specs.Words.{App, Row, Rule, Text, first_of}
 use Rattle.tool_words.specs.declared.c2po_words.C2poAsk as c2po_ask
 use Rattle.tool_words.specs.declared.c2po_words.Compile as told
 use Rattle.tool_words.specs.Texts.{are_texts}
-use Rattle.tool_words.specs.Reading.{command_of, flag, option, positional, is_help, is_set, found_in}
+use Rattle.tool_words.specs.Reading.{command_of, flag, option, positional, is_help, is_set, parsed_rows}
 
 -- `-o FILE` or `--output FILE`; 111 is `o`
 abbrev pub output : Rule
@@ -30,26 +30,26 @@ pub record CompileAsked : Type 0 where
   pub spec : Text
 
 -- what the arguments may request; an upgrade and a text have the file that is written, and the program
-pub data Asked : Type 0 where
-  help : Asked
-  compile : CompileAsked → Asked
-  upgrade : Text → Text → Asked
-  show : Option Text → Text → Asked
-  nothing : Asked
+pub data C2poRequest : Type 0 where
+  help : C2poRequest
+  compile : CompileAsked → C2poRequest
+  upgrade : Text → Text → C2poRequest
+  show : Option Text → Text → C2poRequest
+  nothing : C2poRequest
 
 -- the file of `-o`
-abbrev pub named : List Row → Option Text
-named found = first_of (codes "output") found
+abbrev pub output_file : List Row → Option Text
+output_file found = first_of (codes "output") found
 
 -- the same, or `spec.bin`
 abbrev pub named_or_default : List Row → Text
-named_or_default found = unwrap_or (named found) (codes "spec.bin")
+named_or_default found = unwrap_or (output_file found) (codes "spec.bin")
 
 -- `--table` goes to a file only where `-o` names it
 abbrev pub compile_in : List Row → Text → CompileAsked
 compile_in found spec = record {
   header = first_of (codes "header") found;
-  out = if is_set (codes "table") found then named found else Some (named_or_default found);
+  out = if is_set (codes "table") found then output_file found else Some (named_or_default found);
   table = is_set (codes "table") found;
   simplify = is_set (codes "simplify") found;
   spec = spec;
@@ -61,25 +61,25 @@ is_compiling found =
     is_some (first_of (codes "header") found) || (is_set (codes "table") found || is_set (codes "simplify") found)
 
 -- `--upgrade` and `--show`, in this order, exclude each other and what serves compiling alone
-abbrev pub asked_by : Bool → Bool → List Row → Text → Asked
-asked_by false false found file = compile (compile_in found file)
-asked_by true false found file = if is_compiling found then nothing else upgrade (named_or_default found) file
-asked_by false true found file = if is_compiling found then nothing else show (named found) file
-asked_by true true found file = nothing
+abbrev pub request_by : Bool → Bool → List Row → Text → C2poRequest
+request_by false false found file = compile (compile_in found file)
+request_by true false found file = if is_compiling found then nothing else upgrade (named_or_default found) file
+request_by false true found file = if is_compiling found then nothing else show (output_file found) file
+request_by true true found file = nothing
 
 -- what the arguments ask for that clap found; a file has to be there
-abbrev pub asked_in : List Row → Asked
-asked_in found =
-    option_map_or (asked_by (is_set (codes "upgrade") found) (is_set (codes "show") found) found)
+abbrev pub c2po_request_in : List Row → C2poRequest
+c2po_request_in found =
+    option_map_or (request_by (is_set (codes "upgrade") found) (is_set (codes "show") found) found)
     (first_of (codes "file") found) nothing
 
 -- Help where the only argument is `--help` or `-h`. Otherwise what the command finds in the arguments; nothing where
 -- they are invalid.
-abbrev pub ask_of_texts : List Text → Asked
-ask_of_texts words = if is_help words then help else option_map_or asked_in (found_in command words) nothing
+abbrev pub ask_of_texts : List Text → C2poRequest
+ask_of_texts words = if is_help words then help else option_map_or c2po_request_in (parsed_rows command words) nothing
 
 -- arguments are invalid where one of them isn't UTF-8
-abbrev pub ask : List Text → Asked
+abbrev pub ask : List Text → C2poRequest
 ask words = if are_texts words then ask_of_texts words else nothing
 
 -- the compilation of a result
@@ -94,7 +94,7 @@ compile_of c =
     }
 
 -- what a result requests
-abbrev pub asked_of : c2po_ask.C2poAsk → Asked
+abbrev pub asked_of : c2po_ask.C2poAsk → C2poRequest
 asked_of c2po_ask.TheVariants.Help = help
 asked_of (c2po_ask.TheVariants.Compile c) = compile (compile_of c)
 asked_of (c2po_ask.TheVariants.Upgrade out program) = upgrade out.now program.now

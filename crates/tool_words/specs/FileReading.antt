@@ -6,23 +6,23 @@ use Rattle.tool_io.specs.declared.host.Place as place
 use Rattle.tool_io.specs.declared.whole.WholeFault.{WholeFault}
 use Rattle.tool_io.specs.declared.whole.WholeFault.TheVariants as fault
 use Rattle.tool_io.specs.Log.{Event, Attached, Missed}
-use Rattle.tool_io.specs.Whole.{Takes}
+use Rattle.tool_io.specs.Whole.{Draws}
 use Rattle.tool_words.specs.declared.status.Status as status
 
 -- The bytes of a file, or why there are none: it was read at this place under this name, to this limit.
 abbrev pub FileLog : Result (Vec ℕ Global) status.Status → place.Place → ℕ → List ℕ → List Event → Type 0
 FileLog (Ok bytes) p limit name events =
-    (log : List Event) × (events ≡ Attached p name ∷ log) × Takes p bytes.items true log × (length bytes.items ≤ limit)
+    (log : List Event) × (events ≡ Attached p name ∷ log) × Draws p bytes.items true log × (length bytes.items ≤ limit)
 FileLog (Err (status.TheVariants.OpenFault q)) p limit name events =
     (q ≡ p) × ((events ≡ Missed p name ∷ []) ⊎ (events ≡ []))
 FileLog (Err (status.TheVariants.ReadFault q)) p limit name events =
-    (q ≡ p) × (log : List Event) × (bytes : List ℕ) × (events ≡ Attached p name ∷ log) × Takes p bytes false log
+    (q ≡ p) × (log : List Event) × (bytes : List ℕ) × (events ≡ Attached p name ∷ log) × Draws p bytes false log
     × (length bytes ≤ limit)
 FileLog (Err (status.TheVariants.TextTooLong q)) p limit name events =
-    (q ≡ p) × (log : List Event) × (bytes : List ℕ) × (events ≡ Attached p name ∷ log) × Takes p bytes false log
+    (q ≡ p) × (log : List Event) × (bytes : List ℕ) × (events ≡ Attached p name ∷ log) × Draws p bytes false log
     × (limit < length bytes)
 FileLog (Err status.TheVariants.Memory) p limit name events =
-    (log : List Event) × (bytes : List ℕ) × (events ≡ Attached p name ∷ log) × Takes p bytes false log
+    (log : List Event) × (bytes : List ℕ) × (events ≡ Attached p name ∷ log) × Draws p bytes false log
     × (length bytes ≤ limit)
 FileLog (Err answer) p limit name events = ⊥
 

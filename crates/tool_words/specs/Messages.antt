@@ -61,15 +61,15 @@ status_text (status.TheVariants.WriteFault p) = codes "cannot write " ++ place_n
 status_text status.TheVariants.Memory = compile_fault_text compile.TheVariants.Memory
 
 -- the line with the program's name
-abbrev pub told_by : tool.Tool → status.Status → List ℕ
-told_by t s = tool_name t ++ codes ": " ++ status_text s ++ codes "\n"
+abbrev pub message_line : tool.Tool → status.Status → List ℕ
+message_line t s = tool_name t ++ codes ": " ++ status_text s ++ codes "\n"
 
 -- the message of a status: nothing for success, the usage line for help and for invalid arguments
 abbrev pub message : tool.Tool → status.Status → List ℕ
 message t status.TheVariants.Done = []
 message t status.TheVariants.Helped = usage t
 message t status.TheVariants.Usage = usage t
-message t s = told_by t s
+message t s = message_line t s
 
 -- what goes to the user on the error output: the message, but nothing where help was given
 abbrev pub told_to_user : tool.Tool → status.Status → List ℕ

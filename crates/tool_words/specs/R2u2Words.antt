@@ -13,7 +13,7 @@ use Rattle.tool_words.specs.declared.file_kind.FileKind.TheVariants.{Spec, Progr
 use Rattle.tool_words.specs.declared.r2u2_words.R2u2Ask as r2u2_ask
 use Rattle.tool_words.specs.declared.r2u2_words.Run as told
 use Rattle.tool_words.specs.Texts.{are_texts}
-use Rattle.tool_words.specs.Reading.{command_of, flag, option, positional, is_help, is_set, found_in, number_in}
+use Rattle.tool_words.specs.Reading.{command_of, flag, option, positional, is_help, is_set, parsed_rows, word_value}
 
 -- `r2u2 [--source] [--runs] [--timed] [--mission-time N] FILE [TRACE]` or `r2u2 --demo SEED,ROWS`
 unfoldable pub command : App
@@ -32,11 +32,11 @@ pub record RunAsked : Type 0 where
   pub trace : Text
 
 -- what the arguments may request; a demo has its seed and its number of rows
-pub data Asked : Type 0 where
-  help : Asked
-  run : RunAsked → Asked
-  demo : ℕ → ℕ → Asked
-  nothing : Asked
+pub data R2u2Request : Type 0 where
+  help : R2u2Request
+  run : RunAsked → R2u2Request
+  demo : ℕ → ℕ → R2u2Request
+  nothing : R2u2Request
 
 -- the file is a specification where `--source` is given, else a program
 abbrev pub kind_in : List Row → FileKind
@@ -48,7 +48,7 @@ style_in found = if is_set (codes "runs") found then Runs else Each
 
 -- the number of `--mission-time`; without one the greatest that there is, or the usual one where `--timed` is given
 abbrev pub mission_in : List Row → Option ℕ
-mission_in found = option_map_or (number_in 13 1 MAX_MISSION) (first_of (codes "mission-time") found)
+mission_in found = option_map_or (word_value 13 1 MAX_MISSION) (first_of (codes "mission-time") found)
     (Some (if is_set (codes "timed") found then TIMED_MISSION else MAX_MISSION))
 
 -- the run over a file, where an absent trace is `-`
@@ -74,29 +74,29 @@ is_demo_alone found =
     && (not (is_some (first_of (codes "mission-time") found)) && not (is_some (first_of (codes "file") found)))))
 
 -- a demo, where both its seed and its number of rows could be read
-abbrev pub demo_with : Option ℕ → Option ℕ → Asked
+abbrev pub demo_with : Option ℕ → Option ℕ → R2u2Request
 demo_with (Some seed) (Some rows) = demo seed rows
 demo_with seed rows = nothing
 
 -- SEED,ROWS: two numbers around the first comma
-abbrev pub demo_in : Text → Asked
+abbrev pub demo_in : Text → R2u2Request
 demo_in word =
-    demo_with (number_in 10 0 4294967295 (before_first (λ b. b == 44) word))
-    (number_in 10 1 10000000 (after_first (λ b. b == 44) word))
+    demo_with (word_value 10 0 4294967295 (before_first (λ b. b == 44) word))
+    (word_value 10 1 10000000 (after_first (λ b. b == 44) word))
 
 -- what the arguments ask for that clap found
-abbrev pub asked_in : List Row → Asked
-asked_in found =
+abbrev pub r2u2_request_in : List Row → R2u2Request
+r2u2_request_in found =
     option_map_or (λ word. if is_demo_alone found then demo_in word else nothing) (first_of (codes "demo") found)
     (option_map_or run (run_in found) nothing)
 
 -- Help where the only argument is `--help` or `-h`. Otherwise what the command finds in the arguments; nothing where
 -- they are invalid.
-abbrev pub ask_of_texts : List Text → Asked
-ask_of_texts words = if is_help words then help else option_map_or asked_in (found_in command words) nothing
+abbrev pub ask_of_texts : List Text → R2u2Request
+ask_of_texts words = if is_help words then help else option_map_or r2u2_request_in (parsed_rows command words) nothing
 
 -- arguments are invalid where one of them isn't UTF-8
-abbrev pub ask : List Text → Asked
+abbrev pub ask : List Text → R2u2Request
 ask words = if are_texts words then ask_of_texts words else nothing
 
 -- the run of a result
@@ -112,7 +112,7 @@ run_of r =
     }
 
 -- what a result requests
-abbrev pub asked_of : r2u2_ask.R2u2Ask → Asked
+abbrev pub asked_of : r2u2_ask.R2u2Ask → R2u2Request
 asked_of r2u2_ask.TheVariants.Help = help
 asked_of (r2u2_ask.TheVariants.Run r) = run (run_of r)
 asked_of (r2u2_ask.TheVariants.Demo seed rows) = demo seed rows

@@ -37,8 +37,8 @@ command_of name rules =
     }
 
 -- what clap finds in the arguments, where its parse has no fault
-abbrev pub found_in : App → List Text → Option (List Row)
-found_in app words = if is_empty (fault_of app words) then Some (matches_of app words) else None
+abbrev pub parsed_rows : App → List Text → Option (List Row)
+parsed_rows app words = if is_empty (fault_of app words) then Some (matches_of app words) else None
 
 -- the same of a parse
 abbrev pub rows : ArgMatches → List Row
@@ -54,6 +54,6 @@ is_number digits least greatest word = all_ascii_digits word && (nat_lt 0 (lengt
     && (nat_le least (digits_value 10 word) && nat_le (digits_value 10 word) greatest)))
 
 -- the value of such a word
-abbrev pub number_in : ℕ → ℕ → ℕ → Text → Option ℕ
-number_in digits least greatest word =
+abbrev pub word_value : ℕ → ℕ → ℕ → Text → Option ℕ
+word_value digits least greatest word =
     if is_number digits least greatest word then Some (digits_value 10 word) else None

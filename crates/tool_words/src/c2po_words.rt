@@ -6,7 +6,7 @@ ghost use Rattle.tool_words.specs.C2poWords as c2po;
 ghost use Rattle.tool_words.specs.Reading.{rows};
 
 use crate::Words;
-use crate::reading::{
+use crate::arguments::{
     asks_for_help, bare_command, flag, is_set, matches_in, option, positional, value_of,
 };
 use clap::{Arg, ArgMatches, Command};
@@ -85,7 +85,7 @@ fn output<'a>(alloc: Global) -> Arg<'a>
 }
 
 fn asked_in<'a>(matches: &ArgMatches<'a>) -> C2poAsk<'a>
-    ensures { c2po.asked_of result ≡ c2po.asked_in (rows matches.now) }
+    ensures { c2po.asked_of result ≡ c2po.c2po_request_in (rows matches.now) }
 {
     let Some(file) = value_of(matches, "file") else {
         return C2poAsk::Nothing;

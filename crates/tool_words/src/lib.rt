@@ -6,24 +6,24 @@
 //! that.
 #![tactic(auto)]
 
+mod arguments;
 mod c2po_words;
 mod file_kind;
-mod given;
 mod message;
 mod numbers;
+mod process_words;
 mod r2u2_words;
-mod reading;
 mod status;
-mod telling;
+mod user_messages;
 mod whole_file;
 mod words;
 
 pub use c2po_words::{C2poAsk, Compile, c2po_ask};
 pub use file_kind::FileKind;
-pub use given::words_of;
 pub use message::{Tool, message_of};
+pub use process_words::words_of;
 pub use r2u2_words::{R2u2Ask, Run, r2u2_ask};
 pub use status::Status;
-pub use telling::{give_help, tell_user};
+pub use user_messages::{give_help, tell_user};
 pub use whole_file::read_file;
 pub use words::Words;

@@ -2,7 +2,7 @@
 
 ghost use Rattle.std.specs.Prelude.{◌≡◌, ◌+◌, ◌≤◌, ◌++◌, length, decimal};
 ghost use Rattle.arrayvec.specs.ArrayVec.{array_vec_len};
-ghost use Rattle.c2po_compile.specs.FaultTexts.{header_fault_of, line_text, refusal_text};
+ghost use Rattle.c2po_compile.specs.FaultTexts.{header_fault_of, spec_line_text, refusal_text};
 ghost use Rattle.c2po_compile.specs.HeaderTexts.{header_fault_text, missing_text, twice_text};
 ghost use Rattle.tool_words.specs.Messages.{message, usage, tool_name, trace_text, place_name, status_text};
 
@@ -126,7 +126,7 @@ fn name_of_place(place: Place) -> &'static str
 
 fn add_refusal(text: &mut Text, line: u32, why: Refusal)
     requires { array_vec_len text.old ≤ 6 }
-    ensures items { text.new.items ≡ text.old.items ++ (line_text line ++ refusal_text why) }
+    ensures items { text.new.items ≡ text.old.items ++ (spec_line_text line ++ refusal_text why) }
     ensures len { array_vec_len text.new ≤ 191 }
 {
     add_line(text, line);
@@ -135,7 +135,7 @@ fn add_refusal(text: &mut Text, line: u32, why: Refusal)
 
 fn add_line(text: &mut Text, line: u32)
     requires { array_vec_len text.old ≤ 6 }
-    ensures items { text.new.items ≡ text.old.items ++ line_text line }
+    ensures items { text.new.items ≡ text.old.items ++ spec_line_text line }
     ensures len { array_vec_len text.new ≤ 60 }
 {
     if line == 0 {

@@ -1,7 +1,7 @@
 //! Numbers among the arguments of a command line.
 
 ghost use Rattle.std.specs.Prelude.{◌≡◌, ◌≤◌, IfSome};
-ghost use Rattle.tool_words.specs.Reading.{number_in};
+ghost use Rattle.tool_words.specs.Reading.{word_value};
 
 /// The numbers that an option takes.
 #[derive(Clone, Copy)]
@@ -15,7 +15,7 @@ pub(crate) struct Numbers {
 impl Numbers {
     /// The number that a text spells in plain decimal digits, or `None` where it spells none that is taken.
     pub fn read(self, text: &str) -> Option<u64>
-        ensures read { result ≡ number_in self.digits self.least self.greatest text.now }
+        ensures read { result ≡ word_value self.digits self.least self.greatest text.now }
         ensures within { IfSome result (λ n. (self.least ≤ n) × (n ≤ self.greatest)) }
     {
         // `parse` takes a leading plus, which no plain number has

@@ -6,10 +6,10 @@ ghost use Rattle.clap.specs.Words.{app_of};
 ghost use Rattle.tool_words.specs.R2u2Words as r2u2;
 ghost use Rattle.tool_words.specs.Reading.{rows};
 
-use crate::numbers::Numbers;
-use crate::reading::{
+use crate::arguments::{
     asks_for_help, bare_command, flag, is_set, matches_in, option, positional, value_of,
 };
+use crate::numbers::Numbers;
 use crate::{FileKind, Words};
 use clap::{ArgMatches, Command};
 use mltl_base::Style;
@@ -94,7 +94,7 @@ fn command<'a>(alloc: Global) -> Result<Command<'a>, AllocError>
 }
 
 fn asked_in<'a>(matches: &ArgMatches<'a>) -> R2u2Ask<'a>
-    ensures asked { r2u2.asked_of result ≡ r2u2.asked_in (rows matches.now) }
+    ensures asked { r2u2.asked_of result ≡ r2u2.r2u2_request_in (rows matches.now) }
     ensures bounds { r2u2.IsInBounds result }
 {
     match value_of(matches, "demo") {

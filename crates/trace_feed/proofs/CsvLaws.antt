@@ -11,7 +11,7 @@ use Rattle.csv.specs.declared.parser.State.TheVariants as state
 use Rattle.csv.specs.declared.parser.Action.{Action}
 use Rattle.csv.specs.declared.parser.Action.TheVariants as action
 use Rattle.trace_feed.specs.Blanks.{trimmed}
-use Rattle.trace_feed.specs.Header.{fields_in, first_record}
+use Rattle.trace_feed.specs.Header.{record_fields, first_record}
 
 -- one byte ends one field at most
 fields_after_le : (a : Action) (fields : List (List ℕ)) (field : List ℕ) → length (fields_after a fields field) ≤ length fields + 1
@@ -20,18 +20,18 @@ fields_after_le action.EndRecord fields field = omega (arith, length_push fields
 fields_after_le action.Skip fields field = omega arith
 fields_after_le action.Copy fields field = omega arith
 
-last_le : (b : Bool) (fields : List (List ℕ)) (field : List ℕ) → length (fields_in (cond b (Some (fields ++ field ∷ [], state.StartRecord, [])) None)) ≤ length fields + 1
+last_le : (b : Bool) (fields : List (List ℕ)) (field : List ℕ) → length (record_fields (cond b (Some (fields ++ field ∷ [], state.StartRecord, [])) None)) ≤ length fields + 1
 last_le true fields field = omega (arith, length_push fields field)
 last_le false fields field = omega arith
 
 step_le : (b : Bool) (a : Action) (s : State) (fields : List (List ℕ)) (field rest : List ℕ) (others : Option Read)
-    → length (fields_in others) ≤ length (fields_after a fields field) + (length rest + 1)
-    → length (fields_in (cond b (Some (fields_after a fields field, s, rest)) others)) ≤ length fields + (suc (length rest) + 1)
+    → length (record_fields others) ≤ length (fields_after a fields field) + (length rest + 1)
+    → length (record_fields (cond b (Some (fields_after a fields field, s, rest)) others)) ≤ length fields + (suc (length rest) + 1)
 step_le true a s fields field rest others h = omega (arith, fields_after_le a fields field)
 step_le false a s fields field rest others h = omega (arith, fields_after_le a fields field)
 
 -- a record has at most one field more than bytes
-record_le : (cfg : Config) (s : State) (fields : List (List ℕ)) (field text : List ℕ) → length (fields_in (next_record cfg s fields field text)) ≤ length fields + (length text + 1)
+record_le : (cfg : Config) (s : State) (fields : List (List ℕ)) (field text : List ℕ) → length (record_fields (next_record cfg s fields field text)) ≤ length fields + (length text + 1)
 unfolding next_record
 record_le cfg s fields field [] = last_le (ends_at_end s) fields field
 record_le cfg s fields field (c ∷ rest) =
@@ -53,7 +53,7 @@ strip_le (x ∷ y ∷ z ∷ rest) = bom_le (is_bom x y z) x y z rest
 pub first_record_le : (text : List ℕ) → length (first_record text) ≤ length text + 1
 unfolding first_record
 first_record_le text =
-    let fields : length (fields_in (next_record default_config state.StartRecord [] [] (strip_bom text))) ≤ 0 + (length (strip_bom text) + 1) = record_le default_config state.StartRecord [] [] (strip_bom text) in
+    let fields : length (record_fields (next_record default_config state.StartRecord [] [] (strip_bom text))) ≤ 0 + (length (strip_bom text) + 1) = record_le default_config state.StartRecord [] [] (strip_bom text) in
     let bytes = strip_le text in
     omega arith
 
@@ -62,7 +62,7 @@ pub found_fields : (text : List ℕ) (o : Option (List (List ℕ))) → o ≡ op
 unfolding first_record
 found_fields text o is fields some = same (next_record default_config state.StartRecord [] [] (strip_bom text)) (sym some ∙ is)
   where
-    same : (r : Option Read) → Some fields ≡ option_map (λ (read : Read). read.0) r → fields ≡ fields_in r
+    same : (r : Option Read) → Some fields ≡ option_map (λ (read : Read). read.0) r → fields ≡ record_fields r
     same None h = cc
     same (Some read) h = cc
 
@@ -70,7 +70,7 @@ pub found_none : (text : List ℕ) (o : Option (List (List ℕ))) → o ≡ opti
 unfolding first_record
 found_none text o is none = same (next_record default_config state.StartRecord [] [] (strip_bom text)) (sym none ∙ is)
   where
-    same : (r : Option Read) → None ≡ option_map (λ (read : Read). read.0) r → [] ≡ fields_in r
+    same : (r : Option Read) → None ≡ option_map (λ (read : Read). read.0) r → [] ≡ record_fields r
     same None h = refl
     same (Some read) h = cc
 

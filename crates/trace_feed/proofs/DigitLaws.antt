@@ -14,8 +14,8 @@ use Rattle.std.proofs.lemmas.Str.Parse.{IsNumeralModel, digits_value_short, nume
 use Rattle.mltl_base.proofs.Digits.{numerals}
 use Rattle.mltl_base.specs.Blanks.{is_blank}
 use Rattle.trace_feed.specs.Blanks.{trimmed}
-use Rattle.trace_feed.specs.Readings.{sign_length, value_at}
-use Rattle.trace_feed.specs.Rows.{is_comma, is_numeral, value_of}
+use Rattle.trace_feed.specs.Readings.{sign_length, read_value}
+use Rattle.trace_feed.specs.Rows.{is_comma, is_numeral, field_value}
 use Rattle.trace_feed.specs.declared.fields.Reading.{Reading}
 use Rattle.trace_feed.specs.declared.fields.Reading.TheVariants.{Unread, Whole, Truth}
 
@@ -127,7 +127,7 @@ numeral_trimmed field is =
     ap (λ n. take (length (drop n field) - suffix_len is_blank (drop n field)) (drop n field)) front ∙ take_all (length field - suffix_len is_blank field) field (omega (arith, end))
 
 -- the value of a field that is a numeral
-pub numeral_value : (reading : Reading) (field : List ℕ) (n : ℤ) → is_numeral field ≡ true → n ≡ signed_digits_value 10 field → value_of reading field ≡ value_at reading n
+pub numeral_value : (reading : Reading) (field : List ℕ) (n : ℤ) → is_numeral field ≡ true → n ≡ signed_digits_value 10 field → field_value reading field ≡ read_value reading n
 numeral_value Unread field n is value = refl
 numeral_value Whole field n is value = rw (numeral_trimmed field is, is, value) refl
 numeral_value Truth field n is value = rw (numeral_trimmed field is, is, value) refl

@@ -13,7 +13,7 @@ use Rattle.std.proofs.lemmas.Int.{ints}
 use Rattle.std.specs.Prelude.{FitsSigned}
 use Rattle.std.specs.Int.{w32}
 use Rattle.mltl_base.proofs.Digits.{digits_ascii, numerals}
-use Rattle.trace_feed.specs.Rows.{has_32_bits, is_bit, is_numeral, number_in}
+use Rattle.trace_feed.specs.Rows.{has_32_bits, is_bit, is_numeral, field_number}
 use Rattle.trace_feed.specs.declared.fields.FieldFault.TheVariants.{OutOfRange}
 
 signed_ascii : (x : ℕ) (xs : List ℕ) (minus plus : Bool) → (x == 45) ≡ minus → (x == 43) ≡ plus → list_all is_ascii_digit (cond minus xs (drop (cond plus 1 0) (x ∷ xs))) ≡ true → IsAscii (x ∷ xs)
@@ -39,7 +39,7 @@ is_numeral_parts field h =
     (ltb-true 0 (length digits) parts.0, numerals.to digits parts.1)
 
 -- what isn't parsed is out of range
-pub refused : {E : Type 0} (field : List ℕ) (e : E) → ParsesSigned w32 10 field (Err e) → is_numeral field ≡ true → Err OutOfRange ≡ number_in has_32_bits field
+pub refused : {E : Type 0} (field : List ℕ) (e : E) → ParsesSigned w32 10 field (Err e) → is_numeral field ≡ true → Err OutOfRange ≡ field_number has_32_bits field
 refused field e h numeral =
     let fits : has_32_bits (signed_digits_value 10 field) ≡ false = false_from_ne_true (has_32_bits (signed_digits_value 10 field)) (λ has. h (is_numeral_parts field numeral, fits_from_has (signed_digits_value 10 field) has)) in
     rw (numeral, fits) refl

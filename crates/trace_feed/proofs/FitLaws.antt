@@ -16,7 +16,7 @@ use Rattle.mltl_base.specs.declared.program.Program.{Program}
 use Rattle.mltl_base.specs.Blanks.{is_blank_line}
 use Rattle.trace_feed.specs.Blanks.{trimmed}
 use Rattle.trace_feed.specs.Readings.{fields_meaning}
-use Rattle.trace_feed.specs.Rows.{Tells, LineMeaning, row, blank, too_few, not_whole, out_of_range, fields_of, has_32_bits, is_bit, is_numeral, field_before, line_meaning, number_in, reading_of, reads_truth, reads_whole, row_from, value_of}
+use Rattle.trace_feed.specs.Rows.{IsMeaningOf, LineMeaning, row, blank, too_few, not_whole, out_of_range, fields_of, has_32_bits, is_bit, is_numeral, field_before, line_meaning, field_number, reading_of, reads_truth, reads_whole, row_from, field_value}
 use Rattle.trace_feed.specs.declared.fields.FieldFault.{FieldFault}
 use Rattle.trace_feed.specs.declared.fields.FieldFault.TheVariants.{NotWhole, OutOfRange}
 use Rattle.trace_feed.specs.declared.fields.Reading.{Reading}
@@ -31,19 +31,19 @@ meaning_fields program line some = rw some refl
 -- the values of fields that make a row
 pub record HaveValues (reading : ℕ → Reading) (c : ℕ) (fields : List (List ℕ)) (values : Row) : Type 0 where
   pub size : length values ≡ length fields
-  pub each : (k : ℕ) (d : ℤ) → k < length fields → value_of (reading (c + k)) (get_or fields k []) ≡ Ok (get_or values k d)
+  pub each : (k : ℕ) (d : ℤ) → k < length fields → field_value (reading (c + k)) (get_or fields k []) ≡ Ok (get_or values k d)
 
 values_step : (reading : ℕ → Reading) (c : ℕ) (field : List ℕ) (fields : List (List ℕ)) (values : Row) (found : Result ℤ FieldFault) (m : LineMeaning)
-    → value_of (reading c) field ≡ found → ((vs : Row) → m ≡ row vs → HaveValues reading (suc c) fields vs) → field_before c found m ≡ row values
+    → field_value (reading c) field ≡ found → ((vs : Row) → m ≡ row vs → HaveValues reading (suc c) fields vs) → field_before c found m ≡ row values
     → HaveValues reading c (field ∷ fields) values
 values_step reading c field fields values (Ok n) (row vs) is rest e =
     let h : HaveValues reading (suc c) fields vs = rest vs refl in
     let same : n ∷ vs ≡ values = cc in
     subst (HaveValues reading c (field ∷ fields)) same (record { size = ap suc h.size; each = each h })
   where
-    each : HaveValues reading (suc c) fields vs → (k : ℕ) (d : ℤ) → k < length (field ∷ fields) → value_of (reading (c + k)) (get_or (field ∷ fields) k []) ≡ Ok (get_or (n ∷ vs) k d)
-    each h zero d inside = let here : c + 0 ≡ c = omega arith in ap (λ k. value_of (reading k) field) here ∙ is
-    each h (suc k) d inside = let there : c + suc k ≡ suc c + k = omega arith in ap (λ j. value_of (reading j) (get_or fields k [])) there ∙ h.each k d (omega arith)
+    each : HaveValues reading (suc c) fields vs → (k : ℕ) (d : ℤ) → k < length (field ∷ fields) → field_value (reading (c + k)) (get_or (field ∷ fields) k []) ≡ Ok (get_or (n ∷ vs) k d)
+    each h zero d inside = let here : c + 0 ≡ c = omega arith in ap (λ k. field_value (reading k) field) here ∙ is
+    each h (suc k) d inside = let there : c + suc k ≡ suc c + k = omega arith in ap (λ j. field_value (reading j) (get_or fields k [])) there ∙ h.each k d (omega arith)
 values_step reading c field fields values (Ok n) blank is rest e = absurd (cc)
 values_step reading c field fields values (Ok n) too_few is rest e = absurd (cc)
 values_step reading c field fields values (Ok n) (not_whole d) is rest e = absurd (cc)
@@ -57,7 +57,7 @@ have_values reading c [] values e =
     let same : [] ≡ values = cc in
     subst (HaveValues reading c []) same (record { size = refl; each = λ k d inside. absurd (omega arith) })
 have_values reading c (field ∷ fields) values e =
-    values_step reading c field fields values (value_of (reading c) field) (row_from reading (suc c) fields) refl (have_values reading (suc c) fields) e
+    values_step reading c field fields values (field_value (reading c) field) (row_from reading (suc c) fields) refl (have_values reading (suc c) fields) e
 
 -- a number that is found lies in its range
 number_step : (range : ℤ → Bool) (m n : ℤ) (numeral has : Bool) → range m ≡ has → cond numeral (cond has (Ok m) (Err OutOfRange)) (Err NotWhole) ≡ Ok n → range n ≡ true
@@ -65,27 +65,27 @@ number_step range m n true true e h = let same : m ≡ n = cc in subst (λ k. ra
 number_step range m n true false e h = absurd (cc)
 number_step range m n false has e h = absurd (cc)
 
-number_has : (range : ℤ → Bool) (field : List ℕ) (n : ℤ) → number_in range field ≡ Ok n → range n ≡ true
+number_has : (range : ℤ → Bool) (field : List ℕ) (n : ℤ) → field_number range field ≡ Ok n → range n ≡ true
 number_has range field n h = number_step range (signed_digits_value 10 field) n (is_numeral field) (range (signed_digits_value 10 field)) refl h
 
 -- what a value fits, by how its column is read
 truth_is : (n : ℤ) → is_bit n ≡ true → (n ≡ pos 0) ⊎ (n ≡ pos 1)
 truth_is n h = grind (arith, ints)
 
-value_truth : (ops : List BzOp) (c : ℕ) (field : List ℕ) (n : ℤ) → list_any (reads_truth c) ops ≡ true → value_of (reading_of ops c) field ≡ Ok n → (n ≡ pos 0) ⊎ (n ≡ pos 1)
+value_truth : (ops : List BzOp) (c : ℕ) (field : List ℕ) (n : ℤ) → list_any (reads_truth c) ops ≡ true → field_value (reading_of ops c) field ≡ Ok n → (n ≡ pos 0) ⊎ (n ≡ pos 1)
 value_truth ops c field n reads found = truth_is n (number_has is_bit (trimmed field) n (rw reads at found))
 
-whole_step : (field : List ℕ) (n : ℤ) (truth : Bool) → value_of (cond truth Truth Whole) field ≡ Ok n → FitsSigned w32 n
+whole_step : (field : List ℕ) (n : ℤ) (truth : Bool) → field_value (cond truth Truth Whole) field ≡ Ok n → FitsSigned w32 n
 whole_step field n true found = fits_from_has n (bits_have n (number_has is_bit (trimmed field) n found))
 whole_step field n false found = fits_from_has n (number_has has_32_bits (trimmed field) n found)
 
-value_whole : (ops : List BzOp) (c : ℕ) (field : List ℕ) (n : ℤ) → list_any (reads_whole c) ops ≡ true → value_of (reading_of ops c) field ≡ Ok n → FitsSigned w32 n
+value_whole : (ops : List BzOp) (c : ℕ) (field : List ℕ) (n : ℤ) → list_any (reads_whole c) ops ≡ true → field_value (reading_of ops c) field ≡ Ok n → FitsSigned w32 n
 value_whole ops c field n reads found = whole_step field n (list_any (reads_truth c) ops) (rw reads at found)
 
-fits_at : (ops : List BzOp) (fields : List (List ℕ)) (values : Row) → HaveValues (reading_of ops) 0 fields values → (c : ℕ) → (P : ℤ → Type 0) → P (pos 0) → ((field : List ℕ) (n : ℤ) → value_of (reading_of ops c) field ≡ Ok n → P n) → P (in_column values c)
+fits_at : (ops : List BzOp) (fields : List (List ℕ)) (values : Row) → HaveValues (reading_of ops) 0 fields values → (c : ℕ) → (P : ℤ → Type 0) → P (pos 0) → ((field : List ℕ) (n : ℤ) → field_value (reading_of ops c) field ≡ Ok n → P n) → P (in_column values c)
 fits_at ops fields values h c P none some =
     elim (cases_lt c (length fields)) [
-      | inl inside ↦ some (get_or fields c []) (in_column values c) (ap (λ k. value_of (reading_of ops k) (get_or fields c [])) (zero_more c) ∙ h.each c (pos 0) inside)
+      | inl inside ↦ some (get_or fields c []) (in_column values c) (ap (λ k. field_value (reading_of ops k) (get_or fields c [])) (zero_more c) ∙ h.each c (pos 0) inside)
       | inr past ↦ subst P (sym (get_or_past values c (pos 0) (omega (arith, h.size)))) none
     ]
   where
@@ -131,10 +131,10 @@ row_fits program line values e = fit_step program line values (is_blank_line lin
 
 -- what is told of the fields is told of the line
 pub told_line : (program : Program) (line : List ℕ) (width : ℕ) (result : answer.RowAnswer) (values : Row) → is_blank_line line ≡ false → width ≡ program.width
-    → Tells result values (fields_meaning (reading_of program.bz) 0 width (fields_of line)) → Tells result values (line_meaning program line)
+    → IsMeaningOf result values (fields_meaning (reading_of program.bz) 0 width (fields_of line)) → IsMeaningOf result values (line_meaning program line)
 told_line program line width result values some wide told =
-    subst (Tells result values) (sym (meaning_fields program line some)) (subst (λ (w : ℕ). Tells result values (fields_meaning (reading_of program.bz) 0 w (fields_of line))) wide told)
+    subst (IsMeaningOf result values) (sym (meaning_fields program line some)) (subst (λ (w : ℕ). IsMeaningOf result values (fields_meaning (reading_of program.bz) 0 w (fields_of line))) wide told)
 
 -- an answer Good is a row
-pub told_good : (result : answer.RowAnswer) (values : Row) (m : LineMeaning) → Tells result values m → result ≡ answer.TheVariants.Good → m ≡ row values
-told_good result values m told good = subst (λ r. Tells r values m) good told
+pub told_good : (result : answer.RowAnswer) (values : Row) (m : LineMeaning) → IsMeaningOf result values m → result ≡ answer.TheVariants.Good → m ≡ row values
+told_good result values m told good = subst (λ r. IsMeaningOf r values m) good told

@@ -10,7 +10,7 @@ use Rattle.trace_feed.specs.Rows.{fields_from, fields_of, is_comma}
 use Rattle.mltl_base.specs.Atoms.{Row}
 use Rattle.trace_feed.specs.declared.fields.Reading.{Reading}
 use Rattle.trace_feed.specs.declared.fields.Reading.TheVariants.{Unread}
-use Rattle.trace_feed.specs.declared.passing.Spot.{Spot}
+use Rattle.trace_feed.specs.declared.unread_fields.Spot.{Spot}
 use Rattle.trace_feed.specs.Readings.{AreReadings, PassesOver, fields_meaning}
 use Rattle.trace_feed.specs.Rows.{LineMeaning}
 use Rattle.trace_feed.proofs.RowLaws.{Says, no_field, onto, says_passed, some_fields}

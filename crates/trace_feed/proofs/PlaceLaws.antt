@@ -8,7 +8,7 @@ use Rattle.std.proofs.lemmas.Slice.Eq.{bytes_eq-Decides}
 use Rattle.std.proofs.Math.Bool.{or-true, or-false}
 use Rattle.mltl_base.specs.Tables.{Table, entry_of, is_named}
 use Rattle.trace_feed.specs.Header.{first_place, times}
-use Rattle.trace_feed.specs.Places.{ArePlaces, place_of}
+use Rattle.trace_feed.specs.Places.{AreColumnPlaces, column_of}
 use Rattle.trace_feed.specs.declared.names.Places.{Places}
 
 -- tables with one more entry
@@ -49,25 +49,25 @@ first_new [] n x none same = rw same refl
 first_new (m ∷ names) n x none same = first_new_step m names n x (λ none'. first_new names n x none' same) (bytes_eq x m) refl (let t = times_cons m names x in omega arith)
 
 -- the first place by the number of times
-place_none : (names : List (List ℕ)) (x : List ℕ) → times names x ≡ 0 → place_of names x ≡ None
+place_none : (names : List (List ℕ)) (x : List ℕ) → times names x ≡ 0 → column_of names x ≡ None
 place_none names x none = rw none refl
 
-place_some : (names : List (List ℕ)) (x : List ℕ) → 1 ≤ times names x → place_of names x ≡ Some (first_place names x)
+place_some : (names : List (List ℕ)) (x : List ℕ) → 1 ≤ times names x → column_of names x ≡ Some (first_place names x)
 place_some names x some = let more : (times names x == 0) ≡ false = ne_eqb (times names x) 0 (λ e. omega arith) in rw more refl
 
 -- a name that is told to stand nowhere, or somewhere
-stands_nowhere : (names : List (List ℕ)) (x : List ℕ) → is_some (place_of names x) ≡ false → times names x ≡ 0
+stands_nowhere : (names : List (List ℕ)) (x : List ℕ) → is_some (column_of names x) ≡ false → times names x ≡ 0
 stands_nowhere names x none = elim (cases_lt 0 (times names x)) [ inl some ↦ absurd (let h = place_some names x some in cc) | inr few ↦ omega arith ]
 
-stands_somewhere : (names : List (List ℕ)) (x : List ℕ) → is_some (place_of names x) ≡ true → 1 ≤ times names x
+stands_somewhere : (names : List (List ℕ)) (x : List ℕ) → is_some (column_of names x) ≡ true → 1 ≤ times names x
 stands_somewhere names x some = elim (cases_lt 0 (times names x)) [ inl more ↦ omega arith | inr few ↦ absurd (let none : times names x ≡ 0 = omega arith in let h = place_none names x none in cc) ]
 
-place_old : (names : List (List ℕ)) (n x : List ℕ) → 1 ≤ times names x → place_of (names ++ n ∷ []) x ≡ place_of names x
+place_old : (names : List (List ℕ)) (n x : List ℕ) → 1 ≤ times names x → column_of (names ++ n ∷ []) x ≡ column_of names x
 place_old names n x some =
     place_some (names ++ n ∷ []) x (omega (arith, times_push names n x)) ∙ (ap Some (first_old names n x some) ∙ sym (place_some names x some))
 
 -- the first place, after a name that stands already, or another name
-place_stays : (names : List (List ℕ)) (n x : List ℕ) → (bytes_eq x n ≡ true → 1 ≤ times names x) → place_of (names ++ n ∷ []) x ≡ place_of names x
+place_stays : (names : List (List ℕ)) (n x : List ℕ) → (bytes_eq x n ≡ true → 1 ≤ times names x) → column_of (names ++ n ∷ []) x ≡ column_of names x
 place_stays names n x known =
     elim (cases_lt 0 (times names x)) [
       | inl some ↦ place_old names n x (omega arith)
@@ -79,11 +79,11 @@ place_stays names n x known =
     ]
 
 -- and after a name that didn't stand
-place_more : (names : List (List ℕ)) (n x : List ℕ) → cond (is_some (place_of names x)) (place_of names x) (cond (bytes_eq x n) (Some (length names)) None) ≡ place_of (names ++ n ∷ []) x
+place_more : (names : List (List ℕ)) (n x : List ℕ) → cond (is_some (column_of names x)) (column_of names x) (cond (bytes_eq x n) (Some (length names)) None) ≡ column_of (names ++ n ∷ []) x
 place_more names n x =
     let rest : Option ℕ = cond (bytes_eq x n) (Some (length names)) None in
     elim (cases_lt 0 (times names x)) [
-      | inl some ↦ let old : place_of names x ≡ Some (first_place names x) = place_some names x (omega arith) in
+      | inl some ↦ let old : column_of names x ≡ Some (first_place names x) = place_some names x (omega arith) in
           ap (λ o. cond (is_some o) o rest) old ∙ (sym old ∙ sym (place_old names n x (omega arith)))
       | inr few ↦ let none : times names x ≡ 0 = omega arith in
           ap (λ o. cond (is_some o) o rest) (place_none names x none) ∙ elim (cases_Bool (bytes_eq x n)) [
@@ -137,22 +137,22 @@ named_push x es e = ap is_some (entry_push x es e) ∙ join (entry_of x es) (byt
     join (Some w) b v = refl
 
 -- the tables after one more column: of a new name, of one that stands a second time, and of one that stands more often
-pub places_new : (names : List (List ℕ)) (p : Places) (n : List ℕ) (column : ℕ) (first : Table ℕ) → ArePlaces names p → 1 ≤ length n → length n ≤ 64 → length names ≡ column
-    → is_named n p.first ≡ false → first ≡ p.first ++ (n, column) ∷ [] → ArePlaces (names ++ n ∷ []) (record { first = first; again = p.again })
+pub places_new : (names : List (List ℕ)) (p : Places) (n : List ℕ) (column : ℕ) (first : Table ℕ) → AreColumnPlaces names p → 1 ≤ length n → length n ≤ 64 → length names ≡ column
+    → is_named n p.first ≡ false → first ≡ p.first ++ (n, column) ∷ [] → AreColumnPlaces (names ++ n ∷ []) (record { first = first; again = p.again })
 places_new names p n column first h lo hi size unknown is =
     let none : times names n ≡ 0 = stands_nowhere names n (ap is_some (sym (h.first n lo hi)) ∙ unknown) in
     record {
       first = λ x xlo xhi. ap (entry_of x) is ∙ (entry_push x p.first (n, column)
           ∙ (ap (λ (o : Option ℕ). cond (is_some o) o (cond (bytes_eq x n) (Some column) None)) (h.first x xlo xhi)
-          ∙ (ap (λ c. cond (is_some (place_of names x)) (place_of names x) (cond (bytes_eq x n) (Some c) None)) (sym size) ∙ place_more names n x)));
+          ∙ (ap (λ c. cond (is_some (column_of names x)) (column_of names x) (cond (bytes_eq x n) (Some c) None)) (sym size) ∙ place_more names n x)));
       again = λ x xlo xhi. h.again x xlo xhi ∙ again_new names n x none;
     }
 
-known_place : (names : List (List ℕ)) (p : Places) (n : List ℕ) → ArePlaces names p → 1 ≤ length n → length n ≤ 64 → is_named n p.first ≡ true → 1 ≤ times names n
+known_place : (names : List (List ℕ)) (p : Places) (n : List ℕ) → AreColumnPlaces names p → 1 ≤ length n → length n ≤ 64 → is_named n p.first ≡ true → 1 ≤ times names n
 known_place names p n h lo hi known = stands_somewhere names n (ap is_some (sym (h.first n lo hi)) ∙ known)
 
-pub places_again : (names : List (List ℕ)) (p : Places) (n : List ℕ) (column : ℕ) (again : Table ℕ) → ArePlaces names p → 1 ≤ length n → length n ≤ 64
-    → is_named n p.first ≡ true → again ≡ p.again ++ (n, column) ∷ [] → ArePlaces (names ++ n ∷ []) (record { first = p.first; again = again })
+pub places_again : (names : List (List ℕ)) (p : Places) (n : List ℕ) (column : ℕ) (again : Table ℕ) → AreColumnPlaces names p → 1 ≤ length n → length n ≤ 64
+    → is_named n p.first ≡ true → again ≡ p.again ++ (n, column) ∷ [] → AreColumnPlaces (names ++ n ∷ []) (record { first = p.first; again = again })
 places_again names p n column again h lo hi known is =
     let some : 1 ≤ times names n = known_place names p n h lo hi known in
     record {
@@ -160,8 +160,8 @@ places_again names p n column again h lo hi known is =
       again = λ x xlo xhi. ap (is_named x) is ∙ (named_push x p.again (n, column) ∙ (ap (λ b. b || bytes_eq x n) (h.again x xlo xhi) ∙ again_first names n x some));
     }
 
-pub places_kept : (names : List (List ℕ)) (p : Places) (n : List ℕ) → ArePlaces names p → 1 ≤ length n → length n ≤ 64
-    → is_named n p.first ≡ true → is_named n p.again ≡ true → ArePlaces (names ++ n ∷ []) p
+pub places_kept : (names : List (List ℕ)) (p : Places) (n : List ℕ) → AreColumnPlaces names p → 1 ≤ length n → length n ≤ 64
+    → is_named n p.first ≡ true → is_named n p.again ≡ true → AreColumnPlaces (names ++ n ∷ []) p
 places_kept names p n h lo hi known twice =
     let two : 2 ≤ times names n = let more = ltb-true 1 (times names n) (sym (h.again n lo hi) ∙ twice) in omega arith in
     record {
@@ -170,7 +170,7 @@ places_kept names p n h lo hi known twice =
     }
 
 -- a column without a name that a signal may have
-pub places_other : (names : List (List ℕ)) (p : Places) (n : List ℕ) → ArePlaces names p → ((1 ≤ length n) × (length n ≤ 64) → ⊥) → ArePlaces (names ++ n ∷ []) p
+pub places_other : (names : List (List ℕ)) (p : Places) (n : List ℕ) → AreColumnPlaces names p → ((1 ≤ length n) × (length n ≤ 64) → ⊥) → AreColumnPlaces (names ++ n ∷ []) p
 places_other names p n h odd = record {
   first = λ x xlo xhi. h.first x xlo xhi ∙ sym (place_stays names n x (λ same. absurd (odd (fit x xlo xhi same))));
   again = λ x xlo xhi. h.again x xlo xhi ∙ again_other names n x (false_from_ne_true (bytes_eq x n) (λ same. odd (fit x xlo xhi same)));

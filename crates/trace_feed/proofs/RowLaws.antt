@@ -5,7 +5,7 @@ use Rattle.std.specs.List.{before_first, position_or_len}
 use Rattle.std.proofs.lemmas.Bool.{cases_lt, lt-ltb, le-ltb}
 use Rattle.std.proofs.lemmas.List.{drop-drop, length-drop}
 use Rattle.std.proofs.lemmas.List.Splits.{slice_split_first}
-use Rattle.trace_feed.specs.Rows.{LineMeaning, Tells, row, blank, not_whole, out_of_range, too_few, put_in_front, field_before, row_from, value_of, is_comma, fields_from, fields_of}
+use Rattle.trace_feed.specs.Rows.{LineMeaning, IsMeaningOf, row, blank, not_whole, out_of_range, too_few, put_in_front, field_before, row_from, field_value, is_comma, fields_from, fields_of}
 use Rattle.trace_feed.specs.Readings.{fields_meaning}
 use Rattle.trace_feed.specs.declared.fields.FieldFault.TheVariants.{NotWhole, OutOfRange}
 use Rattle.trace_feed.specs.declared.fields.Reading.{Reading}
@@ -85,7 +85,7 @@ next_field line at size inside is =
     ])
 
 -- one field, and those after it
-field_step : (reading : ℕ → Reading) (c n : ℕ) (field : List ℕ) (fields : List (List ℕ)) (v : ℤ) → value_of (reading c) field ≡ Ok v
+field_step : (reading : ℕ → Reading) (c n : ℕ) (field : List ℕ) (fields : List (List ℕ)) (v : ℤ) → field_value (reading c) field ≡ Ok v
     → fields_meaning reading c (suc n) (field ∷ fields) ≡ put_in_front v (fields_meaning reading (suc c) n fields)
 unfolding row_from
 field_step reading c n field fields v good =
@@ -123,7 +123,7 @@ says_at_start reading width line =
 
 -- a field with a number goes to the others
 pub says_next : (reading : ℕ → Reading) (c width at size : ℕ) (line : List ℕ) (ns : List ℤ) (v : ℤ) (m : LineMeaning) → c < width → at ≤ length line → size ≡ position_or_len is_comma (drop at line)
-    → value_of (reading c) (before_first is_comma (drop at line)) ≡ Ok v → Says reading c (width - c) ns line at m → Says reading (c + 1) (width - (c + 1)) (ns ++ v ∷ []) line (at + (size + 1)) m
+    → field_value (reading c) (before_first is_comma (drop at line)) ≡ Ok v → Says reading c (width - c) ns line at m → Says reading (c + 1) (width - (c + 1)) (ns ++ v ∷ []) line (at + (size + 1)) m
 says_next reading c width at size line ns v m more inside is good so_far =
     let left : ℕ = width - (c + 1) in
     let here : width - c ≡ suc left = omega arith in
@@ -170,7 +170,7 @@ unread_fields reading (suc n) c left (field ∷ fields) more unread =
     let place : c + suc n ≡ suc c + n = omega arith in
     let size : left - suc n ≡ left - 1 - n = omega arith in
     let none : reading c ≡ Unread = ap reading (sym start) ∙ unread 0 (omega arith) in
-    let good : value_of (reading c) field ≡ Ok (pos 0) = ap (λ r. value_of r field) none in
+    let good : field_value (reading c) field ≡ Ok (pos 0) = ap (λ r. field_value r field) none in
     let rest : onto (replicate n (pos 0)) (fields_meaning reading (suc c + n) (left - 1 - n) (drop n fields)) ≡ fields_meaning reading (suc c) (left - 1) fields =
     unread_fields reading n (suc c) (left - 1) fields (omega arith) (λ k below. let at : suc c + k ≡ c + suc k = omega arith in ap reading at ∙ unread (suc k) (omega arith)) in
     ap (λ k. onto (replicate (suc n) (pos 0)) (fields_meaning reading k (left - suc n) (drop n fields))) place
@@ -207,7 +207,7 @@ says_too_few reading c width at line ns m more past so_far =
 
 -- a faulty field, with enough after it
 enough_is : (reading : ℕ → Reading) (c left : ℕ) (rest : List ℕ) → 0 < left → left ≤ length (fields_of rest)
-    → (more : LineMeaning) × (fields_meaning reading c left (fields_of rest) ≡ field_before c (value_of (reading c) (before_first is_comma rest)) more)
+    → (more : LineMeaning) × (fields_meaning reading c left (fields_of rest) ≡ field_before c (field_value (reading c) (before_first is_comma rest)) more)
 unfolding row_from
 enough_is reading c left rest some enough =
     let after : List (List ℕ) = fields_from rest (position_or_len is_comma rest + 1) in
@@ -220,20 +220,20 @@ enough_is reading c left rest some enough =
           ∙ ap (λ n. row_from reading c (take n (before_first is_comma rest ∷ after))) size,
     )
 
-pub fault_not_whole : (reading : ℕ → Reading) (c left : ℕ) (rest : List ℕ) → 0 < left → left ≤ length (fields_of rest) → value_of (reading c) (before_first is_comma rest) ≡ Err NotWhole
+pub fault_not_whole : (reading : ℕ → Reading) (c left : ℕ) (rest : List ℕ) → 0 < left → left ≤ length (fields_of rest) → field_value (reading c) (before_first is_comma rest) ≡ Err NotWhole
     → fields_meaning reading c left (fields_of rest) ≡ not_whole c
 fault_not_whole reading c left rest some enough bad =
     let found = enough_is reading c left rest some enough in
     found.1 ∙ ap (λ v. field_before c v found.0) bad
 
-pub fault_out_of_range : (reading : ℕ → Reading) (c left : ℕ) (rest : List ℕ) → 0 < left → left ≤ length (fields_of rest) → value_of (reading c) (before_first is_comma rest) ≡ Err OutOfRange
+pub fault_out_of_range : (reading : ℕ → Reading) (c left : ℕ) (rest : List ℕ) → 0 < left → left ≤ length (fields_of rest) → field_value (reading c) (before_first is_comma rest) ≡ Err OutOfRange
     → fields_meaning reading c left (fields_of rest) ≡ out_of_range c
 fault_out_of_range reading c left rest some enough bad =
     let found = enough_is reading c left rest some enough in
     found.1 ∙ ap (λ v. field_before c v found.0) bad
 
 -- what is told of the fields from a fault on, whatever the numbers, is told of the line
-pub told_fault : (result : answer.RowAnswer) (ns values : Row) (x m : LineMeaning) → ((others : Row) → Tells result others x) → onto ns x ≡ m → Tells result values m
+pub told_fault : (result : answer.RowAnswer) (ns values : Row) (x m : LineMeaning) → ((others : Row) → IsMeaningOf result others x) → onto ns x ≡ m → IsMeaningOf result values m
 told_fault answer.TheVariants.Good ns values x m told is = absurd (let one : x ≡ row [] = told [] in let other : x ≡ row (pos 0 ∷ []) = told (pos 0 ∷ []) in cc)
 told_fault answer.TheVariants.Blank ns values x m told is = sym is ∙ ap (onto ns) (told []) ∙ onto_blank ns
 told_fault answer.TheVariants.Width ns values x m told is = sym is ∙ ap (onto ns) (told []) ∙ onto_too_few ns

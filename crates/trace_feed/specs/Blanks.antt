@@ -9,9 +9,9 @@ abbrev pub without_front : List ℕ → List ℕ
 without_front bytes = drop (prefix_len is_blank bytes) bytes
 
 -- without the blanks at the end
-abbrev pub without_end : List ℕ → List ℕ
-without_end bytes = take (length bytes - suffix_len is_blank bytes) bytes
+abbrev pub without_end_blanks : List ℕ → List ℕ
+without_end_blanks bytes = take (length bytes - suffix_len is_blank bytes) bytes
 
 -- without the blanks around
 unfoldable pub trimmed : List ℕ → List ℕ
-trimmed bytes = without_end (without_front bytes)
+trimmed bytes = without_end_blanks (without_front bytes)

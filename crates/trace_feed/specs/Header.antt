@@ -19,13 +19,13 @@ abbrev pub begins_header : List ℕ → Bool
 begins_header line = slice_index line 0 == 35
 
 -- the fields of a record, none where there is no record
-abbrev pub fields_in : Option Read → List (List ℕ)
-fields_in None = []
-fields_in (Some read) = read.0
+abbrev pub record_fields : Option Read → List (List ℕ)
+record_fields None = []
+record_fields (Some read) = read.0
 
 -- the fields of the first record of a text, as csv reads it in its default form
 unfoldable pub first_record : List ℕ → List (List ℕ)
-first_record text = fields_in (next_record default_config state.StartRecord [] [] (strip_bom text))
+first_record text = record_fields (next_record default_config state.StartRecord [] [] (strip_bom text))
 
 -- the names of the columns: the fields of the record after the number sign, without the blanks around them
 abbrev pub names_of : List ℕ → List (List ℕ)

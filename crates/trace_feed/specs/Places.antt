@@ -6,11 +6,11 @@ use Rattle.trace_feed.specs.Header.{times, first_place}
 use Rattle.trace_feed.specs.declared.names.Places.{Places}
 
 -- the first column that has a name, if one has it
-abbrev pub place_of : List (List ℕ) → List ℕ → Option ℕ
-place_of names name = if times names name == 0 then None else Some (first_place names name)
+abbrev pub column_of : List (List ℕ) → List ℕ → Option ℕ
+column_of names name = if times names name == 0 then None else Some (first_place names name)
 
 -- the tables have for each name of 1 to 64 bytes its first column, and whether there is another
-pub record ArePlaces (names : List (List ℕ)) (places : Places) : Type 0 where
-  pub first : (name : List ℕ) → 1 ≤ length name → length name ≤ 64 → entry_of name places.first ≡ place_of names name
+pub record AreColumnPlaces (names : List (List ℕ)) (places : Places) : Type 0 where
+  pub first : (name : List ℕ) → 1 ≤ length name → length name ≤ 64 → entry_of name places.first ≡ column_of names name
   pub again : (name : List ℕ) → 1 ≤ length name → length name ≤ 64
       → is_named name places.again ≡ nat_lt 1 (times names name)

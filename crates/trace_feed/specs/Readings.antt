@@ -9,7 +9,7 @@ use Rattle.trace_feed.specs.declared.fields.FieldFault.{FieldFault}
 use Rattle.trace_feed.specs.declared.fields.Reading.{Reading}
 use Rattle.trace_feed.specs.declared.fields.Reading.TheVariants.{Unread, Whole, Truth}
 use Rattle.mltl_base.specs.Atoms.{Row}
-use Rattle.trace_feed.specs.declared.passing.Spot.{Spot}
+use Rattle.trace_feed.specs.declared.unread_fields.Spot.{Spot}
 use Rattle.trace_feed.specs.Rows.{LineMeaning, fields_from, has_32_bits, in_range, is_bit, reading_of, row_from}
 use Rattle.trace_feed.specs.Rows.{too_few}
 
@@ -34,10 +34,10 @@ abbrev pub sign_length : List ℕ → ℕ
 sign_length field = cond (starts_with_minus field) 1 (cond (slice_index field 0 == 43) 1 0)
 
 -- the value of a number in a column that is read so
-abbrev pub value_at : Reading → ℤ → Result ℤ FieldFault
-value_at Unread n = Ok (pos 0)
-value_at Whole n = in_range has_32_bits n
-value_at Truth n = in_range is_bit n
+abbrev pub read_value : Reading → ℤ → Result ℤ FieldFault
+read_value Unread n = Ok (pos 0)
+read_value Whole n = in_range has_32_bits n
+read_value Truth n = in_range is_bit n
 
 -- what the fields say of column c and those after it, of which there are n: too few, or the row or its first fault
 abbrev pub fields_meaning : (ℕ → Reading) → ℕ → ℕ → List (List ℕ) → LineMeaning

@@ -47,14 +47,14 @@ abbrev pub in_range : (ℤ → Bool) → ℤ → Result ℤ FieldFault
 in_range range n = if range n then Ok n else Err OutOfRange
 
 -- the number that a field writes, where it writes one, and one of the range
-abbrev pub number_in : (ℤ → Bool) → List ℕ → Result ℤ FieldFault
-number_in range field = if is_numeral field then in_range range (signed_digits_value 10 field) else Err NotWhole
+abbrev pub field_number : (ℤ → Bool) → List ℕ → Result ℤ FieldFault
+field_number range field = if is_numeral field then in_range range (signed_digits_value 10 field) else Err NotWhole
 
 -- what a field holds, in a column that is read so; a column that isn't read may hold anything, and counts as 0
-abbrev pub value_of : Reading → List ℕ → Result ℤ FieldFault
-value_of Unread field = Ok (pos 0)
-value_of Whole field = number_in has_32_bits (trimmed field)
-value_of Truth field = number_in is_bit (trimmed field)
+abbrev pub field_value : Reading → List ℕ → Result ℤ FieldFault
+field_value Unread field = Ok (pos 0)
+field_value Whole field = field_number has_32_bits (trimmed field)
+field_value Truth field = field_number is_bit (trimmed field)
 
 -- the instruction reads the column as a Boolean
 abbrev pub reads_truth : ℕ → bz.BzOp → Bool
@@ -99,7 +99,7 @@ field_before c (Err OutOfRange) others = out_of_range c
 -- the row of the fields of column c and those after it, or the first fault
 unfoldable pub row_from : (ℕ → Reading) → ℕ → List (List ℕ) → LineMeaning
 row_from reading c [] = row []
-row_from reading c (field ∷ fields) = field_before c (value_of (reading c) field) (row_from reading (suc c) fields)
+row_from reading c (field ∷ fields) = field_before c (field_value (reading c) field) (row_from reading (suc c) fields)
 
 -- what a line says; fields past the width aren't read
 abbrev pub line_meaning : Program → List ℕ → LineMeaning
@@ -109,9 +109,9 @@ line_meaning program line =
     else row_from (reading_of program.bz) 0 (take program.width (fields_of line))
 
 -- a result, with the numbers that came with it, is what a line says
-abbrev pub Tells : answer.RowAnswer → Row → LineMeaning → Type 0
-Tells answer.TheVariants.Good values meaning = meaning ≡ row values
-Tells answer.TheVariants.Blank values meaning = meaning ≡ blank
-Tells answer.TheVariants.Width values meaning = meaning ≡ too_few
-Tells (answer.TheVariants.NotWhole c) values meaning = meaning ≡ not_whole c
-Tells (answer.TheVariants.OutOfRange c) values meaning = meaning ≡ out_of_range c
+abbrev pub IsMeaningOf : answer.RowAnswer → Row → LineMeaning → Type 0
+IsMeaningOf answer.TheVariants.Good values meaning = meaning ≡ row values
+IsMeaningOf answer.TheVariants.Blank values meaning = meaning ≡ blank
+IsMeaningOf answer.TheVariants.Width values meaning = meaning ≡ too_few
+IsMeaningOf (answer.TheVariants.NotWhole c) values meaning = meaning ≡ not_whole c
+IsMeaningOf (answer.TheVariants.OutOfRange c) values meaning = meaning ≡ out_of_range c

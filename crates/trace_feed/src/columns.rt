@@ -8,7 +8,7 @@ ghost use Rattle.csv.specs.Records.{fields_of};
 ghost use Rattle.csv.specs.declared.parser.State.TheVariants as state;
 ghost use Rattle.obs_verify.specs.Bound.{AreDifferent};
 ghost use Rattle.trace_feed.specs.Header.{AreDifferentNames, begins_header, bound_to, columns_in_order, columns_of, first_record as csv_record, header_meaning, names_of, of_width};
-ghost use Rattle.trace_feed.specs.Places.{ArePlaces};
+ghost use Rattle.trace_feed.specs.Places.{AreColumnPlaces};
 
 use crate::header_fault::HeaderFault;
 use crate::names::Places;
@@ -60,7 +60,7 @@ fn read_header(alloc: Global, line: &[u8]) -> Result<NamedColumns, HeaderFault>
     ensures begins { IfOk result (λ named. begins_header line.now ≡ true) }
     ensures width { IfOk result (λ named. named.width ≡ length (names_of line.now)) }
     ensures narrow { IfOk result (λ named. named.width ≤ MAX_SIGNALS) }
-    ensures places { IfOk result (λ named. ArePlaces (names_of line.now) named.places) }
+    ensures places { IfOk result (λ named. AreColumnPlaces (names_of line.now) named.places) }
     ensures fault { IfErr result (λ fault. fault ≢ HeaderFault.Memory
         → (fault ≡ HeaderFault.NoHeader) × (begins_header line.now ≡ false)) }
 {
@@ -81,10 +81,10 @@ fn columns_of_signals(
     signals: &[Signal],
 ) -> Result<Columns, HeaderFault>
     ensures columns { IfOk result (λ columns. (names : Items (Items ℕ)) →
-        ArePlaces names named.now.places → of_width named.now.width
+        AreColumnPlaces names named.now.places → of_width named.now.width
         (columns_of names (map (λ s. s.name) signals.now)) ≡ Ok columns) }
     ensures fault { IfErr result (λ fault. fault ≢ HeaderFault.Memory
-        → (names : Items (Items ℕ)) → ArePlaces names named.now.places
+        → (names : Items (Items ℕ)) → AreColumnPlaces names named.now.places
         → columns_of names (map (λ s. s.name) signals.now) ≡ Err fault) }
 {
     let mut of_signal = List::new(alloc);
@@ -103,10 +103,10 @@ fn columns_of_stored(
     signals: &[StoredSignal],
 ) -> Result<Columns, HeaderFault>
     ensures columns { IfOk result (λ columns. (names : Items (Items ℕ)) →
-        ArePlaces names named.now.places → of_width named.now.width
+        AreColumnPlaces names named.now.places → of_width named.now.width
         (columns_of names (map (λ s. s.name) signals.now)) ≡ Ok columns) }
     ensures fault { IfErr result (λ fault. fault ≢ HeaderFault.Memory
-        → (names : Items (Items ℕ)) → ArePlaces names named.now.places
+        → (names : Items (Items ℕ)) → AreColumnPlaces names named.now.places
         → columns_of names (map (λ s. s.name) signals.now) ≡ Err fault) }
 {
     let mut of_signal = List::new(alloc);

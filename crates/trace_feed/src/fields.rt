@@ -5,8 +5,8 @@ ghost use Rattle.std.specs.Char.{is_ascii_digit};
 ghost use Rattle.std.specs.List.{before_first, list_all, position_or_len};
 ghost use Rattle.std.specs.Str.Parse.{AllDigits, digits_value, signed_digits_value, without_leading_sign};
 ghost use Rattle.trace_feed.specs.declared.fields.Reading.{Reading as Way};
-ghost use Rattle.trace_feed.specs.Readings.{sign_length, value_at as value_with};
-ghost use Rattle.trace_feed.specs.Rows.{has_32_bits, in_range, is_bit, is_comma, is_numeral as writes_number, number_in, value_of as value_in};
+ghost use Rattle.trace_feed.specs.Readings.{sign_length, read_value as value_with};
+ghost use Rattle.trace_feed.specs.Rows.{has_32_bits, in_range, is_bit, is_comma, is_numeral as writes_number, field_number, field_value as value_in};
 
 use crate::blanks::trimmed;
 use std::str;
@@ -62,7 +62,7 @@ fn is_numeral(field: &[u8]) -> bool
 
 /// The number that a field writes, which has 32 bits with its sign.
 fn whole_number(field: &[u8]) -> Result<i64, FieldFault>
-    ensures { result ≡ number_in has_32_bits field.now }
+    ensures { result ≡ field_number has_32_bits field.now }
 {
     if !is_numeral(field) {
         return Err(FieldFault::NotWhole);
@@ -89,7 +89,7 @@ fn truth(number: i64) -> Result<i64, FieldFault>
 
 /// The truth that a field writes.
 fn truth_number(field: &[u8]) -> Result<i64, FieldFault>
-    ensures { result ≡ number_in is_bit field.now }
+    ensures { result ≡ field_number is_bit field.now }
 {
     truth(whole_number(field)?)
 }

@@ -10,10 +10,10 @@ mod fields;
 mod header_fault;
 mod laws;
 mod names;
-mod passing;
 mod readings;
 mod rows;
 mod trace_why;
+mod unread_fields;
 
 pub use columns::{bind_to_header, header, header_of, in_order};
 pub use fields::{FieldFault, Reading};

@@ -4,7 +4,7 @@ ghost use Rattle.std.specs.Prelude.{◌≡◌, ◌<◌, ◌^◌, ◌++◌, ◌�
 ghost use Rattle.csv.specs.Records.{fields_of};
 ghost use Rattle.trace_feed.specs.Blanks.{trimmed as without_blanks};
 ghost use Rattle.trace_feed.specs.Header.{column_of};
-ghost use Rattle.trace_feed.specs.Places.{ArePlaces};
+ghost use Rattle.trace_feed.specs.Places.{AreColumnPlaces};
 
 use crate::blanks::trimmed;
 use crate::header_fault::HeaderFault;
@@ -34,7 +34,7 @@ fn name_at(fields: &ByteRecord, c: usize) -> &[u8]
 
 impl Places {
     fn new(alloc: Global) -> Self
-        ensures { ArePlaces [] result }
+        ensures { AreColumnPlaces [] result }
     {
         Places {
             first: NameTable::new(alloc),
@@ -45,8 +45,8 @@ impl Places {
     /// Notes the name of the next column. No signal has a name that isn't 1 to 64 bytes long.
     fn add(&mut self, alloc: Global, name: &[u8], column: u32) -> Result<(), AllocError>
         ensures { OnOk result ((names : List (List ℕ)) → length names ≡ column
-            → ArePlaces names self.old
-            → ArePlaces (names ++ name.now ∷ []) self.new) }
+            → AreColumnPlaces names self.old
+            → AreColumnPlaces (names ++ name.now ∷ []) self.new) }
     {
         match Name::of(name) {
             Some(name) => self.note(alloc, &name, column),
@@ -56,8 +56,8 @@ impl Places {
 
     fn note(&mut self, alloc: Global, name: &Name, column: u32) -> Result<(), AllocError>
         ensures { OnOk result ((names : List (List ℕ)) → length names ≡ column
-            → ArePlaces names self.old
-            → ArePlaces (names ++ name.now ∷ []) self.new) }
+            → AreColumnPlaces names self.old
+            → AreColumnPlaces (names ++ name.now ∷ []) self.new) }
     {
         let _ = name.bytes();
         if !self.first.contains(name) {
@@ -71,7 +71,7 @@ impl Places {
     /// The places of the names of a record, without the blanks around them.
     pub fn of(alloc: Global, fields: &ByteRecord) -> Result<Places, AllocError>
         requires { length (fields_of fields.now) < 2 ^ 32 }
-        ensures { IfOk result (ArePlaces (map without_blanks (fields_of fields.now))) }
+        ensures { IfOk result (AreColumnPlaces (map without_blanks (fields_of fields.now))) }
     {
         let mut places = Places::new(alloc);
         for c in 0..fields.len() {
@@ -82,7 +82,7 @@ impl Places {
 
     /// The one column that has a name.
     pub fn find(&self, name: &Name) -> Result<u32, HeaderFault>
-        ensures { (names : List (List ℕ)) → ArePlaces names self.now
+        ensures { (names : List (List ℕ)) → AreColumnPlaces names self.now
             → result ≡ column_of names name.now }
     {
         let _ = name.bytes();

@@ -6,11 +6,11 @@ ghost use Rattle.mltl_base.specs.Atoms.{Row};
 ghost use Rattle.mltl_base.specs.Programs.{IsFit};
 ghost use Rattle.trace_feed.specs.declared.fields.Reading.{Reading as Way};
 ghost use Rattle.trace_feed.specs.Readings.{AreReadings, fields_meaning, readings_of};
-ghost use Rattle.trace_feed.specs.Rows.{Tells, fields_of, is_comma, line_meaning, reading_of, reads_truth, reads_whole, value_of};
+ghost use Rattle.trace_feed.specs.Rows.{IsMeaningOf, fields_of, is_comma, line_meaning, reading_of, reads_truth, reads_whole, field_value};
 
 use crate::fields::{FieldFault, Reading, first_field};
-use crate::passing::{Spot, pass_unread};
 use crate::readings::Readings;
+use crate::unread_fields::{Spot, pass_unread};
 use mltl_base::BzOp;
 use mltl_base::blanks::is_blank_line;
 use obs_verify::Checked;
@@ -45,8 +45,8 @@ fn commas(line: &[u8]) -> usize
 fn fault_at(c: u32, fault: FieldFault, rest: &[u8], left: u32) -> RowAnswer
     requires some { 0 < left }
     ensures { (reading : ℕ → Way) (values : Row) →
-        value_of (reading c) (before_first is_comma rest.now) ≡ Err fault
-        → Tells result values (fields_meaning reading c left (fields_of rest.now)) }
+        field_value (reading c) (before_first is_comma rest.now) ≡ Err fault
+        → IsMeaningOf result values (fields_meaning reading c left (fields_of rest.now)) }
 {
     if commas(rest) + 1 < left as usize {
         return RowAnswer::Width;
@@ -63,7 +63,7 @@ fn read_fields(line: &[u8], width: u32, readings: &[Reading], fields: &mut [i64]
     requires wide { length fields.old ≡ width }
     requires one_each { length readings.now ≡ width }
     ensures { (reading : ℕ → Way) → AreReadings reading readings.now
-        → Tells result fields.new (fields_meaning reading 0 width (fields_of line.now)) }
+        → IsMeaningOf result fields.new (fields_meaning reading 0 width (fields_of line.now)) }
 {
     let mut spot = Spot { column: 0, at: 0 };
     'columns: while spot.column < width {
@@ -118,7 +118,7 @@ fn reading_in(ops: &[BzOp], c: u32) -> Reading
 /// Reads the fields of a line from left to right, and looks for each column among the instructions.
 fn search_fields(line: &[u8], width: u32, ops: &[BzOp], fields: &mut [i64]) -> RowAnswer
     requires wide { length fields.old ≡ width }
-    ensures { Tells result fields.new
+    ensures { IsMeaningOf result fields.new
         (fields_meaning (reading_of ops.now) 0 width (fields_of line.now)) }
 {
     let mut at = 0;
@@ -148,7 +148,7 @@ fn search_fields(line: &[u8], width: u32, ops: &[BzOp], fields: &mut [i64]) -> R
 /// Each column is looked for among the instructions. To read many lines, keep `Readings` and call `row_fields_by`.
 pub fn row_fields(line: &[u8], checked: &Checked, fields: &mut [i64]) -> RowAnswer
     requires wide { length fields.old ≡ checked.now.width }
-    ensures told { Tells result fields.new (line_meaning checked.now line.now) }
+    ensures told { IsMeaningOf result fields.new (line_meaning checked.now line.now) }
     ensures fit { result ≡ RowAnswer.Good → IsFit checked.now fields.new }
 {
     if is_blank_line(line) {
@@ -167,7 +167,7 @@ pub fn row_fields_by(
 ) -> RowAnswer
     requires wide { length fields.old ≡ checked.now.width }
     requires readings { readings.now ≡ readings_of checked.now }
-    ensures told { Tells result fields.new (line_meaning checked.now line.now) }
+    ensures told { IsMeaningOf result fields.new (line_meaning checked.now line.now) }
     ensures fit { result ≡ RowAnswer.Good → IsFit checked.now fields.new }
 {
     if is_blank_line(line) {

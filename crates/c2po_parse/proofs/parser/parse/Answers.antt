@@ -1,6 +1,6 @@
 use Rattle.std.proofs.Common.{◌≡◌, length, map, sym, ◌∙◌, Ok, rules}
 use Rattle.c2po_ast.specs.ItemShape.{item_shape}
-use Rattle.c2po_lexer.specs.Tokens.{HasPlainName}
+use Rattle.c2po_lexer.specs.Tokens.{HasPlainLetters}
 use Rattle.c2po_parse.proofs.Words.{words-all}
 use Rattle.c2po_parse.specs.Specification.{spec_of}
 use Rattle.c2po_parse.proofs.Spans.{reads_all, reads_end}
@@ -20,4 +20,4 @@ returns-clause-names c =
     λ all. let none : length c.loop-rest.rest.now ≡ 0 = search rules in
     let tree : spec_of c.args.tokens.now ≡ Ok (map item_shape c.loop-rest.items) =
     sym c.loop-rest.invariant ∙ reads_end (map item_shape c.loop-rest.items) c.loop-rest.section c.loop-rest.rest.now none in
-    spec-names c.args.tokens.now (map item_shape c.loop-rest.items) tree (words-all HasPlainName c.args.tokens.now all)
+    spec-names c.args.tokens.now (map item_shape c.loop-rest.items) tree (words-all HasPlainLetters c.args.tokens.now all)

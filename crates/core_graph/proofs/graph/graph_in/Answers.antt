@@ -2,7 +2,7 @@
 use Rattle.std.proofs.Common.{◌≡◌, ◌<◌, Err, All, List, ℕ, length, map, subst, sym, ap, ◌∙◌}
 use Rattle.std.proofs.lemmas.Result.{err_from_is_err_and}
 use Rattle.core_graph.specs.declared.graph.GraphFault.TheVariants.{TooManyNodes}
-use Rattle.core_graph.specs.Listings.{out_of}
+use Rattle.core_graph.specs.Listings.{placed_out}
 use Rattle.core_graph.proofs.Assembly.{many_bz, many_ft, many_pt, bz_made, ft_made, pt_made, outs_made, few_made}
 use Rattle.core_graph.proofs.Lists.{all_within}
 use Rattle.core_graph.proofs.graph.graph_in.Goals as goal
@@ -60,8 +60,8 @@ returns-clause-graph c = λ columns nodes read named.
       ft = c.in_ok-ft_list.ensures ∙ ft_made columns vertices nodes ids outs read named bz.ids.items bz.places.items ft.ids.items ft.places.items pt.ids.items pt.places.items listed listed' listed'';
       pt = c.in_ok-pt_list.ensures ∙ pt_made columns vertices nodes ids outs read named bz.ids.items bz.places.items ft.ids.items ft.places.items pt.ids.items pt.places.items listed listed' listed'';
       reports = c.in_ok-reports.ensures
-          ∙ (ap (λ (ns : List ℕ). map (out_of ids ns c.deref-2.result.now) outs) c.deref.ensures.value
-          ∙ (ap (λ (ns : List ℕ). map (out_of ids ft.places.items ns) outs) c.deref-2.ensures.value
+          ∙ (ap (λ (ns : List ℕ). map (placed_out ids ns c.deref-2.result.now) outs) c.deref.ensures.value
+          ∙ (ap (λ (ns : List ℕ). map (placed_out ids ft.places.items ns) outs) c.deref-2.ensures.value
           ∙ outs_made columns vertices nodes ids outs read named bz.ids.items bz.places.items ft.ids.items ft.places.items pt.ids.items pt.places.items listed listed' listed''));
     }
 

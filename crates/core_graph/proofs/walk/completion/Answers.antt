@@ -6,7 +6,7 @@ use Rattle.mltl_base.specs.declared.limits.TheConstants.{MAX_INSTRUCTIONS}
 use Rattle.core_graph.specs.declared.graph.GraphFault.TheVariants.{TooManyNodes}
 use Rattle.core_graph.specs.declared.vertex.Vertex.{Vertex}
 use Rattle.core_graph.specs.Vertices.{tree_at, trees}
-use Rattle.core_graph.specs.Trees.{Tree, add_tree, completed}
+use Rattle.core_graph.specs.Trees.{LabelTree, add_tree, completed}
 use Rattle.core_graph.specs.Listings.{count_in, is_in}
 use Rattle.core_graph.specs.Walks.{trees_of}
 use Rattle.core_graph.proofs.Orders.{root_grows}
@@ -40,7 +40,7 @@ returns-in_err-visit-clause-too_many c = λ e.
     = c.in_err-visit.ensures.too_many (ap (λ f. Err f) fault) in
     let sofar : count_in c.args.part (add_tree (tree_at (trees vertices) root) (trees_of vertices c.loop-root.walk.order.items))
     ≡ count_in c.args.part (add_tree (tree_at (trees vertices) root) (completed (trees_of vertices (take c.loop-root.root-index roots))))
-    = ap (λ (ts : List Tree). count_in c.args.part (add_tree (tree_at (trees vertices) root) ts)) c.loop-root.invariant.visited in
+    = ap (λ (ts : List LabelTree). count_in c.args.part (add_tree (tree_at (trees vertices) root) ts)) c.loop-root.invariant.visited in
     let more : count_in c.args.part (add_tree (tree_at (trees vertices) root) (completed (trees_of vertices (take c.loop-root.root-index roots)))) ≤ count_in c.args.part (completed (trees_of vertices roots))
     = root_grows (is_in c.args.part) (tree_at (trees vertices)) roots [] c.loop-root.root-index root (slice_get-get_or roots c.loop-root.root-index 0 c.loop-root-test.true) in
     omega arith

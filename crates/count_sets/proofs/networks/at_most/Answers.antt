@@ -1,7 +1,7 @@
 -- The Not of the last row's cell, or of `false` where there are no more bodies.
 use Rattle.std.proofs.Common.{◌≡◌, ◌+◌, false, arith}
 use Rattle.count_sets.specs.Counting.{truth, least}
-use Rattle.count_sets.specs.Tables.{IsTable}
+use Rattle.count_sets.specs.Tables.{IsGateRow}
 use Rattle.count_sets.proofs.Thresholds.{least_above}
 use Rattle.count_sets.proofs.Ends.{false_stands, cell_stands, not_last, not_formed}
 use Rattle.count_sets.proofs.Sharing.{alone_shared, alone_nots, not_shared}
@@ -15,7 +15,7 @@ returns-then-m-n-clause-formula c =
 
 pub returns-clause-formula : goal.returns-clause-formula
 returns-clause-formula c =
-    let t : IsTable (record { bodies = c.args.n; lowest = c.args.m + 1; highest = c.args.m + 1 }) c.args.n c.in_ok-gates.field-0.gates c.in_ok-gates.field-0.row.items
+    let t : IsGateRow (record { bodies = c.args.n; lowest = c.args.m + 1; highest = c.args.m + 1 }) c.args.n c.in_ok-gates.field-0.gates c.in_ok-gates.field-0.row.items
     = c.in_ok-gates.ensures.table in
     not_last c.in_ok-gates.field-0.gates c.add-2.new.gates c.index.result.now (least (c.args.m + 1) c.args.n)
     (cell_stands _ c.args.n c.in_ok-gates.field-0.gates c.in_ok-gates.field-0.row.items (c.args.m + 1) c.index.result.now t (omega arith) (omega arith) c.index.ensures)
@@ -23,7 +23,7 @@ returns-clause-formula c =
 
 pub returns-clause-formed : goal.returns-clause-formed
 returns-clause-formed c =
-    let t : IsTable (record { bodies = c.args.n; lowest = c.args.m + 1; highest = c.args.m + 1 }) c.args.n c.in_ok-gates.field-0.gates c.in_ok-gates.field-0.row.items
+    let t : IsGateRow (record { bodies = c.args.n; lowest = c.args.m + 1; highest = c.args.m + 1 }) c.args.n c.in_ok-gates.field-0.gates c.in_ok-gates.field-0.row.items
     = c.in_ok-gates.ensures.table in
     not_formed c.args.n c.in_ok-gates.field-0.gates c.add-2.new.gates c.index.result.now (least (c.args.m + 1) c.args.n) t.formed
     (cell_stands _ c.args.n c.in_ok-gates.field-0.gates c.in_ok-gates.field-0.row.items (c.args.m + 1) c.index.result.now t (omega arith) (omega arith) c.index.ensures)

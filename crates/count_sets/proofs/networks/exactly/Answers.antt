@@ -1,7 +1,7 @@
 -- Two cells of the last row, or `false` and its Not where there are too few bodies.
 use Rattle.std.proofs.Common.{◌≡◌, ◌+◌, false, arith}
 use Rattle.count_sets.specs.Counting.{truth, least}
-use Rattle.count_sets.specs.Tables.{UnfoldsTo, IsTable}
+use Rattle.count_sets.specs.Tables.{UnfoldsTo, IsGateRow}
 use Rattle.count_sets.proofs.Thresholds.{least_above}
 use Rattle.count_sets.proofs.Ends.{false_stands, false_formed, cell_stands, both_last, both_formed}
 use Rattle.count_sets.proofs.Sharing.{alone_shared, alone_nots, last_both_shared}
@@ -18,7 +18,7 @@ returns-then-m-n-clause-formula c =
 
 pub returns-clause-formula : goal.returns-clause-formula
 returns-clause-formula c =
-    let t : IsTable (record { bodies = c.args.n; lowest = c.args.m; highest = c.args.m + 1 }) c.args.n c.in_ok-gates.field-0.gates c.in_ok-gates.field-0.row.items
+    let t : IsGateRow (record { bodies = c.args.n; lowest = c.args.m; highest = c.args.m + 1 }) c.args.n c.in_ok-gates.field-0.gates c.in_ok-gates.field-0.row.items
     = c.in_ok-gates.ensures.table in
     both_last c.in_ok-gates.field-0.gates c.add-2.new.gates c.add-3.new.gates c.index-2.result.now c.index.result.now c.in_ok-within-2.within
     (least c.args.m c.args.n) (least (c.args.m + 1) c.args.n)
@@ -28,7 +28,7 @@ returns-clause-formula c =
 
 pub returns-clause-formed : goal.returns-clause-formed
 returns-clause-formed c =
-    let t : IsTable (record { bodies = c.args.n; lowest = c.args.m; highest = c.args.m + 1 }) c.args.n c.in_ok-gates.field-0.gates c.in_ok-gates.field-0.row.items
+    let t : IsGateRow (record { bodies = c.args.n; lowest = c.args.m; highest = c.args.m + 1 }) c.args.n c.in_ok-gates.field-0.gates c.in_ok-gates.field-0.row.items
     = c.in_ok-gates.ensures.table in
     both_formed c.args.n c.in_ok-gates.field-0.gates c.add-2.new.gates c.add-3.new.gates c.index-2.result.now c.index.result.now c.in_ok-within-2.within
     (least c.args.m c.args.n) (least (c.args.m + 1) c.args.n) t.formed
@@ -48,7 +48,7 @@ returns-then-m-n-clause-shared c =
 
 pub returns-clause-shared : goal.returns-clause-shared
 returns-clause-shared c =
-    let t : IsTable (record { bodies = c.args.n; lowest = c.args.m; highest = c.args.m + 1 }) c.args.n c.in_ok-gates.field-0.gates c.in_ok-gates.field-0.row.items
+    let t : IsGateRow (record { bodies = c.args.n; lowest = c.args.m; highest = c.args.m + 1 }) c.args.n c.in_ok-gates.field-0.gates c.in_ok-gates.field-0.row.items
     = c.in_ok-gates.ensures.table in
     last_both_shared c.args.n c.in_ok-gates.field-0.gates c.add-2.new.gates c.add-3.new.gates c.index-2.result.now c.index.result.now c.in_ok-within-2.within
     c.in_ok-gates.ensures.rising.shared c.in_ok-gates.ensures.rising.nots t.formed

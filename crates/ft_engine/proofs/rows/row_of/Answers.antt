@@ -3,8 +3,8 @@ use Rattle.mltl_base.specs.declared.operators.FtOp.{FtOp}
 use Rattle.scq_ring.specs.declared.Slot.{Slot}
 use Rattle.ft_engine.specs.declared.queue.Queue.{Queue}
 use Rattle.ft_engine.specs.Queues.{IsAhead, no_queue, op_at, queue_at, size_in, work_before, work_of}
-use Rattle.ft_engine.specs.Plans.{IsOnPlan, IsPaced, IsPlaced, IsReady, IsSeated, Plan}
-use Rattle.ft_engine.specs.Tables.{IsScanned, IsTold, IsUpToDate}
+use Rattle.ft_engine.specs.Plans.{IsOnPlan, IsPaced, ReadsNextAt, IsReadyForRow, IsSeated, Plan}
+use Rattle.ft_engine.specs.Tables.{IsScanned, KnowsVerdicts, IsUpToDate}
 use Rattle.mltl_base.proofs.Pieces.{first_after}
 use Rattle.mltl_base.proofs.Seats.{Stepped, stepped}
 use Rattle.ft_engine.proofs.Turning.{Turned, ready_here, turned_on, seats_on, told_here, Retold, retold_on, work_same, first_size, first_sizes, ahead_same, frontiers_before}
@@ -32,9 +32,9 @@ step-requires-clause-ready g c =
     let queue_is : queue ≡ queue_at queues (length before) = first_after before rest blank no_queue some ∙ ap (λ (ns : List Queue). get_or ns (length before) no_queue) (sym c.split_at_mut-before.ensures.value) in
     let low_is : length low ≡ queue.seat.start = c.split_at_mut-earlier.ensures.front_len in
     let in_ops : length before < length c.args.ops.now = omega arith in
-    let ready : IsReady plan n (op_at c.args.ops.now (length before)) before low queue (take queue.seat.size high) =
+    let ready : IsReadyForRow plan n (op_at c.args.ops.now (length before)) before low queue (take queue.seat.size high) =
     ready_here plan c.args.ops.now queues slab n before rest low high queue c.split_at_mut-before.ensures.value c.split_at_mut-earlier.ensures.value some queue_is low_is turned few in_ops in
-    (plan, n, subst (λ (i : ℕ). IsReady plan n (op_at c.args.ops.now i) before low queue (take queue.seat.size high)) before_count ready)
+    (plan, n, subst (λ (i : ℕ). IsReadyForRow plan n (op_at c.args.ops.now i) before low queue (take queue.seat.size high)) before_count ready)
 
 pub loop-i-preserved : goal.loop-i-preserved
 loop-i-preserved g c =
@@ -70,21 +70,21 @@ loop-i-preserved g c =
       seats = seats_on queues slab (length before) new_queue own queues' slab' st c.args.queues.now i.seats;
       turned = λ plan n few paced.
           let t : Turned plan c.args.ops.now queues slab n (length before) = subst (λ (k : ℕ). Turned plan c.args.ops.now queues slab n k) (sym before_count) (i.turned plan n few paced) in
-          let ready : IsReady plan n (op_at c.args.ops.now c.loop-i.i) before low queue (take queue.seat.size high) =
-          subst (λ (op : FtOp). IsReady plan n op before low queue (take queue.seat.size high)) op_same
+          let ready : IsReadyForRow plan n (op_at c.args.ops.now c.loop-i.i) before low queue (take queue.seat.size high) =
+          subst (λ (op : FtOp). IsReadyForRow plan n op before low queue (take queue.seat.size high)) op_same
           (ready_here plan c.args.ops.now queues slab n before rest low high queue c.split_at_mut-before.ensures.value c.split_at_mut-earlier.ensures.value some queue_is low_is t few in_ops) in
           let on_plan : IsOnPlan plan (op_at c.args.ops.now c.loop-i.i) before new_queue own (n + 1) = c.step.ensures.pace plan n ready in
           subst (λ (k : ℕ). Turned plan c.args.ops.now queues' slab' n (k + 1)) before_count
           (turned_on queues slab (length before) new_queue own queues' slab' st plan c.args.ops.now n t (omega arith) on_plan.paced
-          (subst (λ (op : FtOp). IsPlaced plan (length before) op new_queue (n + 1)) (sym op_same) on_plan.placed)
+          (subst (λ (op : FtOp). ReadsNextAt plan (length before) op new_queue (n + 1)) (sym op_same) on_plan.placed)
           (ahead_same plan (length before) (op_at c.args.ops.now (length before)) before queues new_queue new_queue
           (t.planned (length before) in_ops).seated (frontiers_before plan c.args.ops.now queues slab n before rest low high queue c.split_at_mut-before.ensures.value c.split_at_mut-earlier.ensures.value some queue_is low_is t) refl
           (subst (λ (op : FtOp). IsAhead before op new_queue) (sym op_same) on_plan.ahead)));
       told = λ plan truth n old new row agree.
           let t : Turned plan c.args.ops.now queues slab n (length before) = subst (λ (k : ℕ). Turned plan c.args.ops.now queues slab n k) (sym before_count) (i.turned plan n row.few row.paced) in
           let r : Retold c.args.ops.now old new queues slab (length before) = subst (λ (k : ℕ). Retold c.args.ops.now old new queues slab k) (sym before_count) (i.told plan truth n old new row agree) in
-          let told : IsTold plan truth n (op_at c.args.ops.now c.loop-i.i) before low queue (take queue.seat.size high) old new =
-          subst (λ (op : FtOp). IsTold plan truth n op before low queue (take queue.seat.size high) old new) op_same
+          let told : KnowsVerdicts plan truth n (op_at c.args.ops.now c.loop-i.i) before low queue (take queue.seat.size high) old new =
+          subst (λ (op : FtOp). KnowsVerdicts plan truth n op before low queue (take queue.seat.size high) old new) op_same
           (told_here plan c.args.ops.now queues slab n before rest low high queue c.split_at_mut-before.ensures.value c.split_at_mut-earlier.ensures.value some queue_is low_is t truth old new row.few in_ops row.table row.extends r) in
           let up : IsUpToDate (op_at c.args.ops.now c.loop-i.i) new before new_queue own = c.step.ensures.verdicts plan truth n old new told (agree c.loop-i.i c.loop-i-test.true) in
           subst (λ (k : ℕ). Retold c.args.ops.now old new queues' slab' (k + 1)) before_count

@@ -4,8 +4,8 @@ use Rattle.std.specs.Int.{w64}
 use Rattle.std.proofs.lemmas.Int.{to_z-of_z}
 use Rattle.mltl_base.specs.Atoms.{constant, negative}
 use Rattle.c2po_nodes.specs.declared.nodes.Plain.TheVariants.{Number, Minus, Arith}
-use Rattle.c2po_nodes.specs.Nodes.{arithmetic, term_at, trees}
-use Rattle.mltl_simplify.specs.Nodes.{IsNumbered, number_at}
+use Rattle.c2po_nodes.specs.Nodes.{arithmetic, node_term, trees}
+use Rattle.mltl_simplify.specs.Nodes.{IsNumbered, known_number}
 use Rattle.mltl_simplify.specs.Numbers.{IsComputed, IsNegated}
 use Rattle.mltl_simplify.proofs.Reading.{formed_here, head, number_below}
 use Rattle.c2po_nodes.proofs.Places.{node_there}
@@ -36,21 +36,21 @@ returns-in-Number c = λ tree h.
 
 pub returns-in-Minus : goal.returns-in-Minus
 returns-in-Minus c = λ tree h.
-    let a = term_at (trees (take c.args.i c.args.nodes.now)) c.in-Minus.a in
+    let a = node_term (trees (take c.args.i c.args.nodes.now)) c.in-Minus.a in
     numbered_as c.negated.result (negative a) tree (head c.args.nodes.now c.args.i (Minus c.in-Minus.a) tree (node_there c.args.nodes.now c.args.i (Minus c.in-Minus.a) c.requires.next c.in-Minus.is) h)
-    (negated_known a (number_at c.args.proxies.now c.in-Minus.a) c.negated.result (known_operand c.args.nodes.now c.args.proxies.now c.args.i c.in-Minus.a c.requires.each c.requires.next c.requires.numbered (formed_here c.args.nodes.now c.args.i (Minus c.in-Minus.a) c.requires.formed c.requires.next c.in-Minus.is))
+    (negated_known a (known_number c.args.proxies.now c.in-Minus.a) c.negated.result (known_operand c.args.nodes.now c.args.proxies.now c.args.i c.in-Minus.a c.requires.each c.requires.next c.requires.numbered (formed_here c.args.nodes.now c.args.i (Minus c.in-Minus.a) c.requires.formed c.requires.next c.in-Minus.is))
     (subst (λ (x : Option ℤ). IsNegated x c.negated.result) c.number_at.ensures c.negated.ensures))
 
 pub returns-in-Arith : goal.returns-in-Arith
 returns-in-Arith c = λ tree h.
-    let a = term_at (trees (take c.args.i c.args.nodes.now)) c.in-Arith.a in
-    let b = term_at (trees (take c.args.i c.args.nodes.now)) c.in-Arith.b in
+    let a = node_term (trees (take c.args.i c.args.nodes.now)) c.in-Arith.a in
+    let b = node_term (trees (take c.args.i c.args.nodes.now)) c.in-Arith.b in
     let op = c.in-Arith.op in
     numbered_as c.computed.result (arithmetic op a b) tree (head c.args.nodes.now c.args.i (Arith c.in-Arith.op c.in-Arith.a c.in-Arith.b) tree (node_there c.args.nodes.now c.args.i (Arith c.in-Arith.op c.in-Arith.a c.in-Arith.b) c.requires.next c.in-Arith.is) h)
-    (computed_known op a b (number_at c.args.proxies.now c.in-Arith.a) (number_at c.args.proxies.now c.in-Arith.b) c.computed.result
+    (computed_known op a b (known_number c.args.proxies.now c.in-Arith.a) (known_number c.args.proxies.now c.in-Arith.b) c.computed.result
     (known_operand c.args.nodes.now c.args.proxies.now c.args.i c.in-Arith.a c.requires.each c.requires.next c.requires.numbered (formed_here c.args.nodes.now c.args.i (Arith c.in-Arith.op c.in-Arith.a c.in-Arith.b) c.requires.formed c.requires.next c.in-Arith.is).0)
     (known_operand c.args.nodes.now c.args.proxies.now c.args.i c.in-Arith.b c.requires.each c.requires.next c.requires.numbered (formed_here c.args.nodes.now c.args.i (Arith c.in-Arith.op c.in-Arith.a c.in-Arith.b) c.requires.formed c.requires.next c.in-Arith.is).1)
-    (subst (λ (x : Option ℤ). IsComputed op x (number_at c.args.proxies.now c.in-Arith.b) c.computed.result) c.number_at-in-Arith.ensures
+    (subst (λ (x : Option ℤ). IsComputed op x (known_number c.args.proxies.now c.in-Arith.b) c.computed.result) c.number_at-in-Arith.ensures
     (subst (λ (y : Option ℤ). IsComputed op c.number_at-in-Arith.result y c.computed.result) c.number_at-in-Arith-2.ensures c.computed.ensures)))
 
 pub returns-in_default : goal.returns-in_default

@@ -1,6 +1,6 @@
 use Rattle.std.proofs.Common.{length, take, not, ap, refl, arith}
 use Rattle.c2po_nodes.specs.declared.nodes.Plain.TheVariants.{Truth, Not}
-use Rattle.c2po_nodes.specs.Nodes.{formula, formula_at, trees}
+use Rattle.c2po_nodes.specs.Nodes.{formula, node_formula, trees}
 use Rattle.mltl_simplify.specs.Simplify.{simple_not}
 use Rattle.mltl_simplify.proofs.Reading.{formed_found, formula_operand, found, has_place}
 use Rattle.mltl_simplify.proofs.Putting.{not_put, stays, truth_put}
@@ -23,7 +23,7 @@ pub returns-in-Not : goal.returns-in-Not
 returns-in-Not c = λ p h.
     let nodes = c.args.nodes.now in
     let z = c.in-Not.z in
-    stays nodes z (formula_at (trees (take c.args.a nodes)) z) (simple_not p)
+    stays nodes z (node_formula (trees (take c.args.a nodes)) z) (simple_not p)
     (formula_operand nodes c.args.a z (formed_found nodes c.as_slice.result.now c.args.a (Not z) c.requires.formed (has_place nodes c.args.a (formula p) h) c.as_slice.ensures c.in-Not.is))
     (not_not (trees (take c.args.a nodes)) z p (found nodes c.as_slice.result.now c.args.a (Not z) (formula p) c.as_slice.ensures c.in-Not.is h))
 

@@ -1,7 +1,7 @@
 use Rattle.std.proofs.Common.{length, take, ap, refl, sym, subst, ◌≡◌, ◌∙◌, arith}
 use Rattle.mltl_base.specs.declared.operators.WindowOp.{WindowOp}
 use Rattle.c2po_nodes.specs.declared.nodes.Plain.TheVariants.{Window}
-use Rattle.c2po_nodes.specs.Nodes.{formula, formula_at, tree_of, trees}
+use Rattle.c2po_nodes.specs.Nodes.{formula, node_formula, tree_of, trees}
 use Rattle.mltl_simplify.specs.Nodes.{simple_window}
 use Rattle.mltl_simplify.proofs.Reading.{formed_found, formula_operand, found, has_place}
 use Rattle.mltl_simplify.proofs.Putting.{window_put}
@@ -27,7 +27,7 @@ returns-in-Some c = λ p h k.
     let form = formed_found nodes c.as_slice.result.now c.args.a (Window c.in-Window.inner j z) c.requires.formed (has_place nodes c.args.a (formula p) h) c.as_slice.ensures c.in-Window.is in
     let told : tree_of ts (Window c.args.op j z) ≡ formula p =
     subst (λ (o : WindowOp). tree_of ts (Window o j z) ≡ formula p) same (found nodes c.as_slice.result.now c.args.a (Window c.in-Window.inner j z) (formula p) c.as_slice.ensures c.in-Window.is h) in
-    window_put c.push.result nodes c.push.new.self (simple_window c.args.op c.args.i p) c.push.ensures.place c.args.op c.in-Some.whole z (formula_at ts z) c.push.ensures.pushed
+    window_put c.push.result nodes c.push.new.self (simple_window c.args.op c.args.i p) c.push.ensures.place c.args.op c.in-Some.whole z (node_formula ts z) c.push.ensures.pushed
     (window_sum c.args.i j c.in-Some.whole c.requires.bounded form.0 (sym c.in-Some.is ∙ c.joined.ensures))
     (formula_operand nodes c.args.a z form.1)
     (window_joined ts c.args.op c.args.i j c.in-Some.whole z p told (sym c.in-Some.is ∙ c.joined.ensures))

@@ -1,7 +1,7 @@
 use Rattle.std.proofs.Common.{ℕ, List, ◌++◌, take}
 use Rattle.obs_show.specs.TableText.{HasText}
-use Rattle.obs_show.specs.Table.{bz_record, lines, numbered}
+use Rattle.obs_show.specs.Table.{bz_record, csv_lines, numbered}
 use Rattle.obs_show.proofs.table.put_bz.Given as goal
 
 abbrev pub invariant-loop-i : goal.invariant-loop-i
-invariant-loop-i l = (text : List ℕ) → HasText l.initial.lines text → HasText l.lines (text ++ lines (numbered bz_record (take l.i l.op-items)))
+invariant-loop-i l = (text : List ℕ) → HasText l.initial.lines text → HasText l.lines (text ++ csv_lines (numbered bz_record (take l.i l.op-items)))

@@ -1,7 +1,7 @@
 use Rattle.std.proofs.Common.{◌≡◌, ℕ, List, [], ◌∷◌, ◌++◌, take, codes, decimal, subst, ap, ◌∙◌}
 use Rattle.std.proofs.lemmas.List.{take_all}
 use Rattle.obs_show.specs.TableText.{HasText, shown_fields}
-use Rattle.obs_show.specs.Table.{pt_record, pt_figure_fields, lines, numbered}
+use Rattle.obs_show.specs.Table.{pt_record, pt_figure_fields, csv_lines, numbered}
 use Rattle.obs_show.proofs.Rows.{lines_more}
 use Rattle.obs_show.proofs.table.put_pt.Goals as goal
 
@@ -11,10 +11,10 @@ loop-i-preserved c text has =
     subst (HasText c.put.new.self)
     (lines_more (pt_record c.args.checked.now) ops c.loop-i.i _ text _ c.loop-i-test.true (ap (λ fs. codes "pt" ∷ decimal c.loop-i.i ∷ shown_fields c.pt.result ++ fs) c.pt_figures.ensures
     ∙ ap (λ fs. codes "pt" ∷ decimal c.loop-i.i ∷ fs ++ pt_figure_fields c.args.checked.now c.loop-i.i) c.pt.ensures))
-    (c.in_ok-put.ensures (text ++ lines (numbered (pt_record c.args.checked.now) (take c.loop-i.i ops))) (c.loop-i.invariant text has))
+    (c.in_ok-put.ensures (text ++ csv_lines (numbered (pt_record c.args.checked.now) (take c.loop-i.i ops))) (c.loop-i.invariant text has))
 
 pub returns : goal.returns
 returns c text has =
     let ops = c.as_slice-op-items.result.now in
     let all : take c.loop-i.i ops ≡ c.args.checked.now.pt = take_all c.loop-i.i ops c.loop-i-test.false ∙ c.as_slice-op-items.ensures ∙ ap (λ program. program.pt) c.program.ensures.program in
-    subst (λ rows. HasText c.loop-i.lines (text ++ lines (numbered (pt_record c.args.checked.now) rows))) all (c.loop-i.invariant text has)
+    subst (λ rows. HasText c.loop-i.lines (text ++ csv_lines (numbered (pt_record c.args.checked.now) rows))) all (c.loop-i.invariant text has)

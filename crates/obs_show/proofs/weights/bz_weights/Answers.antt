@@ -4,7 +4,7 @@ use Rattle.mltl_base.specs.declared.operators.BzOp.TheVariants.{Column}
 use Rattle.mltl_base.specs.declared.program.Program.{Program}
 use Rattle.mltl_base.specs.Programs.{expressions}
 use Rattle.obs_verify.specs.InstructionRanges.{ReadsBefore}
-use Rattle.obs_verify.specs.Soundness.{AreSound}
+use Rattle.obs_verify.specs.Soundness.{SoundOps}
 use Rattle.obs_verify.proofs.SoundOps.{all_sound}
 use Rattle.obs_show.specs.Weighing.{bz_weight}
 use Rattle.obs_show.proofs.WeightLaws.{BzWeighed, bz_none, bz_reads, bz_more, bz_all, told}
@@ -15,7 +15,7 @@ loop-op-init c =
     let items : List BzOp = c.as_slice-op-items.result.now in
     let same : c.args.checked.now.bz ≡ items = ap (λ (p : Program). p.bz) (sym c.program.ensures.program) ∙ sym c.as_slice-op-items.ensures in
     subst (BzWeighed c.args.checked.now.width items 0) (sym c.new-weights.ensures.items)
-    (bz_none c.args.checked.now.width items (subst (AreSound c.args.checked.now.width []) same (all_sound c.args.checked.now c.program.ensures.well_formed)))
+    (bz_none c.args.checked.now.width items (subst (SoundOps c.args.checked.now.width []) same (all_sound c.args.checked.now c.program.ensures.well_formed)))
 
 pub bz_weight-weight-requires : goal.bz_weight-weight-requires
 bz_weight-weight-requires c =

@@ -2,7 +2,7 @@ use Rattle.std.proofs.Common.{◌≡◌, ◌<◌, ◌^◌, ◌∙◌, ap, refl, 
 use Rattle.mltl_base.specs.declared.program.Program.{Program}
 use Rattle.mltl_base.specs.declared.program.StoredSignal.{StoredSignal}
 use Rattle.obs_verify.specs.Kept.{IsKept}
-use Rattle.obs_verify.specs.Readers.{signals_read}
+use Rattle.obs_verify.specs.SignalNumbers.{signals_read}
 use Rattle.obs_verify.specs.Upgrade.{first_clash, raised, reads, signals_below}
 use Rattle.obs_verify.proofs.WellRaised.{all_within, kept_raised, signals_within}
 use Rattle.obs_verify.proofs.checked.with_signals.Goals as goal
@@ -14,12 +14,12 @@ same_signals program checked signals is h = ap (λ (p : Program). signals_below 
 one_way_in : (program checked : Program) → program ≡ checked → first_clash [] checked.bz ≡ None → first_clash [] program.bz ≡ None
 one_way_in program checked is h = ap (λ (p : Program). first_clash [] p.bz) is ∙ h
 
-pub readers_of-requires : goal.readers_of-requires
-readers_of-requires c =
+pub signal_numbers_of-requires : goal.signal_numbers_of-requires
+signal_numbers_of-requires c =
     let program : Program = c.checked.inside.program in
     let one : first_clash [] program.bz ≡ None = one_way_in program c.args.checked c.checked.view_is c.requires.one_way in
     let kept : IsKept (raised program) c.checked.inside.delays.best c.checked.inside.delays.worst (signals_read (raised program)) =
-    kept_raised program c.checked.inside.delays.best c.checked.inside.delays.worst c.checked.inside.readers (signals_read (raised program)) one c.checked.invariant refl in
+    kept_raised program c.checked.inside.delays.best c.checked.inside.delays.worst c.checked.inside.signal_numbers (signals_read (raised program)) one c.checked.invariant refl in
     let same = same_signals program c.args.checked c.args.signals c.checked.view_is c.requires.signals in
     record {
       few = subst (λ (ss : List StoredSignal). length ss < 2 ^ 32) same kept.layout.few_signals;
@@ -32,6 +32,6 @@ invariant_of-result c =
     let program : Program = c.checked.inside.program in
     let one : first_clash [] program.bz ≡ None = one_way_in program c.args.checked c.checked.view_is c.requires.one_way in
     let same = same_signals program c.args.checked c.args.signals c.checked.view_is c.requires.signals in
-    let read : c.in_ok-readers.readers ≡ signals_read (raised program) = c.in_ok-readers.ensures ∙ ap (λ (ss : List StoredSignal). signals_read (record program { version = 2; signals = ss })) (sym same) in
-    subst (λ (ss : List StoredSignal). IsKept (record program { version = 2; signals = ss }) c.checked.inside.delays.best c.checked.inside.delays.worst c.in_ok-readers.readers) same
-    (kept_raised program c.checked.inside.delays.best c.checked.inside.delays.worst c.checked.inside.readers c.in_ok-readers.readers one c.checked.invariant read)
+    let read : c.in_ok-signal_numbers.signal_numbers ≡ signals_read (raised program) = c.in_ok-signal_numbers.ensures ∙ ap (λ (ss : List StoredSignal). signals_read (record program { version = 2; signals = ss })) (sym same) in
+    subst (λ (ss : List StoredSignal). IsKept (record program { version = 2; signals = ss }) c.checked.inside.delays.best c.checked.inside.delays.worst c.in_ok-signal_numbers.signal_numbers) same
+    (kept_raised program c.checked.inside.delays.best c.checked.inside.delays.worst c.checked.inside.signal_numbers c.in_ok-signal_numbers.signal_numbers one c.checked.invariant read)

@@ -6,7 +6,7 @@ use Rattle.std.proofs.lemmas.List.Sums.{sum_by-le}
 use Rattle.std.proofs.lemmas.Result.{err_from_is_err_and}
 use Rattle.mltl_base.specs.declared.interval.Part.TheVariants.{Ft, Pt}
 use Rattle.mltl_base.specs.Queues.{box_counts, boxes_of, queue_length, queue_lengths, slot_count}
-use Rattle.obs_verify.specs.WellFormed.{first_in, or_else, size_fault, slots_fault}
+use Rattle.obs_verify.specs.WellFormed.{first_in, earlier_of, size_fault, slots_fault}
 use Rattle.obs_verify.proofs.rules.check_sizes.Goals as goal
 
 pub slot_count-requires : goal.slot_count-requires
@@ -29,7 +29,7 @@ returns-in_err-check_stored c =
     let slots : slots_fault c.args.program.now ≡ None = rw (le-leb _ _ small) refl in
     let found = c.in_err-check_stored.ensures in
     rw (p.1, p.2) (λ other.
-    ap (λ o. or_else o (or_else (first_in (size_fault Ft (queue_lengths c.args.program.now.ft c.args.program.now.outs)) 0 c.args.program.now.sizes.ft) (first_in (size_fault Pt (box_counts c.args.program.now.pt)) 0 c.args.program.now.sizes.pt))) slots
-    ∙ ap (λ o. or_else o (first_in (size_fault Pt (box_counts c.args.program.now.pt)) 0 c.args.program.now.sizes.pt))
+    ap (λ o. earlier_of o (earlier_of (first_in (size_fault Ft (queue_lengths c.args.program.now.ft c.args.program.now.outs)) 0 c.args.program.now.sizes.ft) (first_in (size_fault Pt (box_counts c.args.program.now.pt)) 0 c.args.program.now.sizes.pt))) slots
+    ∙ ap (λ o. earlier_of o (first_in (size_fault Pt (box_counts c.args.program.now.pt)) 0 c.args.program.now.sizes.pt))
     (ap (first_in (size_fault Ft (queue_lengths c.args.program.now.ft c.args.program.now.outs)) 0) (sym c.as_slice.ensures)
     ∙ ap (λ needed. first_in (size_fault Ft needed) 0 c.as_slice.result.now) (sym (c.as_slice-2.ensures ∙ c.in_ok-ft.ensures.queues)) ∙ found other))

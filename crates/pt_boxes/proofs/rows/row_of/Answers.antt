@@ -6,8 +6,8 @@ use Rattle.mltl_base.proofs.Seats.{Stepped, stepped}
 use Rattle.pt_boxes.specs.declared.boxes.Span.{Span}
 use Rattle.pt_boxes.specs.declared.rows.Node.{Node}
 use Rattle.pt_boxes.specs.Boxes.{kept}
-use Rattle.pt_boxes.specs.Nodes.{IsKept, no_node, node_at, op_at}
-use Rattle.pt_boxes.specs.Tables.{IsTold, IsTurn, TookTurn}
+use Rattle.pt_boxes.specs.Nodes.{KeepsRoom, no_node, node_at, op_at}
+use Rattle.pt_boxes.specs.Tables.{BoxesRepresent, IsTurn, TookTurn}
 use Rattle.pt_boxes.proofs.Turning.{Retold, Turned, retold_from, retold_on, retold_to, turn_here, turned_from, turned_on}
 use Rattle.pt_boxes.proofs.rows.row_of.Goals as goal
 
@@ -48,7 +48,7 @@ loop-i-preserved g c =
       turned =
           subst (λ (k : ℕ). Turned ops n nodes' slab' (k + 1)) before_count
           (turned_on nodes slab (length before) new own nodes' slab' st ops n turned (omega arith)
-          (subst (λ (op : PtOp). IsKept op (n + 1) new.boxes own) (sym op_same) c.step-node.ensures.kept));
+          (subst (λ (op : PtOp). KeepsRoom op (n + 1) new.boxes own) (sym op_same) c.step-node.ensures.kept));
       told = λ loaded table is_table agree has.
           let r : Retold ops table n nodes slab (length before) = subst (λ (k : ℕ). Retold ops table n nodes slab k) (sym before_count) (i.told loaded table is_table agree has) in
           let turn : IsTurn (op_at ops c.loop-i.i) c.args.bz.now loaded table n before (kept node.boxes (take node.seat.size high)) =
@@ -57,7 +57,7 @@ loop-i-preserved g c =
           let took : TookTurn (op_at ops c.loop-i.i) table n before new.truth (kept new.boxes own) = c.step-node.ensures.told loaded table turn in
           subst (λ (k : ℕ). Retold ops table n nodes' slab' (k + 1)) before_count
           (retold_on nodes slab (length before) new own nodes' slab' st ops table n r (omega arith)
-          (subst (λ (op : PtOp). IsTold op table (n + 1) (kept new.boxes own)) (sym op_same) took.told)
+          (subst (λ (op : PtOp). BoxesRepresent op table (n + 1) (kept new.boxes own)) (sym op_same) took.told)
           took.truth);
       counted = grind (arith, common_steps, i.counted, c.step-node.ensures.counted);
     }

@@ -2,7 +2,7 @@ use Rattle.std.proofs.Common.{ℕ, ◌+◌, ◌≤◌, List, length, subst, sym,
 use Rattle.mltl_base.specs.Queues.{boxes as box_count}
 use Rattle.pt_boxes.specs.declared.boxes.Span.{Span}
 use Rattle.pt_boxes.specs.Boxes.{kept}
-use Rattle.pt_boxes.specs.Spans.{AreApart, stretch_at, with_stretch}
+use Rattle.pt_boxes.specs.Spans.{SpansLieApart, stretch_at, with_stretch}
 use Rattle.pt_boxes.proofs.Apart.{apart_with_stretch, few_apart}
 use Rattle.pt_boxes.proofs.since.open.Goals as goal
 
@@ -22,5 +22,5 @@ returns-then-right-clause-kept c =
     record {
       room = c.add.auto.spans ∙ c.requires.kept.room;
       belongs = c.add.ensures.belongs;
-      apart = subst (λ (xs : List Span). AreApart c.args.window (c.args.now + 1) 0 xs) (sym opened) (apart_with_stretch c.args.window c.args.now old c.requires.ordered c.requires.kept.apart);
+      apart = subst (λ (xs : List Span). SpansLieApart c.args.window (c.args.now + 1) 0 xs) (sym opened) (apart_with_stretch c.args.window c.args.now old c.requires.ordered c.requires.kept.apart);
     }

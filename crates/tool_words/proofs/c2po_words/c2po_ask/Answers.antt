@@ -1,7 +1,7 @@
 use Rattle.std.proofs.Common.{◌≡◌, ◌∙◌, ap, sym, true, false, map}
 use Rattle.std.specs.Prelude.{Some, None, option_map}
 use Rattle.clap.specs.Words.{app_of, is_simple_and_free}
-use Rattle.tool_words.specs.Reading.{found_in, is_help, rows}
+use Rattle.tool_words.specs.Reading.{parsed_rows, is_help, rows}
 use Rattle.tool_words.specs.Texts.{are_texts, text_of}
 use Rattle.tool_words.proofs.CommandLaws.{c2po_simple}
 use Rattle.tool_words.proofs.TextLaws.{c2po_found, c2po_told}
@@ -15,7 +15,7 @@ returns-in-Some c =
     let words = map text_of c.args.words.now in
     let no_help : is_help words ≡ false = cc in
     let texts : are_texts c.args.words.now ≡ true = cc in
-    let found : Some (rows c.in-Some.matches) ≡ found_in (app_of c.in_ok-command.field-0) words = sym (ap (option_map rows) c.in-Some.is) ∙ c.in_ok-matches.ensures in
+    let found : Some (rows c.in-Some.matches) ≡ parsed_rows (app_of c.in_ok-command.field-0) words = sym (ap (option_map rows) c.in-Some.is) ∙ c.in_ok-matches.ensures in
     c.asked_in.ensures ∙ c2po_found words (app_of c.in_ok-command.field-0) (Some (rows c.in-Some.matches)) no_help c.in_ok-command.ensures found
     ∙ c2po_told c.args.words.now texts
 
@@ -24,5 +24,5 @@ returns-in-None c =
     let words = map text_of c.args.words.now in
     let no_help : is_help words ≡ false = cc in
     let texts : are_texts c.args.words.now ≡ true = cc in
-    let found : None ≡ found_in (app_of c.in_ok-command.field-0) words = sym (ap (option_map rows) c.in-None.is) ∙ c.in_ok-matches.ensures in
+    let found : None ≡ parsed_rows (app_of c.in_ok-command.field-0) words = sym (ap (option_map rows) c.in-None.is) ∙ c.in_ok-matches.ensures in
     c2po_found words (app_of c.in_ok-command.field-0) None no_help c.in_ok-command.ensures found ∙ c2po_told c.args.words.now texts

@@ -1,5 +1,5 @@
 use Rattle.std.proofs.Common.{◌∙◌, ap, sym, take}
-use Rattle.trace_feed.specs.Rows.{value_of}
+use Rattle.trace_feed.specs.Rows.{field_value}
 use Rattle.trace_feed.proofs.DigitLaws.{numeral_ends, numeral_value}
 use Rattle.trace_feed.proofs.fields.plain_field.Goals as goal
 
@@ -13,5 +13,5 @@ returns-then-may_end-clause-value c = λ reading.
     let numeral = c.in_ok-numeral.ensures in
     let line = c.args.line.now in
     let size = c.in_ok-numeral.numeral.size in
-    ap (λ n. value_of reading (take n line)) (numeral_ends line size numeral.within numeral.numeral (c.may_end.ensures c.if-may_end.true))
+    ap (λ n. field_value reading (take n line)) (numeral_ends line size numeral.within numeral.numeral (c.may_end.ensures c.if-may_end.true))
     ∙ numeral_value reading (take size line) c.in_ok-numeral.numeral.number numeral.numeral numeral.number

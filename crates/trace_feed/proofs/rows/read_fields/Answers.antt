@@ -5,9 +5,9 @@ use Rattle.std.specs.List.{before_first, position_or_len}
 use Rattle.std.proofs.lemmas.Int.{to_z-of_z}
 use Rattle.std.proofs.lemmas.List.{length-drop, length-set, take_more_set, take_all}
 use Rattle.trace_feed.specs.Readings.{fields_meaning}
-use Rattle.trace_feed.specs.Rows.{LineMeaning, row, fields_from, fields_of, is_comma, value_of}
+use Rattle.trace_feed.specs.Rows.{LineMeaning, row, fields_from, fields_of, is_comma, field_value}
 use Rattle.trace_feed.specs.declared.fields.Reading.TheVariants.{Unread}
-use Rattle.trace_feed.specs.declared.passing.Spot.{Spot}
+use Rattle.trace_feed.specs.declared.unread_fields.Spot.{Spot}
 use Rattle.trace_feed.proofs.PassedFields.{says_over}
 use Rattle.trace_feed.proofs.RowLaws.{onto, says_at_start, says_next, says_row, says_too_few, some_fields, told_fault}
 use Rattle.trace_feed.proofs.rows.read_fields.Goals as goal
@@ -43,7 +43,7 @@ returns-in-Err c = λ reading known.
     let meaning : LineMeaning = fields_meaning reading 0 c.args.width (fields_of line) in
     let so_far = says_over reading c.args.readings.now c.args.width line c.columns.fields values c.columns.spot spot meaning known c.requires.one_each passes (c.columns.invariant.told reading known) in
     told_fault c.fault_at.result (take at values) values (fields_meaning reading at (c.args.width - at) (fields_of rest)) meaning
-    (λ others. c.fault_at.ensures reading others (ap (λ r. value_of r (before_first is_comma rest)) (sym (known at _ passes.left)) ∙ sym c.first_field-field.ensures.value ∙ c.in-Err.is))
+    (λ others. c.fault_at.ensures reading others (ap (λ r. field_value r (before_first is_comma rest)) (sym (known at _ passes.left)) ∙ sym c.first_field-field.ensures.value ∙ c.in-Err.is))
     (ap (λ fs. onto (take at values) (fields_meaning reading at (c.args.width - at) fs)) (ap (λ (bytes : List ℕ). fields_of bytes) whole ∙ sym (some_fields line spot.at (omega arith))) ∙ so_far)
 
 pub columns-preserved : goal.columns-preserved
@@ -72,7 +72,7 @@ columns-preserved c =
           ∙ ap (λ ns. onto ns (fields_meaning reading (at + 1) (c.args.width - (at + 1)) (fields_from line (spot.at + (size + 1))))) (take_more_set values at c.in-Ok.value (omega (arith, many, inside)))
           ∙ says_next reading at c.args.width spot.at size line (take at values) c.in-Ok.value meaning
           inside (omega arith) (c.first_field-field.ensures.size ∙ ap (λ (bytes : List ℕ). position_or_len is_comma bytes) whole)
-          (ap (λ r. value_of r (before_first is_comma rest)) (sym (known at Unread passes.left)) ∙ ap (λ (bytes : List ℕ). value_of (slice_index_or c.args.readings.now at Unread) (before_first is_comma bytes)) (sym whole) ∙ sym c.first_field-field.ensures.value ∙ c.in-Ok.is)
+          (ap (λ r. field_value r (before_first is_comma rest)) (sym (known at Unread passes.left)) ∙ ap (λ (bytes : List ℕ). field_value (slice_index_or c.args.readings.now at Unread) (before_first is_comma bytes)) (sym whole) ∙ sym c.first_field-field.ensures.value ∙ c.in-Ok.is)
           so_far;
     })
 

@@ -5,7 +5,7 @@ use Rattle.std.specs.List.{before_first, position_or_len}
 use Rattle.std.proofs.lemmas.Int.{to_z-of_z}
 use Rattle.std.proofs.lemmas.List.{length-drop, length-set, take_more_set, take_all}
 use Rattle.trace_feed.specs.Readings.{fields_meaning}
-use Rattle.trace_feed.specs.Rows.{row, fields_from, fields_of, is_comma, reading_of, value_of}
+use Rattle.trace_feed.specs.Rows.{row, fields_from, fields_of, is_comma, reading_of, field_value}
 use Rattle.trace_feed.specs.declared.fields.Reading.{Reading}
 use Rattle.trace_feed.proofs.RowLaws.{onto, says_at_start, says_next, says_row, says_too_few, some_fields, told_fault}
 use Rattle.trace_feed.proofs.rows.search_fields.Goals as goal
@@ -34,7 +34,7 @@ returns-in-Err c =
     let rest : List ℕ = take (length line - place) (drop place line) in
     let whole : rest ≡ drop place line = take_all (length line - place) (drop place line) (omega (arith, length-drop place line)) in
     told_fault c.fault_at.result (take at values) values (fields_meaning reading at (c.args.width - at) (fields_of rest)) (fields_meaning reading 0 c.args.width (fields_of line))
-    (λ others. c.fault_at.ensures reading others (ap (λ r. value_of r (before_first is_comma rest)) (sym c.reading_in.ensures) ∙ sym c.first_field-field.ensures.value ∙ c.in-Err.is))
+    (λ others. c.fault_at.ensures reading others (ap (λ r. field_value r (before_first is_comma rest)) (sym c.reading_in.ensures) ∙ sym c.first_field-field.ensures.value ∙ c.in-Err.is))
     (ap (λ fs. onto (take at values) (fields_meaning reading at (c.args.width - at) fs)) (ap (λ (bytes : List ℕ). fields_of bytes) whole ∙ sym (some_fields line place (omega arith))) ∙ c.columns.invariant.told)
 
 pub columns-preserved : goal.columns-preserved
@@ -57,7 +57,7 @@ columns-preserved c =
           ap (λ ns. onto ns (fields_meaning reading (at + 1) (c.args.width - (at + 1)) (fields_from line (place + (size + 1))))) (take_more_set values at c.in-Ok.value (omega (arith, c.columns.invariant.wide, inside)))
           ∙ says_next reading at c.args.width place size line (take at values) c.in-Ok.value (fields_meaning reading 0 c.args.width (fields_of line))
           inside (omega arith) (c.first_field-field.ensures.size ∙ ap (λ (bytes : List ℕ). position_or_len is_comma bytes) whole)
-          (ap (λ r. value_of r (before_first is_comma rest)) (sym c.reading_in.ensures) ∙ ap (λ (bytes : List ℕ). value_of c.reading_in.result (before_first is_comma bytes)) (sym whole) ∙ sym c.first_field-field.ensures.value ∙ c.in-Ok.is)
+          (ap (λ r. field_value r (before_first is_comma rest)) (sym c.reading_in.ensures) ∙ ap (λ (bytes : List ℕ). field_value c.reading_in.result (before_first is_comma bytes)) (sym whole) ∙ sym c.first_field-field.ensures.value ∙ c.in-Ok.is)
           c.columns.invariant.told;
     })
 

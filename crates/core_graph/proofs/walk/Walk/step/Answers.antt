@@ -2,8 +2,8 @@
 use Rattle.std.proofs.Common.{◌≡◌, vec_len, ◌<◌, List, ℕ, Bool, length, set, true, refl, subst, ap, sym, ◌∙◌, arith}
 use mir.Val.{bool_byte}
 use Rattle.core_graph.specs.declared.vertex.Operands.{Operands}
-use Rattle.core_graph.specs.Vertices.{AreBelow, operands_of}
-use Rattle.core_graph.specs.Walks.{AreDone, IsFirstOpen, IsStack, trees_of, finish, work}
+use Rattle.core_graph.specs.Vertices.{OperandsAreBelow, operands_of}
+use Rattle.core_graph.specs.Walks.{AreDone, IsFirstIncomplete, IsStack, trees_of, finish, work}
 use Rattle.core_graph.proofs.Lists.{counted_push}
 use Rattle.core_graph.proofs.Walking.{IsAt, below_length, popped, top_inside, operand_stack, operand_goal, operand_less, complete_walk, complete_stack, complete_goal, complete_less}
 use Rattle.core_graph.proofs.walk.Walk.step.Goals as goal
@@ -15,10 +15,10 @@ get-vertex-requires c = top_inside c.args.forest.now c.args.self.now.done.items 
 pub first_open-requires : goal.first_open-requires
 first_open-requires c =
     let inside : c.args.top < length c.args.forest.now = top_inside c.args.forest.now c.args.self.now.done.items c.args.stack.now.items c.requires.top.0 c.args.top c.requires.stack c.requires.top.1 in
-    let below : AreBelow c.args.top (operands_of c.get-vertex.result) = c.requires.walk.forest.over c.args.top c.get-vertex.result c.get-vertex.ensures in
+    let below : OperandsAreBelow c.args.top (operands_of c.get-vertex.result) = c.requires.walk.forest.over c.args.top c.get-vertex.result c.get-vertex.ensures in
     let size : length c.deref.result.now ≡ length c.args.forest.now = ap length c.deref.ensures.value ∙ c.requires.walk.walked.count in
-    subst (λ (o : Operands). AreBelow (length c.deref.result.now) o) (sym c.operands.ensures)
-    (subst (λ (n : ℕ). AreBelow n (operands_of c.get-vertex.result)) (sym size) (below_length c.args.top (length c.args.forest.now) (operands_of c.get-vertex.result) inside below))
+    subst (λ (o : Operands). OperandsAreBelow (length c.deref.result.now) o) (sym c.operands.ensures)
+    (subst (λ (n : ℕ). OperandsAreBelow n (operands_of c.get-vertex.result)) (sym size) (below_length c.args.top (length c.args.forest.now) (operands_of c.get-vertex.result) inside below))
 
 pub index_mut-requires : goal.index_mut-requires
 index_mut-requires c =
@@ -28,10 +28,10 @@ index_mut-requires c =
 at_some : (c : In_ok-push-in-Some) → IsAt c.args.forest.now c.args.self.now.order.items c.args.self.now.done.items c.args.stack.now.items c.args.top c.get-vertex.result c.requires.top.0
 at_some c = record { forest = c.requires.walk.forest; walk = c.requires.walk.walked; waiting = c.requires.stack; latest = c.requires.top.1; there = c.get-vertex.ensures }
 
-first : (c : In_ok-push-in-Some) → IsFirstOpen c.args.self.now.done.items (operands_of c.get-vertex.result) c.in-Some.operand
+first : (c : In_ok-push-in-Some) → IsFirstIncomplete c.args.self.now.done.items (operands_of c.get-vertex.result) c.in-Some.operand
 first c =
-    subst (λ (d : List Bool). IsFirstOpen d (operands_of c.get-vertex.result) c.in-Some.operand) c.deref.ensures.value
-    (subst (λ (o : Operands). IsFirstOpen c.deref.result.now o c.in-Some.operand) c.operands.ensures c.in-Some.ensures)
+    subst (λ (d : List Bool). IsFirstIncomplete d (operands_of c.get-vertex.result) c.in-Some.operand) c.deref.ensures.value
+    (subst (λ (o : Operands). IsFirstIncomplete c.deref.result.now o c.in-Some.operand) c.operands.ensures c.in-Some.ensures)
 
 pub returns-in_ok-push-in-Some-clause-stack : goal.returns-in_ok-push-in-Some-clause-stack
 returns-in_ok-push-in-Some-clause-stack c =

@@ -4,7 +4,7 @@ use Rattle.std.proofs.lemmas.Option.{slice_get_read}
 use Rattle.mltl_base.specs.declared.limits.TheConstants.{MAX_INSTRUCTIONS}
 use Rattle.core_graph.specs.declared.vertex.Vertex.{Vertex}
 use Rattle.core_graph.specs.Vertices.{tree_at, trees}
-use Rattle.core_graph.specs.Trees.{Tree, add_tree}
+use Rattle.core_graph.specs.Trees.{LabelTree, add_tree}
 use Rattle.core_graph.specs.Listings.{count_in, is_in}
 use Rattle.core_graph.specs.Walks.{finish, trees_of}
 use Rattle.core_graph.proofs.Orders.{finish_grows}
@@ -41,7 +41,7 @@ returns-clause-visited c =
 pub returns-then-self-clause-too_many : goal.returns-then-self-clause-too_many
 returns-then-self-clause-too_many c = λ e.
     let vertices : List Vertex = c.args.forest.now in
-    let sofar : List Tree = trees_of vertices c.step.new.self.order.items in
+    let sofar : List LabelTree = trees_of vertices c.step.new.self.order.items in
     let more : count_in c.args.part sofar ≤ count_in c.args.part (finish (trees_of vertices c.step.new.stack.items) sofar)
     = finish_grows (is_in c.args.part) (trees_of vertices c.step.new.stack.items) sofar in
     let end : count_in c.args.part (finish (trees_of vertices c.step.new.stack.items) sofar)

@@ -1,6 +1,6 @@
 -- The first row is the two truths, and the last row is that of all bodies.
 use Rattle.std.proofs.Common.{◌≡◌, ◌+◌, replicate, subst, arith, rules}
-use Rattle.count_sets.specs.Tables.{IsTable, IsRising}
+use Rattle.count_sets.specs.Tables.{IsGateRow, GatesRise}
 use Rattle.count_sets.proofs.Ends.{started}
 use Rattle.count_sets.proofs.Sharing.{rising_start}
 use Rattle.count_sets.proofs.table.Table.of.Goals as goal
@@ -17,9 +17,9 @@ loop-k-init c =
 pub returns-clause-table : goal.returns-clause-table
 returns-clause-table c =
     let all : c.loop-k.k ≡ c.args.plan.bodies = omega arith in
-    subst (λ k. IsTable c.args.plan k c.loop-k.table.gates c.loop-k.table.row.items) all c.loop-k.invariant.0
+    subst (λ k. IsGateRow c.args.plan k c.loop-k.table.gates c.loop-k.table.row.items) all c.loop-k.invariant.0
 
 pub returns-clause-rising : goal.returns-clause-rising
 returns-clause-rising c =
     let all : c.loop-k.k ≡ c.args.plan.bodies = omega arith in
-    subst (λ k. IsRising c.args.plan k c.loop-k.table.gates c.loop-k.table.row.items) all c.loop-k.invariant.1
+    subst (λ k. GatesRise c.args.plan k c.loop-k.table.gates c.loop-k.table.row.items) all c.loop-k.invariant.1

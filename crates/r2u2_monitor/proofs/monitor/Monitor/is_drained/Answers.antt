@@ -3,7 +3,7 @@ use Rattle.std.specs.Prelude.{IsTrue}
 use Rattle.mltl_base.specs.declared.report.Style.{Style}
 use Rattle.mltl_base.specs.Atoms.{Row}
 use Rattle.r2u2_monitor.specs.declared.state.State.{State}
-use Rattle.r2u2_monitor.specs.Monitoring.{IsDrained, Stands, open_of}
+use Rattle.r2u2_monitor.specs.Monitoring.{IsDrained, Stands, open_in}
 use Rattle.r2u2_monitor.proofs.Telling.{tells_drained}
 use Rattle.r2u2_monitor.proofs.monitor.Monitor.is_drained.Goals as goal
 
@@ -14,5 +14,5 @@ returns-clause-drained c =
 
 pub returns-clause-open : goal.returns-clause-open
 returns-clause-open c =
-    subst (λ (monitor : State). (style : Style) (rows : List Row) → Stands monitor rows → IsTrue c.is_drained.result ↔ (open_of style monitor rows ≡ [])) c.self.view_is
+    subst (λ (monitor : State). (style : Style) (rows : List Row) → Stands monitor rows → IsTrue c.is_drained.result ↔ (open_in style monitor rows ≡ [])) c.self.view_is
     (λ style rows stands. c.is_drained.ensures.open style rows stands.taken)

@@ -1,6 +1,6 @@
 use Rattle.std.proofs.Common.{subst}
 use Rattle.r2u2_monitor.specs.declared.state.State.{State}
-use Rattle.r2u2_monitor.specs.Monitoring.{GivesNext}
+use Rattle.r2u2_monitor.specs.Monitoring.{ReturnsNext}
 use Rattle.r2u2_monitor.proofs.Telling.{gives_next}
 use Rattle.r2u2_monitor.proofs.monitor.Monitor.next.Goals as goal
 
@@ -8,5 +8,5 @@ pub returns : goal.returns
 returns c =
     let monitor : State = c.self.inside.state in
     let sound = c.self.invariant.0 in
-    subst (λ (before : State). GivesNext c.args.style c.next.result before (record monitor { running = c.next.new.self })) c.self.view_is
+    subst (λ (before : State). ReturnsNext c.args.style c.next.result before (record monitor { running = c.next.new.self })) c.self.view_is
     (gives_next c.args.style c.next.result monitor c.next.new.self (sound.some.0, sound.some.1.taken) sound.early c.next.ensures.first c.next.ensures.stands c.next.ensures.none c.next.ensures.given)

@@ -4,7 +4,7 @@ use Rattle.r2u2_monitor.specs.Monitoring.{program_of}
 use Rattle.r2u2_monitor.proofs.Keeping.{same_stands}
 use Rattle.r2u2_watch.specs.Endings.{why_of}
 use Rattle.r2u2_watch.specs.Feed.{text_meaning}
-use Rattle.r2u2_watch.specs.Turns.{FindsRow, line_of}
+use Rattle.r2u2_watch.specs.Turns.{FindsRow, cut_meaning}
 use Rattle.r2u2_watch.proofs.FoundLaws.{takes_row, takes_front, takes_blank, takes_bad, takes_past, writes_none}
 use Rattle.r2u2_watch.proofs.trace_loop.Course.take.Goals as goal
 
@@ -16,7 +16,7 @@ returns-then-take_after-clause-log g c rows feed stands at =
     let program = program_of before in
     let finds = subst (λ text. FindsRow c.in-Row.copies c.in-Row.reader (text_meaning program course.mission feed text) course.lines rows before between) c.line.ensures (c.in-Row.ensures.told rows feed stands at) in
     OnLog-map _ _ _ (c.if-take_after.ensures.log rows (same_stands before between rows c.read.ensures.same stands))
-    (λ events tells. takes_row c.in-Row.copies c.args.cut.now.number (line_of program course feed c.args.cut.now) course _ rows before between c.take_after.new.monitor events finds c.read.ensures.same tells)
+    (λ events tells. takes_row c.in-Row.copies c.args.cut.now.number (cut_meaning program course feed c.args.cut.now) course _ rows before between c.take_after.new.monitor events finds c.read.ensures.same tells)
 
 pub returns-else-take_after-clause-log : goal.returns-else-take_after-clause-log
 returns-else-take_after-clause-log g c rows feed stands at =
@@ -26,14 +26,14 @@ returns-else-take_after-clause-log g c rows feed stands at =
     let program = program_of before in
     let finds = subst (λ text. FindsRow c.in-Row.copies c.in-Row.reader (text_meaning program course.mission feed text) course.lines rows before between) c.line.ensures (c.in-Row.ensures.told rows feed stands at) in
     OnLog-map _ _ _ (c.if-take_after.ensures.log rows (same_stands before between rows c.read.ensures.same stands))
-    (λ events tells. takes_front c.in-Row.copies c.args.cut.now.number (line_of program course feed c.args.cut.now) c.in-Row.reader course _ rows before between c.take_after.new.monitor events finds c.read.ensures.same tells)
+    (λ events tells. takes_front c.in-Row.copies c.args.cut.now.number (cut_meaning program course feed c.args.cut.now) c.in-Row.reader course _ rows before between c.take_after.new.monitor events finds c.read.ensures.same tells)
 
 pub returns-in-Blank-clause-log : goal.returns-in-Blank-clause-log
 returns-in-Blank-clause-log g c rows feed stands at =
     let course = c.args.self.now in
     let before = c.args.monitor.now in
     let program = program_of before in
-    OnLog-none _ _ (takes_blank feed c.args.cut.now.number (line_of program course feed c.args.cut.now) program course rows c.read.new.monitor
+    OnLog-none _ _ (takes_blank feed c.args.cut.now.number (cut_meaning program course feed c.args.cut.now) program course rows c.read.new.monitor
     (ap (text_meaning program course.mission feed) (sym c.line.ensures) ∙ c.in-Blank.ensures.told rows feed stands at) at
     (writes_none rows before c.read.new.monitor c.read.ensures.same stands c.requires.under_way.drained))
 
@@ -42,7 +42,7 @@ returns-in-Bad-clause-log g c rows feed stands at =
     let course = c.args.self.now in
     let before = c.args.monitor.now in
     let program = program_of before in
-    OnLog-none _ _ (takes_bad (line_of program course feed c.args.cut.now) c.args.cut.now.number c.number.result (why_of c.in-Bad.fault) program course course rows c.read.new.monitor
+    OnLog-none _ _ (takes_bad (cut_meaning program course feed c.args.cut.now) c.args.cut.now.number c.number.result (why_of c.in-Bad.fault) program course course rows c.read.new.monitor
     (ap (text_meaning program course.mission feed) (sym c.line.ensures) ∙ c.in-Bad.ensures.told rows feed stands at) c.number.ensures
     (writes_none rows before c.read.new.monitor c.read.ensures.same stands c.requires.under_way.drained))
 
@@ -51,6 +51,6 @@ returns-in-Past-clause-log g c rows feed stands at =
     let course = c.args.self.now in
     let before = c.args.monitor.now in
     let program = program_of before in
-    OnLog-none _ _ (takes_past (line_of program course feed c.args.cut.now) c.args.cut.now.number program course course rows c.read.new.monitor
+    OnLog-none _ _ (takes_past (cut_meaning program course feed c.args.cut.now) c.args.cut.now.number program course course rows c.read.new.monitor
     (ap (text_meaning program course.mission feed) (sym c.line.ensures) ∙ c.in-Past.ensures.told rows feed stands at)
     (writes_none rows before c.read.new.monitor c.read.ensures.same stands c.requires.under_way.drained))

@@ -1,5 +1,5 @@
 use Rattle.std.proofs.Common.{◌≡◌, ℕ, ◌-◌, ◌<◌, ◌≤◌, List, ◌∷◌, length, get_or, arith, refl, ap, subst, sym, ◌∙◌, if◌then◌else◌, nat_le}
-use Rattle.scq_ring.specs.Runs.{Alternate, low_of, no_slot, verdict_at, window, Spans, value_in}
+use Rattle.scq_ring.specs.Runs.{Alternate, low_of, no_slot, verdict_at, window, Spans, holds_in}
 use Rattle.scq_ring.specs.declared.runs.Slot.{Slot}
 use Rattle.scq_ring.proofs.Windows.{window_before_pop, next_within, length-window}
 use Rattle.scq_ring.proofs.RunLemmas.{shortened, Shortened, Spans-upto}
@@ -48,5 +48,5 @@ returns c =
       rises = omega arith;
       fewer = omega arith;
       bounded = omega arith;
-      kept = λ t from. ap (λ v. if nat_le ring.since t then ring.value else v) (q.kept t from ∙ ap (λ (rs : List Slot). value_in rs t) (sym e));
+      kept = λ t from. ap (λ v. if nat_le ring.since t then ring.value else v) (q.kept t from ∙ ap (λ (rs : List Slot). holds_in rs t) (sym e));
     }

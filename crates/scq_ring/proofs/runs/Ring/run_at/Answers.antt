@@ -1,5 +1,5 @@
 use Rattle.std.proofs.Common.{◌≡◌, ◌≢◌, ℕ, ◌+◌, ◌-◌, ◌/◌, ◌<◌, ◌≤◌, List, length, get_or, arith, subst, sym, ◌∙◌}
-use Rattle.scq_ring.specs.Runs.{no_slot, runs_of, runs_to, value_in, verdict_at}
+use Rattle.scq_ring.specs.Runs.{no_slot, runs_of, runs_to, holds_in, verdict_at}
 use Rattle.scq_ring.specs.declared.runs.Slot.{Slot}
 use Rattle.scq_ring.proofs.RunLemmas.{Spans-upto, Spans-rising, length-runs, run_at_index, runs_to-past, value_in_first, verdict_before, verdict_turns}
 use Rattle.scq_ring.proofs.runs.Ring.run_at.Goals as goal
@@ -58,7 +58,7 @@ returns c =
     let Reaches : Slot → Type 0 = λ r. c.args.from ≤ r.upto in
     let Before : Slot → Type 0 = λ r. r.upto < ring.since in
     let before : (get_or slots c.ring_index-2.result no_slot).upto < ring.since = subst Before same (Spans-upto ring.low runs ring.since c.requires.belongs.spans c.halving.first (omega arith)) in
-    let Alike : Slot → Type 0 = λ r. (t : ℕ) → c.args.from ≤ t → t ≤ r.upto → value_in runs t ≡ r.value in
+    let Alike : Slot → Type 0 = λ r. (t : ℕ) → c.args.from ≤ t → t ≤ r.upto → holds_in runs t ≡ r.value in
     let alike = subst Alike same (value_in_first runs c.halving.first c.args.from (omega arith) around.below) in
     let Turns : Slot → Type 0 = λ r. verdict_at ring slots (r.upto + 1) ≢ r.value in
     let Takes : Slot → Type 0 = λ r. runs_to (r.upto + 1) runs + 1 ≤ runs_to c.args.from runs in

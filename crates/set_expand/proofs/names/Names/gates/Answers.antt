@@ -2,7 +2,7 @@ use Rattle.std.proofs.Common.{◌≡◌, ◌+◌, ◌-◌, ◌≤◌, min, Some,
 use Rattle.std.specs.Prelude.{IfOk}
 use Rattle.std.proofs.lemmas.Option.{slice_get_within}
 use Rattle.count_sets.specs.Counting.{counting}
-use Rattle.count_sets.specs.Gates.{formulas, last_formula}
+use Rattle.count_sets.specs.Gates.{gate_formulas, last_formula}
 use Rattle.count_sets.proofs.Unfolding.{length-formulas}
 use Rattle.c2po_nodes.specs.Nodes.{Has, formula}
 use Rattle.c2po_unfold.specs.Values.{counted_formula}
@@ -15,7 +15,7 @@ splice-requires-clause-some c =
     subst (λ gs. 1 ≤ length gs) (sym c.as_slice.ensures)
     (omega (
       arith,
-      slice_get_within (formulas gates) (length gates - 1) (counting c.args.op (length c.args.bodies.now) c.min-number.result) c.in_ok-gates.ensures.unfolds,
+      slice_get_within (gate_formulas gates) (length gates - 1) (counting c.args.op (length c.args.bodies.now) c.min-number.result) c.in_ok-gates.ensures.unfolds,
       length-formulas gates,
     ))
 

@@ -2,12 +2,12 @@ use Rattle.std.proofs.Common.{◌≡◌, sym, ◌∙◌, None, arith, length}
 use Rattle.std.proofs.lemmas.List.{get_or_default}
 use Rattle.std.specs.Prelude.{find}
 use Rattle.tool_io.specs.declared.mem_files.Cursor.{Cursor}
-use Rattle.tool_io.specs.MemFiles.{is_named}
+use Rattle.tool_io.specs.MemFiles.{has_file_name}
 use Rattle.tool_io.specs.MemFilesInside.{IsWithin, file_at}
 use Rattle.tool_io.proofs.MemFilesLemmas.{Found, found_at, found_nowhere, opened_is, opened_none, file_found, file_absent, fits-with_cursor}
 use Rattle.tool_io.proofs.mem_files.MemFiles.open.Goals as goal
 
-absent : (c : goal.In_default) → find (is_named c.args.name.now) c.self.inside.files.items ≡ None
+absent : (c : goal.In_default) → find (has_file_name c.args.name.now) c.self.inside.files.items ≡ None
 absent c = found_nowhere c.args.name.now c.self.inside.files.items (rw c.deref.ensures.value at (sym c.position_of.ensures ∙ c.in_default.is))
 
 found : (c : goal.After-set) → Found c.args.name.now c.self.inside.files.items c.in-Some.file

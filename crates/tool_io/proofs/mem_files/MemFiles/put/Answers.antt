@@ -2,7 +2,7 @@ use Rattle.std.proofs.Common.{◌≡◌, [], ◌∷◌, ◌++◌, sym, ap, ◌�
 use Rattle.std.specs.Prelude.{find}
 use Rattle.tool_io.specs.declared.host.Place.{Place}
 use Rattle.tool_io.specs.Cursors.{cursor_at}
-use Rattle.tool_io.specs.MemFiles.{Stored, is_named, file_of}
+use Rattle.tool_io.specs.MemFiles.{Stored, has_file_name, file_of}
 use Rattle.tool_io.proofs.MemFilesLemmas.{Found, found_at, found_nowhere, Puts, puts-set, puts-append, Agrees, agree-set, agree-append, fits-all, readings-more}
 use Rattle.tool_io.proofs.mem_files.MemFiles.put.Goals as goal
 
@@ -15,7 +15,7 @@ set_puts c = rw c.in_ok-file.ensures (puts-set c.args.name.now c.args.bytes.now 
 set_agrees : (c : goal.After-drop-index_mut-in-Some) → (place : Place) → Agrees c.self.inside.files.items (set c.self.inside.files.items c.in-Some.i c.in_ok-file.file) (cursor_at c.self.inside.cursors place)
 set_agrees c = agree-set c.self.inside.files.items c.self.inside.cursors c.args.self.now c.args.name.now c.in-Some.i c.in_ok-file.file c.self.view_is c.requires (found c).named
 
-absent : (c : goal.In_ok-push-in-None) → find (is_named c.args.name.now) c.self.inside.files.items ≡ None
+absent : (c : goal.In_ok-push-in-None) → find (has_file_name c.args.name.now) c.self.inside.files.items ≡ None
 absent c = found_nowhere c.args.name.now c.self.inside.files.items (rw c.deref.ensures.value at (sym c.position_of.ensures ∙ c.in-None.is))
 
 pushed : (c : goal.In_ok-push-in-None) → c.push.new.self.items ≡ c.self.inside.files.items ++ record { name = c.args.name.now; bytes = c.args.bytes.now } ∷ []

@@ -2,7 +2,7 @@ use Rattle.std.proofs.Common.{◌≡◌, sym, subst, arith, map, take, length, L
 use Rattle.std.proofs.lemmas.List.{length-map, length-take-le}
 use Rattle.csv.specs.Records.{fields_of}
 use Rattle.trace_feed.specs.Blanks.{trimmed}
-use Rattle.trace_feed.specs.Places.{ArePlaces}
+use Rattle.trace_feed.specs.Places.{AreColumnPlaces}
 use Rattle.trace_feed.proofs.CsvLaws.{take_name}
 use Rattle.trace_feed.proofs.names.Places.of.Goals as goal
 
@@ -12,4 +12,4 @@ loop-c-preserved c =
     let at = c.loop-c.c in
     let size : length names ≡ length (fields_of c.args.fields.now) = length-map (fields_of c.args.fields.now) trimmed in
     let short : length (take at names) ≡ at = length-take-le at names (omega arith) in
-    subst (λ (ns : List (List ℕ)). ArePlaces ns c.add.new.self) (sym (take_name names at c.name_at.result.now c.name_at.ensures)) (c.in_ok-add.ensures (take at names) short c.loop-c.invariant)
+    subst (λ (ns : List (List ℕ)). AreColumnPlaces ns c.add.new.self) (sym (take_name names at c.name_at.result.now c.name_at.ensures)) (c.in_ok-add.ensures (take at names) short c.loop-c.invariant)

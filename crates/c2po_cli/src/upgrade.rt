@@ -1,0 +1,98 @@
+//! From the bytes of a program file to what is written of its program in version 2: the bytes, or the text.
+
+ghost use Rattle.std.specs.Prelude.{◌≡◌, ◌≢◌, Err, IfErr, IfOk, Ok};
+ghost use Rattle.obs_files.specs.Faults.{opened};
+ghost use Rattle.obs_files.specs.Names.{NamesFit};
+ghost use Rattle.obs_verify.specs.Upgrade.{clash_of};
+ghost use Rattle.c2po_cli.specs.Made.{Making, made_bytes, opened_as, raised_as, show_status, text_within};
+ghost use Rattle.c2po_cli.specs.Phases.{RefusesAlone};
+
+use crate::compiled::written;
+use c2po_compile::Refusal;
+use mltl_base::Part;
+use obs_files::{ProgramFault, open, upgraded_names_fit};
+use obs_show::{ShowFault, show};
+use obs_verify::{Checked, UpgradeFault, upgrade};
+use std::alloc::Global;
+use tool_io::Place;
+use tool_words::Status;
+
+/// A program in version 2.
+fn raised(alloc: Global, checked: Checked) -> Result<Checked, Status>
+    requires names { NamesFit checked }
+    ensures made { IfOk result (λ raised. (gives : Making)
+        → raised_as gives checked (clash_of checked) ≡ gives raised) }
+    ensures version { IfOk result (λ raised. raised.version ≡ 2) }
+    ensures names { IfOk result NamesFit }
+    ensures refused { IfErr result (λ status. status ≢ Status.Memory →
+        (gives : Making) → raised_as gives checked (clash_of checked) ≡ Err status) }
+    ensures refuses { IfErr result RefusesAlone }
+{
+    upgraded_names_fit();
+    let _program = checked.program();
+    match upgrade(alloc, checked) {
+        Ok(checked) => Ok(checked),
+        Err(UpgradeFault::Both(i)) => {
+            Err(Status::BadProgram(ProgramFault::Operand(Part::Bz, i)))
+        }
+        Err(UpgradeFault::Memory) => Err(Status::Memory),
+    }
+}
+
+/// The program of a file, in version 2.
+fn program_in(alloc: Global, bytes: &[u8]) -> Result<Checked, Status>
+    ensures made { IfOk result (λ checked. (gives : Making)
+        → opened_as gives (opened bytes.now) ≡ gives checked) }
+    ensures version { IfOk result (λ checked. checked.version ≡ 2) }
+    ensures names { IfOk result NamesFit }
+    ensures refused { IfErr result (λ status. status ≢ Status.Memory →
+        (gives : Making) → opened_as gives (opened bytes.now) ≡ Err status) }
+    ensures refuses { IfErr result RefusesAlone }
+{
+    let checked = open(alloc, bytes)?;
+    raised(alloc, checked)
+}
+
+/// The bytes of the program of a file, in version 2.
+pub(crate) fn upgraded_bytes(alloc: Global, bytes: &[u8]) -> Result<Vec<u8>, Status>
+    ensures made { IfOk result (λ made. opened_as made_bytes (opened bytes.now) ≡ Ok made.items) }
+    ensures refused { IfErr result (λ status. status ≢ Status.Memory
+        → opened_as made_bytes (opened bytes.now) ≡ Err status) }
+    ensures refuses { IfErr result RefusesAlone }
+{
+    let checked = program_in(alloc, bytes)?;
+    written(alloc, false, &checked)
+}
+
+/// The text of the program of a file, in version 2.
+pub(crate) fn shown_text(alloc: Global, bytes: &[u8]) -> Result<Vec<u8>, Status>
+    ensures made { IfOk result (λ made. opened_as text_within (opened bytes.now) ≡ Ok made.items) }
+    ensures refused { IfErr result (λ status. status ≢ Status.Memory
+        → opened_as text_within (opened bytes.now) ≡ Err status) }
+    ensures refuses { IfErr result RefusesAlone }
+{
+    let checked = program_in(alloc, bytes)?;
+    text_of(alloc, &checked)
+}
+
+/// The text of a program.
+fn text_of(alloc: Global, checked: &Checked) -> Result<Vec<u8>, Status>
+    requires version { checked.now.version ≡ 2 }
+    ensures made { IfOk result (λ made. text_within checked.now ≡ Ok made.items) }
+    ensures refused { IfErr result (λ status. status ≢ Status.Memory
+        → text_within checked.now ≡ Err status) }
+    ensures refuses { IfErr result RefusesAlone }
+{
+    show(alloc, checked).map_err(status_of_show)
+}
+
+fn status_of_show(fault: ShowFault) -> Status
+    ensures status { result ≡ show_status fault }
+    ensures refuses { RefusesAlone result }
+{
+    match fault {
+        ShowFault::TooLong => Status::TextTooLong(Place::Out),
+        ShowFault::Wide => Status::Refused(0, Refusal::Wide),
+        ShowFault::Memory => Status::Memory,
+    }
+}

@@ -1,0 +1,80 @@
+//! The simplified form of a specification that is unfolded.
+
+ghost use Rattle.std.specs.Prelude.{◌≡◌, ◌+◌, ◌≤◌, ◌<◌, ◌^◌, ℕ, Bool, List as Seq, All, length, map, IfOk};
+ghost use Rattle.mltl_base.specs.Atoms.{Row};
+ghost use Rattle.mltl_base.specs.Formula.{Formula, wpd};
+ghost use Rattle.mltl_base.specs.Meaning.{sat};
+ghost use Rattle.mltl_base.specs.Settled.{IsOrdered, Settled};
+ghost use Rattle.c2po_nodes.specs.Faults.{HasRanges};
+ghost use Rattle.c2po_nodes.specs.Outputs.{IsSound, asked};
+ghost use Rattle.mltl_simplify.specs.Nodes.{ReadsNodes, out_over};
+ghost use Rattle.mltl_simplify.specs.Outputs.{simple_outputs};
+ghost use Rattle.mltl_simplify.specs.Simplify.{simp};
+
+use crate::proxies::{Proxy, place_at, read};
+use c2po_nodes::{Expanded, NodeList, PlainOut};
+use mltl_base::List;
+use std::alloc::{AllocError, Global};
+
+/// An output over the indices of the nodes that represent its nodes.
+fn out_of(proxies: &[Proxy], out: &PlainOut) -> PlainOut
+    requires { ReadsNodes (length proxies.now) out.now }
+    ensures { result ≡ out_over proxies.now out.now }
+{
+    match out {
+        PlainOut::Formula(engine, n, name) => {
+            PlainOut::Formula(*engine, place_at(proxies, *n), name.copy())
+        }
+        PlainOut::Contract(engine, n, m, name) => PlainOut::Contract(
+            *engine,
+            place_at(proxies, *n),
+            place_at(proxies, *m),
+            name.copy(),
+        ),
+    }
+}
+
+/// All outputs over the indices of the nodes that represent their nodes.
+fn outs_of(
+    alloc: Global,
+    proxies: &[Proxy],
+    outs: &[PlainOut],
+) -> Result<List<PlainOut>, AllocError>
+    requires { All (ReadsNodes (length proxies.now)) outs.now }
+    ensures { IfOk result (λ list. list ≡ map (out_over proxies.now) outs.now) }
+{
+    let mut list = List::new(alloc);
+    for out in outs {
+        list.push(out_of(proxies, out))?;
+    }
+    Ok(list)
+}
+
+/// The outputs of a specification over the simplified forms of their formulas, under the same names and numbers. The code
+/// goes over each node once, shared ones too; no clause bounds the nodes that it makes.
+///
+/// Errors: out of memory.
+#[tactic(auto, using(crate::proofs::Meaning::simp_sat, crate::proofs::Delays::simp_wpd, crate::proofs::Delays::simp_settled))]
+pub fn simplify(alloc: Global, spec: &Expanded) -> Result<Expanded, AllocError>
+    requires sound { (signals : ℕ) × IsSound spec.now signals }
+    requires ranged { All HasRanges (asked spec.now) }
+    ensures outputs { IfOk result (λ simple. asked simple ≡ simple_outputs (asked spec.now)) }
+    ensures sound { (signals : ℕ) → IsSound spec.now signals →
+        IfOk result (λ simple. IsSound simple signals) }
+    ensures ranged { IfOk result (λ simple. All HasRanges (asked simple)) }
+
+    // A simplified formula means what its formula does, no later; what is settled for it is settled for the formula.
+    ensures meaning { (rows : Seq Row) (p : Formula) (t : ℕ) →
+        IsOrdered p → sat rows (simp p) t ≡ sat rows p t }
+    ensures delay { (p : Formula) → wpd (simp p) ≤ wpd p }
+    ensures settled { (rows : Seq Row) (p : Formula) (t : ℕ) (v : Bool) →
+        IsOrdered p → Settled rows (simp p) t v → Settled rows p t v }
+{
+    let mut simple = NodeList::new(alloc);
+    let proxies = read(alloc, &mut simple, spec.nodes.as_slice())?;
+    let outs = outs_of(alloc, &proxies, spec.outs.as_slice())?;
+    Ok(Expanded {
+        nodes: simple.into_list(),
+        outs,
+    })
+}

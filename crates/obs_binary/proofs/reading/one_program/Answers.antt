@@ -1,5 +1,0 @@
-use Rattle.obs_binary.proofs.Whole.{one-program}
-use Rattle.obs_binary.proofs.reading.one_program.Goals as goal
-
-pub returns : goal.returns
-returns c = one-program

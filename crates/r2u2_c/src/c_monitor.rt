@@ -1,0 +1,153 @@
+//! What C keeps of a monitor.
+
+ghost use Rattle.std.specs.Prelude.{◌≡◌, Some, length};
+ghost use Rattle.r2u2_c.specs.Queries.{MirrorsMonitor, open_names, open_signals, open_width};
+
+use crate::handle::Handle;
+use r2u2_monitor::Monitor;
+use std::alloc::Global;
+use std::mem;
+
+/// What C keeps: a monitor, or none, and what may be read of it without it. Contracts see the monitor's
+/// state as `handle.value`.
+#[repr(C)]
+pub struct R2u2 {
+    pub handle: Handle,
+    pub(crate) rows: u64,
+    width: u32,
+    outputs: u32,
+    signals: u32,
+    pub ghost told: { AreTold handle.value rows width outputs signals },
+}
+
+impl R2u2 {
+    ghost use Rattle.std.specs.Prelude.{◌↔◌, None, IsSome, IsTrue, MatchOption};
+    ghost use Rattle.r2u2_c.specs.Queries.{open_rows};
+
+    fn empty() -> R2u2
+        ensures { result.handle.value ≡ None }
+    {
+        R2u2 {
+            handle: Handle::empty(),
+            rows: 0,
+            width: 0,
+            outputs: 0,
+            signals: 0,
+        }
+    }
+
+    fn of(monitor: Box<Monitor>) -> R2u2
+        ensures { result.handle.value ≡ Some monitor.value }
+    {
+        let rows = monitor.rows_taken();
+        let width = width_in(&monitor);
+        let outputs = outputs_in(&monitor);
+        let signals = signals_in(&monitor);
+        R2u2 {
+            handle: Handle::with(monitor),
+            rows,
+            width,
+            outputs,
+            signals,
+        }
+    }
+
+    fn into_box(self, alloc: Global) -> Option<Box<Monitor>>
+        ensures { MatchOption result (self.handle.value ≡ None)
+            (λ b. self.handle.value ≡ Some b.value) }
+    {
+        let R2u2 {
+            handle,
+            rows: _,
+            width: _,
+            outputs: _,
+            signals: _,
+        } = self;
+        handle.into_box(alloc)
+    }
+
+    /// Takes the monitor out, if one is open.
+    pub(crate) fn take(&mut self, alloc: Global) -> Option<Box<Monitor>>
+        ensures taken { MatchOption result (self.old.handle.value ≡ None)
+            (λ b. self.old.handle.value ≡ Some b.value) }
+        ensures emptied { self.new.handle.value ≡ None }
+    {
+        mem::replace(self, R2u2::empty()).into_box(alloc)
+    }
+
+    /// Puts a monitor in, and frees one that was open.
+    pub(crate) fn put(&mut self, monitor: Box<Monitor>)
+        ensures { self.new.handle.value ≡ Some monitor.value }
+    {
+        let alloc = *Box::allocator(&monitor);
+        let old = mem::replace(self, R2u2::of(monitor));
+        drop(old.into_box(alloc));
+    }
+
+    /// Whether a monitor is open.
+    pub(crate) fn is_open(&mut self, alloc: Global) -> bool
+        ensures open { IsTrue result ↔ IsSome self.old.handle.value }
+        ensures kept { self.new.handle.value ≡ self.old.handle.value }
+    {
+        match self.handle.take(alloc) {
+            None => false,
+            Some(monitor) => {
+                self.handle.put(monitor);
+                true
+            }
+        }
+    }
+
+    /// Frees the monitor, if one is open.
+    pub(crate) fn close(&mut self, alloc: Global)
+        ensures { self.new.handle.value ≡ None }
+    {
+        drop(self.take(alloc));
+    }
+
+    /// The number of rows that the monitor has taken; 0 where none is open.
+    pub(crate) fn rows(&self) -> u64
+        ensures { result ≡ open_rows self.now.handle.value }
+    {
+        self.rows
+    }
+
+    /// The number of columns of a row; 0 where none is open.
+    pub(crate) fn width(&self) -> u32
+        ensures { result ≡ open_width self.now.handle.value }
+    {
+        self.width
+    }
+
+    /// The number of outputs; 0 where none is open.
+    pub(crate) fn outputs(&self) -> u32
+        ensures { result ≡ length (open_names self.now.handle.value) }
+    {
+        self.outputs
+    }
+
+    /// The number of signals that the program stores; 0 where none is open.
+    pub(crate) fn signals(&self) -> u32
+        ensures { result ≡ length (open_signals self.now.handle.value) }
+    {
+        self.signals
+    }
+}
+
+fn width_in(monitor: &Monitor) -> u32
+    ensures { result ≡ open_width (Some monitor.now) }
+{
+    monitor.checked().program().width
+}
+
+fn outputs_in(monitor: &Monitor) -> u32
+    ensures { result ≡ length (open_names (Some monitor.now)) }
+{
+    monitor.checked().program().outs.len() as u32
+}
+
+fn signals_in(monitor: &Monitor) -> u32
+    ensures { result ≡ length (open_signals (Some monitor.now)) }
+{
+    monitor.checked().program().signals.len() as u32
+}

@@ -1,0 +1,135 @@
+//! Monitors from the bytes of a program, and the header that binds its signals.
+
+ghost use Rattle.std.specs.Prelude.{◌≡◌, ◌≢◌, ◌≤◌, ◌<◌, Ok, Err, IfOk, IfErr, OnOk, length};
+ghost use Rattle.mltl_base.specs.declared.limits.TheConstants.{MAX_LINE_BYTES};
+ghost use Rattle.r2u2_monitor.specs.Monitoring.{program_of};
+ghost use Rattle.r2u2_c.specs.Opening.{Starts, bound_by, of_file, of_header, opened_by, program_under};
+
+use mltl_base::limits::MAX_LINE_BYTES;
+use mltl_base::{Name, Program};
+use obs_files::{FileFault, ProgramFault, open};
+use obs_verify::Checked;
+use r2u2_monitor::Monitor;
+use std::alloc::{AllocError, AllocFailed, Global};
+use trace_feed::{HeaderFault, bind_to_header};
+
+/// Why no monitor is opened.
+#[derive(Drop)]
+pub enum OpeningFault {
+    /// This is wrong with the program.
+    Program(ProgramFault),
+    /// A header was given, and the program stores no signals, being of version 1.
+    NoSignals,
+    /// The header has more than 65,535 bytes.
+    LongHeader,
+    /// The header doesn't begin with `#`.
+    NoHeader,
+    /// The first signal that doesn't occur exactly once in the header doesn't occur there.
+    Missing(Name),
+    /// The first signal that doesn't occur exactly once in the header occurs more than once.
+    Twice(Name),
+    /// Out of memory.
+    Memory,
+}
+
+impl From<FileFault> for OpeningFault {
+    ghost from_gives = { λ fault why. why ≡ of_file fault };
+
+    fn from(fault: FileFault) -> OpeningFault {
+        match fault {
+            FileFault::Program(fault) => OpeningFault::Program(fault),
+            FileFault::Memory => OpeningFault::Memory,
+        }
+    }
+}
+
+impl From<HeaderFault> for OpeningFault {
+    ghost from_gives = { λ fault why. why ≡ of_header fault };
+
+    fn from(fault: HeaderFault) -> OpeningFault {
+        match fault {
+            HeaderFault::NoHeader => OpeningFault::NoHeader,
+            HeaderFault::Missing(name) => OpeningFault::Missing(name),
+            HeaderFault::Twice(name) => OpeningFault::Twice(name),
+            HeaderFault::Memory => OpeningFault::Memory,
+        }
+    }
+}
+
+impl From<AllocError> for OpeningFault {
+    ghost use Rattle.r2u2_c.specs.declared.opened.OpeningFault.TheVariants.{Memory};
+
+    ghost from_gives = { λ _ why. why ≡ Memory };
+
+    fn from(_refused: AllocError) -> OpeningFault {
+        OpeningFault::Memory
+    }
+}
+
+impl<T: Drop> From<AllocFailed<T>> for OpeningFault {
+    ghost use Rattle.r2u2_c.specs.declared.opened.OpeningFault.TheVariants.{Memory};
+
+    ghost from_gives = { λ _ why. why ≡ Memory };
+
+    fn from(_refused: AllocFailed<T>) -> OpeningFault {
+        OpeningFault::Memory
+    }
+}
+
+/// The monitor of the program that these bytes spell.
+pub(crate) fn open_monitor(alloc: Global, bytes: &[u8]) -> Result<Box<Monitor>, OpeningFault>
+    ensures opened { IfOk result (λ b. Starts (opened_by bytes.now) b.value) }
+    ensures refused { IfErr result (λ why. why ≢ OpeningFault.Memory
+        → opened_by bytes.now ≡ Err why) }
+{
+    load(alloc, open(alloc, bytes)?)
+}
+
+/// The same with the program's signals in the columns that a header names.
+pub(crate) fn open_under(
+    alloc: Global,
+    bytes: &[u8],
+    header: &[u8],
+) -> Result<Box<Monitor>, OpeningFault>
+    ensures opened { IfOk result (λ b. Starts (program_under header.now bytes.now) b.value) }
+    ensures refused { IfErr result (λ why. why ≢ OpeningFault.Memory
+        → program_under header.now bytes.now ≡ Err why) }
+{
+    let checked = open(alloc, bytes)?;
+    let bound = bind(alloc, checked, header)?;
+    load(alloc, bound)
+}
+
+/// A program with its signals in the columns that a header names.
+fn bind(alloc: Global, checked: Checked, header: &[u8]) -> Result<Checked, OpeningFault>
+    ensures bound { IfOk result (λ bound. bound_by header.now checked ≡ Ok bound) }
+    ensures refused { IfErr result (λ why. why ≢ OpeningFault.Memory
+        → bound_by header.now checked ≡ Err why) }
+{
+    takes_header(checked.program(), header)?;
+    Ok(bind_to_header(alloc, checked, header)?)
+}
+
+/// Whether a program stores signals, and a header is short enough to name their columns.
+fn takes_header(program: &Program, header: &[u8]) -> Result<(), OpeningFault>
+    ensures stored { OnOk result (program.now.version ≡ 2) }
+    ensures short { OnOk result (length header.now < MAX_LINE_BYTES) }
+    ensures refused { IfErr result (λ why. bound_by header.now program.now ≡ Err why) }
+{
+    if program.version != 2 {
+        return Err(OpeningFault::NoSignals);
+    }
+    if header.len() >= MAX_LINE_BYTES {
+        return Err(OpeningFault::LongHeader);
+    }
+    Ok(())
+}
+
+/// Makes a monitor in separate memory.
+fn load(alloc: Global, checked: Checked) -> Result<Box<Monitor>, OpeningFault>
+    ensures starts { IfOk result (λ b. Starts (Ok checked) b.value) }
+    ensures memory { IfErr result (λ why. why ≡ OpeningFault.Memory) }
+{
+    let monitor = Monitor::load(alloc, checked)?;
+    Ok(Box::new(alloc, monitor)?)
+}
