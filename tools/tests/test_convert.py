@@ -21,8 +21,8 @@ FTSPEC foreach(r: requests)(r.state == ASKED -> F[0,3] (r.state == GRANTED));
   foratmost(r: requests, 1)(r.state == GRANTED);
   idle xor busy; -- at the end
   freed: busy => F[2] idle;
-  next: X idle;
-PTSPEC rested: busy && O[1,1] !busy -> O[1,1] idle;
+  next: F[1,1] idle;
+PTSPEC rested: busy && (O[1,1] !busy) -> O[1,1] idle;
 """
 TAKEN = """-- an arbiter
 STRUCT
@@ -37,12 +37,12 @@ DEFINE
 FTSPEC
   foreach(r: requests)(r.state == ASKED -> F[0,3] (r.state == GRANTED));
   foratmost(r: requests, 1)(r.state == GRANTED);
-  !((idle) <-> (busy));
+  !(idle <-> busy);
 -- at the end
   freed: busy => F[0,2] idle;
   next: F[1,1] idle;
 PTSPEC
-  rested: busy && O[1,1] !busy -> O[1,1] idle;
+  rested: busy && (O[1,1] !busy) -> O[1,1] idle;
 """
 
 
@@ -78,12 +78,20 @@ class C2po(Converted):
             ("m: G a;", "G over the mission time: --mission N gives it a number"),
             ("m: F[0,M] a;", "F over the mission time: --mission N gives it a number"),
             ("wide: F[0,2000000] a;", "2000000: an interval ends at 1048576 at the latest"),
-            ("mixed: a -> O[1,1] b && F[1,1] c;", "c2po: mixed tense"),
+            ("mixed: a -> (O[1,1] b) && F[1,1] c;", "c2po: mixed tense"),
+            ("tail: F[0,3] a && b;", "brackets are needed: F and then &&"),
+            ("deny: !G[0,3] a -> b;", "brackets are needed: G and then ->"),
+            ("w: x == 2 U[0,4] b;", "brackets are needed around U and its operands"),
+            ("w: a U[0,4] b && c;", "brackets are needed around U and its operands"),
+            ("i: a xor b -> c;", "brackets are needed around xor and its operands"),
+            ("next: X a;", "no next here: F[1,1] is the row after"),
+            ("trig: a T[0,2] b;", "no trigger here: write it by S and !"),
             ("two: a -> b -> c;", "brackets are needed: -> and then ->"),
             ("cmp: F[0,3] x == 2;", "brackets are needed: F and then =="),
             ("u: !a U[0,4] b;", "brackets are needed around the operands of U"),
             ("v: a U[0,4] b U[0,4] c;", "brackets are needed around the operands of U"),
-            ("e: a xor b && c;", "brackets are needed around xor"),
+            ("e: a xor b && c;", "brackets are needed around xor and its operands"),
+            ("e: a xor !b;", "brackets are needed around the operands of xor"),
             ("bits: (x & 3) == 1;", "bits: no & here"),
             ("shift: x << 2 == 4;", "bits: no << here"),
             ("f: rate(x) < 3;", "no function rate here"),
@@ -122,15 +130,20 @@ class C2po(Converted):
             self.assertIn(line, out)
 
     def test_meanings(self):
-        """Exclusive or, the next row and the trigger of the past, over all short traces."""
-        out = self.run_it("from-c2po", "INPUT a, b: bool; FTSPEC e: (a xor b); n: X a; PTSPEC t: a T[0,2] b;\n")[0]
+        """Exclusive or, and the signs that both have, over all short traces."""
+        out = self.run_it("from-c2po", "INPUT a, b: bool; FTSPEC e: (a xor b); n: !a || b && a -> !b;\n")[0]
         for rows in itertools.product(("0,0", "0,1", "1,0", "1,1"), repeat=4):
             bits = [(row[0] == "1", row[2] == "1") for row in rows]
             told = self.verdicts(out, "# a,b\n" + "".join(f"{row}\n" for row in rows))
             self.assertEqual(told["e"], [f"{k},{'T' if a != b else 'F'}" for k, (a, b) in enumerate(bits)])
-            self.assertEqual(told["n"], [f"{k},{'T' if bits[k + 1][0] else 'F'}" for k in range(3)])
-            held = [all(bits[j][1] or any(bits[i][0] for i in range(j + 1, k + 1)) for j in range(max(0, k - 2), k + 1)) for k in range(4)]
-            self.assertEqual(told["t"], [f"{k},{'T' if it else 'F'}" for k, it in enumerate(held)])
+            self.assertEqual(told["n"], [f"{k},{'F' if (not a or b and a) and b else 'T'}" for k, (a, b) in enumerate(bits)])
+
+    def test_sets_of_structs(self):
+        text = "STRUCT Bus: { on: bool; }; All: { buses: set<Bus>; };\nINPUT a, b: bool;\nDEFINE all := All({Bus(a), Bus(b)});\n"
+        out = self.run_it("from-c2po", text + "FTSPEC f: foreach(m: all.buses)(m.on);\n")[0]
+        self.assertIn("All: { buses: set<Bus>; };", out)
+        told = self.run_it("from-c2po", "INPUT s: set<int>; a: bool;\nFTSPEC f: a;\n", status=1)[1]
+        self.assertEqual(told, ["line 1: sets have no type of inputs"])
 
     def test_maps(self):
         out, told = self.run_it("from-map", "a: 0\nb:2 -- the bus\n# none\n\nc: 4\n")
@@ -144,7 +157,8 @@ class C2po(Converted):
 def requirement(label, timing, p="p", text="", duration="2", scope="null", mode="", condition="null", when=""):
     """A requirement as FRET exports it."""
     meaning = {"scope": {"type": scope}, "scope_mode": mode, "condition": condition, "regular_condition": when, "timing": timing,
-               "duration": duration, "post_condition": f"({p})"}
+               "duration": duration if timing in ("within", "for", "after") else None, "post_condition": f"({p})"}
+    text = text or f"it shall {timing} {duration} ticks satisfy p"
     return {"reqid": label, "project": "P", "fulltext": text, "semantics": meaning}
 
 
@@ -201,7 +215,8 @@ class Fret(Converted):
         self.assertEqual([line for line in told["i"] if line.endswith("F")], ["2,F"])
 
     def test_units(self):
-        made = [requirement("a", "within", text="it shall within 0.5 seconds satisfy p"), requirement("b", "for", text="it shall for 3 ticks satisfy p")]
+        made = [requirement("a", "within", text="it shall within 0.5 seconds satisfy p", duration="0.5"),
+                requirement("b", "for", text="it shall for 3 ticks satisfy p", duration="3")]
         out = self.fret(made, "--rate", "10")[0]
         self.assertIn("O[5,5] first -> O[0,5] a_p", out)
         self.assertIn("O[0,3] first -> b_p", out)
@@ -211,11 +226,15 @@ class Fret(Converted):
 
     def test_expressions(self):
         made = [requirement("e", "always", "(x + 1 > 3 & !q => p | r) <=> (x = y)")]
-        out = self.fret(made, models=[])[0]
+        self.assertEqual(self.fret(made, status=1)[1], ["e: whether y is a number isn't given"])
+        out = self.fret(made, models=[{"variable_name": "y", "dataType": "integer"}])[0]
         self.assertIn("INPUT q, p, r: bool;\nINPUT x, y: int;\n", out)
         self.assertIn("DEFINE e_p := ((x + 1 > 3 && !q -> p || r) <-> (x == y));", out)
 
     def test_what_is_not_taken(self):
+        unless, twice, strict = (requirement("a", "always", condition="regular", when="q") for _ in range(3))
+        unless["semantics"]["qualifier_word"], twice["semantics"]["pre_condition"] = "unless", "r"
+        strict["semantics"]["scope"] = {"type": "before", "required": True}
         for made, said in (
             (requirement("a", "until"), "a: the timing until isn't in the tables"),
             (requirement("a", "null"), "a: the timing eventually isn't in the tables"),
@@ -226,11 +245,22 @@ class Fret(Converted):
             (requirement("a", "always", "p > q"), "a: c2po: wrong kind"),
             (requirement("a", "always", "p @ q"), "a: '@ q)' isn't understood"),
             (requirement("a", "always", "v > 2"), "a: v is double: scale it to integers"),
-            (requirement("a", "within", duration=""), "a: no duration of within"),
+            (requirement("a", "within", text="it shall soon satisfy p"), "a: its text has no duration of within"),
+            (requirement("a", "within", text="within 2 ticks, it shall within 2 ticks satisfy p"), "a: its text has 2 durations of within"),
+            (requirement("a", "within", text="it shall within 3 ticks satisfy p"), "a: within 3 ticks: its semantics has the duration 2"),
+            (requirement("a", "always", condition="noholding", when="q"), "a: the condition noholding isn't in the tables"),
+            (unless, "a: the condition word unless isn't in the tables"),
+            (twice, "a: its condition has two texts"),
+            (strict, "a: the scope before with required isn't in the tables"),
+            (requirement("a", "always", "p => q => r"), "a: brackets are needed: -> and another one"),
+            (requirement("a", "always", "!x = 3"), "a: brackets are needed: ! and then =="),
+            (requirement("a", "always", "x = y"), "a: whether x is a number isn't given"),
+            (requirement("a", "always", "d & p"), "a: d is defined in FRET: write a DEFINE"),
             (requirement("a", "always", condition="regular"), "a: its condition has no text"),
             ({"reqid": "a", "fulltext": "free text"}, "a: it has no semantics"),
         ):
             models = self.MODELS + [{"variable_name": "v", "dataType": "double"}]
+            models += [{"variable_name": "d", "dataType": "boolean", "idType": "Internal", "assignment": "p and q"}]
             out, told = self.fret([made, requirement("good", "always", "q")], status=1, models=models)
             self.assertEqual(told, [said])
             self.assertIn(f"-- a isn't taken: {said[3:]}", out)

@@ -1,7 +1,8 @@
 """Specifications of C2PO 3, item by item, into this language.
 
 What reads alike in both is kept. What has another form here is rewritten; what has none, or what both might read
-differently, is left out with its line and the reason, and so is what uses it. c2po has the last word on the result.
+differently, is left out with its line and the reason, and so is what uses it: an operator in time stands in brackets, or
+ends what stands in some. c2po has the last word on the result.
 """
 
 from __future__ import annotations
@@ -22,9 +23,12 @@ TOKEN = re.compile(
     re.ASCII | re.S,
 )
 QUANTIFIERS = ("foreach", "forsome", "forexactly", "foratleast", "foratmost")
-UNARY, BINARY = ("F", "G", "O", "H"), ("U", "R", "S", "T")
-LEVELS = (("<->", "->"), ("||",), ("&&",), ("xor",), ("==", "!=", "<", "<=", ">", ">="), ("+", "-"), ("*", "/", "%"))
-COMPARED = 4
+UNARY, BINARY = ("F", "G", "O", "H"), ("U", "R", "S", "xor")
+LEVELS = (("<->", "->"), ("||",), ("&&",), ("==", "!=", "<", "<=", ">", ">="), ("+", "-"), ("*", "/", "%"))
+COMPARED = 3
+# Where an operand may begin or end that no grammar reads otherwise.
+EDGES = ("", "(", ")", "{", "}", ",")
+UNSURE = {"X": "no next here: F[1,1] is the row after", "T": "no trigger here: write it by S and !"}
 BITS = ("~", "&", "|", "^", "<<", ">>")
 WIDEST = 1048576
 
@@ -115,7 +119,8 @@ class Expression:
         if self.next() in BITS:
             raise self.unfit(f"bits: no {self.next()} here")
         if self.next():
-            raise self.unfit(f"{self.next()} isn't understood")
+            unsure = next((UNSURE[it] for it in (self.next(), self.tokens[self.place - 1].text) if it in UNSURE), "")
+            raise self.unfit(unsure or f"{self.next()} isn't understood")
         return text
 
     def level(self, k: int) -> str:
@@ -126,48 +131,41 @@ class Expression:
         text, before = self.level(k + 1), ""
         while self.next() in LEVELS[k]:
             sign = self.next()
-            if before and k in (0, 4):
+            if before and k in (0, COMPARED):
                 raise self.unfit(f"brackets are needed: {before} and then {sign}")
             self.mixed(began, k, sign)
             self.take()
-            other = self.level(k + 1)
-            if sign == "xor":
-                self.alone(began)
-                text = f"!(({text}) <-> ({other}))"
-            else:
-                text = f"{text} {sign} {other}"
+            text = f"{text} {sign} {self.level(k + 1)}"
             before = sign
         return text
 
-    def alone(self, began: int) -> None:
-        """Refuses an xor next to another operator of logic, which might bind tighter or looser elsewhere."""
-        around = (self.tokens[began - 1].text if began else "", self.next())
-        if set(around) & {"&&", "||", "xor"}:
-            raise self.unfit("brackets are needed around xor")
-
     def mixed(self, began: int, k: int, sign: str) -> None:
-        """Refuses an operator in time or a denial just before a comparison or a sum."""
-        if k >= COMPARED and self.tokens[began].text in ("!", *UNARY, "X"):
-            raise self.unfit(f"brackets are needed: {self.tokens[began].text} and then {sign}")
+        """Refuses a denial just before a comparison or a sum."""
+        if k >= COMPARED and self.tokens[began].text == "!":
+            raise self.unfit(f"brackets are needed: ! and then {sign}")
 
     def binary_in_time(self) -> str:
+        """Returns an operator with two operands whose place among others no two grammars need agree on: it stands alone."""
         began = self.place
         text = self.prefix()
         if self.next() not in BINARY:
             return text
-        sign = self.next()
-        if not self.single(began, self.place):
-            raise self.unfit(f"brackets are needed around the operands of {sign}")
+        sign, before = self.next(), self.tokens[began - 1].text if began else ""
+        self.single(began, sign)
         self.take()
-        bounds, right = self.interval(sign), self.place
+        bounds, right = "" if sign == "xor" else self.interval(sign), self.place
         other = self.prefix()
-        if not self.single(right, self.place) or self.next() in BINARY:
+        self.single(right, sign)
+        if self.next() in BINARY:
             raise self.unfit(f"brackets are needed around the operands of {sign}")
-        return f"!((!{text}) S{bounds} (!{other}))" if sign == "T" else f"{text} {sign}{bounds} {other}"
+        if before not in EDGES or self.next() not in EDGES:
+            raise self.unfit(f"brackets are needed around {sign} and its operands")
+        return f"!({text} <-> {other})" if sign == "xor" else f"{text} {sign}{bounds} {other}"
 
-    def single(self, began: int, end: int) -> bool:
-        """Returns whether tokens are an operand that no reading cuts: a name with fields, a number or brackets."""
-        return self.tokens[began].text not in ("!", "-", "X", *UNARY)
+    def single(self, began: int, sign: str) -> None:
+        """Refuses an operand that another reading might cut: it is a name with fields, a number, or in brackets."""
+        if began >= len(self.tokens) or self.tokens[began].text in ("!", "-", *UNARY):
+            raise self.unfit(f"brackets are needed around the operands of {sign}")
 
     def interval(self, sign: str) -> str:
         """Returns an interval, where the mission time is a number that was given."""
@@ -198,12 +196,12 @@ class Expression:
         sign = self.next()
         if sign in ("!", "-"):
             return self.take() + self.prefix()
-        if sign == "X":
-            self.take()
-            return f"F[1,1] {self.prefix()}"
         if sign in UNARY:
             self.take()
-            return f"{sign}{self.interval(sign)} {self.prefix()}"
+            text = f"{sign}{self.interval(sign)} {self.prefix()}"
+            if self.next() not in EDGES:
+                raise self.unfit(f"brackets are needed: {sign} and then {self.next()}")
+            return text
         return self.primary()
 
     def primary(self) -> str:
@@ -311,12 +309,15 @@ class Importer:
     def declaration(self, item: Item) -> str:
         """Returns an item of STRUCT or INPUT, whose forms are alike."""
         for token in item.tokens:
-            if token.text in ("[", "<"):
-                raise Unfit("arrays and sets have no type here", token.line)
+            if token.text == "[":
+                raise Unfit("arrays have no type here", token.line)
+            if token.text == "<" and item.section == "INPUT":
+                raise Unfit("sets have no type of inputs", token.line)
         text = ""
         for token in item.tokens:
-            text += token.text if token.text in ",:;." or not text else f" {token.text}"
-        return text.replace("( ", "(")
+            glued = not text or token.text in ",:;.<>" or text.endswith("<")
+            text += token.text if glued else f" {token.text}"
+        return text
 
     def formula(self, item: Item) -> str:
         """Returns a definition, a formula or a contract."""
@@ -356,7 +357,6 @@ class Importer:
     def refused(self) -> list[tuple[int, str]]:
         """Returns what wasn't taken: line and reason."""
         return [(item.line, item.why) for item in self.items if item.why]
-
 
     def renumbered(self) -> int:
         """Returns the line of the first formula that goes by its number and has another one now, or 0."""

@@ -1,7 +1,8 @@
 """Requirements of FRET's JSON, as formulas of the past by the tables of docs/reference/scopes.md.
 
 Scope and condition become q, which opens, and r, which closes; the response is p. Each formula is false at the row at
-which the requirement is broken.
+which the requirement is broken. Fields of the JSON that aren't those known here, or that disagree, are refused: nothing is
+taken for what it may mean.
 """
 
 from __future__ import annotations
@@ -18,9 +19,16 @@ WIDEST = 1048576
 TOKEN = re.compile(r"\s*([A-Za-z_]\w*|[0-9]+(?:\.[0-9]+)?|<=>|<->|=>|->|<=|>=|!=|==|&&|\|\||[=<>!&|()+\-*/%~^,.])", re.ASCII)
 SIGNS = {"&": "&&", "and": "&&", "|": "||", "or": "||", "not": "!", "~": "!", "=>": "->", "<=>": "<->", "=": "==", "TRUE": "true", "FALSE": "false"}
 RESERVED = set("STRUCT INPUT DEFINE FTSPEC PTSPEC bool int set foreach forsome forexactly foratleast foratmost F G U R S O H".split())
-NUMERIC = ("==", "!=", "<", "<=", ">", ">=", "+", "-", "*", "/", "%")
+EQUAL = ("==", "!=")
+NUMERIC = (*EQUAL, "<", "<=", ">", ">=", "+", "-", "*", "/", "%")
 SECONDS = {"microsecond": Fraction(1, 10**6), "millisecond": Fraction(1, 1000), "second": Fraction(1), "minute": Fraction(60), "hour": Fraction(3600)}
 DURATION = re.compile(r"\b(within|for|after)\s+([0-9]+(?:\.[0-9]+)?)\s*([a-z]+?)s?\b", re.I)
+# Of each kind of condition the words that begin it, and the fields of the JSON that have its text.
+CONDITIONS = {
+    "regular": (("when", "if", "upon"), ("regular_condition", "pre_condition")),
+    "holding": (("whenever",), ("holding_condition", "regular_condition", "pre_condition")),
+}
+BOOLS, INTEGERS = re.compile(r"bool(ean)?", re.I), re.compile(r"u?int(eger)?(8|16|32)?|unsigned integer", re.I)
 
 # By timing: the formula in the whole run, from a first row on, and from the rows of q on, up to r where there is one.
 GLOBALLY = {
@@ -53,9 +61,22 @@ class Kinds:
 
     found: dict[str, str] = field(default_factory=dict)
     given: dict[str, str] = field(default_factory=dict)
+    defined: set[str] = field(default_factory=set)
 
-    def meet(self, name: str, numeric: bool) -> None:
-        kind = self.given.get(name) or ("int" if numeric else "bool")
+    def take(self, model: dict[str, Any]) -> None:
+        """Takes what the file says of a variable."""
+        name = str(model.get("variable_name"))
+        if model.get("dataType"):
+            self.given[name] = kind_of(str(model["dataType"]))
+        if model.get("assignment") or model.get("modeRequirement") or str(model.get("idType")).lower() == "function":
+            self.defined.add(name)
+
+    def meet(self, name: str, numeric: Optional[bool]) -> None:
+        if name in self.defined:
+            raise Unfit(f"{name} is defined in FRET: write a DEFINE")
+        kind = self.given.get(name) or (self.found.get(name) if numeric is None else "int" if numeric else "bool")
+        if kind is None:
+            raise Unfit(f"whether {name} is a number isn't given")
         if kind not in ("bool", "int"):
             raise Unfit(f"{name} is {kind}: scale it to integers")
         if self.found.setdefault(name, kind) != kind:
@@ -63,8 +84,7 @@ class Kinds:
 
 
 def kind_of(text: str) -> str:
-    text = text.lower()
-    return "bool" if "bool" in text else "int" if "int" in text else text
+    return "bool" if BOOLS.fullmatch(text) else "int" if INTEGERS.fullmatch(text) else text
 
 
 def tokens_of(text: str) -> list[str]:
@@ -83,6 +103,7 @@ def formula(text: str, kinds: Kinds) -> str:
     tokens = [SIGNS.get(token, token) for token in tokens_of(text)]
     while bracketed(tokens):
         tokens = tokens[1:-1]
+    refuse_doubts(tokens)
     for k, token in enumerate(tokens):
         if "." in token and token != ".":
             raise Unfit(f"{token} isn't an integer: scale it")
@@ -97,6 +118,21 @@ def formula(text: str, kinds: Kinds) -> str:
     return tokens[0] if len(tokens) == 1 else f"({spaced(tokens)})"
 
 
+def refuse_doubts(tokens: list[str]) -> None:
+    """Refuses what two grammars may read in two ways: implications in a row, and a denial before a comparison."""
+    arrows = [0]
+    for k, token in enumerate(tokens):
+        if token == "(":
+            arrows.append(0)
+        elif token == ")" and len(arrows) > 1:
+            arrows.pop()
+        arrows[-1] += token in ("->", "<->")
+        if arrows[-1] > 1:
+            raise Unfit(f"brackets are needed: {token} and another one")
+        if token == "!" and any(sign in NUMERIC for sign in tokens[k + 2 : k + 3]):
+            raise Unfit(f"brackets are needed: ! and then {tokens[k + 2]}")
+
+
 def bracketed(tokens: list[str]) -> bool:
     """Returns whether one pair of brackets is around all."""
     depth = 0
@@ -107,16 +143,21 @@ def bracketed(tokens: list[str]) -> bool:
     return False
 
 
-def is_number(tokens: list[str], k: int) -> bool:
-    """Returns whether a name stands next to a sign of arithmetic or a comparison, also through brackets of its own."""
+def is_number(tokens: list[str], k: int) -> Optional[bool]:
+    """Returns whether a name stands next to a sign of arithmetic or a comparison, also through brackets of its own.
+
+    Next to `=` it is what the other side is: None where that is a name too.
+    """
     before, after = k - 1, k + 1
     while before >= 0 and after < len(tokens) and tokens[before] == "(" and tokens[after] == ")":
         before, after = before - 1, after + 1
-    around = [tokens[place] for place in (before, after) if 0 <= place < len(tokens)]
-    if not any(sign in NUMERIC for sign in around):
+    signs = [tokens[place] if 0 <= place < len(tokens) else "" for place in (before, after)]
+    if not set(signs) & set(NUMERIC):
         return False
-    other = [tokens[place] for place in (before - 1, after + 1) if 0 <= place < len(tokens)]
-    return not ({"==", "!="} & set(around) and {"true", "false"} & set(other))
+    if set(signs) & set(NUMERIC) - set(EQUAL):
+        return True
+    other = "".join(tokens[after + 1 : after + 2] if signs[1] in EQUAL else tokens[max(0, before - 1) : before])
+    return True if other.isdigit() or other == "-" else False if other in ("true", "false") else None
 
 
 def spaced(tokens: list[str]) -> str:
@@ -152,8 +193,8 @@ class Importer:
         self.rate, self.kinds = rate, Kinds()
         self.labels: set[str] = set()
         for it in models if isinstance(models, list) else []:
-            if isinstance(it, dict) and it.get("dataType"):
-                self.kinds.given[str(it.get("variable_name"))] = kind_of(str(it["dataType"]))
+            if isinstance(it, dict):
+                self.kinds.take(it)
 
     def run(self) -> list[Requirement]:
         return [self.one(record, k) for k, record in enumerate(self.records)]
@@ -204,11 +245,13 @@ class Importer:
             return timing, 0
         if timing not in ("within", "for", "after"):
             raise Unfit(f"the timing {timing} isn't in the tables")
-        found = next((it for it in DURATION.finditer(made.text) if it[1].lower() == timing), None)
-        unit, shown = (found[3].lower(), found[0]) if found else ("tick", timing)
-        value = fraction(found[2] if found else str(meaning.get("duration", "")).strip())
-        if value is None:
-            raise Unfit(f"no duration of {timing}")
+        told = [it for it in DURATION.finditer(made.text) if it[1].lower() == timing]
+        if len(told) != 1:
+            raise Unfit(f"its text has {len(told) or 'no'} duration{'s' * (len(told) > 1)} of {timing}")
+        unit, shown, value = told[0][3].lower(), told[0][0], fraction(told[0][2])
+        given = str(meaning.get("duration") or "").strip()
+        if value is None or given and fraction(given) != value:
+            raise Unfit(f"{shown}: its semantics has the duration {given}")
         rows = value
         if unit in SECONDS:
             if self.rate is None:
@@ -222,8 +265,11 @@ class Importer:
 
     def condition_of(self, meaning: dict[str, Any]) -> str:
         kind = str(meaning.get("condition") or "null").lower()
-        if kind not in ("null", "regular", "holding", "noholding"):
+        if kind != "null" and kind not in CONDITIONS:
             raise Unfit(f"the condition {kind} isn't in the tables")
+        word = str(meaning.get("qualifier_word") or "null").lower()
+        if word != "null" and word not in CONDITIONS.get(kind, ((),))[0]:
+            raise Unfit(f"the condition word {word} isn't in the tables")
         return kind
 
     def mode_of(self, made: Requirement, meaning: dict[str, Any]) -> str:
@@ -236,6 +282,9 @@ class Importer:
         """Returns the table of the scope, and what opens and closes it."""
         scope = meaning.get("scope")
         kind = str((scope or {}).get("type") if isinstance(scope, dict) else scope or "null").lower()
+        for flag in ("exclusive", "required"):
+            if isinstance(scope, dict) and scope.get(flag):
+                raise Unfit(f"the scope {kind} with {flag} isn't in the tables")
         label, inside, end = made.label, "", ""
         if kind in ("in", "notin"):
             mode = self.mode_of(made, meaning)
@@ -267,12 +316,13 @@ class Importer:
 
     def conditional(self, made: Requirement, meaning: dict[str, Any], inside: str, end: str) -> tuple[dict[str, str], str, str]:
         """Returns the table of a scope that the condition opens, within its mode."""
-        text = str(meaning.get("regular_condition") or meaning.get("pre_condition") or meaning.get("holding_condition") or "")
-        if not text:
-            raise Unfit("its condition has no text")
-        c = formula(text, self.kinds)
+        kind = self.condition_of(meaning)
+        found = {formula(str(meaning[it]), self.kinds) for it in CONDITIONS[kind][1] if meaning.get(it)}
+        if len(found) != 1:
+            raise Unfit("its condition has two texts" if found else "its condition has no text")
+        c = found.pop()
         c = self.define(made, f"{made.label}_c", f"{inside} && {c}" if inside else c)
-        if self.condition_of(meaning) == "regular":
+        if kind == "regular":
             c = self.define(made, f"{made.label}_q", f"{c} && !(O[1,1] {c})")
         if not end:
             return AFTER, c, ""

@@ -10,6 +10,7 @@ from string import Template
 from typing import Any, Optional
 
 from r2u2tools.common.cli import plain
+from r2u2tools.common.palette import css
 from r2u2tools.common.progress import Progress
 from r2u2tools.timeline.model import Column, Lane, Model
 
@@ -120,4 +121,4 @@ def data(model: Model) -> dict[str, Any]:
 def html(model: Model) -> str:
     text = json.dumps(data(model), ensure_ascii=True).replace("<", "\\u003c")
     page = PageTemplate(PAGE.read_text(encoding="utf-8"))
-    return page.safe_substitute(title=escape(plain(model.title or "timeline")), data=text)
+    return page.safe_substitute(palette=css(), title=escape(plain(model.title or "timeline")), data=text)

@@ -7,6 +7,7 @@ from textwrap import wrap
 from typing import Any, Callable, Iterator, Optional, Sequence
 
 from r2u2tools.common.cli import plain as printable
+from r2u2tools.common.palette import DARK, LIGHT
 from r2u2tools.timeline.model import Column, Lane, Model
 
 Word = Optional[str]
@@ -15,12 +16,12 @@ Ends = tuple[Any, Any]
 
 # How a word is drawn: its short text, the colour of its square and of the text.
 LOOKS: dict[Word, tuple[str, str, str]] = {
-    "T": ("T", "#2f74c0", "#ffffff"),
-    "F": ("F", "#c93a4e", "#ffffff"),
-    "inactive": ("–", "#c9d3de", "#3b4754"),
-    "invalid": ("✗", "#c93a4e", "#ffffff"),
-    "verified": ("✓", "#2f74c0", "#ffffff"),
-    None: ("?", "#ffffff", "#5f6b78"),
+    "T": ("T", LIGHT["true"], LIGHT["true-ink"]),
+    "F": ("F", LIGHT["false"], LIGHT["false-ink"]),
+    "inactive": ("–", LIGHT["idle"], LIGHT["idle-ink"]),
+    "invalid": ("✗", LIGHT["false"], LIGHT["false-ink"]),
+    "verified": ("✓", LIGHT["true"], LIGHT["true-ink"]),
+    None: ("?", LIGHT["back"], LIGHT["open-ink"]),
 }
 MEANINGS: dict[Word, str] = {
     "T": "true",
@@ -35,18 +36,19 @@ GRAVEST: dict[Word, int] = {word: rank for rank, word in enumerate(("inactive", 
 SQUARE, LANE, GAP, EDGE, MARK = 26, 24, 8, 12, 14
 LETTER = 7.8
 SQUARES, WIDE, NARROWEST, LONGEST = 60, 1100, 8, 24
-INK, FAINT, GRID, PALE = "#1f2933", "#6b7785", "#7b8794", "#e8edf2"
+BACK, INK, FAINT, GRID, PALE, CURVE, MARKS = (LIGHT[name] for name in ("back", "ink", "faint", "grid", "pale", "curve", "mark"))
 # The colours of a dark screen in place of those above, by element and attribute. Squares of words keep theirs.
-DARK = [
-    ('rect[fill="#ffffff"]', "fill:#0d1117"),
-    ('[fill="#1f2933"]', "fill:#e6edf3"),
-    ('[stroke="#1f2933"]', "stroke:#e6edf3"),
-    ('[fill="#6b7785"], text[fill="#5f6b78"]', "fill:#a9b4c0"),
-    ('[stroke="#6b7785"]', "stroke:#a9b4c0"),
-    ('[fill="#e8edf2"]', "fill:#2a3542"),
-    ('path[fill="#8593a3"]', "fill:#5b6b7c;stroke:#5b6b7c"),
+AT_NIGHT = [
+    (f'rect[fill="{LIGHT["back"]}"]', f"fill:{DARK['back']}"),
+    (f'[fill="{INK}"]', f"fill:{DARK['ink']}"),
+    (f'[stroke="{INK}"]', f"stroke:{DARK['ink']}"),
+    (f'[fill="{FAINT}"], text[fill="{LIGHT["open-ink"]}"]', f"fill:{DARK['faint']}"),
+    (f'[stroke="{FAINT}"]', f"stroke:{DARK['faint']}"),
+    (f'[stroke="{GRID}"]', f"stroke:{DARK['grid']}"),
+    (f'[fill="{PALE}"]', f"fill:{DARK['pale']}"),
+    (f'path[fill="{CURVE}"]', f"fill:{DARK['curve']};stroke:{DARK['curve']}"),
 ]
-STYLE = "<style>@media (prefers-color-scheme: dark){" + "".join(f"{what}{{{how}}}" for what, how in DARK) + "}</style>"
+STYLE = "<style>@media (prefers-color-scheme: dark){" + "".join(f"{what}{{{how}}}" for what, how in AT_NIGHT) + "}</style>"
 
 
 def plain(number: float) -> str:
@@ -137,7 +139,7 @@ class Sheet:
             f'<svg xmlns="http://www.w3.org/2000/svg" width="{width:.0f}" height="{height:.0f}" '
             f'viewBox="0 0 {width:.0f} {height:.0f}" font-family="DejaVu Sans, Verdana, sans-serif">'
         )
-        back = f'<rect width="{width:.0f}" height="{height:.0f}" rx="6" fill="#ffffff"/>'
+        back = f'<rect width="{width:.0f}" height="{height:.0f}" rx="6" fill="{BACK}"/>'
         return "\n".join([head, STYLE, back, *self.parts, "</svg>", ""])
 
 
@@ -229,7 +231,7 @@ def draw_curve(sheet: Sheet, column: Column) -> None:
             lower.append(f"{right} {plain(y(values[kept[1]]))}H{left}")
     if upper:
         path = "M" + "L".join(upper + lower[::-1]) + "Z"
-        sheet.add(f'<path d="{path}" fill="#8593a3" stroke="#8593a3" stroke-width="1"/>')
+        sheet.add(f'<path d="{path}" fill="{CURVE}" stroke="{CURVE}" stroke-width="1"/>')
     for text, place in ((f"{most:g}", high + 7), (f"{least:g}", low)):
         sheet.text(sheet.right() + 4, place, text, FAINT, 9)
         sheet.wide = max(sheet.wide, sheet.right() + 4 + len(text) * 6)
@@ -237,7 +239,7 @@ def draw_curve(sheet: Sheet, column: Column) -> None:
 
 def draw_square(sheet: Sheet, x: float, y: float, word: Word, wide: float) -> None:
     text, fill, ink = LOOKS[word]
-    dash = ' stroke="#7b8794" stroke-dasharray="3 2"' if word is None else ""
+    dash = f' stroke="{MARKS}" stroke-dasharray="3 2"' if word is None else ""
     sheet.rect(x + 1, y, wide - 2, LANE, fill, f' rx="3"{dash}')
     if text:
         sheet.text(x + wide / 2, y + LANE / 2 + 4, text, ink, anchor="middle", weight=600)
@@ -260,7 +262,7 @@ def draw_bar(sheet: Sheet, begin: int, end: int, most: Word, least: Word) -> Non
     """Dots of one word; or of several, of which the gravest is above the least grave."""
     text, fill, ink = LOOKS[most]
     x, wide = sheet.left + begin, end - begin
-    dash = ' stroke="#7b8794" stroke-dasharray="3 2"' if most is None else ""
+    dash = f' stroke="{MARKS}" stroke-dasharray="3 2"' if most is None else ""
     sheet.rect(x, sheet.top, wide, LANE, fill, dash)
     if most != least:
         sheet.rect(x, sheet.top + LANE / 2, wide, LANE / 2, LOOKS[least][1])
@@ -289,7 +291,7 @@ def draw_marks(sheet: Sheet, lane: Lane) -> None:
             path.append(f"M{plain(sheet.x(time + 0.5))} {plain(high)}L{plain(foot)} {plain(low)}")
         if row <= model.last:
             rows.add(row)
-    sheet.line("".join(path), "#7b8794", 0.8)
+    sheet.line("".join(path), MARKS, 0.8)
     for row in sorted(rows):
         sheet.add(f'<circle cx="{plain(sheet.x(row + 0.5))}" cy="{plain(low)}" r="2.5" fill="{INK}"/>')
     sheet.top += MARK

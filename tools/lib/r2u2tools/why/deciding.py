@@ -9,7 +9,7 @@ from __future__ import annotations
 
 from collections import deque
 from dataclasses import dataclass, field
-from typing import Iterable, Iterator, Mapping, Optional, Sequence
+from typing import Iterable, Iterator, Mapping, Optional, Sequence, Union
 
 from r2u2tools.common.program_text import Node
 from r2u2tools.why.part_verdicts import FALSE, TRUE, UNKNOWN, Part, Verdicts
@@ -29,8 +29,8 @@ class CellCosts:
     others: float = 1.0
     own: Mapping[Cell, float] = field(default_factory=dict)
 
-    def of_leaf(self, names: Sequence[str], low: int, high: int) -> list[float]:
-        """What the cells of some signals cost together, at each time from one to another."""
+    def of_leaf(self, _ref: str, names: Sequence[str], low: int, high: int) -> list[float]:
+        """What the cells of a signal or comparison cost together, at each time from one to another."""
         costs = [self.others * len(names) if names else 0.0] * (high - low + 1)
         if not self.own:
             return costs
@@ -38,6 +38,20 @@ class CellCosts:
         for time in {time for name, time in self.own if name in wanted and low <= time <= high}:
             costs[time - low] = sum(self.own.get((name, time), self.others) for name in names)
         return costs
+
+
+class LeafCosts:
+    """A signal or comparison costs nothing at a time where its word is known, or where its cells are, and else 1."""
+
+    def __init__(self, known: Iterable[tuple[str, int]], cells: frozenset[Cell]) -> None:
+        self.known, self.cells = known, cells
+
+    def is_fixed(self, names: Sequence[str], time: int) -> bool:
+        return all((name, time) in self.cells for name in names)
+
+    def of_leaf(self, ref: str, names: Sequence[str], low: int, high: int) -> list[float]:
+        """What a signal or comparison costs at each time from one to another."""
+        return [float((ref, time) not in self.known and not self.is_fixed(names, time)) for time in range(low, high + 1)]
 
 
 class Least:
@@ -151,19 +165,19 @@ class Derivation:
     `cost` is NEVER of a part that doesn't follow from the cells that may be used.
     """
 
-    def __init__(self, verdicts: Verdicts, costs: CellCosts) -> None:
-        self.verdicts, self.parts = verdicts, verdicts.parts
+    def __init__(self, verdicts: Verdicts, costs: Union[CellCosts, LeafCosts]) -> None:
+        self.verdicts, self.parts, self.costs = verdicts, verdicts.parts, costs
         self.cost: dict[str, list[float]] = {}
         self.pick: dict[str, list[Pick]] = {}
         # What is chosen: of each part the times at which its word counts, and how many ways lead there.
         self.chosen: dict[str, dict[int, float]] = {}
         for ref in self.parts.refs:
-            self.weigh(ref, costs)
+            self.weigh(ref)
 
-    def weigh(self, ref: str, costs: CellCosts) -> None:
+    def weigh(self, ref: str) -> None:
         node, part = self.parts.node(ref), self.verdicts.by_ref[ref]
         if node is None:
-            told = costs.of_leaf(self.parts.shown.signals_of(ref), part.low, part.high)
+            told = self.costs.of_leaf(ref, self.parts.shown.signals_of(ref), part.low, part.high)
             self.cost[ref] = [NEVER if word == UNKNOWN else cost for word, cost in zip(part.words, told)]
         elif node.op in ("!", "&&"):
             self.weigh_row(ref, node, part)

@@ -50,8 +50,7 @@ class Explanation:
 
     `word` is what is told of it, None of an open one, and `at` the time of which the reasons speak: of an open verdict
     that its parts decide, an earlier one, whose line comes first. `cells` decide the verdict; the reasons may speak of
-    more, where no part alone is decided by fewer. `needed` has of a cell rows that show that it can't be left out, of each
-    one where `exact`.
+    more, where no part alone is decided by fewer. `needed` has of a cell rows that show that it can't be left out.
     """
 
     word: Optional[str]
@@ -60,7 +59,6 @@ class Explanation:
     cells: frozenset[Cell]
     leaves: list[Reason]
     needed: dict[Cell, Rows] = field(default_factory=dict)
-    exact: bool = False
     held: Optional[Held] = None
 
 
@@ -205,7 +203,7 @@ class Explainer:
         reasons = in_order([tree.reason(ref, need, {time}) for ref, need in roots])
         least = self.least(window, verdicts, at, time)
         cells = least.least(union(reasons))
-        return Explanation(word, time, reasons, cells, tree.leaves(reasons), least.needed, least.is_exact())
+        return Explanation(word, time, reasons, cells, tree.leaves(reasons), least.needed)
 
     def least(self, window: TraceWindow, verdicts: Verdicts, at: list[tuple[str, int]], time: int) -> LeastCells:
         spans = {ref: (part.low, part.high) for ref, part in verdicts.by_ref.items()}

@@ -5,28 +5,29 @@ from __future__ import annotations
 from html import escape
 from typing import Optional
 
+from r2u2tools.common.palette import css
 from r2u2tools.why.deciding import Cell
 from r2u2tools.why.explanation import Explanation
 from r2u2tools.why.trace_window import Cells
 
 AROUND, MOST_ROWS = 3, 400
 STYLE = """
-body { font: 15px/1.5 "DejaVu Sans", Verdana, sans-serif; color: #1f2933; margin: 2em; }
+body { font: 15px/1.5 "DejaVu Sans", Verdana, sans-serif; color: var(--ink); background: var(--back); margin: 2em; }
 h1 { font-size: 1.1em; }
-pre { background: #f4f6f8; padding: 1em; overflow-x: auto; }
+pre { background: var(--pale); padding: 1em; overflow-x: auto; }
 div { overflow-x: auto; }
 table { border-collapse: separate; border-spacing: 2px; }
-th { font-weight: 400; text-align: right; padding: 0 .6em; color: #6b7785; position: sticky; left: 0; background: #fff; }
+th { font-weight: 400; text-align: right; padding: 0 .6em; color: var(--faint); position: sticky; left: 0; background: var(--back); }
 thead th { position: static; text-align: center; padding: 0; font-size: .8em; }
-td { min-width: 1.9em; text-align: center; background: #eef1f4; color: #8a96a3; border-radius: 3px; }
-td.on { background: #d5dde5; color: #1f2933; }
-td.marked { outline: 2px solid #b4540a; background: #ffe3c8; color: #1f2933; font-weight: 600; }
-td.none { background: #fff; outline: 1px dashed #c9d3de; }
-td.none.marked { outline: 2px dashed #b4540a; }
-td.bad { background: #d1495b; color: #fff; }
-td.good { background: #2f74c0; color: #fff; }
-td.open { outline: 2px dashed #8a96a3; background: #fff; }
-p { color: #6b7785; }
+td { min-width: 1.9em; text-align: center; background: var(--open); color: var(--open-ink); border-radius: 3px; }
+td.on { background: var(--idle); color: var(--idle-ink); }
+td.marked { outline: 2px solid var(--pick); background: var(--pale); color: var(--ink); font-weight: 600; }
+td.none { background: var(--back); outline: 1px dashed var(--grid); }
+td.none.marked { outline: 2px dashed var(--pick); }
+td.bad { background: var(--false); color: var(--false-ink); }
+td.good { background: var(--true); color: var(--true-ink); }
+td.open { outline: 2px dashed var(--mark); background: var(--back); }
+p { color: var(--faint); }
 """
 LOOKS: dict[Optional[str], str] = {"T": "good", "verified": "good", "F": "bad", "invalid": "bad", None: "open"}
 
@@ -61,7 +62,7 @@ def page(lines: list[str], name: str, found: Explanation, time: int, trace: Cell
     heads = "".join(f"<th>{at}</th>" for at in rows)
     cut = max([at for _, at in found.cells], default=0) > rows[-1]
     return f"""<!DOCTYPE html>
-<html lang="en"><meta charset="utf-8"><title>{escape(lines[0][:80])}</title><style>{STYLE}</style>
+<html lang="en"><meta charset="utf-8"><title>{escape(lines[0][:80])}</title><style>{css()}{STYLE}</style>
 <h1>{escape(lines[0])}</h1>
 <div><table><thead><tr><th></th>{heads}</tr></thead>
 {chr(10).join(lanes)}
