@@ -276,6 +276,8 @@ bool read_row(const char *at, const char *end, std::vector<int64_t> &fields) {
     return true;
 }
 
+#ifndef PLAIN_IN_MEMORY
+
 void watch(Monitor &monitor, int trace) {
     std::vector<int64_t> fields(monitor.program.width);
     std::vector<char> block(1 << 16);
@@ -295,7 +297,11 @@ void watch(Monitor &monitor, int trace) {
     take(rest.data(), rest.data() + rest.size());
 }
 
+#endif
+
 }
+
+#ifndef PLAIN_IN_MEMORY
 
 int main(int count, char **words) {
     if (count != 3) stop("usage:", "plain PROGRAM TRACE");
@@ -304,3 +310,5 @@ int main(int count, char **words) {
     if (trace < 0) stop("cannot open", words[2]);
     watch(monitor, trace);
 }
+
+#endif

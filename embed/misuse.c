@@ -240,6 +240,61 @@ static void queries(void) {
     CHECK(held == 0);
 }
 
+/* Reports by one call are those of single calls, with any room; past them nothing is written. */
+static void many_reports(void) {
+    static const struct r2u2_report mark = {7, 8, 9};
+    struct r2u2 one = {0}, many = {0};
+    struct r2u2_report reports[GRANT_REPORTS + 1], next = {0};
+    size_t count = 5;
+    CHECK(r2u2_next_many(&many, R2U2_EACH, reports, 0, &count) == R2U2_NOT_OPEN && count == 5);
+    for (size_t room = 0; room <= GRANT_REPORTS; room++) {
+        CHECK(open_grant(&one) == R2U2_DONE && open_grant(&many) == R2U2_DONE);
+        for (size_t i = 0; i < 6; i++) {
+            uint32_t style = i % 2 != 0 ? R2U2_RUNS : R2U2_EACH;
+            CHECK(take(&one, ROWS[i], 2) == R2U2_DONE && take(&many, ROWS[i], 2) == R2U2_DONE);
+            do {
+                for (size_t k = 0; k <= GRANT_REPORTS; k++) reports[k] = mark;
+                CHECK(r2u2_next_many(&many, style, reports, room, &count) == R2U2_DONE && count <= room);
+                for (size_t k = 0; k < count; k++)
+                    CHECK(r2u2_next(&one, style, &next) == R2U2_DONE && memcmp(&reports[k], &next, sizeof next) == 0);
+                for (size_t k = count; k <= GRANT_REPORTS; k++) CHECK(memcmp(&reports[k], &mark, sizeof mark) == 0);
+            } while (room != 0 && count == room);
+            while (room == 0 && r2u2_next(&many, style, &next) == R2U2_DONE) r2u2_next(&one, style, &next);
+            CHECK(r2u2_next(&one, style, &next) == R2U2_NO_REPORT && r2u2_next(&many, style, &next) == R2U2_NO_REPORT);
+        }
+        r2u2_close(&one);
+        r2u2_close(&many);
+    }
+    CHECK(held == 0);
+}
+
+/* The SHA-256 of the first example, as `sha256sum examples/embed/grant.bin` prints it. */
+static const uint8_t GRANT_DIGEST[R2U2_DIGEST_BYTES] = {
+    0xed, 0xe8, 0x7a, 0xa9, 0xae, 0xa7, 0x94, 0xe4, 0x88, 0x1f, 0xd8, 0xc0, 0xb9, 0x7a, 0xf9, 0x55,
+    0x84, 0x6e, 0x2c, 0x97, 0x91, 0xcd, 0x21, 0x55, 0x9c, 0xab, 0x35, 0xdc, 0xff, 0x32, 0x00, 0xb9};
+
+/* A program that differs in one bit from the one that has the digest is never opened, and neither is one with another digest. */
+static void digests(void) {
+    struct r2u2 it = {0};
+    struct r2u2_fault fault = {0};
+    CHECK(r2u2_open_checked(&it, grant.bytes, grant.count, GRANT_DIGEST, &fault) == R2U2_DONE);
+    CHECK(r2u2_open_checked(&it, grant.bytes, 3, GRANT_DIGEST, &fault) == R2U2_ALREADY_OPEN);
+    watch_six(&it);
+    r2u2_close(&it);
+    for (size_t bit = 0; bit < 8 * grant.count; bit++) {
+        struct image image = grant;
+        image.bytes[bit / 8] ^= (uint8_t)(1u << (bit % 8));
+        CHECK(r2u2_open_checked(&it, image.bytes, image.count, GRANT_DIGEST, &fault) == R2U2_DAMAGED && it.at == NULL);
+    }
+    for (size_t bit = 0; bit < 8 * sizeof GRANT_DIGEST; bit++) {
+        uint8_t other[sizeof GRANT_DIGEST];
+        memcpy(other, GRANT_DIGEST, sizeof other);
+        other[bit / 8] ^= (uint8_t)(1u << (bit % 8));
+        CHECK(r2u2_open_checked(&it, grant.bytes, grant.count, other, &fault) == R2U2_DAMAGED);
+    }
+    CHECK(fault.kind == 0 && held == 0);
+}
+
 static void each_kind_of_fault(void) {
     static struct faulty all[32];
     size_t count = faulty_ones(&grant, all);
@@ -263,7 +318,8 @@ static void each_kind_of_fault(void) {
 
 /* Each number of r2u2.h has a text, and others have none. */
 static void texts(void) {
-    CHECK(strcmp(r2u2_code_text(R2U2_NO_REPORT), "no report") == 0 && strcmp(r2u2_code_text(9), "unknown") == 0);
+    CHECK(strcmp(r2u2_code_text(R2U2_NO_REPORT), "no report") == 0 && strcmp(r2u2_code_text(10), "unknown") == 0);
+    CHECK(strcmp(r2u2_code_text(R2U2_DAMAGED), "damaged") == 0);
     CHECK(strcmp(r2u2_word_text(R2U2_VERIFIED), "verified") == 0 && strcmp(r2u2_word_text(5), "unknown") == 0);
     CHECK(strcmp(r2u2_fault_kind_text(R2U2_FAULT_TWICE), "name twice") == 0);
     CHECK(strcmp(r2u2_fault_kind_text(R2U2_FAULT_TWICE + 1), "unknown") == 0);
@@ -414,6 +470,15 @@ static void wrappers(void) {
     CHECK(r2u2_checked_next(&it, 2, &report) == R2U2_BAD_ARGUMENT);
     CHECK(r2u2_checked_next(&it, R2U2_EACH, NULL) == R2U2_BAD_ARGUMENT);
     CHECK(r2u2_checked_next(&it, R2U2_EACH, &report) == R2U2_DONE && report.word == R2U2_TRUE);
+    struct r2u2_report reports[2];
+    size_t told = 7;
+    CHECK(r2u2_checked_next_many(&it, R2U2_EACH, NULL, 1, &told) == R2U2_BAD_ARGUMENT && told == 7);
+    CHECK(r2u2_checked_next_many(&it, R2U2_EACH, reports, 2, NULL) == R2U2_BAD_ARGUMENT);
+    CHECK(r2u2_checked_next_many(&it, R2U2_EACH, reports, SIZE_MAX, &told) == R2U2_BAD_ARGUMENT);
+    CHECK(r2u2_checked_next_many(&it, R2U2_EACH, (struct r2u2_report *)(void *)&it, 1, &told) == R2U2_BAD_ARGUMENT);
+    CHECK(r2u2_checked_next_many(&it, 2, reports, 2, &told) == R2U2_BAD_ARGUMENT && told == 7);
+    CHECK(r2u2_checked_next_many(&it, R2U2_EACH, NULL, 0, &told) == R2U2_DONE && told == 0);
+    CHECK(r2u2_checked_next_many(&it, R2U2_EACH, reports, 2, &told) == R2U2_DONE && told == 0 && reports[1].word == 0);
     CHECK(r2u2_checked_name(&it, 0, NULL, 9) == 0 && r2u2_checked_name(&it, 0, name, 7) == 0 && name[0] == '.');
     CHECK(r2u2_checked_name(&it, 0, name, sizeof name) == 7 && memcmp(name, "granted", 8) == 0);
     CHECK(r2u2_checked_width(NULL) == 0 && r2u2_checked_outputs(NULL) == 0 && r2u2_checked_rows(NULL) == 0);
@@ -437,6 +502,11 @@ static void wrappers(void) {
     r2u2_checked_close(&it);
     CHECK(r2u2_checked_open_under(&it, grant.bytes, grant.count, HEADER, sizeof HEADER, NULL) == R2U2_DONE);
     r2u2_checked_close(&it);
+    CHECK(r2u2_checked_open_checked(&it, grant.bytes, grant.count, NULL, NULL) == R2U2_BAD_ARGUMENT);
+    CHECK(r2u2_checked_open_checked(&it, grant.bytes, grant.count, (const uint8_t *)(const void *)&it, NULL) == R2U2_BAD_ARGUMENT);
+    CHECK(r2u2_checked_open_checked(&it, NULL, 0, GRANT_DIGEST, NULL) == R2U2_DAMAGED);
+    CHECK(r2u2_checked_open_checked(&it, grant.bytes, grant.count, GRANT_DIGEST, NULL) == R2U2_DONE);
+    r2u2_checked_close(&it);
     r2u2_checked_close(NULL);
     CHECK(held == 0);
 }
@@ -452,6 +522,8 @@ int main(int count, char **words) {
     begun_again();
     names();
     queries();
+    many_reports();
+    digests();
     each_kind_of_fault();
     texts();
     any_byte();

@@ -91,6 +91,23 @@ static inline uint32_t r2u2_checked_open(struct r2u2 *it, const uint8_t *program
     return code;
 }
 
+static inline uint32_t r2u2_checked_open_checked(struct r2u2 *it, const uint8_t *program, size_t count,
+                                                 const uint8_t *digest, struct r2u2_fault *fault) {
+    static const uint8_t none[1] = {0};
+    struct r2u2_fault found = {0, 0, 0, {0}};
+    uint32_t code = R2U2_BAD_ARGUMENT;
+    if (r2u2_is_struct(it) && r2u2_is_there(program, count, 1u) && r2u2_is_there(digest, R2U2_DIGEST_BYTES, 1u) &&
+        r2u2_may_be_there(fault, sizeof *fault, sizeof(uint64_t)) &&
+        !r2u2_any_overlap(r2u2_span(it, 1u, sizeof *it), r2u2_span(program, count, 1u),
+                          r2u2_span(fault, 1u, sizeof *fault)) &&
+        !r2u2_any_overlap(r2u2_span(it, 1u, sizeof *it), r2u2_span(digest, R2U2_DIGEST_BYTES, 1u),
+                          r2u2_span(fault, 1u, sizeof *fault))) {
+        code = r2u2_open_checked(it, (count != 0u) ? program : none, count, digest, &found);
+        r2u2_put_fault(fault, &found, code);
+    }
+    return code;
+}
+
 /* A zero byte at the end of the header doesn't count, so its length may be `sizeof` a literal. */
 static inline uint32_t r2u2_checked_open_under(struct r2u2 *it, const uint8_t *program, size_t count,
                                                const char *header, size_t header_count, struct r2u2_fault *fault) {
@@ -250,6 +267,33 @@ static inline uint32_t r2u2_checked_next(struct r2u2 *it, uint32_t style, struct
         code = r2u2_next(it, style, &found);
         if (code == (uint32_t)R2U2_DONE) {
             (void)memcpy(report, &found, sizeof found);
+        }
+    }
+    return code;
+}
+
+/* Whether reports, at most `room` of them, can be stored, and overlap neither the struct nor their count. */
+static inline bool r2u2_have_room(const struct r2u2 *it, const struct r2u2_report *reports, size_t room, const size_t *count) {
+    const size_t words = sizeof *reports / sizeof(uint64_t);
+    return r2u2_is_struct(it) && (count != NULL) && r2u2_is_there(count, 1u, sizeof *count) &&
+           (room <= (SIZE_MAX / words)) && r2u2_is_there(reports, room * words, sizeof(uint64_t)) &&
+           !r2u2_any_overlap(r2u2_span(it, 1u, sizeof *it), r2u2_span(reports, room, sizeof *reports),
+                             r2u2_span(count, 1u, sizeof *count));
+}
+
+/* Reports that weren't returned are all zero. */
+static inline uint32_t r2u2_checked_next_many(struct r2u2 *it, uint32_t style, struct r2u2_report *reports, size_t room,
+                                              size_t *count) {
+    struct r2u2_report none[1] = {{0, 0, 0}};
+    size_t found = 0u;
+    uint32_t code = R2U2_BAD_ARGUMENT;
+    if (r2u2_have_room(it, reports, room, count) && (style <= (uint32_t)R2U2_RUNS)) {
+        if (room != 0u) {
+            (void)memset(reports, 0, room * sizeof *reports);
+        }
+        code = r2u2_next_many(it, style, (room != 0u) ? reports : none, room, &found);
+        if (code == (uint32_t)R2U2_DONE) {
+            *count = found;
         }
     }
     return code;

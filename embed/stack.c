@@ -1,6 +1,7 @@
 /* Measures the stack of each call: runs it on a separate array, and counts the bytes that it wrote, in words of 8.
  * stack PROGRAM.. prints it of the first of these programs, and the most over all of them with the program that took it; a
  * program of version 2 is opened under a header too. */
+#define _DEFAULT_SOURCE
 #include <stdio.h>
 #include <stdlib.h>
 #include <string.h>
@@ -19,9 +20,10 @@ static void (*running)(void);
 static struct r2u2 it;
 static struct r2u2_fault fault;
 static struct r2u2_row_fault row_fault;
-static struct r2u2_report report;
+static struct r2u2_report report, reports[4];
+static uint8_t digest[R2U2_DIGEST_BYTES];
 static uint8_t *program;
-static size_t count;
+static size_t count, told;
 static char header[1 << 16], name[64];
 static size_t header_count;
 static int64_t numbers[MOST_COLUMNS];
@@ -32,6 +34,7 @@ static void nothing(void) {}
 static void tell_bytes(void) { code = r2u2_bytes(program, count, &number, &fault); }
 static void open_it(void) { code = r2u2_open(&it, program, count, &fault); }
 static void open_under(void) { code = r2u2_open_under(&it, program, count, header, header_count, &fault); }
+static void open_checked(void) { code = r2u2_open_checked(&it, program, count, digest, &fault); }
 static void widths(void) { width = r2u2_width(&it); }
 static void outputs(void) { code = r2u2_outputs(&it); }
 static void names(void) { code = r2u2_name(&it, 0, name, sizeof name); }
@@ -46,6 +49,7 @@ static void version(void) { code = r2u2_version(); }
 static void row(void) { code = r2u2_row(&it, numbers, width, &row_fault); }
 static void next(void) { code = r2u2_next(&it, R2U2_EACH, &report); }
 static void next_run(void) { code = r2u2_next(&it, R2U2_RUNS, &report); }
+static void next_many(void) { code = r2u2_next_many(&it, R2U2_EACH, reports, 4, &told); }
 static void reset(void) { code = r2u2_reset(&it); }
 static void close_it(void) {
     r2u2_close(&it);
@@ -70,12 +74,12 @@ static size_t stack_of(void (*call)(void)) {
 }
 
 enum {
-    OPEN, OPEN_UNDER, BYTES, WIDTH, OUTPUTS, ROWS, NAME, DELAY, STEPS, MOST_REPORTS, OUTPUT_KIND, SIGNALS, SIGNAL, VERSION, ROW, NEXT, RESET, CLOSE, CALLS
+    OPEN, OPEN_UNDER, OPEN_CHECKED, BYTES, WIDTH, OUTPUTS, ROWS, NAME, DELAY, STEPS, MOST_REPORTS, OUTPUT_KIND, SIGNALS, SIGNAL, VERSION, ROW, NEXT, NEXT_MANY, RESET, CLOSE, CALLS
 };
 static const char *const NAMES[CALLS] = {
-    "r2u2_open",  "r2u2_open_under", "r2u2_bytes",  "r2u2_width",   "r2u2_outputs", "r2u2_rows", "r2u2_name",  "r2u2_delay",
+    "r2u2_open",  "r2u2_open_under", "r2u2_open_checked", "r2u2_bytes",  "r2u2_width",   "r2u2_outputs", "r2u2_rows", "r2u2_name",  "r2u2_delay",
     "r2u2_steps", "r2u2_most_reports", "r2u2_output_kind", "r2u2_signals", "r2u2_signal", "r2u2_version", "r2u2_row",
-    "r2u2_next",  "r2u2_reset", "r2u2_close"};
+    "r2u2_next",  "r2u2_next_many", "r2u2_reset", "r2u2_close"};
 static size_t first[CALLS], most[CALLS], base;
 static const char *path, *deepest[CALLS];
 
@@ -119,8 +123,10 @@ static void watch(void) {
         for (uint32_t k = 0; k < width; k++) numbers[k] = (int64_t)(i * 7 + k * 3) % 5 == 0;
         measure(ROW, row);
         if (code) exit(fprintf(stderr, "stack: row %u: code %u\n", i, code) > 0);
-        do measure(NEXT, i % 2 ? next : next_run);
-        while (code == R2U2_DONE);
+        do {
+            measure(NEXT, i % 2 ? next : next_run);
+            measure(NEXT_MANY, next_many);
+        } while (told == 4);
     }
     measure(RESET, reset);
     measure(CLOSE, close_it);
@@ -134,11 +140,25 @@ static int read_program(void) {
     return file ? fclose(file) : -1;
 }
 
+/* Reads the digest of the program at `path`; 0 where it was read. */
+static int read_digest(void) {
+    char command[4096];
+    snprintf(command, sizeof command, "sha256sum '%s'", path);
+    FILE *printed = popen(command, "r");
+    if (!printed) return -1;
+    for (size_t i = 0; i < sizeof digest; i++)
+        if (fscanf(printed, "%2hhx", &digest[i]) != 1) break;
+    return pclose(printed);
+}
+
 /* Measures the calls over the program at `path`; 0 where it was opened and run. */
 static int measure_program(void) {
-    if (read_program()) return fprintf(stderr, "stack: cannot read %s\n", path), 6;
+    if (read_program() || read_digest()) return fprintf(stderr, "stack: cannot read %s\n", path), 6;
     measure(BYTES, tell_bytes);
     measure(OPEN, open_it);
+    if (code) return fprintf(stderr, "stack: %s: code %u %s\n", path, code, fault.text), (int)code;
+    watch();
+    measure(OPEN_CHECKED, open_checked);
     if (code) return fprintf(stderr, "stack: %s: code %u %s\n", path, code, fault.text), (int)code;
     watch();
     if (program[4] != 2) return 0;
@@ -158,6 +178,6 @@ int main(int words, char **paths) {
         if (i == 1) memcpy(first, most, sizeof first);
     }
     for (int i = 0; i < CALLS; i++)
-        printf("%-16s %6zu bytes, and %6zu for %s\n", NAMES[i], first[i], most[i], deepest[i]);
+        printf("%-17s %6zu bytes, and %6zu for %s\n", NAMES[i], first[i], most[i], deepest[i]);
     return 0;
 }

@@ -8,7 +8,7 @@
  *  - A struct r2u2 is all zero before its first call (`struct r2u2 m = {0};`). Only these calls write it. It may be
  *    moved to another address between two calls, but is never copied and then used as two.
  *  - Each pointer is aligned, isn't null, even where its count is 0, and leads to as many elements as its count says, in
- *    one object. Every byte of `fault`, `report` and `buffer` was written before the call (`= {0}` serves).
+ *    one object. Every byte of `fault`, `report`, `reports` and `buffer` was written before the call (`= {0}` serves).
  *  - What one call is given doesn't overlap, but that two pointers which are only read may be equal.
  *  - One struct is used by one thread at a time. It may pass to another thread between two calls, so that one opens it and
  *    another takes rows: a lock, the start or the join of a thread, or a sequentially consistent atomic orders the two.
@@ -21,8 +21,8 @@
  * that goes away while it is open leaks its monitor. The calls keep no pointer that they are given: program, header, rows
  * and buffers stay the caller's.
  *
- * MEMORY. r2u2_open and r2u2_open_under allocate all of it, and r2u2_bytes allocates and frees again. No other call
- * allocates, and so none can run out of memory.
+ * MEMORY. r2u2_open, r2u2_open_under and r2u2_open_checked allocate all of it, and r2u2_bytes allocates and frees again. No
+ * other call allocates, and so none can run out of memory.
  *
  * RESULTS. A call that returns a code has succeeded where it returns R2U2_DONE, 0. At every other code the monitor is as it
  * was before the call, and nothing was written but the fault that says why.
@@ -58,7 +58,8 @@ enum r2u2_code {
     R2U2_REPORTS_LEFT = 5,  /* ask for the reports of the last row first */
     R2U2_NOT_A_ROW = 6,     /* the numbers aren't a row of the program */
     R2U2_TOO_MANY_ROWS = 7, /* 1,099,511,627,776 rows were taken */
-    R2U2_NO_REPORT = 8      /* all reports were given: take the next row */
+    R2U2_NO_REPORT = 8,     /* all reports were given: take the next row */
+    R2U2_DAMAGED = 9        /* the program has another digest: its bytes were changed */
 };
 
 /* Which fault a program or a header has: those of the bytes, then those of a program that they spell, then those of a
@@ -135,6 +136,16 @@ uint32_t r2u2_open(struct r2u2 *it, const uint8_t *program, size_t count, struct
 uint32_t r2u2_open_under(struct r2u2 *it, const uint8_t *program, size_t count, const char *header, size_t header_count,
                          struct r2u2_fault *fault);
 
+/* The bytes of a digest. */
+#define R2U2_DIGEST_BYTES 32u
+
+/* Opens a program as r2u2_open does, where its SHA-256 is `digest`, the 32 bytes that `sha256sum` prints of its file: so no
+ * program is opened whose bytes were changed, not even where they still spell one.
+ *
+ * Codes as of r2u2_open, and before R2U2_REFUSED and R2U2_NO_MEMORY R2U2_DAMAGED: the program has another digest. */
+uint32_t r2u2_open_checked(struct r2u2 *it, const uint8_t *program, size_t count, const uint8_t digest[R2U2_DIGEST_BYTES],
+                           struct r2u2_fault *fault);
+
 /* The most blocks that an open monitor holds. */
 #define R2U2_BLOCKS 20u
 
@@ -206,6 +217,12 @@ uint32_t r2u2_row(struct r2u2 *it, const int64_t *numbers, size_t count, struct 
  *
  * R2U2_DONE: `report` has it. R2U2_NOT_OPEN. R2U2_NO_REPORT: none is left. */
 uint32_t r2u2_next(struct r2u2 *it, uint32_t style, struct r2u2_report *report);
+
+/* Returns the next reports of the rows so far, as many as there is room for: in `reports` those that r2u2_next returns one
+ * after another, and in `count` how many. Where they are fewer than `room`, none is left.
+ *
+ * R2U2_DONE, also where there was none. R2U2_NOT_OPEN. */
+uint32_t r2u2_next_many(struct r2u2 *it, uint32_t style, struct r2u2_report *reports, size_t room, size_t *count);
 
 /* Resets the monitor to its state before the first row, as after it was opened. It keeps its program and its memory;
  * reports that were left are dropped.

@@ -32,6 +32,16 @@ static bool is_closed(mltl::Handle &handle) {
     return !handle.is_open() && handle.next(report) == R2U2_NOT_OPEN && handle.reset() == R2U2_NOT_OPEN;
 }
 
+// Whether a program with another digest isn't opened, and many reports come at once.
+static bool is_checked(const std::vector<char> &program, const Row &row) {
+    const std::uint8_t other[R2U2_DIGEST_BYTES] = {};
+    mltl::Handle handle;
+    r2u2_report reports[2];
+    std::size_t count = 0;
+    return handle.open_checked(program, other) == R2U2_DAMAGED && handle.open(program) == R2U2_DONE &&
+           handle.row(row) == R2U2_DONE && handle.next_many(reports, 2, count) == R2U2_DONE && count == 1;
+}
+
 static int run(const char *name) {
     std::ifstream file(name, std::ios::binary);
     const std::vector<char> program{std::istreambuf_iterator<char>(file), {}};
@@ -40,6 +50,7 @@ static int run(const char *name) {
     mltl::Handle handle;
     mltl::Report report;
     if (!is_refused(monitor) || !is_described(monitor, program) || !is_closed(handle)) return 1;
+    if (!is_checked(program, rows[1])) return 1;
     monitor.row(rows[1]);
     monitor.reset();
     if (monitor.rows() != 0 || monitor.next(report)) return 1;

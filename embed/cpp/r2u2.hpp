@@ -69,6 +69,13 @@ public:
         return r2u2_checked_open_under(&it, bytes_of(program), program.size(), header.data(), header.size(), fault);
     }
 
+    // Opens a program where its SHA-256 is the digest: else R2U2_DAMAGED.
+    template <class Program>
+    std::uint32_t open_checked(const Program &program, const std::uint8_t (&digest)[R2U2_DIGEST_BYTES],
+                               r2u2_fault *fault = nullptr) noexcept {
+        return r2u2_checked_open_checked(&it, bytes_of(program), program.size(), digest, fault);
+    }
+
     // Stores in `bytes` how many bytes a monitor of this program holds while it is open.
     template <class Program>
     static std::uint32_t bytes(const Program &program, std::uint64_t &bytes, r2u2_fault *fault = nullptr) noexcept {
@@ -95,6 +102,12 @@ public:
             report.word = static_cast<r2u2_word>(found.word);
         }
         return code;
+    }
+
+    // Stores the next reports, at most `room` of them, and in `count` how many; where they are fewer, none is left.
+    std::uint32_t next_many(r2u2_report *reports, std::size_t room, std::size_t &count,
+                            r2u2_style style = R2U2_EACH) noexcept {
+        return r2u2_checked_next_many(&it, style, reports, room, &count);
     }
 
     // Resets the monitor to its state before the first row, in the memory that it has.

@@ -13,7 +13,7 @@ static struct r2u2 monitor;
 uint32_t flight_start(void) {
     struct r2u2_fault fault = {0};
     r2u2_arena(memory, sizeof memory);
-    return r2u2_open(&monitor, grant_program, sizeof grant_program, &fault);
+    return r2u2_open_checked(&monitor, grant_program, sizeof grant_program, grant_program_digest, &fault);
 }
 
 uint32_t flight_tick(int request, int grant, flight_event *event) {

@@ -1,8 +1,9 @@
 """Watches the rows of the first example: grants.py PROGRAM prints the lines of r2u2."""
 
+import hashlib
 import sys
 
-from r2u2 import Error, Monitor, NOT_A_ROW, REFUSED, Signal, bytes_of, version
+from r2u2 import DAMAGED, Error, Monitor, NOT_A_ROW, REFUSED, Signal, bytes_of, version
 
 ROWS = [[1, 0], [0, 1], [1, 0], [0, 0], [0, 0], [0, 0]]
 
@@ -34,6 +35,10 @@ def main():
             print(report)
     with Monitor(program) as monitor:
         assert monitor.table(ROWS) == {"granted": ["T", "T", "F", "T", "T", "T"]}
+    with Monitor(program, digest=hashlib.sha256(program).digest()) as monitor:
+        monitor.row(ROWS[1])
+        assert [str(report) for report in monitor.all_reports()] == ["granted:0,T"] and monitor.all_reports() == []
+    refused(lambda: Monitor(program, digest=bytes(32)), DAMAGED)
     assert refused(lambda: Monitor(program[:-1]), REFUSED).fault.text == "short"
 
 

@@ -18,9 +18,12 @@ from typing import Any, NamedTuple, Optional, Union
 
 WORDS = ("F", "T", "inactive", "invalid", "verified")
 FORMULA, CONTRACT = 1, 2
-DONE, NOT_OPEN, ALREADY_OPEN, REFUSED, NO_MEMORY, REPORTS_LEFT, NOT_A_ROW, TOO_MANY_ROWS, NO_REPORT = range(9)
+DONE, NOT_OPEN, ALREADY_OPEN, REFUSED, NO_MEMORY, REPORTS_LEFT, NOT_A_ROW, TOO_MANY_ROWS, NO_REPORT, DAMAGED = range(10)
 CODES = ("done", "not open", "already open", "refused", "out of memory", "reports left", "not a row", "too many rows",
-         "no report")
+         "no report", "damaged")
+DIGEST_BYTES = 32
+# How many reports one call returns at most.
+MANY = 64
 
 
 class _Struct(ctypes.Structure):
@@ -138,6 +141,7 @@ def _loaded(path: str) -> Any:
     calls = {
         "open": (number, [it, chars, size, fault]),
         "open_under": (number, [it, chars, size, chars, size, fault]),
+        "open_checked": (number, [it, chars, size, chars, fault]),
         "bytes": (number, [chars, size, ctypes.POINTER(ctypes.c_uint64), fault]),
         "width": (number, [it]),
         "outputs": (number, [it]),
@@ -152,6 +156,7 @@ def _loaded(path: str) -> Any:
         "name": (number, [it, number, chars, size]),
         "row": (number, [it, ctypes.POINTER(ctypes.c_int64), size, ctypes.POINTER(_RowFault)]),
         "next": (number, [it, number, ctypes.POINTER(_Report)]),
+        "next_many": (number, [it, number, ctypes.POINTER(_Report), size, ctypes.POINTER(size)]),
         "reset": (number, [it]),
         "close": (None, [it]),
     }
@@ -166,16 +171,20 @@ def _library() -> Any:
 
 
 class Monitor:
-    """A monitor of a compiled program, under a header where one is given. One thread uses it at a time. It is closed by
-    `close`, or at the end of a `with`."""
+    """A monitor of a compiled program, under a header where one is given, or only where its SHA-256 is a given digest. One
+    thread uses it at a time. It is closed by `close`, or at the end of a `with`."""
 
-    def __init__(self, program: bytes, header: Optional[str] = None) -> None:
+    def __init__(self, program: bytes, header: Optional[str] = None, digest: Optional[bytes] = None) -> None:
+        if digest is not None and (header is not None or len(digest) != DIGEST_BYTES):
+            raise ValueError(f"a digest has {DIGEST_BYTES} bytes, and goes without a header")
         self._call = _library()
         self._it = _Struct()
         self._fault = _RowFault()
         fault = _Fault()
         program = bytes(program)
-        if header is None:
+        if digest is not None:
+            code = self._call.r2u2_open_checked(self._it, program, len(program), digest, fault)
+        elif header is None:
             code = self._call.r2u2_open(self._it, program, len(program), fault)
         else:
             line = header.encode()
@@ -223,6 +232,17 @@ class Monitor:
         if code == NOT_OPEN:
             raise Error(code)
 
+    def all_reports(self, runs: bool = False) -> list[Report]:
+        """Returns the reports that `reports` yields, by as few calls of the library as it can."""
+        reports, count = (_Report * MANY)(), ctypes.c_size_t(MANY)
+        found: list[Report] = []
+        while count.value == MANY:
+            code = self._call.r2u2_next_many(self._it, int(runs), reports, MANY, count)
+            if code:
+                raise Error(code)
+            found += [Report(self.names[r.output], r.time, WORDS[r.word]) for r in reports[: count.value]]
+        return found
+
     def watch(self, rows: Iterable[Row], runs: bool = False) -> Iterator[Report]:
         """Takes rows one by one, and yields the reports of each before it takes the next."""
         for row in rows:
@@ -232,8 +252,10 @@ class Monitor:
     def table(self, rows: Iterable[Row]) -> Table:
         """Returns the words of each output for the times that the rows decide, by name."""
         words = Table((name, []) for name in self.names)
-        for report in self.watch(rows):
-            words[report.name].append(report.word)
+        for row in rows:
+            self.row(row)
+            for report in self.all_reports():
+                words[report.name].append(report.word)
         return words
 
     def reset(self) -> None:

@@ -11,7 +11,7 @@ pub struct Cursor {
 }
 
 impl Cursor {
-    ghost use Rattle.std.specs.Prelude.{◌≡◌, ◌+◌, ◌^◌, ◌<◌, ◌⊎◌, ℕ, List, Some};
+    ghost use Rattle.std.specs.Prelude.{◌≡◌, ◌+◌, ◌^◌, ◌<◌, ◌⊎◌, ℕ, List, None, Some};
     ghost use Rattle.mltl_base.specs.declared.program.Program.{Program};
     ghost use Rattle.mltl_base.specs.Atoms.{Row};
     ghost use Rattle.contract_status.specs.declared.engines.Stretch.{Stretch as Found};
@@ -24,6 +24,17 @@ impl Cursor {
     {
         Cursor {
             out: 0,
+            stretch: None,
+        }
+    }
+
+    /// The search found nothing: all `outs` outputs were reported.
+    pub fn past(outs: usize) -> Cursor
+        ensures out { result.out ≡ outs }
+        ensures none { result.stretch ≡ None }
+    {
+        Cursor {
+            out: outs,
             stretch: None,
         }
     }

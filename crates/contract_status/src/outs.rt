@@ -26,7 +26,7 @@ impl Model for Outs {
 }
 
 impl Outs {
-    ghost use Rattle.std.specs.Prelude.{◌≡◌, ◌^◌, ◌≤◌, ◌↔◌, List, [], length, replicate, IfOk, IfSome, IsTrue};
+    ghost use Rattle.std.specs.Prelude.{◌≡◌, ◌^◌, ◌≤◌, ◌↔◌, List, [], length, replicate, IfOk, IfSome, IsNone, IsTrue};
     ghost use Rattle.mltl_base.specs.declared.limits.TheConstants.{MAX_MISSION};
     ghost use Rattle.mltl_base.specs.declared.report.Style.{Style as Form};
     ghost use Rattle.mltl_base.specs.declared.report.Style.TheVariants.{Each as each, Runs as runs};
@@ -90,6 +90,7 @@ impl Outs {
         ensures moves { IfSome result (λ report. MovesPast n report cursor.old cursor.new) }
         ensures keeps { (rows : List Row) → StandFor checked.now rows n ft.now pt.now self.old
             → IfSome result (λ report. KeepsStretch checked.now rows report cursor.new) }
+        ensures past { IsNone result → cursor.new.out ≡ length self.old }
     {
         let engines = Engines { ft, pt, rows: n };
         tell_first(style, checked, &engines, self.times.as_mut_slice(), cursor)
@@ -102,8 +103,21 @@ impl Outs {
             → StandFor checked.now rows n ft.now pt.now self.now
             → IsTrue result ↔ (open_of style checked.now rows self.now ≡ []) }
     {
+        self.drained_at(Cursor::start(), checked, ft, pt, n)
+    }
+
+    /// Whether no report is open after `n` rows, in either style. It looks at no output before the cursor's, of these rows, so at
+    /// none where `next_at` gave `None`.
+    #[inline(always)]
+    pub fn drained_at(&self, cursor: Cursor, checked: &Checked, ft: &Ft, pt: &Pt, n: u64) -> bool
+        requires stands { (rows : List Row) × StandFor checked.now rows n ft.now pt.now self.now }
+        requires cursor { FitsCursor checked.now n ft.now pt.now self.now cursor }
+        ensures drained { (style : Form) (rows : List Row)
+            → StandFor checked.now rows n ft.now pt.now self.now
+            → IsTrue result ↔ (open_of style checked.now rows self.now ≡ []) }
+    {
         let engines = Engines { ft, pt, rows: n };
-        let open = engines.first_open(checked.program(), self.times.as_slice(), 0);
+        let open = engines.next_open(checked.program(), self.times.as_slice(), cursor);
         open.is_none()
     }
 }

@@ -1,6 +1,6 @@
 //! The first report that is open.
 
-ghost use Rattle.std.specs.Prelude.{◌^◌, ◌≤◌, List, IfSome};
+ghost use Rattle.std.specs.Prelude.{◌≡◌, ◌^◌, ◌≤◌, List, IfSome, IsNone, length};
 ghost use Rattle.mltl_base.specs.declared.limits.TheConstants.{MAX_MISSION};
 ghost use Rattle.mltl_base.specs.Atoms.{Row};
 ghost use Rattle.contract_status.specs.Cursors.{FitsEngines, KeepsStretch, MovesPast};
@@ -12,7 +12,7 @@ use mltl_base::{Report, Style};
 use obs_verify::Checked;
 
 /// Gives the first report that the outputs' next times leave open, and moves its output's next time past it. `None`, and no
-/// change, where none is open. The search goes on at the cursor.
+/// change of these times, where none is open. The search goes on at the cursor, which is past all outputs then.
 #[inline(always)]
 pub fn tell_first(
     style: Style,
@@ -33,14 +33,22 @@ pub fn tell_first(
     ensures keeps { (rows : List Row) → StandFor checked.now rows engines.now.rows
         engines.now.ft.now engines.now.pt.now next_times.old
         → IfSome result (λ report. KeepsStretch checked.now rows report cursor.new) }
+    ensures past { IsNone result → cursor.new.out ≡ length next_times.old }
 {
-    let (k, stretch) = engines.next_open(checked.program(), next_times, *cursor)?;
-    let time = stretch.last_covered(style, next_times[k]);
-    next_times[k] = time + 1;
-    cursor.move_after(k, time, stretch, engines.rows);
-    Some(Report {
-        out: k as u32,
-        time,
-        word: stretch.word,
-    })
+    match engines.next_open(checked.program(), next_times, *cursor) {
+        None => {
+            *cursor = Cursor::past(next_times.len());
+            None
+        }
+        Some((k, stretch)) => {
+            let time = stretch.last_covered(style, next_times[k]);
+            next_times[k] = time + 1;
+            cursor.move_after(k, time, stretch, engines.rows);
+            Some(Report {
+                out: k as u32,
+                time,
+                word: stretch.word,
+            })
+        }
+    }
 }

@@ -2,21 +2,23 @@
 
 use Rattle.std.specs.Prelude.{⊤, option_map, slice_get, slice_index, unwrap_or}
 use Rattle.std.proofs.lemmas.Option.{slice_get-map, unwrap_or-slice_get}
-use Rattle.std.proofs.Common.{◌≡◌, ◌<◌, ◌≤◌, ℕ, true, false, Option, Some, Result, Ok, Err, IfOk, IfErr, IsSomeAnd, Contains, List, [], ◌∷◌, map, refl, sym, ap, subst, lit<, arith, ◌∙◌}
+use Rattle.std.proofs.Common.{◌≡◌, ◌<◌, ◌≤◌, ℕ, true, false, Option, Some, Result, Ok, Err, IfOk, IfErr, IsSomeAnd, Contains, List, [], ◌∷◌, ◌++◌, length, map, refl, sym, ap, subst, lit<, arith, ◌∙◌}
+use Rattle.mltl_base.specs.declared.program.Program.{Program}
 use Rattle.mltl_base.specs.declared.report.Style.{Style}
 use Rattle.mltl_base.specs.Atoms.{Row}
-use Rattle.mltl_base.specs.Programs.{outputs}
+use Rattle.mltl_base.specs.Programs.{output_names, outputs}
 use Rattle.mltl_base.specs.Reports.{Output, delay}
 use Rattle.r2u2_monitor.specs.declared.state.State.{State}
 use Rattle.r2u2_monitor.specs.declared.row_fault.RowFault.{RowFault}
 use Rattle.r2u2_monitor.specs.declared.row_fault.RowFault.TheVariants.{ReportsLeft, NotARow, TooManyRows}
-use Rattle.r2u2_monitor.specs.Monitoring.{IsDrained, program_of}
+use Rattle.r2u2_monitor.specs.Monitoring.{IsDrained, program_of, taken_by}
 use Rattle.r2u2_monitor.specs.RowFaults.{IsRowCause}
 use Rattle.r2u2_c.specs.declared.codes.TheConstants.{DONE, NOT_OPEN, REPORTS_LEFT, NOT_A_ROW, TOO_MANY_ROWS, NO_REPORT}
 use Rattle.r2u2_c.specs.declared.report.Told.{Told}
 use Rattle.r2u2_c.specs.declared.row_why.RowWhy.{RowWhy}
+use Rattle.r2u2_c.specs.Batches.{TellsEach}
 use Rattle.r2u2_c.specs.Exports.{HoldsBack, TellsFirst, TellsWhy, Tells, why_of}
-use Rattle.r2u2_c.specs.Queries.{delays_of}
+use Rattle.r2u2_c.specs.Queries.{AreTold, delays_of}
 
 -- the monitor after a box is the one that was open
 pub is_open_as : (m box : State) (before : Option State) → before ≡ Some box → m ≡ box → before ≡ Some m
@@ -104,3 +106,29 @@ delay_told m before k found told is finds tells =
     let outs : List Output = outputs (program_of m) in
     tells ∙ ap (λ (o : Option ℕ). unwrap_or o 0) (finds ∙ sym (slice_get-map delay outs k)) ∙ unwrap_or-slice_get (map delay outs) k 0
     ∙ ap (λ (o : Option State). slice_index (delays_of o) k) (sym is)
+
+-- what may be read of a monitor stays where its program does, and the number of its rows
+pub told_still : (m n : State) (before : Option State) (taken columns outs stored : ℕ) → before ≡ Some m → AreTold before taken columns outs stored
+    → program_of n ≡ program_of m → taken_by n ≡ taken_by m → AreTold (Some n) taken columns outs stored
+told_still m n before taken columns outs stored is told same as_many =
+    let old : AreTold (Some m) taken columns outs stored = subst (λ (o : Option State). AreTold o taken columns outs stored) is told in
+    record {
+      rows = old.rows ∙ sym as_many;
+      width = old.width ∙ ap (λ (p : Program). p.width) (sym same);
+      outputs = old.outputs ∙ ap (λ (p : Program). length (output_names p)) (sym same);
+      signals = old.signals ∙ ap (λ (p : Program). length p.signals) (sym same);
+    }
+
+-- reports that were told one after another leave the program and the number of rows
+pub kept_by_reports : (style : Style) (told : List Told) (m n : State) → TellsEach style told m n → (program_of n ≡ program_of m) × (taken_by n ≡ taken_by m)
+kept_by_reports style [] m n same = (ap program_of same, ap taken_by same)
+kept_by_reports style (read ∷ more) m n each =
+    let next : State = each.0 in
+    let moved = each.1.gives.moved in
+    let rest = kept_by_reports style more next n each.2 in
+    (rest.0 ∙ ap (λ running. running.checked) moved, rest.1 ∙ ap (λ running. running.taken) moved)
+
+-- one more report after others
+pub told_more : (style : Style) (told : List Told) (read : Told) (m n o : State) → TellsEach style told m n → TellsFirst style read n o → TellsEach style (told ++ read ∷ []) m o
+told_more style [] read m n o same first = (o, subst (λ (before : State). TellsFirst style read before o) same first, refl)
+told_more style (t ∷ more) read m n o each first = (each.0, each.1, told_more style more read each.0 n o each.2 first)

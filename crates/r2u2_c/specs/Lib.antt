@@ -4,3 +4,4 @@ pub mod Opening
 pub mod Faults
 pub mod Exports
 pub mod Queries
+pub mod Batches

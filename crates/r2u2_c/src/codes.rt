@@ -18,3 +18,5 @@ pub const NOT_A_ROW: u32 = 6;
 pub const TOO_MANY_ROWS: u32 = 7;
 /// No report is left.
 pub const NO_REPORT: u32 = 8;
+/// The program doesn't have this digest, so its bytes were changed.
+pub const DAMAGED: u32 = 9;

@@ -101,11 +101,12 @@ pub extern "C" fn r2u2_row(it: &mut R2u2, alloc: Global, fields: &[i64], why: &m
     ensures codes { Contains
         (DONE ∷ NOT_OPEN ∷ REPORTS_LEFT ∷ NOT_A_ROW ∷ TOO_MANY_ROWS ∷ []) result }
 {
-    match it.take(alloc) {
+    match it.handle.take(alloc) {
         None => NOT_OPEN,
         Some(mut monitor) => {
             let taken = monitor.take(fields);
-            it.put(monitor);
+            it.rows = monitor.rows_taken();
+            it.handle.put(monitor);
             tell_taken(taken, why)
         }
     }
@@ -135,11 +136,11 @@ pub extern "C" fn r2u2_next(it: &mut R2u2, alloc: Global, runs: u32, report: &mu
     ensures untold { 0 < result → report.new ≡ report.old }
     ensures codes { Contains (DONE ∷ NOT_OPEN ∷ NO_REPORT ∷ []) result }
 {
-    match it.take(alloc) {
+    match it.handle.take(alloc) {
         None => NOT_OPEN,
         Some(mut monitor) => {
             let next = next_of(&mut monitor, runs);
-            it.put(monitor);
+            it.handle.put(monitor);
             match next {
                 None => NO_REPORT,
                 Some(next) => {
@@ -159,11 +160,12 @@ pub extern "C" fn r2u2_reset(it: &mut R2u2, alloc: Global) -> u32
     ensures kept { 0 < result → it.new.handle.value ≡ it.old.handle.value }
     ensures codes { Contains (DONE ∷ NOT_OPEN ∷ []) result }
 {
-    match it.take(alloc) {
+    match it.handle.take(alloc) {
         None => NOT_OPEN,
         Some(mut monitor) => {
             monitor.reset();
-            it.put(monitor);
+            it.rows = 0;
+            it.handle.put(monitor);
             DONE
         }
     }

@@ -10,6 +10,7 @@ use crate::boxes::Loose;
 use r2u2_monitor::Monitor;
 use std::alloc::Global;
 use std::marker::Model;
+use std::mem;
 use std::ptr::null_mut;
 
 /// The address of a monitor, or null where none is open. It owns the monitor, whose state contracts see as `value`.
@@ -61,6 +62,25 @@ impl Handle {
             None => None,
             Some(loose) => Some(loose.into_box()),
         }
+    }
+
+    /// Takes the monitor out, if one is open.
+    #[inline(always)]
+    pub(crate) fn take(&mut self, alloc: Global) -> Option<Box<Monitor>>
+        ensures taken { MatchOption result (self.old.value ≡ None) (λ b. self.old.value ≡ Some b.value) }
+        ensures emptied { self.new.value ≡ None }
+    {
+        mem::replace(self, Handle::empty()).into_box(alloc)
+    }
+
+    /// Puts a monitor in, and frees one that was open.
+    #[inline(always)]
+    pub(crate) fn put(&mut self, monitor: Box<Monitor>)
+        ensures { self.new.value ≡ Some monitor.value }
+    {
+        let alloc = *Box::allocator(&monitor);
+        let old = mem::replace(self, Handle::with(monitor));
+        drop(old.into_box(alloc));
     }
 
     /// A monitor, which it owns from now on.

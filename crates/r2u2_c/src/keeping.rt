@@ -13,7 +13,7 @@ use std::mem;
 #[repr(C)]
 pub struct R2u2 {
     pub handle: Handle,
-    rows: u64,
+    pub(crate) rows: u64,
     width: u32,
     outputs: u32,
     signals: u32,
@@ -87,10 +87,10 @@ impl R2u2 {
         ensures open { IsTrue result ↔ IsSome self.old.handle.value }
         ensures kept { self.new.handle.value ≡ self.old.handle.value }
     {
-        match self.take(alloc) {
+        match self.handle.take(alloc) {
             None => false,
             Some(monitor) => {
-                self.put(monitor);
+                self.handle.put(monitor);
                 true
             }
         }

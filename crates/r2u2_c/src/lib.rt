@@ -5,9 +5,11 @@
 //! written. All memory is allocated when a program is opened.
 #![tactic(auto)]
 
+mod batches;
 mod boxes;
 pub mod bytes;
 pub mod codes;
+mod digests;
 mod exports;
 mod fault;
 mod fault_text;
@@ -20,7 +22,9 @@ mod report;
 mod row_why;
 pub mod version;
 
+pub use batches::r2u2_next_many;
 pub use bytes::r2u2_bytes;
+pub use digests::{ProgramDigest, r2u2_open_checked};
 pub use exports::{r2u2_close, r2u2_next, r2u2_open, r2u2_open_under, r2u2_reset, r2u2_row};
 pub use fault::Fault;
 pub use keeping::R2u2;

@@ -44,11 +44,11 @@ pub extern "C" fn r2u2_name(it: &mut R2u2, alloc: Global, k: u32, buffer: &mut [
         → 0 < result }
     ensures kept { it.new.handle.value ≡ it.old.handle.value }
 {
-    match it.take(alloc) {
+    match it.handle.take(alloc) {
         None => 0,
         Some(monitor) => {
             let length = name_in(&monitor, k, buffer);
-            it.put(monitor);
+            it.handle.put(monitor);
             length
         }
     }
@@ -68,11 +68,11 @@ pub extern "C" fn r2u2_delay(it: &mut R2u2, alloc: Global, k: u32) -> u32
     ensures delay { result ≡ slice_index (delays_of it.old.handle.value) k }
     ensures kept { it.new.handle.value ≡ it.old.handle.value }
 {
-    match it.take(alloc) {
+    match it.handle.take(alloc) {
         None => 0,
         Some(monitor) => {
             let delay = delay_of(monitor.checked(), k).unwrap_or(0);
-            it.put(monitor);
+            it.handle.put(monitor);
             delay
         }
     }
@@ -84,11 +84,11 @@ pub extern "C" fn r2u2_steps(it: &mut R2u2, alloc: Global) -> u64
     ensures steps { result ≡ steps_of it.old.handle.value }
     ensures kept { it.new.handle.value ≡ it.old.handle.value }
 {
-    match it.take(alloc) {
+    match it.handle.take(alloc) {
         None => 0,
         Some(monitor) => {
             let steps = row_steps(monitor.checked());
-            it.put(monitor);
+            it.handle.put(monitor);
             steps
         }
     }
@@ -100,11 +100,11 @@ pub extern "C" fn r2u2_most_reports(it: &mut R2u2, alloc: Global) -> u64
     ensures most { result ≡ most_of it.old.handle.value }
     ensures kept { it.new.handle.value ≡ it.old.handle.value }
 {
-    match it.take(alloc) {
+    match it.handle.take(alloc) {
         None => 0,
         Some(monitor) => {
             let most = most_reports(monitor.checked());
-            it.put(monitor);
+            it.handle.put(monitor);
             most
         }
     }
@@ -116,11 +116,11 @@ pub extern "C" fn r2u2_output_kind(it: &mut R2u2, alloc: Global, k: u32) -> u32
     ensures kind { result ≡ slice_index (output_kinds_of it.old.handle.value) k }
     ensures kept { it.new.handle.value ≡ it.old.handle.value }
 {
-    match it.take(alloc) {
+    match it.handle.take(alloc) {
         None => 0,
         Some(monitor) => {
             let kind = output_kind_in(&monitor, k);
-            it.put(monitor);
+            it.handle.put(monitor);
             kind
         }
     }
@@ -155,11 +155,11 @@ pub extern "C" fn r2u2_signal(
         → 0 < result }
     ensures kept { it.new.handle.value ≡ it.old.handle.value }
 {
-    match it.take(alloc) {
+    match it.handle.take(alloc) {
         None => 0,
         Some(monitor) => {
             let length = signal_in(&monitor, k, column, kind, buffer);
-            it.put(monitor);
+            it.handle.put(monitor);
             length
         }
     }

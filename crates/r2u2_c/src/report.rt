@@ -4,7 +4,7 @@ ghost use Rattle.std.specs.Prelude.{◌≡◌};
 ghost use Rattle.r2u2_monitor.specs.Monitoring.{GivesNext};
 ghost use Rattle.r2u2_c.specs.Reports.{shown, style_of, word_number};
 
-use mltl_base::{Report, Word};
+use mltl_base::{Report, Style, Word};
 use r2u2_monitor::Monitor;
 
 /// A report as C reads it: the word of output `output`, counted from 0, at `time`, in rows from 0.
@@ -42,13 +42,17 @@ fn number_of(word: Word) -> u32
     }
 }
 
-/// The next report: of each time where `runs` is 0, and else of each longest stretch of one word.
+/// The style that a number asks for: of each time where it is 0, and else of each longest stretch of one word.
+fn style_by(runs: u32) -> Style
+    ensures { result ≡ style_of runs }
+{
+    if runs == 0 { Style::Each } else { Style::Runs }
+}
+
+/// The next report, in the style that a number asks for.
+#[inline(always)]
 pub(crate) fn next_of(monitor: &mut Monitor, runs: u32) -> Option<Report>
     ensures { GivesNext (style_of runs) result monitor.old monitor.new }
 {
-    if runs == 0 {
-        monitor.next_report()
-    } else {
-        monitor.next_run()
-    }
+    monitor.next(style_by(runs))
 }

@@ -270,6 +270,6 @@ impl Monitor {
         ensures open { (style : Form) (rows : List Row) → Stands self.now rows
             → IsTrue result ↔ (open_of style self.now rows ≡ []) }
     {
-        self.state.running.is_drained()
+        self.state.running.is_drained(self.cursor)
     }
 }

@@ -123,13 +123,15 @@ impl Running {
         self.outs.next_at(style, cursor, &self.checked, &self.ft, &self.pt, self.taken)
     }
 
-    /// Whether no report is open, in either style.
-    pub fn is_drained(&self) -> bool
+    /// Whether no report is open, in either style. The search goes on at the cursor.
+    #[inline(always)]
+    pub fn is_drained(&self, cursor: Cursor) -> bool
         requires some { (rows : List Row) × HasTaken self.now rows }
+        requires cursor { Fits self.now cursor }
         ensures open { (style : Form) (rows : List Row) → HasTaken self.now rows
             → IsTrue result ↔ (open_of style self.now rows ≡ []) }
     {
         self.outs
-            .drained(&self.checked, &self.ft, &self.pt, self.taken)
+            .drained_at(cursor, &self.checked, &self.ft, &self.pt, self.taken)
     }
 }

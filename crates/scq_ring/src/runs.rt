@@ -151,6 +151,7 @@ impl Ring {
     ///
     /// A caller that reads on from where a run ended so finds the next run at once, however many there are. Any number may
     /// be passed as `near`: where it is no run that helps, the runs are searched.
+    #[inline(always)]
     #[tactic(auto, unfolding(crate::specs::Runs::frontier_of, crate::specs::Runs::low_of))]
     pub fn read_near<L: Ledger>(
         &self,
@@ -238,7 +239,9 @@ impl Ring {
         self.used -= 1;
     }
 
-    /// Returns the run before the newest one that holds time `from`, found by halving the candidates.
+    /// Returns the run before the newest one that holds time `from`, found by halving the candidates. It stays out of line, so
+    /// that a read of the newest run takes a few instructions where it is called.
+    #[inline(never)]
     fn run_at(&self, slots: &[Slot], from: u64, near: &mut usize) -> Slot
         requires belongs { Belongs self.now slots.now }
         requires kept { low_of self.now ≤ from }

@@ -37,6 +37,7 @@ const BLOCK: usize = 4096;
 ///
 /// Returns `Wrote` with the length of the piece, or `Failed` at the first write that fails; then a prefix of the
 /// piece is out, and the rest, which holds at least one byte, isn't. An empty piece makes no call.
+#[inline(always)]
 pub fn put_all<H: Host>(host: &mut H, place: Place, piece: &[u8]) -> Put
     requires { IsSink place }
     ensures range { PutAllRange result piece.now }

@@ -51,6 +51,7 @@ impl RawFault {
                 place: self.place,
                 text: Text::before_zero(&self.text),
             }),
+            9 => Err(Error::Damaged),
             _ => Err(Error::NoMemory),
         }
     }
@@ -79,6 +80,13 @@ extern "C" {
         count: usize,
         header: *const u8,
         header_count: usize,
+        fault: *mut RawFault,
+    ) -> u32;
+    fn r2u2_open_checked(
+        it: *mut Struct,
+        program: *const u8,
+        count: usize,
+        digest: *const u8,
         fault: *mut RawFault,
     ) -> u32;
     fn r2u2_bytes(program: *const u8, count: usize, bytes: *mut u64, fault: *mut RawFault) -> u32;
@@ -168,6 +176,8 @@ pub enum Error {
     },
     /// 1,099,511,627,776 rows were taken.
     TooManyRows,
+    /// The program has another digest.
+    Damaged,
 }
 
 impl fmt::Display for Error {
@@ -178,6 +188,7 @@ impl fmt::Display for Error {
             Error::ReportsLeft => out.write_str("reports left"),
             Error::NotARow { column } => write!(out, "no number that fits in column {}", column + 1),
             Error::TooManyRows => out.write_str("too many rows"),
+            Error::Damaged => out.write_str("damaged"),
         }
     }
 }
@@ -274,6 +285,18 @@ impl Monitor {
         // SAFETY: as above.
         Monitor::by(|it, fault| unsafe {
             r2u2_open_under(it, program.as_ptr(), program.len(), header.as_ptr(), header.len(), fault)
+        })
+    }
+
+    /// Opens the program of these bytes where its SHA-256 is the digest.
+    ///
+    /// # Errors
+    ///
+    /// `Damaged` where the program has another digest; `Refused` with its first fault, `NoMemory`.
+    pub fn open_checked(program: &[u8], digest: &[u8; 32]) -> Result<Monitor, Error> {
+        // SAFETY: as above, and the digest has its 32 bytes.
+        Monitor::by(|it, fault| unsafe {
+            r2u2_open_checked(it, program.as_ptr(), program.len(), digest.as_ptr(), fault)
         })
     }
 

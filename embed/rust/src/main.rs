@@ -24,6 +24,7 @@ fn main() -> Result<(), Box<dyn std::error::Error>> {
             println!("{name}:{},{}", report.time, report.word);
         }
     }
+    assert_eq!(Monitor::open_checked(&program, &[0; 32]).err(), Some(Error::Damaged));
     let cut = Monitor::open(&program[1..]).err();
     assert!(matches!(cut, Some(Error::Refused { kind: 2, .. })), "{cut:?}");
     Ok(())

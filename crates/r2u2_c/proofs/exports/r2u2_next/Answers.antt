@@ -4,7 +4,7 @@ use Rattle.r2u2_c.proofs.exports.r2u2_next.Goals as goal
 
 pub returns-in-Some-next-clause-tells : goal.returns-in-Some-next-clause-tells
 returns-in-Some-next-clause-tells c = λ _.
-    told_by_call (style_of c.args.runs) c.of.result c.deref_mut.result.now c.next_of-next.new.monitor c.args.it.now.handle.value c.put.new.self.handle.value
+    told_by_call (style_of c.args.runs) c.of.result c.deref_mut.result.now c.next_of-next.new.monitor c.args.it.now.handle.value c.put.new.self.value
     (is_open_as c.deref_mut.result.now c.in-Some.monitor.value c.args.it.now.handle.value c.in-Some.ensures.taken c.deref_mut.ensures.value) c.put.ensures
     (record { report = c.in-Some-next.next; shown_as = c.of.ensures; first = c.in-Some-next.ensures.first; stands = c.in-Some-next.ensures.stands; gives = c.in-Some-next.ensures.given.moved })
 

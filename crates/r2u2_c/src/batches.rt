@@ -1,0 +1,57 @@
+//! Calls of C that do the work of several.
+
+ghost use Rattle.std.specs.Prelude.{◌≡◌, ◌↔◌, ◌<◌, [], ◌∷◌, Contains, IsSomeAnd, None, drop, length, take};
+ghost use Rattle.r2u2_monitor.specs.Monitoring.{IsDrained};
+ghost use Rattle.r2u2_c.specs.Batches.{TellsEach, TellsMany, WritesFront};
+ghost use Rattle.r2u2_c.specs.Reports.{style_of};
+
+use crate::codes::{DONE, NOT_OPEN};
+use crate::keeping::R2u2;
+use crate::report::{Told, next_of};
+use r2u2_monitor::Monitor;
+use std::alloc::Global;
+
+/// Gives the next reports of the rows so far, as many as there is room for: those that `r2u2_next` gives one by one.
+/// `count` says how many; where they are fewer than there is room for, none is left.
+#[unsafe(no_mangle)]
+pub extern "C" fn r2u2_next_many(
+    it: &mut R2u2,
+    alloc: Global,
+    runs: u32,
+    reports: &mut [Told],
+    count: &mut usize,
+) -> u32
+    ensures tells { result ≡ DONE → TellsMany (style_of runs)
+        (take count.new reports.new) it.old.handle.value it.new.handle.value }
+    ensures front { result ≡ DONE → WritesFront count.new reports.old reports.new }
+    ensures drained { result ≡ DONE → count.new < length reports.old
+        → IsSomeAnd it.new.handle.value IsDrained }
+    ensures not_open { (result ≡ NOT_OPEN) ↔ (it.old.handle.value ≡ None) }
+    ensures kept { 0 < result → it.new.handle.value ≡ it.old.handle.value }
+    ensures untold { 0 < result → (reports.new ≡ reports.old) × (count.new ≡ count.old) }
+    ensures codes { Contains (DONE ∷ NOT_OPEN ∷ []) result }
+{
+    match it.handle.take(alloc) {
+        None => NOT_OPEN,
+        Some(mut monitor) => {
+            *count = fill(&mut monitor, runs, reports);
+            it.handle.put(monitor);
+            DONE
+        }
+    }
+}
+
+/// Writes the next reports to the front of a slice, and returns how many there were.
+fn fill(monitor: &mut Monitor, runs: u32, reports: &mut [Told]) -> usize
+    ensures tells { TellsEach (style_of runs) (take result reports.new) monitor.old monitor.new }
+    ensures front { WritesFront result reports.old reports.new }
+    ensures drained { result < length reports.old → IsDrained monitor.new }
+{
+    for k in 0..reports.len() {
+        match next_of(monitor, runs) {
+            None => return k,
+            Some(report) => reports[k] = Told::of(report),
+        }
+    }
+    reports.len()
+}
