@@ -5,13 +5,13 @@ from __future__ import annotations
 from typing import Mapping
 
 LIGHT = {
-    "back": "#ffffff", "ink": "#1f2933", "faint": "#6b7785", "grid": "#7b8794", "pale": "#e8edf2", "curve": "#8593a3", "mark": "#7b8794",
+    "back": "#ffffff", "ink": "#1f2933", "faint": "#6b7785", "grid": "#d9dfe6", "pale": "#e8edf2", "curve": "#8593a3", "mark": "#7b8794",
     "true": "#2f74c0", "true-ink": "#ffffff", "false": "#c93a4e", "false-ink": "#ffffff", "idle": "#c9d3de", "idle-ink": "#3b4754",
     "open": "#f3f5f7", "open-ink": "#5f6b78", "bad": "#b3263d", "pick": "#8a5a00", "pin": "#1f293326",
 }
 # Squares of words are the same on both, so that a picture in a page and the page agree.
 DARK = {
-    **LIGHT, "back": "#0d1117", "ink": "#e6edf3", "faint": "#a9b4c0", "grid": "#7b8794", "pale": "#2a3542", "curve": "#5b6b7c",
+    **LIGHT, "back": "#0d1117", "ink": "#e6edf3", "faint": "#a9b4c0", "grid": "#5b6b7c", "pale": "#2a3542", "curve": "#5b6b7c",
     "open": "#20262d", "open-ink": "#a9b4c0", "bad": "#f58d9c", "pick": "#ffcf70", "pin": "#e6edf333",
 }
 

@@ -36,7 +36,7 @@ GRAVEST: dict[Word, int] = {word: rank for rank, word in enumerate(("inactive", 
 SQUARE, LANE, GAP, EDGE, MARK = 26, 24, 8, 12, 14
 LETTER = 7.8
 SQUARES, WIDE, NARROWEST, LONGEST = 60, 1100, 8, 24
-BACK, INK, FAINT, GRID, PALE, CURVE, MARKS = (LIGHT[name] for name in ("back", "ink", "faint", "grid", "pale", "curve", "mark"))
+BACK, INK, FAINT, GRID, PALE, CURVE, MARKS = (LIGHT[name] for name in ("back", "ink", "faint", "mark", "pale", "curve", "mark"))
 # The colours of a dark screen in place of those above, by element and attribute. Squares of words keep theirs.
 AT_NIGHT = [
     (f'rect[fill="{LIGHT["back"]}"]', f"fill:{DARK['back']}"),
@@ -44,7 +44,6 @@ AT_NIGHT = [
     (f'[stroke="{INK}"]', f"stroke:{DARK['ink']}"),
     (f'[fill="{FAINT}"], text[fill="{LIGHT["open-ink"]}"]', f"fill:{DARK['faint']}"),
     (f'[stroke="{FAINT}"]', f"stroke:{DARK['faint']}"),
-    (f'[stroke="{GRID}"]', f"stroke:{DARK['grid']}"),
     (f'[fill="{PALE}"]', f"fill:{DARK['pale']}"),
     (f'path[fill="{CURVE}"]', f"fill:{DARK['curve']};stroke:{DARK['curve']}"),
 ]
