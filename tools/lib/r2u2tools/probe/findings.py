@@ -6,6 +6,7 @@ from dataclasses import dataclass, field
 from typing import Optional, Sequence
 
 from r2u2tools.common.expressions import Expression, plain
+from r2u2tools.common.progress import Progress
 from r2u2tools.common.verdict_runs import verdict_runs
 from r2u2tools.probe.margins import described, margins
 from r2u2tools.probe.mutants import Mutant, constants, mutants, parts
@@ -72,15 +73,20 @@ class Probe:
         self.source, self.trials = source, trials
 
     def findings(self, with_margins: bool) -> list[Finding]:
-        found = {it.name: Finding(it.name) for it in self.source.requirements()}
+        found, progress = {it.name: Finding(it.name) for it in self.source.requirements()}, Progress()
+        progress.tell("counting verdicts")
         self.count(found)
-        for requirement in self.source.requirements():
-            finding = found[requirement.name]
+        for number, requirement in enumerate(self.source.requirements(), 1):
+            finding, where = found[requirement.name], f"{requirement.name}, {number} of {len(found)}"
+            progress.tell(f"{where}: changes")
             finding.tried = self.was_tried(requirement)
             self.mutate(requirement, finding)
+            progress.tell(f"{where}: parts")
             finding.unused = self.unused(requirement)
             if with_margins and finding.verdicts and not finding.broken:
+                progress.tell(f"{where}: margins")
                 finding.margins = self.margins(requirement)
+        progress.done()
         return list(found.values())
 
     def count(self, found: dict[str, Finding]) -> None:

@@ -40,6 +40,8 @@ class Trials:
     timed: bool
     folder: Path
     heads: list[str] = field(default_factory=list)
+    # Which formulas of a batch the program has that was compiled last.
+    compiled: tuple[int, ...] = ()
 
     def __post_init__(self) -> None:
         for number, log in enumerate(self.logs):
@@ -56,6 +58,7 @@ class Trials:
 
     def batch(self, trials: Sequence[Trial], batch: list[int], found: list[Optional[bool]]) -> None:
         left = batch
+        self.compiled = ()
         for log in (*self.heads, *self.logs):
             left = self.over(trials, left, found, log)
 
@@ -63,8 +66,9 @@ class Trials:
         """Tries some formulas over one log, and returns those that are never false there."""
         kept = [k for k in batch if found[k] is False]
         while kept:
-            refused = self.refused([trials[k] for k in kept])
+            refused = None if self.compiled == tuple(kept) else self.refused([trials[k] for k in kept])
             if refused is None:
+                self.compiled = tuple(kept)
                 seen = self.false_outputs(log, len(kept))
                 for number in seen:
                     found[kept[number]] = True
