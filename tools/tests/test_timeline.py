@@ -404,7 +404,7 @@ class Handled(Pictures):
                 self.assertTrue(name, role)
 
     def test_dark_mode(self):
-        page = self.page(give="f:99,F\n")
+        page = self.page(*GRANT, give=TICKS)
         light = page.run("getComputedStyle(document.body).backgroundColor")
         before = self.colours(page)
         page.ask("Emulation.setEmulatedMedia", features=[{"name": "prefers-color-scheme", "value": "dark"}])
