@@ -17,7 +17,7 @@ pub struct R2u2 {
     width: u32,
     outputs: u32,
     signals: u32,
-    pub ghost told: { AreTold handle.value rows width outputs signals },
+    pub ghost told: { MirrorsMonitor handle.value rows width outputs signals },
 }
 
 impl R2u2 {
