@@ -89,8 +89,8 @@ class Command:
         assert child.stdout and child.stderr
         tail = bytearray()
         passing = threading.Thread(target=passed_on, args=(child.stderr, tail, self.quiet), daemon=True)
-        passing.start()
         try:
+            passing.start()
             read(child.stdout)
             if result.stopped:
                 end(child)
