@@ -250,7 +250,7 @@ class Monitor:
             yield from self.reports(runs)
 
     def table(self, rows: Iterable[Row]) -> Table:
-        """Returns the words of each output for the times that the rows decide, by name."""
+        """Takes all rows, and returns the words of each output from time 0 on, by name."""
         words = Table((name, []) for name in self.names)
         for row in rows:
             self.row(row)

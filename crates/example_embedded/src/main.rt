@@ -1,5 +1,5 @@
 //! A monitor in a program of one's own. It compiles a requirement, takes rows of numbers, and prints the line of each
-//! verdict as soon as the rows decide it.
+//! verdict once it and all earlier ones of its formula are decided.
 //!
 //! A program that watches its own signals does the same: it needs no trace, and no words of a command.
 #![tactic(auto)]
