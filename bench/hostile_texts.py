@@ -44,6 +44,13 @@ def filled(name, shows, head, item, tail):
 
 SIGNALS = 'INPUT p, q: bool; x: int;\n'
 COUNTED = SIGNALS + 'STRUCT t: { a: bool; b: bool; };\nDEFINE s := {' + members(254) + '};\n'
+LARGEST = SIGNALS + 'DEFINE s := {' + members(181) + '};\n'
+NUMBERS = SIGNALS + 'DEFINE s := {' + members(128, '#') + '};\n'
+DEEPEST = 400
+DEEP = SIGNALS + 'STRUCT t0: { f: bool; };\n' + ''.join(
+    'STRUCT t%d: { f: t%d; };\n' % (k + 1, k) for k in range(DEEPEST)) + 'DEFINE d0 := t0(p);\n' + ''.join(
+    'd%d := t%d(d%d);\n' % (k + 1, k + 1, k) for k in range(DEEPEST)) + 'u := {%s};\ns := {%s};\n' % (
+    members(60, 'd%d' % DEEPEST), members(128, '#'))
 PAIRED = SIGNALS + 'DEFINE s := {' + members(147) + '};\n'
 
 
@@ -67,6 +74,46 @@ def equivalences():
     return signals + 'DEFINE s := {' + members(254, 'p#') + '};\n' + ''.join(items)
 
 
+def picked_within(levels):
+    """One output of quantifiers within one another, each over the set that a picked field of the last variable holds."""
+    kinds = 'STRUCT t0: { a: bool; };\n' + ''.join(
+        'STRUCT t%d: { f: {t%d}; };\n' % (k + 1, k) for k in range(levels))
+    values = 'd0 := t0(p);\n' + ''.join('d%d := t%d({d%d, d%d});\n' % (k + 1, k + 1, k, k) for k in range(13))
+    more = ''.join('d%d := t%d({d%d});\n' % (k + 1, k + 1, k) for k in range(13, levels))
+    body = 'v%d.a' % levels
+    for k in range(levels, 0, -1):
+        body = 'foreach(v%d: v%d.f)(%s)' % (k, k - 1, body)
+    return SIGNALS + kinds + 'DEFINE\n' + values + more + 'FTSPEC foreach(v0: {d%d})(%s);\n' % (levels, body)
+
+
+def spacecraft(count, requirements):
+    """Requirements over pairs of spacecraft, three levels of structs; one of them is used."""
+    names = ['a%d' % k for k in range(count)]
+    signals = ''.join('INPUT %s: bool;\n' % ', '.join('%s_%s' % (name, kind) for kind in ('near', 'safe', 'up'))
+                      for name in names)
+    kinds = ('STRUCT range_t: { near: bool; safe: bool; };\nSTRUCT state_t: { range: range_t; up: bool; };\n'
+             'STRUCT craft_t: { state: state_t; };\n')
+    values = ''.join('%s := craft_t(state_t(range_t(%s_near, %s_safe), %s_up));\n' % ((name,) * 4) for name in names)
+    body = '(a.state.up && b.state.range.near) -> a.state.range.safe'
+    rules = ''.join('apart%d := foreach(a: fleet)(forsome(b: fleet)(%s));\n' % (k, body) for k in range(requirements))
+    return '%s%sDEFINE\n%sfleet := {%s};\n%sFTSPEC apart0;\n' % (signals, kinds, values, ', '.join(names), rules)
+
+
+def valves(count, definitions):
+    """Definitions that count over valves, one at each threshold."""
+    rules = ''.join('most%d := foratmost(v: valves, %d)(v);\n' % (k, k % 120) for k in range(definitions))
+    return 'INPUT %s: bool;\nDEFINE valves := {%s};\n%sFTSPEC most0;\n' % (
+        members(count, 'v#'), members(count, 'v#'), rules)
+
+
+def chained(number):
+    """Quantifiers over one member each, within one over many."""
+    body = 'v99'
+    for k in range(99, 0, -1):
+        body = 'foreach(v%d:{v%d})(%s)' % (k, k - 1, body)
+    return 'd%d:=foreach(v0:s)(foreach(w:s)(%s));\n' % (number, body.replace('v0', 'w'))
+
+
 def declared(names):
     """Signals of these names, as many to an item as its words and signs allow."""
     lists = (','.join(names[k:k + 500]) for k in range(0, len(names), 500))
@@ -85,6 +132,18 @@ TEXTS = [
     filled('beside', 'definitions that count, left aside by a picked field', COUNTED,
            numbered('DEFINE d# := t(p, forexactly(v: s, 127)(v)); FTSPEC d#.a;\n'), ''),
     filled('pairs', 'unused definitions over pairs', PAIRED + 'DEFINE\n', pair, 'FTSPEC p;\n'),
+    Text('few-pairs', '100 unused definitions over pairs, in 5 KB', lambda: (
+        PAIRED + 'DEFINE\n' + ''.join('h%d := foreach(v: s)(forsome(w: s)(F[0,1](v)));\n' % k for k in range(100)) + 'FTSPEC p;\n')),
+    filled('unused-pairs', 'unused definitions over pairs, whose bodies use neither variable', LARGEST + 'DEFINE\n',
+           numbered('a#:=foreach(v:s)(foreach(w:s)(p));\n'), 'FTSPEC p;\n'),
+    filled('number-pairs', 'unused definitions over pairs of numbers', NUMBERS + 'DEFINE\n',
+           numbered('a#:=foreach(v:s)(foreach(w:s)(v<w));\n'), 'FTSPEC p;\n'),
+    filled('number-picks', 'chains of picked fields in bodies over pairs of numbers', DEEP,
+           numbered('DEFINE a#:=foreach(x:s)(foreach(v:u)(x>0||v%s));\n' % ('.f' * (DEEPEST + 1))), 'FTSPEC p;\n'),
+    filled('single', 'quantifiers over one member each, within one over pairs', LARGEST + 'DEFINE\n', chained, 'FTSPEC p;\n'),
+    Text('nested-picks', '23 quantifiers within one another over picked fields', lambda: picked_within(23)),
+    Text('spacecraft', '27 requirements over pairs of 78 spacecraft', lambda: spacecraft(78, 27)),
+    Text('valves', '400 definitions that count 250 valves', lambda: valves(250, 400)),
     filled('braces', 'sets within one another', SIGNALS + 'DEFINE\n', nested, 'FTSPEC p;\n'),
     filled('both', 'sets within one another, then definitions over pairs', PAIRED + 'DEFINE\n', nested,
            ''.join(map(pair, range(200))) + 'FTSPEC p;\n'),

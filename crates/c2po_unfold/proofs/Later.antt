@@ -10,7 +10,6 @@ use Rattle.c2po_unfold.specs.declared.scope.Scope.{Scope, Top, Open', Held'}
 use Rattle.c2po_unfold.specs.declared.scope.Head.{Head}
 use Rattle.c2po_unfold.specs.declared.scope.Head.TheVariants as head
 use Rattle.c2po_unfold.specs.declared.unfolding.Unfolding.{Unfolding}
-use Rattle.c2po_unfold.specs.declared.visits.Visits.{Visits}
 use Rattle.c2po_unfold.specs.Values.{Value, Values, leaf, structure, set, none, more}
 use Rattle.c2po_unfold.specs.Environment.{Env, Known}
 use Rattle.c2po_unfold.specs.Holding.{Holds, HoldAll, Means, StandsFor, Fits, Keeps, IsLater}
@@ -76,17 +75,8 @@ fits_later (Held' x s q outer) old new env g h =
     (h.0, h.1, holds_later h.0 old new s g h.2, fits_later outer old new h.1 g h.3, h.4)
 
 pub heads_later : (h : Head) (old new : Unfolding) (v : Value) → IsLater old new → Heads old h v → Heads new h v
-heads_later head.Nothing old new v g k = k
-heads_later (head.Struct scope x es) old new v g k = (k.0, fits_later scope.now old new k.0 g k.1, k.2)
-heads_later (head.Set scope es) old new v g k = (k.0, fits_later scope.now old new k.0 g k.1, k.2)
+heads_later (head.Nothing scope e) old new v g k = (k.0, fits_later scope.now old new k.0 g k.1, k.2, k.3)
+heads_later (head.Struct scope e x es) old new v g k = (k.0, fits_later scope.now old new k.0 g k.1, k.2, k.3)
+heads_later (head.Set scope e es) old new v g k = (k.0, fits_later scope.now old new k.0 g k.1, k.2, k.3)
 heads_later (head.Leaf scope e) old new v g k = (k.0, fits_later scope.now old new k.0 g k.1, k.2, k.3)
 heads_later (head.Held s) old new v g k = holds_later v old new s g k
-
--- what was visited is no part of what an unfolding stands for
-visits_mean : (o : Option Entry) (u : Unfolding) (v : Visits) (k : Known) → Means u o k → Means (record u { visits = v }) o k
-visits_mean None u v k h = h
-visits_mean (Some (entry.Struct i)) u v k h = h
-visits_mean (Some (entry.Value s)) u v k h = h
-
-pub stands_visited : (u : Unfolding) (v : Visits) (env : Env) → StandsFor u env → StandsFor (record u { visits = v }) env
-stands_visited u v env h = record { means = λ x. visits_mean (entry_of x u.names) u v (env x) (h.means x) }

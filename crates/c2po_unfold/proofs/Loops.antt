@@ -1,6 +1,6 @@
 -- What the loops of unfolding keep.
 
-use Rattle.std.proofs.Common.{◌≡◌, ℕ, false, ◌+◌, ◌-◌, ◌<◌, ◌≤◌, Option, Some, List, [], ◌∷◌, ◌++◌, map, fold, take, length, get_or, slice_get, sum_by, option_map, refl, sym, subst, ap, ◌∙◌, arith}
+use Rattle.std.proofs.Common.{◌≡◌, ℕ, false, ◌+◌, ◌-◌, ◌<◌, ◌≤◌, Option, Some, None, List, [], ◌∷◌, ◌++◌, map, fold, take, length, get_or, slice_get, sum_by, option_map, refl, sym, subst, ap, ◌∙◌, arith}
 use Rattle.std.proofs.lemmas.List.{take_more, take-map, map-append, length-map, length-take-le}
 use Rattle.std.proofs.lemmas.List.Sums.{fold_push, sum_by_push, sum_by-cons, sum_by_more_le}
 use Rattle.std.proofs.lemmas.Option.{slice_get_within, get_or_from_slice_get, slice_get-get_or, slice_get-map}
@@ -27,6 +27,8 @@ use Rattle.c2po_unfold.specs.Heads.{Heads}
 use Rattle.c2po_unfold.specs.Operators.{binary_value, bodies_over}
 use Rattle.c2po_unfold.specs.declared.summary.Summary.{Summary}
 use Rattle.c2po_unfold.specs.Summaries.{IsSummary, gathered}
+use Rattle.c2po_unfold.specs.declared.summing.BodyFact.{BodyFact}
+use Rattle.c2po_unfold.specs.Bodies.{IsOfBody}
 use Rattle.c2po_unfold.proofs.Later.{later_same, later_then, hold_all_later, fits_later}
 use Rattle.c2po_unfold.proofs.Members.{holds_weight, list_values, value_at}
 
@@ -142,13 +144,15 @@ weighed_more u scope es i e s room left b at holds light =
     })
 
 -- the bodies of a quantifier that are joined so far
-pub record JoinedSoFar (u : Unfolding) (scope : Scope) (set : Head) (q : Bodies) (op : LogicOp) (room i : ℕ) (all : Summary) : Type 0 where
+pub record JoinedSoFar (u : Unfolding) (scope : Scope) (set : Head) (q : Bodies) (op : LogicOp) (room i : ℕ) (all : Summary) (last : BodyFact) : Type 0 where
   pub light : all.weight ≤ room
+  pub known : IsOfBody u scope q last
   pub holds : (env : Env) (s : Value) → Fits u scope env → Heads u set s → IsSummary all (connected_all op (take i (bodies_over q env s)))
 
 -- what is known of the bodies of a quantifier so far, together
-pub record GatheredSoFar (u : Unfolding) (scope : Scope) (set : Head) (q : Bodies) (room i : ℕ) (fact : Fact) (left : ℕ) : Type 0 where
+pub record GatheredSoFar (u : Unfolding) (scope : Scope) (set : Head) (q : Bodies) (room i : ℕ) (fact : Fact) (left : ℕ) (last : BodyFact) : Type 0 where
   pub inside : left ≤ room
+  pub known : IsOfBody u scope q last
   pub tells : (env : Env) (s : Value) → Fits u scope env → Heads u set s →
       Tells fact (Some (formula (gathered (map formula_of (take i (bodies_over q env s))))))
   pub weight : (env : Env) (s : Value) → Fits u scope env → Heads u set s →
@@ -196,14 +200,16 @@ gathered_next vs i v h =
     ∙ gathered_push (map formula_of (take i vs)) (formula_of v))
 
 -- one more body, before the others
-pub gathered_more : (u : Unfolding) (scope : Scope) (set : Head) (q : Bodies) (room i : ℕ) (fact new : Fact) (left : ℕ) (next : Summary) →
-    GatheredSoFar u scope set q room i fact left → next.weight ≤ left → ((s : Value) → Heads u set s → i < length (members s)) →
+pub gathered_more : (u : Unfolding) (scope : Scope) (set : Head) (q : Bodies) (room i : ℕ) (fact new : Fact) (left : ℕ) (last next : BodyFact) →
+    GatheredSoFar u scope set q room i fact left last → next.summary.weight ≤ left → ((s : Value) → Heads u set s → i < length (members s)) →
     ((env : Env) (s v : Value) → Fits u scope env → Heads u set s → slice_get (members s) i ≡ Some v →
-    IsSummary next (value_of (shape q.body.now) (bind q.name.now v env))) →
-    ((o p : Option Tree) → Tells next.fact o → Tells fact p → Tells new (Some (formula (disjunction (formula_in o) (formula_in p))))) →
-    GatheredSoFar u scope set q room (i + 1) new (left - next.weight)
-gathered_more u scope set q room i fact new left next g light inside holds joins = record {
+    IsSummary next.summary (value_of (shape q.body.now) (bind q.name.now v env))) →
+    IsOfBody u scope q next →
+    ((o p : Option Tree) → Tells next.summary.fact o → Tells fact p → Tells new (Some (formula (disjunction (formula_in o) (formula_in p))))) →
+    GatheredSoFar u scope set q room (i + 1) new (left - next.summary.weight) next
+gathered_more u scope set q room i fact new left last next g light inside holds known joins = record {
   inside = omega (arith, g.inside);
+  known = known;
   tells = λ env s h heads.
       let v = get_or (members s) i (truth_value false) in
       let at : slice_get (members s) i ≡ Some v = member_at (members s) i (length (members s)) refl (inside s heads) in
@@ -239,3 +245,7 @@ binary_weight (binary.Arith op) v w = refl
 binary_weight (binary.Compare op) v w = refl
 binary_weight (binary.Logic op) v w = refl
 binary_weight (binary.Between op a b) v w = refl
+
+-- nothing is known of a body where its variable is no stored value
+pub not_known : (u : Unfolding) (scope : Scope) (q : Bodies) (known : BodyFact) → known.member ≡ None → IsOfBody u scope q known
+not_known u scope q known none = record { holds = λ env s v some. cc }

@@ -36,10 +36,14 @@ HoldMembers u ss (leaf t w) = ss ≡ []
 
 -- a head has a value
 abbrev pub Heads : Unfolding → Head → Value → Type 0
-Heads u head.Nothing v = v ≡ truth_value false
-Heads u (head.Struct scope x es) v =
+Heads u (head.Nothing scope e) v =
+    (env : Env) × Fits u scope.now env × (v ≡ truth_value false) × (v ≡ value_of (shape e.now) env)
+Heads u (head.Struct scope e x es) v =
     (env : Env) × Fits u scope.now env × (v ≡ built x.now (values_of (shapes es.now) env))
-Heads u (head.Set scope es) v = (env : Env) × Fits u scope.now env × (v ≡ grouped (values_of (shapes es.now) env))
+    × (v ≡ value_of (shape e.now) env)
+Heads u (head.Set scope e es) v =
+    (env : Env) × Fits u scope.now env × (v ≡ grouped (values_of (shapes es.now) env))
+    × (v ≡ value_of (shape e.now) env)
 Heads u (head.Leaf scope e) v =
     (env : Env) × Fits u scope.now env × (v ≡ value_of (shape e.now) env) × (is_operator (shape e.now) ≡ true)
 Heads u (head.Held s) v = Holds u s v

@@ -7,6 +7,7 @@ pub mod Summaries
 pub mod Facts
 pub mod Faults
 pub mod Parts
+pub mod Bodies
 pub mod Fields
 pub use Rattle.count_sets.specs.Counting
 pub use Rattle.mltl_base.specs.Tables

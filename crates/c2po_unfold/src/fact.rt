@@ -156,6 +156,18 @@ pub fn first_fault(left: Option<NoRange>, right: Option<NoRange>) -> Option<NoRa
 }
 
 impl Fact {
+    /// Whether this is the same fact, of a formula without a fault.
+    pub(crate) fn is(&self, other: &Fact) -> bool
+        ensures { result ≡ true → self.now ≡ other.now }
+    {
+        match (self, other) {
+            (Fact::Formula(None, own), Fact::Formula(None, tenses)) => {
+                own.past == tenses.past && own.future == tenses.future
+            }
+            _ => false,
+        }
+    }
+
     /// Returns the fault of an integer or of a formula.
     pub fn fault(&self) -> Option<NoRange>
         ensures { (t : Tree) → Tells self.now (Some t) → told_fault result ≡ tree_fault t }

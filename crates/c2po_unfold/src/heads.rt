@@ -4,7 +4,7 @@ ghost use Rattle.std.specs.Prelude.{◌≡◌, ℕ, Some, length, position, slic
 ghost use Rattle.std.specs.Str.{bytes_eq};
 ghost use Rattle.c2po_ast.specs.Shape.{shape};
 ghost use Rattle.c2po_unfold.specs.declared.fault.UnfoldFault.TheVariants.{Memory};
-ghost use Rattle.c2po_unfold.specs.Environment.{Env, bind, fields_in, value_of};
+ghost use Rattle.c2po_unfold.specs.Environment.{Env, fields_in, value_of};
 ghost use Rattle.c2po_unfold.specs.Heads.{Heads, HoldMembers, Names};
 ghost use Rattle.c2po_unfold.specs.Holding.{Fits, Holds, StandsFor};
 ghost use Rattle.c2po_unfold.specs.Values.{Value, members, picked};
@@ -12,17 +12,15 @@ ghost use Rattle.c2po_unfold.specs.Values.{Value, members, picked};
 use crate::fault::deeper;
 use crate::scope::{Head, Named, Scope};
 use crate::values::{Entry, Location, Stored, Whole};
-use crate::visits::Visits;
 use crate::{UnfoldFault, Unfolding};
 use c2po_ast::{Expr, Node};
 use mltl_base::Name;
 
 impl Unfolding {
     /// The meaning of a declared name.
-    fn declared<'a>(&self, visits: &mut Visits, name: &Name) -> Named<'a>
+    fn declared<'a>(&self, name: &Name) -> Named<'a>
         ensures { (env : Env) → StandsFor self.now env → Names self.now result (env name.now) }
     {
-        visits.seek(self.names.len(), name);
         match self.names.find(name) {
             None => Named::Nothing,
             Some(Entry::Struct(i)) => Named::Struct(i),
@@ -31,11 +29,11 @@ impl Unfolding {
     }
 
     /// The meaning of a name: the innermost variable of that name, else what is declared.
-    fn look<'a>(&self, visits: &mut Visits, scope: &'a Scope<'a>, name: &Name) -> Named<'a>
+    fn look<'a>(&self, scope: &'a Scope<'a>, name: &Name) -> Named<'a>
         ensures { (env : Env) → Fits self.now scope.now env → Names self.now result (env name.now) }
     {
         match scope {
-            Scope::Top => self.declared(visits, name),
+            Scope::Top => self.declared(name),
             Scope::Open {
                 name: own,
                 expr,
@@ -45,8 +43,7 @@ impl Unfolding {
                 if name.bytes() == own.bytes() {
                     Named::Open(within, expr)
                 } else {
-                    visits.pass();
-                    self.look(visits, outer, name)
+                    self.look(outer, name)
                 }
             }
             Scope::Held {
@@ -57,40 +54,26 @@ impl Unfolding {
                 if name.bytes() == own.bytes() {
                     Named::Held(*stored)
                 } else {
-                    visits.pass();
-                    self.look(visits, outer, name)
+                    self.look(outer, name)
                 }
             }
         }
     }
 
     /// The place of a field among those of a struct.
-    fn field_place(
-        &self,
-        visits: &mut Visits,
-        scope: &Scope<'_>,
-        whole: &Name,
-        field: &Name,
-    ) -> Option<usize>
+    fn field_place(&self, scope: &Scope<'_>, whole: &Name, field: &Name) -> Option<usize>
         ensures { (env : Env) → Fits self.now scope.now env
             → result ≡ position (bytes_eq field.now) (fields_in (env whole.now)) }
     {
-        let Named::Struct(i) = self.look(visits, scope, whole) else {
+        let Named::Struct(i) = self.look(scope, whole) else {
             return None;
         };
         let fields = self.structs.as_slice().get(i as usize)?;
-        visits.seek(fields.len(), field);
         fields.place(field)
     }
 
     /// The part of a stored struct's value that a field names; another value is its own part.
-    fn held_part(
-        &self,
-        visits: &mut Visits,
-        scope: &Scope<'_>,
-        stored: Stored,
-        field: &Name,
-    ) -> Stored
+    fn held_part(&self, scope: &Scope<'_>, stored: Stored, field: &Name) -> Stored
         ensures { (env : Env) (v : Value) → Fits self.now scope.now env → Holds self.now stored v
             → Holds self.now result (picked (λ y. fields_in (env y)) field.now v) }
     {
@@ -103,7 +86,7 @@ impl Unfolding {
         let Whole::Struct(whole) = &parts.whole else {
             return stored;
         };
-        let Some(place) = self.field_place(visits, scope, whole, field) else {
+        let Some(place) = self.field_place(scope, whole, field) else {
             return stored;
         };
         match parts.members.as_slice().get(place) {
@@ -116,7 +99,6 @@ impl Unfolding {
     #[cycle(heading)]
     pub(crate) fn head<'a>(
         &self,
-        visits: &mut Visits,
         levels: u32,
         scope: &'a Scope<'a>,
         e: &'a Expr,
@@ -125,20 +107,19 @@ impl Unfolding {
             → IfOk result (λ h. Heads self.now h (value_of (shape e.now) env)) }
         ensures memory { IfErr result (λ why. why ≡ Memory) }
     {
-        visits.visit()?;
         let levels = deeper(levels)?;
         match &e.node {
-            Node::Ref(name) => match self.look(visits, scope, name) {
-                Named::Open(within, expr) => self.head(visits, levels, within, expr),
+            Node::Ref(name) => match self.look(scope, name) {
+                Named::Open(within, expr) => self.head(levels, within, expr),
                 Named::Held(stored) => Ok(Head::Held(stored)),
-                Named::Nothing | Named::Struct(_) => Ok(Head::Nothing),
+                Named::Nothing | Named::Struct(_) => Ok(Head::Nothing(scope, e)),
             },
             Node::Pick(whole, field) => {
-                let whole = self.head(visits, levels, scope, whole)?;
-                self.part(visits, levels, scope, whole, field)
+                let whole = self.head(levels, scope, whole)?;
+                self.part(levels, scope, whole, field)
             }
-            Node::Build(name, parts) => Ok(Head::Struct(scope, name, parts.as_slice())),
-            Node::Group(members) => Ok(Head::Set(scope, members.as_slice())),
+            Node::Build(name, parts) => Ok(Head::Struct(scope, e, name, parts.as_slice())),
+            Node::Group(members) => Ok(Head::Set(scope, e, members.as_slice())),
             _ => Ok(Head::Leaf(scope, e)),
         }
     }
@@ -147,7 +128,6 @@ impl Unfolding {
     #[cycle(heading)]
     fn part<'a>(
         &self,
-        visits: &mut Visits,
         levels: u32,
         scope: &'a Scope<'a>,
         whole: Head<'a>,
@@ -158,20 +138,19 @@ impl Unfolding {
             → IfOk result (λ h. Heads self.now h (picked (λ y. fields_in (env y)) field.now v)) }
         ensures memory { IfErr result (λ why. why ≡ Memory) }
     {
-        visits.visit()?;
         let levels = deeper(levels)?;
         match whole {
-            Head::Struct(within, name, parts) => {
-                let Some(place) = self.field_place(visits, scope, name, field) else {
+            Head::Struct(within, _, name, parts) => {
+                let Some(place) = self.field_place(scope, name, field) else {
                     return Ok(whole);
                 };
                 match parts.get(place) {
-                    Some(part) => self.head(visits, levels, within, part),
+                    Some(part) => self.head(levels, within, part),
                     None => Ok(whole),
                 }
             }
-            Head::Held(stored) => Ok(Head::Held(self.held_part(visits, scope, stored, field))),
-            Head::Nothing | Head::Set(..) | Head::Leaf(..) => Ok(whole),
+            Head::Held(stored) => Ok(Head::Held(self.held_part(scope, stored, field))),
+            Head::Nothing(..) | Head::Set(..) | Head::Leaf(..) => Ok(whole),
         }
     }
 
@@ -180,9 +159,9 @@ impl Unfolding {
         ensures { (v : Value) → Heads self.now set.now v → result ≡ length (members v) }
     {
         match *set {
-            Head::Set(_, members) => members.len(),
+            Head::Set(_, _, members) => members.len(),
             Head::Held(stored) => self.held_members(stored).len(),
-            Head::Nothing | Head::Struct(..) | Head::Leaf(..) => 0,
+            Head::Nothing(..) | Head::Struct(..) | Head::Leaf(..) => 0,
         }
     }
 
@@ -202,36 +181,28 @@ impl Unfolding {
         }
     }
 
-    /// The scope in which a variable is member `i` of a set.
-    pub(crate) fn member_scope<'a>(
+    /// What member `i` of a set leads to.
+    pub(crate) fn member<'a>(
         &self,
-        scope: &'a Scope<'a>,
-        name: &'a Name,
+        levels: u32,
         set: &Head<'a>,
         i: usize,
-    ) -> Scope<'a>
-        ensures { (env : Env) (s v : Value) → Fits self.now scope.now env → Heads self.now set.now s
-            → slice_get (members s) i ≡ Some v → Fits self.now result (bind name.now v env) }
+    ) -> Result<Head<'a>, UnfoldFault>
+        ensures head { (s v : Value) → Heads self.now set.now s
+            → slice_get (members s) i ≡ Some v
+            → IfOk result (λ h. Heads self.now h v) }
+        ensures memory { IfErr result (λ why. why ≡ Memory) }
     {
         match *set {
-            Head::Set(within, members) => match members.get(i) {
-                Some(expr) => Scope::Open {
-                    name,
-                    expr,
-                    within,
-                    outer: scope,
-                },
-                None => *scope,
+            Head::Set(within, _, members) => match members.get(i) {
+                Some(expr) => self.head(levels, within, expr),
+                None => Ok(*set),
             },
             Head::Held(stored) => match self.held_members(stored).get(i) {
-                Some(member) => Scope::Held {
-                    name,
-                    stored: *member,
-                    outer: scope,
-                },
-                None => *scope,
+                Some(member) => Ok(Head::Held(*member)),
+                None => Ok(*set),
             },
-            Head::Nothing | Head::Struct(..) | Head::Leaf(..) => *scope,
+            Head::Nothing(..) | Head::Struct(..) | Head::Leaf(..) => Ok(*set),
         }
     }
 }

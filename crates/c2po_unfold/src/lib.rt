@@ -2,7 +2,7 @@
 //!
 //! `value_of` in `specs/Environment.antt` says what an expression unfolds to. [`Unfolding`] holds the meanings of the
 //! names of a specification, and finds of a value its weight, the first fault of its integers and its tenses, without
-//! its nodes. A part that a picked field leaves aside, or a member of a set that a body doesn't use, is never visited.
+//! its nodes. A part that a picked field leaves aside is never visited.
 #![tactic(auto)]
 
 pub mod counting;
@@ -18,7 +18,6 @@ pub mod summary;
 pub mod summing;
 pub mod unfolding;
 pub mod values;
-pub mod visits;
 
 pub use fact::{Tenses, first_fault};
 pub use fault::UnfoldFault;

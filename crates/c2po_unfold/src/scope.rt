@@ -1,5 +1,11 @@
 //! Variables of quantifiers, which are members of sets that aren't unfolded yet.
 
+ghost use Rattle.c2po_unfold.specs.declared.unfolding.Unfolding.{Unfolding};
+ghost use Rattle.c2po_unfold.specs.Environment.{Env, bind};
+ghost use Rattle.c2po_unfold.specs.Heads.{Heads};
+ghost use Rattle.c2po_unfold.specs.Holding.{Fits};
+ghost use Rattle.c2po_unfold.specs.Values.{Value};
+
 use crate::values::Stored;
 use c2po_ast::Expr;
 use mltl_base::Name;
@@ -44,10 +50,38 @@ pub enum Named<'a> {
 #[derive(Clone, Copy)]
 pub enum Head<'a> {
     /// A name without a value.
-    Nothing,
-    Struct(&'a Scope<'a>, &'a Name, &'a [Expr]),
-    Set(&'a Scope<'a>, &'a [Expr]),
+    Nothing(&'a Scope<'a>, &'a Expr),
+    /// An expression that is a struct's value, with the struct's name and the parts.
+    Struct(&'a Scope<'a>, &'a Expr, &'a Name, &'a [Expr]),
+    /// An expression that is a set, with the members.
+    Set(&'a Scope<'a>, &'a Expr, &'a [Expr]),
     /// A number, a Boolean, an operator or a quantifier.
     Leaf(&'a Scope<'a>, &'a Expr),
     Held(Stored),
+}
+
+impl<'a> Scope<'a> {
+    /// The scope in which a variable is a value, by what that leads to: this is found once, however often the variable
+    /// is used.
+    pub(crate) fn bound(name: &'a Name, head: Head<'a>, outer: &'a Scope<'a>) -> Scope<'a>
+        ensures { (u : Unfolding) (env : Env) (v : Value) → Fits u outer.now env → Heads u head.entry v
+            → Fits u result (bind name.now v env) }
+    {
+        match head {
+            Head::Nothing(within, expr)
+            | Head::Struct(within, expr, ..)
+            | Head::Set(within, expr, _)
+            | Head::Leaf(within, expr) => Scope::Open {
+                name,
+                expr,
+                within,
+                outer,
+            },
+            Head::Held(stored) => Scope::Held {
+                name,
+                stored,
+                outer,
+            },
+        }
+    }
 }

@@ -13,7 +13,6 @@ use crate::fault::{deeper, less};
 use crate::scope::{Head, Site};
 use crate::summary::Summary;
 use crate::values::{Stored, Whole};
-use crate::visits::Visits;
 use crate::{UnfoldFault, Unfolding};
 use c2po_ast::Expr;
 use mltl_base::List;
@@ -24,7 +23,6 @@ impl Unfolding {
     #[cycle(storing)]
     pub(crate) fn store(
         &mut self,
-        visits: &mut Visits,
         alloc: Global,
         at: Site<'_>,
         e: &Expr,
@@ -39,24 +37,24 @@ impl Unfolding {
             → IfErr result (λ why. why ≡ Heavy → room < weight (value_of (shape e.now) env)) }
     {
         let depth = deeper(at.depth)?;
-        match self.head(visits, depth, at.scope, e)? {
-            Head::Nothing => Ok(self.add_leaf(Summary::token(Fact::truth(), room)?)?),
+        match self.head(depth, at.scope, e)? {
+            Head::Nothing(..) => Ok(self.add_leaf(Summary::token(Fact::truth(), room)?)?),
             Head::Held(stored) => {
                 less(room, stored.weight)?;
                 Ok(stored)
             }
-            Head::Struct(scope, name, parts) => {
+            Head::Struct(scope, _, name, parts) => {
                 let within = Site { depth, scope };
-                let (members, weight) = self.store_all(visits, alloc, within, parts, room)?;
+                let (members, weight) = self.store_all(alloc, within, parts, room)?;
                 Ok(self.add_parts(Whole::Struct(name.copy()), members, weight)?)
             }
-            Head::Set(scope, members) => {
+            Head::Set(scope, _, members) => {
                 let within = Site { depth, scope };
-                let (members, weight) = self.store_all(visits, alloc, within, members, room)?;
+                let (members, weight) = self.store_all(alloc, within, members, room)?;
                 Ok(self.add_parts(Whole::Set, members, weight)?)
             }
             Head::Leaf(scope, e) => {
-                let found = self.operator(visits, Site { depth, scope }, e, room)?;
+                let found = self.operator(Site { depth, scope }, e, room)?;
                 Ok(self.add_leaf(found)?)
             }
         }
@@ -66,7 +64,6 @@ impl Unfolding {
     #[cycle(storing)]
     fn store_all(
         &mut self,
-        visits: &mut Visits,
         alloc: Global,
         at: Site<'_>,
         es: &[Expr],
@@ -86,7 +83,7 @@ impl Unfolding {
         let mut left = less(room, 1)?;
         let mut members = List::new(alloc);
         for e in es {
-            let member = self.store(visits, alloc, at, e, left)?;
+            let member = self.store(alloc, at, e, left)?;
             left -= member.weight;
             members.push(member)?;
         }

@@ -1,12 +1,14 @@
 //! What is known of expressions, without their nodes.
 
-ghost use Rattle.std.specs.Prelude.{◌≡◌, ◌+◌, ◌<◌, ◌≤◌, true, length, map, sum_by, slice_get, Some, IfOk, IfErr};
+ghost use Rattle.std.specs.Prelude.{◌≡◌, ◌+◌, ◌<◌, ◌≤◌, true, length, map, sum_by, slice_get, Some, None, IfOk, IfErr};
 ghost use Rattle.mltl_base.specs.declared.limits.TheConstants.{MAX_WEIGHT};
 ghost use Rattle.c2po_ast.specs.Shape.{shape, shapes};
 ghost use Rattle.c2po_unfold.specs.Facts.{Tells};
 ghost use Rattle.c2po_nodes.specs.Nodes.{formula};
 ghost use Rattle.c2po_unfold.specs.declared.fault.UnfoldFault.TheVariants.{Heavy};
 ghost use Rattle.c2po_unfold.specs.declared.fact.Fact.TheVariants.{Parts};
+ghost use Rattle.c2po_unfold.specs.declared.scope.Head.TheVariants.{Held};
+ghost use Rattle.c2po_unfold.specs.Bodies.{IsOfBody};
 ghost use Rattle.c2po_unfold.specs.Environment.{Env, value_of, values_of};
 ghost use Rattle.c2po_unfold.specs.Heads.{Heads, is_operator};
 ghost use Rattle.c2po_unfold.specs.Operators.{binary_value, bodies_of, body_value, unary_value};
@@ -18,10 +20,9 @@ use crate::counting::{counted_fact, gates_weight};
 use crate::fact::Fact;
 use crate::fault::{deeper, less};
 use crate::operators::{BinaryOp, Bodies, Operation, UnaryOp};
-use crate::scope::{Head, Site};
+use crate::scope::{Head, Scope, Site};
 use crate::summary::Summary;
 use crate::values::{Location, Stored};
-use crate::visits::Visits;
 use crate::{UnfoldFault, Unfolding};
 use c2po_ast::Expr;
 use mltl_base::{CountOp, LogicOp};
@@ -33,6 +34,46 @@ pub(crate) struct Gathered {
     count: usize,
     fact: Fact,
     left: u32,
+}
+
+/// The stored value that a member leads to, if it does.
+fn held_in(head: &Head<'_>) -> Option<Stored>
+    ensures { (s : Stored) → result ≡ Some s → head.now ≡ Held s }
+{
+    match head {
+        Head::Held(stored) => Some(*stored),
+        _ => None,
+    }
+}
+
+/// What is known of the body of a quantifier where its variable is a stored value, if it is.
+#[derive(Clone, Copy)]
+pub(crate) struct BodyFact {
+    member: Option<Stored>,
+    summary: Summary,
+}
+
+impl BodyFact {
+    /// Nothing is known of any stored value.
+    fn none() -> BodyFact
+        ensures { result.member ≡ None }
+    {
+        BodyFact {
+            member: None,
+            summary: Summary::none(),
+        }
+    }
+
+    /// Whether it is about what a member leads to.
+    fn is_of(&self, head: &Head<'_>) -> bool
+        ensures { result ≡ true
+            → (s : Stored) × (self.now.member ≡ Some s) × (head.now ≡ Held s) }
+    {
+        match (self.member, head) {
+            (Some(member), Head::Held(stored)) => member.is(*stored),
+            _ => false,
+        }
+    }
 }
 
 impl Unfolding {
@@ -63,13 +104,7 @@ impl Unfolding {
 
     /// What is known of the value of an expression.
     #[cycle(summing)]
-    pub(crate) fn summary(
-        &self,
-        visits: &mut Visits,
-        at: Site<'_>,
-        e: &Expr,
-        room: u32,
-    ) -> Result<Summary, UnfoldFault>
+    pub(crate) fn summary(&self, at: Site<'_>, e: &Expr, room: u32) -> Result<Summary, UnfoldFault>
         requires { room ≤ MAX_WEIGHT }
         ensures light { IfOk result (λ s. s.weight ≤ room) }
         ensures holds { (env : Env) → Fits self.now at.entry.scope.now env
@@ -78,31 +113,25 @@ impl Unfolding {
             → IfErr result (λ why. why ≡ Heavy → room < weight (value_of (shape e.now) env)) }
     {
         let depth = deeper(at.depth)?;
-        match self.head(visits, depth, at.scope, e)? {
-            Head::Nothing => Summary::token(Fact::truth(), room),
+        match self.head(depth, at.scope, e)? {
+            Head::Nothing(..) => Summary::token(Fact::truth(), room),
             Head::Held(stored) => {
                 less(room, stored.weight)?;
                 Ok(self.held(stored))
             }
-            Head::Struct(scope, _, parts) => {
-                self.parts_summary(visits, Site { depth, scope }, parts, room)
+            Head::Struct(scope, _, _, parts) => {
+                self.parts_summary(Site { depth, scope }, parts, room)
             }
-            Head::Set(scope, members) => {
-                self.parts_summary(visits, Site { depth, scope }, members, room)
+            Head::Set(scope, _, members) => {
+                self.parts_summary(Site { depth, scope }, members, room)
             }
-            Head::Leaf(scope, e) => self.operator(visits, Site { depth, scope }, e, room),
+            Head::Leaf(scope, e) => self.operator(Site { depth, scope }, e, room),
         }
     }
 
     /// What is known of a struct's value or a set with these parts: it weighs what they weigh, and one more.
     #[cycle(summing)]
-    fn parts_summary(
-        &self,
-        visits: &mut Visits,
-        at: Site<'_>,
-        es: &[Expr],
-        room: u32,
-    ) -> Result<Summary, UnfoldFault>
+    fn parts_summary(&self, at: Site<'_>, es: &[Expr], room: u32) -> Result<Summary, UnfoldFault>
         requires { room ≤ MAX_WEIGHT }
         ensures light { IfOk result (λ s. s.weight ≤ room) }
         ensures parts { IfOk result (λ s. s.fact ≡ Parts) }
@@ -115,7 +144,7 @@ impl Unfolding {
     {
         let mut left = less(room, 1)?;
         for e in es {
-            let member = self.summary(visits, at, e, left)?;
+            let member = self.summary(at, e, left)?;
             left -= member.weight;
         }
         Ok(Summary {
@@ -126,13 +155,7 @@ impl Unfolding {
 
     /// What is known of a number, a Boolean, an operator or a quantifier.
     #[cycle(summing)]
-    pub(crate) fn operator(
-        &self,
-        visits: &mut Visits,
-        at: Site<'_>,
-        e: &Expr,
-        room: u32,
-    ) -> Result<Summary, UnfoldFault>
+    pub(crate) fn operator(&self, at: Site<'_>, e: &Expr, room: u32) -> Result<Summary, UnfoldFault>
         requires { room ≤ MAX_WEIGHT }
         ensures light { IfOk result (λ s. s.weight ≤ room) }
         ensures holds { (env : Env) → Fits self.now at.entry.scope.now env
@@ -145,25 +168,18 @@ impl Unfolding {
         match Operation::of(e) {
             Operation::Number(n) => Summary::token(Fact::constant(n), room),
             Operation::Truth(_) => Summary::token(Fact::truth(), room),
-            Operation::Unary(op, a) => self.unary(visits, at, op, a, room),
-            Operation::Binary(op, a, b) => self.binary(visits, at, op, a, b, room),
-            Operation::Joined(op, bodies) => self.joined_bodies(visits, at, op, bodies, room),
+            Operation::Unary(op, a) => self.unary(at, op, a, room),
+            Operation::Binary(op, a, b) => self.binary(at, op, a, b, room),
+            Operation::Joined(op, bodies) => self.joined_bodies(at, op, bodies, room),
             Operation::Counted(op, number, bodies) => {
-                self.counted_bodies(visits, at, op, number, bodies, room)
+                self.counted_bodies(at, op, number, bodies, room)
             }
         }
     }
 
     /// What is known of an operator over one operand.
     #[cycle(summing)]
-    fn unary(
-        &self,
-        visits: &mut Visits,
-        at: Site<'_>,
-        op: UnaryOp,
-        a: &Expr,
-        room: u32,
-    ) -> Result<Summary, UnfoldFault>
+    fn unary(&self, at: Site<'_>, op: UnaryOp, a: &Expr, room: u32) -> Result<Summary, UnfoldFault>
         requires { room ≤ MAX_WEIGHT }
         ensures light { IfOk result (λ s. s.weight ≤ room) }
         ensures holds { (env : Env) → Fits self.now at.entry.scope.now env
@@ -173,7 +189,7 @@ impl Unfolding {
             → room < weight (unary_value op (value_of (shape a.now) env))) }
     {
         let left = less(room, 1)?;
-        let a = self.summary(visits, at, a, left)?;
+        let a = self.summary(at, a, left)?;
         Ok(Summary::over_one(op, &a))
     }
 
@@ -181,7 +197,6 @@ impl Unfolding {
     #[cycle(summing)]
     fn binary(
         &self,
-        visits: &mut Visits,
         at: Site<'_>,
         op: BinaryOp,
         a: &Expr,
@@ -198,8 +213,8 @@ impl Unfolding {
             (binary_value op (value_of (shape a.now) env) (value_of (shape b.now) env))) }
     {
         let left = less(room, 1)?;
-        let a = self.summary(visits, at, a, left)?;
-        let b = self.summary(visits, at, b, left - a.weight)?;
+        let a = self.summary(at, a, left)?;
+        let b = self.summary(at, b, left - a.weight)?;
         Ok(Summary::over_two(op, &a, &b))
     }
 
@@ -207,7 +222,6 @@ impl Unfolding {
     #[cycle(summing)]
     fn joined_bodies(
         &self,
-        visits: &mut Visits,
         at: Site<'_>,
         op: LogicOp,
         bodies: Bodies<'_>,
@@ -221,60 +235,68 @@ impl Unfolding {
             → IfErr result
             (λ why. why ≡ Heavy → room < weight (connected_all op (bodies_of bodies.entry env))) }
     {
-        let set = self.head(visits, at.depth, at.scope, bodies.set)?;
+        let set = self.head(at.depth, at.scope, bodies.set)?;
         let count = self.member_count(&set);
         if count == 0 {
             return Ok(Summary::none());
         }
-        let first = self.body(visits, at, bodies, &set, 0, room)?;
-        let mut all = first.as_formula();
+        let first = self.body(at, bodies, &set, 0, BodyFact::none(), room)?;
+        let mut all = first.summary.as_formula();
+        let mut last = first;
         for i in 1..count {
             let left = less(room - all.weight, 1)?;
-            let next = self.body(visits, at, bodies, &set, i, left)?;
-            all = Summary::over_two(BinaryOp::Logic(op), &all, &next);
+            let next = self.body(at, bodies, &set, i, last, left)?;
+            all = Summary::over_two(BinaryOp::Logic(op), &all, &next.summary);
+            last = next;
         }
         Ok(all)
     }
 
-    /// What is known of the body of a quantifier where its variable is member `i` of its set.
+    /// What is known of the body of a quantifier where its variable is member `i` of its set: what was known of the last
+    /// body, where the member is the same stored value.
     #[cycle(summing)]
     fn body(
         &self,
-        visits: &mut Visits,
         at: Site<'_>,
         bodies: Bodies<'_>,
         set: &Head<'_>,
         i: usize,
+        last: BodyFact,
         room: u32,
-    ) -> Result<Summary, UnfoldFault>
-        requires { room ≤ MAX_WEIGHT }
-        ensures light { IfOk result (λ s. s.weight ≤ room) }
+    ) -> Result<BodyFact, UnfoldFault>
+        requires bounded { room ≤ MAX_WEIGHT }
+        requires known { IsOfBody self.now at.scope.now bodies last }
+        ensures light { IfOk result (λ r. r.summary.weight ≤ room) }
         ensures holds { (env : Env) (s v : Value) → Fits self.now at.entry.scope.now env
             → Heads self.now set.now s
             → slice_get (members s) i ≡ Some v
-            → IfOk result (λ r. IsSummary r (body_value bodies.entry env v)) }
+            → IfOk result (λ r. IsSummary r.summary (body_value bodies.entry env v)) }
+        ensures known { IfOk result (λ r.
+            IsOfBody self.now at.entry.scope.now bodies.entry r) }
         ensures heavy { (env : Env) (s v : Value) → Fits self.now at.entry.scope.now env
             → Heads self.now set.now s
             → slice_get (members s) i ≡ Some v
             → IfErr result (λ why. why ≡ Heavy → room < weight (body_value bodies.entry env v)) }
     {
-        let scope = &self.member_scope(&*at.scope, &*bodies.name, &*set, i);
-        self.summary(
-            visits,
-            Site {
-                depth: at.depth,
-                scope,
-            },
-            bodies.body,
-            room,
-        )
+        let head = self.member(at.depth, set, i)?;
+        if last.is_of(&head) {
+            less(room, last.summary.weight)?;
+            return Ok(last);
+        }
+        let scope = &Scope::bound(&*bodies.name, head, &*at.scope);
+        let within = Site {
+            depth: at.depth,
+            scope,
+        };
+        let summary = self.summary(within, bodies.body, room)?;
+        let member = held_in(&head);
+        Ok(BodyFact { member, summary })
     }
 
     /// What is known of a counting quantifier over its bodies, one for each member of its set.
     #[cycle(summing)]
     fn counted_bodies(
         &self,
-        visits: &mut Visits,
         at: Site<'_>,
         op: CountOp,
         number: u64,
@@ -289,7 +311,7 @@ impl Unfolding {
             → IfErr result
             (λ why. why ≡ Heavy → room < weight (counted op number (bodies_of bodies.entry env))) }
     {
-        let all = self.gather(visits, at, bodies, room)?;
+        let all = self.gather(at, bodies, room)?;
         if all.count == 0 {
             return Ok(Summary::none());
         }
@@ -302,13 +324,7 @@ impl Unfolding {
 
     /// What is known of the bodies of a quantifier together, and the room that they leave.
     #[cycle(summing)]
-    fn gather(
-        &self,
-        visits: &mut Visits,
-        at: Site<'_>,
-        bodies: Bodies<'_>,
-        room: u32,
-    ) -> Result<Gathered, UnfoldFault>
+    fn gather(&self, at: Site<'_>, bodies: Bodies<'_>, room: u32) -> Result<Gathered, UnfoldFault>
         requires { room ≤ MAX_WEIGHT }
         ensures light { IfOk result (λ r. r.left ≤ room) }
         ensures count { (env : Env) → Fits self.now at.entry.scope.now env
@@ -321,14 +337,16 @@ impl Unfolding {
         ensures heavy { (env : Env) → Fits self.now at.entry.scope.now env
             → IfErr result (λ why. why ≡ Heavy → room < sum_by weight (bodies_of bodies.entry env)) }
     {
-        let set = self.head(visits, at.depth, at.scope, bodies.set)?;
+        let set = self.head(at.depth, at.scope, bodies.set)?;
         let count = self.member_count(&set);
         let mut fact = Fact::truth();
         let mut left = room;
+        let mut last = BodyFact::none();
         for i in 0..count {
-            let next = self.body(visits, at, bodies, &set, i, left)?;
-            left -= next.weight;
-            fact = Fact::joined(&next.fact, &fact);
+            let next = self.body(at, bodies, &set, i, last, left)?;
+            left -= next.summary.weight;
+            fact = Fact::joined(&next.summary.fact, &fact);
+            last = next;
         }
         Ok(Gathered { count, fact, left })
     }

@@ -1,6 +1,6 @@
 //! Names with what is known of their values.
 
-ghost use Rattle.std.specs.Prelude.{◌≡◌, ◌<◌, ◌≤◌, ℕ, List as Seq, IfOk, IfErr, OnOk, Some};
+ghost use Rattle.std.specs.Prelude.{◌≡◌, ◌<◌, ◌≤◌, ℕ, List as Seq, IfOk, IfErr, OnOk, Some, slice_get};
 ghost use Rattle.mltl_base.specs.declared.limits.TheConstants.{MAX_WEIGHT};
 ghost use Rattle.c2po_ast.specs.Shape.{shape};
 ghost use Rattle.c2po_unfold.specs.Facts.{told_fault};
@@ -20,7 +20,6 @@ use crate::fields::Fields;
 use crate::scope::{Scope, Site};
 use crate::summary::{Summary, signal_fact};
 use crate::values::{Entry, Location, Parts, Stored, Whole};
-use crate::visits::Visits;
 use c2po_ast::Expr;
 use mltl_base::{List, Name, NameTable, NoRange};
 use std::alloc::{AllocError, Global};
@@ -36,7 +35,6 @@ pub struct Unfolding {
     pub(crate) parts: List<Parts>,
     /// What is known of the integers and the formulas among the values.
     pub(crate) facts: List<Fact>,
-    visits: Visits,
 }
 
 /// What is known of the formula of an expression: its weight, the first fault of its integers, and its tenses.
@@ -57,7 +55,6 @@ impl Unfolding {
             structs: List::new(alloc),
             parts: List::new(alloc),
             facts: List::new(alloc),
-            visits: Visits::new(),
         }
     }
 
@@ -117,9 +114,7 @@ impl Unfolding {
             depth: DEPTH,
             scope: &Scope::Top,
         };
-        let mut visits = self.visits;
-        let stored = self.store(&mut visits, alloc, at, e, room)?;
-        self.visits = visits;
+        let stored = self.store(alloc, at, e, room)?;
         self.declare(alloc, name, Entry::Value(stored))?;
         Ok(stored.fault)
     }
@@ -139,9 +134,7 @@ impl Unfolding {
             depth: DEPTH,
             scope: &Scope::Top,
         };
-        let mut visits = self.visits;
-        let Summary { weight, fact } = self.summary(&mut visits, at, e, room)?;
-        self.visits = visits;
+        let Summary { weight, fact } = self.summary(at, e, room)?;
         Ok(Weighed {
             weight,
             fault: fault_of(&fact),
@@ -170,14 +163,27 @@ impl Unfolding {
             → IfOk result (λ s. Holds self.new s (leaf t w)) }
     {
         let Summary { weight, fact } = summary;
-        let place = next_place(self.facts.len())?;
+        let place = self.fact_place(fact)?;
         let fault = fact.fault();
-        self.facts.push(fact)?;
         Ok(Stored {
             location: Location::Leaf(place),
             weight,
             fault,
         })
+    }
+
+    /// Stores a fact, and returns its place. One that is the same as the last has the same place.
+    fn fact_place(&mut self, fact: Fact) -> Result<u32, AllocError>
+        ensures later { OnOk result (IsLater self.old self.new) }
+        ensures there { IfOk result (λ place. slice_get self.new.facts place ≡ Some fact) }
+    {
+        let count = self.facts.len();
+        if count > 0 && self.facts.as_slice()[count - 1].is(&fact) {
+            return Ok(next_place(count - 1)?);
+        }
+        let place = next_place(count)?;
+        self.facts.push(fact)?;
+        Ok(place)
     }
 
     /// Stores the parts of a struct's value or of a set.

@@ -14,6 +14,7 @@ head-returns-in-Build-clause-head t c = λ env h. (
   h,
   ap (λ s. value_of s env) (shape_of-Build c.args.e.now c.in-Build.name c.in-Build.parts c.in-Build.is)
       ∙ ap (λ es. built c.in-Build.name (values_of (shapes es) env)) (sym c.as_slice.ensures.value),
+  refl,
 )
 
 pub head-returns-in-Group-clause-head : goal.head-returns-in-Group-clause-head
@@ -22,6 +23,7 @@ head-returns-in-Group-clause-head t c = λ env h. (
   h,
   ap (λ s. value_of s env) (shape_of-Group c.args.e.now c.in-Group.members c.in-Group.is)
       ∙ ap (λ es. grouped (values_of (shapes es) env)) (sym c.as_slice-in-Group.ensures.value),
+  refl,
 )
 
 pub part-returns-in-Some-get-clause-head : goal.part-returns-in-Some-get-clause-head

@@ -37,7 +37,7 @@ store_all-loop-e-preserved t c =
 pub store-returns-in_ok-add_leaf-in-Nothing-clause-holds : goal.store-returns-in_ok-add_leaf-in-Nothing-clause-holds
 store-returns-in_ok-add_leaf-in-Nothing-clause-holds t c = λ env h.
     let is = subst (λ r. Heads c.args.self.now r (value_of (shape c.args.e.now) env)) c.in-Nothing.is (c.in_ok-head.ensures.head env h) in
-    subst (λ v. Holds c.add_leaf.new.self c.in_ok-add_leaf-in-Nothing.field-0 v) (sym is)
+    subst (λ v. Holds c.add_leaf.new.self c.in_ok-add_leaf-in-Nothing.field-0 v) (sym is.2)
     (c.in_ok-add_leaf-in-Nothing.ensures.holds (formula falsity) 1 (c.in_ok-token-in-Nothing.ensures.holds (formula falsity) (c.truth.ensures.truth false)))
 
 pub store-returns-in_ok-add_leaf-in-Leaf-clause-holds : goal.store-returns-in_ok-add_leaf-in-Leaf-clause-holds

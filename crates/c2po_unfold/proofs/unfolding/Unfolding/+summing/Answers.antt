@@ -13,7 +13,7 @@ use Rattle.c2po_unfold.specs.Operators.{bodies_over, bodies_of, operation_value}
 use Rattle.c2po_unfold.specs.Heads.{Heads}
 use Rattle.c2po_unfold.specs.Summaries.{IsSummary, gathered}
 use Rattle.c2po_unfold.proofs.Members.{found_at}
-use Rattle.c2po_unfold.proofs.Loops.{weighed_more, weight_within, bodies_count, body_at, member_at, joined_first, joined_one, joined_next, joined_within, sum_within, counted_is_some, binary_weight, gathered_more, counted_tells}
+use Rattle.c2po_unfold.proofs.Loops.{weighed_more, weight_within, bodies_count, body_at, member_at, joined_first, joined_one, joined_next, joined_within, not_known, sum_within, counted_is_some, binary_weight, gathered_more, counted_tells}
 use Rattle.c2po_unfold.proofs.unfolding.Unfolding.+summing.Goals as goal
 
 pub binary-returns-in_err-b-clause-heavy : goal.binary-returns-in_err-b-clause-heavy
@@ -76,6 +76,7 @@ joined_bodies-returns-in_err-first-clause-heavy t c = λ env h.
 pub joined_bodies-loop-i-init : goal.joined_bodies-loop-i-init
 joined_bodies-loop-i-init t c = record {
   light = omega (arith, c.as_formula-all.ensures.weight, c.in_ok-first.ensures.light);
+  known = c.in_ok-first.ensures.known;
   holds = λ env s h heads.
       let v = get_or (members s) 0 (truth_value false) in
       let at : slice_get (members s) 0 ≡ Some v = member_at (members s) 0 c.member_count-count.result (c.member_count-count.ensures s heads) (omega arith) in
@@ -129,6 +130,7 @@ joined_bodies-loop-i-preserved t c =
     let i = c.loop-i.i in
     record {
       light = omega (arith, c.over_two-all.ensures.weight, c.in_ok-next.ensures.light, c.in_ok-left.ensures.left, c.loop-i.invariant.light);
+      known = c.in_ok-next.ensures.known;
       holds = λ env s h heads.
           let v = get_or (members s) i (truth_value false) in
           let at : slice_get (members s) i ≡ Some v = member_at (members s) i c.member_count-count.result (c.member_count-count.ensures s heads) c.loop-i-test.true in
@@ -171,9 +173,9 @@ gather-returns-in_err-next-clause-heavy t c = λ env h.
 pub gather-loop-i-preserved : goal.gather-loop-i-preserved
 gather-loop-i-preserved t c =
     gathered_more c.args.self.now c.args.at.scope.now c.in_ok-set.set c.args.bodies c.args.room c.loop-i.i c.loop-i.fact c.joined-fact.result c.loop-i.left
-    c.in_ok-next.next c.loop-i.invariant c.in_ok-next.ensures.light
+    c.loop-i.last c.in_ok-next.next c.loop-i.invariant c.in_ok-next.ensures.light
     (λ s heads. omega (arith, c.member_count-count.ensures s heads, c.loop-i-test.true))
-    c.in_ok-next.ensures.holds (λ o q h k. c.joined-fact.ensures Or o q h k)
+    c.in_ok-next.ensures.holds c.in_ok-next.ensures.known (λ o q h k. c.joined-fact.ensures Or o q h k)
 
 pub gather-returns-clause-fact : goal.gather-returns-clause-fact
 gather-returns-clause-fact t c = λ env h.
@@ -213,6 +215,7 @@ counted_bodies-returns-clause-holds t c = λ env h.
 pub gather-loop-i-init : goal.gather-loop-i-init
 gather-loop-i-init t c = record {
   inside = omega arith;
+  known = not_known c.args.self.now c.args.at.scope.now c.args.bodies c.none-last.result c.none-last.ensures;
   tells = λ env s h heads. c.truth-fact.ensures.truth false;
   weight = λ env s h heads. omega arith;
 }
@@ -220,4 +223,19 @@ gather-loop-i-init t c = record {
 pub summary-returns-in-Nothing-clause-holds : goal.summary-returns-in-Nothing-clause-holds
 summary-returns-in-Nothing-clause-holds t c = λ env h.
     let is = subst (λ r. Heads c.args.self.now r (value_of (shape c.args.e.now) env)) c.in-Nothing.is (c.in_ok-head.ensures.head env h) in
-    subst (λ v. IfOk c.token.result (λ s. IsSummary s v)) (sym is) (c.token.ensures.holds (formula falsity) (c.truth.ensures.truth false))
+    subst (λ v. IfOk c.token.result (λ s. IsSummary s v)) (sym is.2) (c.token.ensures.holds (formula falsity) (c.truth.ensures.truth false))
+
+-- what is known of the last body is known where the member is the same stored value
+pub body-returns-in_err-less-clause-heavy : goal.body-returns-in_err-less-clause-heavy
+body-returns-in_err-less-clause-heavy t c = λ env s v h heads at.
+    let p = err_from_is_err_and c.from_residual-in_err-less.result c.from_residual-in_err-less.ensures.1 in
+    let same = c.is_of.ensures c.if-is_of.true in
+    let held = subst (λ head. Heads c.args.self.now head v) same.2 (c.in_ok-head.ensures.head s v heads at) in
+    rw (p.1, p.2)
+    (λ e. omega (arith, c.in_err-less.ensures.heavy, (c.requires.known.holds env same.0 v same.1 h held).weight))
+
+pub body-returns-then-is_of-clause-holds : goal.body-returns-then-is_of-clause-holds
+body-returns-then-is_of-clause-holds t c = λ env s v h heads at.
+    let same = c.is_of.ensures c.if-is_of.true in
+    let held = subst (λ head. Heads c.args.self.now head v) same.2 (c.in_ok-head.ensures.head s v heads at) in
+    c.requires.known.holds env same.0 v same.1 h held

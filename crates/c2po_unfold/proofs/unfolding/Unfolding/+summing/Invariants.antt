@@ -33,7 +33,7 @@ abbrev pub invariant-parts_summary-loop-e : goal.invariant-parts_summary-loop-e
 invariant-parts_summary-loop-e l = WeighedSoFar l.self l.at.scope.now (take l.e-index l.es) l.room l.left
 
 abbrev pub invariant-joined_bodies-loop-i : goal.invariant-joined_bodies-loop-i
-invariant-joined_bodies-loop-i l = JoinedSoFar l.self l.at.scope.now l.set l.bodies l.op l.room l.i l.all
+invariant-joined_bodies-loop-i l = JoinedSoFar l.self l.at.scope.now l.set l.bodies l.op l.room l.i l.all l.last
 
 abbrev pub invariant-gather-loop-i : goal.invariant-gather-loop-i
-invariant-gather-loop-i l = GatheredSoFar l.self l.at.scope.now l.set l.bodies l.room l.i l.fact l.left
+invariant-gather-loop-i l = GatheredSoFar l.self l.at.scope.now l.set l.bodies l.room l.i l.fact l.left l.last

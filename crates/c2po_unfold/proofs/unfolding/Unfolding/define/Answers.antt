@@ -1,14 +1,14 @@
 use Rattle.std.proofs.Common.{refl}
 use Rattle.c2po_ast.specs.Shape.{shape}
 use Rattle.c2po_unfold.specs.Environment.{value, value_of}
-use Rattle.c2po_unfold.proofs.Later.{stands_later, stands_visited}
+use Rattle.c2po_unfold.proofs.Later.{stands_later}
 use Rattle.c2po_unfold.proofs.Members.{holds_fault}
 use Rattle.c2po_unfold.proofs.unfolding.Unfolding.define.Goals as goal
 
 pub returns-clause-stands : goal.returns-clause-stands
 returns-clause-stands c = λ env h.
     c.in_ok-declare.ensures.stands env (value (value_of (shape c.args.e.now) env))
-    (stands_visited c.store.new.self c.store.new.visits env (stands_later c.args.self.now c.store.new.self env c.in_ok-stored.ensures.later h))
+    (stands_later c.args.self.now c.store.new.self env c.in_ok-stored.ensures.later h)
     (value_of (shape c.args.e.now) env, c.in_ok-stored.ensures.holds env h, refl)
 
 pub returns-clause-fault : goal.returns-clause-fault

@@ -4,7 +4,7 @@ use Rattle.c2po_unfold.proofs.Parts.{set_count, members_count, other_members}
 use Rattle.c2po_unfold.proofs.unfolding.Unfolding.member_count.Goals as goal
 
 pub returns-in-Set : goal.returns-in-Set
-returns-in-Set c = λ v k. set_count c.args.self.now c.args.set.now c.in-Set.field-0 c.in-Set.members v c.in-Set.is k
+returns-in-Set c = λ v k. set_count c.args.self.now c.args.set.now c.in-Set.field-0 c.in-Set.field-1 c.in-Set.members v c.in-Set.is k
 
 pub returns-in-Held : goal.returns-in-Held
 returns-in-Held c = λ v k.

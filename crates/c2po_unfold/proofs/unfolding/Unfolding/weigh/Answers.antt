@@ -3,11 +3,7 @@ use Rattle.c2po_ast.specs.Shape.{shape}
 use Rattle.c2po_unfold.proofs.Knowing.{tells_fault, tells_past, tells_future}
 use Rattle.c2po_unfold.specs.Environment.{value_of}
 use Rattle.c2po_unfold.specs.Values.{tree_in}
-use Rattle.c2po_unfold.proofs.Later.{stands_visited}
 use Rattle.c2po_unfold.proofs.unfolding.Unfolding.weigh.Goals as goal
-
-pub returns-clause-stands : goal.returns-clause-stands
-returns-clause-stands c = λ env h. stands_visited c.args.self.now c.summary.new.visits env h
 
 pub returns-clause-weighs : goal.returns-clause-weighs
 returns-clause-weighs c = λ env h.

@@ -1,0 +1,18 @@
+-- What is known of bodies of quantifiers.
+
+use Rattle.std.specs.Prelude.{◌≡◌, Some}
+use Rattle.c2po_unfold.specs.declared.values.Stored.{Stored}
+use Rattle.c2po_unfold.specs.declared.operators.Bodies.{Bodies}
+use Rattle.c2po_unfold.specs.declared.scope.Scope.{Scope}
+use Rattle.c2po_unfold.specs.declared.summing.BodyFact.{BodyFact}
+use Rattle.c2po_unfold.specs.declared.unfolding.Unfolding.{Unfolding}
+use Rattle.c2po_unfold.specs.Values.{Value}
+use Rattle.c2po_unfold.specs.Environment.{Env}
+use Rattle.c2po_unfold.specs.Holding.{Holds, Fits}
+use Rattle.c2po_unfold.specs.Operators.{body_value}
+use Rattle.c2po_unfold.specs.Summaries.{IsSummary}
+
+-- what is known of a quantifier's body is so for each value of its variable that the stored value represents
+pub record IsOfBody (u : Unfolding) (scope : Scope) (q : Bodies) (known : BodyFact) : Type 0 where
+  pub holds : (env : Env) (s : Stored) (v : Value) → known.member ≡ Some s → Fits u scope env → Holds u s v
+      → IsSummary known.summary (body_value q env v)
