@@ -9,3 +9,4 @@ pub mod Alike
 pub mod Fitting
 pub mod Delays
 pub mod FewReports
+pub mod Known

@@ -1,22 +1,24 @@
 -- How many bytes a monitor allocates, by its program alone, and how many it holds. A list of a program has room for
 -- `room` of its members; each list that runs has just its members in its block. A list without members has no block.
--- The monitor itself, some hundred bytes wherever its caller puts it, isn't counted.
+-- The monitor itself, of MONITOR_BYTES wherever its caller puts it, isn't counted.
 
 use Rattle.std.specs.Prelude.{ℕ, ◌+◌, ◌*◌, length, sum}
 use Rattle.mltl_base.specs.declared.program.Program.{Program}
+use Rattle.mltl_base.specs.declared.program.Sizes.{Sizes}
 use Rattle.mltl_base.specs.Queues.{best_delays, worst_delays}
 use Rattle.mltl_base.specs.Room.{room}
 use Rattle.obs_verify.specs.SignalNumbers.{signals_read}
 use Rattle.ft_engine.specs.declared.bytes.TheConstants.{QUEUE_BYTES, SLOT_BYTES}
-use Rattle.ft_engine.specs.Standing as future
+use Rattle.ft_engine.specs.declared.Ft.{Ft}
 use Rattle.pt_boxes.specs.declared.bytes.TheConstants.{NODE_BYTES, SPAN_BYTES}
-use Rattle.pt_boxes.specs.Standing as past
+use Rattle.pt_boxes.specs.declared.Pt.{Pt}
 use Rattle.trace_feed.specs.Readings.{readings_of}
 use Rattle.r2u2_monitor.specs.declared.bytes.TheConstants.{BZ_OP_BYTES, FT_OP_BYTES, NUMBER_BYTES, OUT_BYTES}
 use Rattle.r2u2_monitor.specs.declared.bytes.TheConstants.{PT_OP_BYTES, READER_BYTES, READING_BYTES, SIGNAL_BYTES}
 use Rattle.r2u2_monitor.specs.declared.bytes.TheConstants.{SIZE_BYTES, TIME_BYTES}
+use Rattle.r2u2_monitor.specs.declared.running.Running.{Running}
 use Rattle.r2u2_monitor.specs.declared.state.State.{State}
-use Rattle.r2u2_monitor.specs.Monitoring.{last_of, places_of, program_of, read_of, room_total_of, slot_total_of}
+use Rattle.r2u2_monitor.specs.Monitoring.{program_of}
 
 -- ---- how many it takes
 
@@ -58,26 +60,69 @@ running_bytes program =
 abbrev pub monitor_bytes : Program → ℕ
 monitor_bytes program = checked_bytes program + running_bytes program
 
--- ---- how many it holds
+-- ---- how many it holds: each type by all its fields, so that one with a further field doesn't compile
 
--- the lists of a program that was checked, with its delays and the signals that it reads
+-- the sizes of a program
+abbrev pub bytes_of_sizes : Sizes → ℕ
+bytes_of_sizes sizes =
+    let record { ft = ft; pt = pt } = sizes in
+    SIZE_BYTES * room (length ft) + SIZE_BYTES * room (length pt)
+
+-- the lists of a program
+abbrev pub bytes_of_program : Program → ℕ
+bytes_of_program program =
+    let record {
+      version = version;
+      width = width;
+      bz = bz;
+      ft = ft;
+      pt = pt;
+      outs = outs;
+      sizes = sizes;
+      signals = signals;
+    } = program in
+    BZ_OP_BYTES * room (length bz)
+    + FT_OP_BYTES * room (length ft)
+    + PT_OP_BYTES * room (length pt)
+    + OUT_BYTES * room (length outs)
+    + bytes_of_sizes sizes
+    + SIGNAL_BYTES * room (length signals)
+
+-- a program that was checked, which contracts see without its delays and the signals that it reads
 abbrev pub bytes_of_checked : Program → ℕ
 bytes_of_checked checked =
-    program_bytes checked
+    bytes_of_program checked
     + SIZE_BYTES * room (length (best_delays checked.ft))
     + SIZE_BYTES * room (length (worst_delays checked.ft))
     + READER_BYTES * room (length (signals_read checked))
 
--- all lists of a monitor
+-- the queues and their slots
+abbrev pub bytes_of_future : Ft → ℕ
+bytes_of_future ft =
+    let record { queues = queues; slab = slab; sound = sound } = ft in
+    QUEUE_BYTES * length queues + SLOT_BYTES * length slab
+
+-- the past-time instructions and their boxes
+abbrev pub bytes_of_past : Pt → ℕ
+bytes_of_past pt =
+    let record { nodes = nodes; slab = slab; rows = rows } = pt in
+    NODE_BYTES * length nodes + SPAN_BYTES * length slab
+
+-- what runs: contracts see the Booleanizer as its numbers and the outputs as their next times
+abbrev pub bytes_of_running : Running → ℕ
+bytes_of_running running =
+    let record { checked = checked; bz = numbers; ft = ft; pt = pt; outs = next_times; taken = taken } = running in
+    bytes_of_checked checked
+    + NUMBER_BYTES * length numbers
+    + bytes_of_future ft
+    + bytes_of_past pt
+    + TIME_BYTES * length next_times
+
+-- a monitor, which contracts see without how its columns are read
 abbrev pub bytes_of : State → ℕ
 bytes_of monitor =
-    bytes_of_checked (program_of monitor)
-    + NUMBER_BYTES * length monitor.running.bz
-    + QUEUE_BYTES * future.instruction_count monitor.running.ft
-    + SLOT_BYTES * slot_total_of monitor
-    + NODE_BYTES * past.instruction_count monitor.running.pt
-    + SPAN_BYTES * room_total_of monitor
-    + TIME_BYTES * length (places_of monitor)
-    + READING_BYTES * length (readings_of (program_of monitor))
-    + NUMBER_BYTES * length (last_of monitor)
-    + NUMBER_BYTES * length (read_of monitor)
+    let record { running = running; last = last; read = read } = monitor in
+    bytes_of_running running
+    + READING_BYTES * length (readings_of running.checked)
+    + NUMBER_BYTES * length last
+    + NUMBER_BYTES * length read

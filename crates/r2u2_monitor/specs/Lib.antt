@@ -1,6 +1,7 @@
 pub mod Running
 pub mod Monitoring
 pub mod Bytes
+pub mod Holders
 pub mod Bursts
 pub mod RowFaults
 pub mod TakingLines

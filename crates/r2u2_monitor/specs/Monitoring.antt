@@ -1,15 +1,17 @@
 -- What a monitor represents.
 
 use Rattle.std.specs.Prelude.{◌≡◌, ◌↔◌, ℕ, ◌+◌, ◌<◌, ◌≤◌, Option, List, [], ◌∷◌, ◌++◌, length, map, IfNone, IfSome}
-use Rattle.std.specs.Prelude.{IsNone}
+use Rattle.std.specs.Prelude.{IsNone, Some, slice_get, slice_index}
 use Rattle.std.specs.List.{range_with_len}
 use Rattle.mltl_base.specs.declared.limits.TheConstants.{MAX_MISSION}
 use Rattle.mltl_base.specs.declared.program.Program.{Program}
 use Rattle.mltl_base.specs.declared.report.Report.{Report}
 use Rattle.mltl_base.specs.declared.report.Style.{Style}
+use Rattle.mltl_base.specs.declared.report.Word.{Word}
 use Rattle.mltl_base.specs.Atoms.{Row}
 use Rattle.mltl_base.specs.Programs.{outputs}
-use Rattle.mltl_base.specs.Reports.{of_row}
+use Rattle.mltl_base.specs.Reports.{Output, of_row, words}
+use Rattle.mltl_base.specs.Settled.{IsPrefix}
 use Rattle.ft_engine.specs.Standing.{instruction_count, slot_total, slots_at}
 use Rattle.pt_boxes.specs.Standing.{room_total}
 use Rattle.r2u2_monitor.specs.declared.state.State.{State}
@@ -100,7 +102,7 @@ pub record IsSame (before after : State) : Type 0 where
   pub running : after.running ≡ before.running
   pub last : last_of after ≡ last_of before
 
--- the monitor has taken one more row, and has all its reports still to give
+-- the monitor has taken one more row, and has all its reports still to give; no next time has moved
 pub record TakesRow (row : Row) (before after : State) : Type 0 where
   pub program : program_of after ≡ program_of before
   pub taken : taken_by after ≡ taken_by before + 1
@@ -108,6 +110,19 @@ pub record TakesRow (row : Row) (before after : State) : Type 0 where
   pub stands : (rows : List Row) → Stands before rows → Stands after (rows ++ row ∷ [])
   pub opens : (style : Style) (rows : List Row) → Stands before rows
       → open_in style after (rows ++ row ∷ []) ≡ of_row style 0 (outputs (program_of before)) rows row
+  pub told : places_of after ≡ places_of before
+
+-- the words that were known are a prefix of those known now, and the next time of their output is the first past it
+pub record GoesOnPast (known now : List Word) (next_time : ℕ) : Type 0 where
+  pub begins : IsPrefix known now
+  pub next : next_time ≡ length known
+
+-- after the row each output goes on past the words that were known before
+abbrev pub KeepsKnown : Row → State → State → Type 0
+KeepsKnown row before after =
+    (rows : List Row) (k : ℕ) (o : Output) → Stands before rows
+    → slice_get (outputs (program_of after)) k ≡ Some o
+    → GoesOnPast (words rows o) (words (rows ++ row ∷ []) o) (slice_index (places_of after) k)
 
 -- what holds of each monitor: it represents some rows, at most 2 ^ 40 of them, and has room for a row
 pub record MonitorIsSound (monitor : State) : Type 0 where

@@ -58,13 +58,14 @@ abbrev pub YieldsFirst : Style → Option Report → Running → Running → Lis
 YieldsFirst style None before after rows = open_by style before rows ≡ []
 YieldsFirst style (Some report) before after rows = open_by style before rows ≡ report ∷ open_by style after rows
 
--- one more row was taken, and all reports that it brings are open
+-- one more row was taken, and all reports that it brings are open; no next time has moved
 pub record EnginesTakeRow (row : Row) (before after : Running) : Type 0 where
   pub program : after.checked ≡ before.checked
   pub taken : after.taken ≡ before.taken + 1
   pub stands : (rows : List Row) → HasTaken before rows → HasTaken after (rows ++ row ∷ [])
   pub opens : (style : Style) (rows : List Row) → HasTaken before rows
       → open_by style after (rows ++ row ∷ []) ≡ of_row style 0 (outputs before.checked) rows row
+  pub told : after.outs ≡ before.outs
 
 -- the most steps of one row, in both engines
 abbrev pub row_work : Program → ℕ

@@ -7,6 +7,7 @@ ghost use Rattle.obs_verify.specs.Layout.{HasLayout};
 ghost use Rattle.obs_verify.specs.Running.{RunsFuture, RunsPast};
 ghost use Rattle.r2u2_monitor.specs.Bytes.{checked_bytes, monitor_bytes, running_bytes};
 
+use crate::monitor::Monitor;
 use delay_sizes::total;
 use ft_engine::bytes::{QUEUE_BYTES, SLOT_BYTES};
 use mltl_base::list::room_of;
@@ -36,6 +37,8 @@ pub const NUMBER_BYTES: usize = 8;
 pub const TIME_BYTES: usize = 8;
 /// The bytes of how a column is read.
 pub const READING_BYTES: usize = 1;
+/// The bytes of a monitor itself, wherever its caller puts it.
+pub const MONITOR_BYTES: usize = 512;
 
 const _: () = prove!(size_of::<BzOp>() == BZ_OP_BYTES);
 
@@ -56,6 +59,8 @@ const _: () = prove!(size_of::<i64>() == NUMBER_BYTES);
 const _: () = prove!(size_of::<u64>() == TIME_BYTES);
 
 const _: () = prove!(size_of::<Reading>() == READING_BYTES);
+
+const _: () = prove!(size_of::<Monitor>() == MONITOR_BYTES);
 
 /// Returns the bytes of the block of a list with `count` members.
 fn list_bytes(size: usize, len: usize) -> u64
@@ -114,8 +119,8 @@ fn running_bytes(program: &Program) -> u64
         + column_bytes(program.width)
 }
 
-/// How many bytes a monitor of the program takes when it is loaded, in all its blocks together. It takes none for the
-/// answer.
+/// How many bytes a monitor of the program takes when it is loaded, in all its blocks together, besides the
+/// `MONITOR_BYTES` of the monitor itself. It takes none for the answer.
 #[tactic(auto, using(obs_verify::proofs::RunLaws::runs_future))]
 pub fn monitor_bytes(checked: &Checked) -> u64
     ensures bytes { result ≡ monitor_bytes checked.now }

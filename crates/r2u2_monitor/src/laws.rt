@@ -1,6 +1,6 @@
 //! What the definitions of a monitor say together: each law is the contract of a function with an empty body.
 
-ghost use Rattle.std.specs.Prelude.{◌≡◌, ◌↔◌, ℕ, ◌+◌, ◌<◌, ◌≤◌, List, [], ◌∷◌, Some, Contains, length, slice_get, slice_index, sum};
+ghost use Rattle.std.specs.Prelude.{◌≡◌, ◌↔◌, ℕ, ◌+◌, ◌*◌, ◌<◌, ◌≤◌, List, [], ◌∷◌, Some, Contains, length, slice_get, slice_index, sum};
 ghost use Rattle.mltl_base.specs.declared.program.Out.{Out as Reported};
 ghost use Rattle.mltl_base.specs.declared.program.Program.{Program as Observer};
 ghost use Rattle.mltl_base.specs.declared.report.Report.{Report as Given};
@@ -14,7 +14,19 @@ ghost use Rattle.contract_status.specs.Open.{known_counts_of};
 ghost use Rattle.trace_feed.specs.Rows.{reading_of};
 ghost use Rattle.r2u2_monitor.specs.declared.state.State.{State as Shown};
 ghost use Rattle.r2u2_monitor.specs.Bursts.{OpensFew};
-ghost use Rattle.r2u2_monitor.specs.Bytes.{bytes_of, monitor_bytes};
+ghost use Rattle.obs_verify.specs.declared.Checked.TheInside.{Inside as CheckedFields};
+ghost use Rattle.obs_verify.specs.declared.Checked.TheView as checked_shown;
+ghost use Rattle.booleanizer.specs.declared.Bz.TheInside.{Inside as BzFields};
+ghost use Rattle.booleanizer.specs.declared.Bz.TheView as bz_shown;
+ghost use Rattle.contract_status.specs.declared.Outs.TheInside.{Inside as OutsFields};
+ghost use Rattle.contract_status.specs.declared.Outs.TheView as outs_shown;
+ghost use Rattle.trace_feed.specs.declared.Readings.TheInside.{Inside as ReadingsFields};
+ghost use Rattle.trace_feed.specs.declared.Readings.TheView as readings_shown;
+ghost use Rattle.r2u2_monitor.specs.declared.monitor.Monitor.TheInside.{Inside as MonitorFields};
+ghost use Rattle.r2u2_monitor.specs.declared.monitor.Monitor.TheView as monitor_shown;
+ghost use Rattle.r2u2_monitor.specs.declared.bytes.TheConstants.{NUMBER_BYTES, READING_BYTES, TIME_BYTES};
+ghost use Rattle.r2u2_monitor.specs.Bytes.{bytes_of, bytes_of_checked, monitor_bytes};
+ghost use Rattle.r2u2_monitor.specs.Holders.{bytes_in_booleanizer, bytes_in_checked, bytes_in_monitor, bytes_in_outputs, bytes_in_readings};
 ghost use Rattle.r2u2_monitor.specs.Monitoring.{IsDrained, MonitorIsSound, Stands, TakesRow, open_in, places_of, program_of, room_total_of, slot_total_of, slots_of};
 ghost use Rattle.r2u2_monitor.specs.RowFaults.{FitsColumn};
 
@@ -46,6 +58,25 @@ pub fn no_slot_is_left_over()
 pub fn monitors_keep_their_bytes()
     ensures { (monitor : Shown) → MonitorIsSound monitor
         → bytes_of monitor ≡ monitor_bytes (program_of monitor) }
+{}
+
+/// What contracts see of a checked program, and of a monitor, is counted as all of their fields hold: each is named.
+#[tactic(auto, using(crate::proofs::Holding::checked_fields, crate::proofs::Holding::monitor_fields))]
+pub fn fields_hold_what_is_counted()
+    ensures checked { (fields : CheckedFields) → checked_shown.invariant fields
+        → bytes_in_checked fields ≡ bytes_of_checked (checked_shown.view fields) }
+    ensures monitor { (fields : MonitorFields) → monitor_shown.invariant fields
+        → bytes_in_monitor fields ≡ bytes_of (monitor_shown.view fields) }
+{}
+
+/// The Booleanizer, the outputs and the readings of columns have one list each, which contracts see.
+pub fn fields_hold_one_list()
+    ensures numbers { (fields : BzFields)
+        → bytes_in_booleanizer fields ≡ NUMBER_BYTES * length (bz_shown.view fields) }
+    ensures times { (fields : OutsFields)
+        → bytes_in_outputs fields ≡ TIME_BYTES * length (outs_shown.view fields) }
+    ensures readings { (fields : ReadingsFields)
+        → bytes_in_readings fields ≡ READING_BYTES * length (readings_shown.view fields) }
 {}
 
 /// A monitor has no report to return exactly where nothing is open after the rows that it represents, in either

@@ -61,7 +61,7 @@ impl Monitor {
     ghost use Rattle.r2u2_monitor.specs.Running.{row_work};
     ghost use Rattle.trace_feed.specs.Rows.{IsMeaningOf, line_meaning};
     ghost use Rattle.r2u2_monitor.specs.TakingLines.{TakesLine};
-    ghost use Rattle.r2u2_monitor.specs.Monitoring.{ReturnsNext, IsDrained, IsSame, Stands, TakesRow, last_of, open_in, program_of, read_of, taken_by};
+    ghost use Rattle.r2u2_monitor.specs.Monitoring.{KeepsKnown, ReturnsNext, IsDrained, IsSame, Stands, TakesRow, last_of, open_in, program_of, read_of, taken_by};
     ghost use Rattle.r2u2_monitor.specs.RowFaults.{IsReady, IsRowCause, IsUnfitAt};
 
     /// Makes a monitor that has taken no rows. It allocates all memory here, in blocks of as many bytes as its
@@ -160,13 +160,14 @@ impl Monitor {
     }
 
     /// Takes the next row, of one number for each column. Its steps are the reads and writes of queues and boxes. It brings
-    /// at most as many reports as `most_reports` says.
+    /// at most as many reports as `most_reports` says, and what was known before is a prefix of what is known after it.
     pub fn advance<L: Ledger>(&mut self, fields: &[i64], steps: &mut Steps<L>)
         requires drained { IsDrained self.old }
         requires early { taken_by self.old < MAX_MISSION }
         requires fit { IsFit (program_of self.old) fields.now }
         ensures takes { TakesRow fields.now self.old self.new }
         ensures few { OpensFew fields.now self.old self.new }
+        ensures known { KeepsKnown fields.now self.old self.new }
         ensures counted { steps.new ≤ steps.old + row_work (program_of self.old) }
     {
         self.state.last.as_mut_slice().copy_from_slice(fields);

@@ -4,8 +4,10 @@ use Rattle.fixed_list.proofs.Members.{with_members_is}
 use Rattle.trace_feed.specs.Readings.{readings_of}
 use Rattle.r2u2_monitor.specs.declared.state.State.{State}
 use Rattle.r2u2_monitor.specs.Bursts.{OpensFew}
+use Rattle.r2u2_monitor.specs.Monitoring.{IsDrained, KeepsKnown}
 use Rattle.r2u2_monitor.proofs.FewReports.{running_few}
 use Rattle.r2u2_monitor.proofs.Keeping.{sound_after}
+use Rattle.r2u2_monitor.proofs.Known.{keeps_known}
 use Rattle.r2u2_monitor.proofs.monitor.Monitor.advance.Goals as goal
 
 pub invariant_of-self : goal.invariant_of-self
@@ -26,3 +28,11 @@ returns-clause-few g c =
     let monitor : State = c.self.inside.state in
     let after : State = record { running = c.take.new.self; last = with_members monitor.last c.copy_from_slice.new.self; read = monitor.read } in
     subst (λ (m : State). OpensFew c.args.fields.now m after) c.self.view_is (running_few c.args.fields.now monitor after c.take.ensures.takes)
+
+pub returns-clause-known : goal.returns-clause-known
+returns-clause-known g c =
+    let before : State = c.self.inside.state in
+    let after : State = record { running = c.take.new.self; last = with_members before.last c.copy_from_slice.new.self; read = before.read } in
+    let drained : IsDrained before = subst IsDrained (sym c.self.view_is) c.requires.drained in
+    subst (λ (m : State). KeepsKnown c.args.fields.now m after) c.self.view_is
+    (keeps_known c.args.fields.now before after drained c.take.ensures.takes.program c.take.ensures.takes.told)

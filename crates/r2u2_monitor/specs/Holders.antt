@@ -1,0 +1,56 @@
+-- What contracts don't see of a monitor: the fields behind the values that they see, each of them by name, so that a type
+-- with a further field doesn't compile. The laws `fields_hold_*` say that they hold just the bytes that `Bytes` counts.
+
+use Rattle.std.specs.Prelude.{ℕ, ◌+◌, ◌*◌, length}
+use Rattle.mltl_base.specs.Room.{room}
+use Rattle.delay_sizes.specs.declared.delay_lists.Delays.{Delays}
+use Rattle.obs_verify.specs.declared.Checked.TheInside.{Inside as CheckedFields}
+use Rattle.booleanizer.specs.declared.Bz.TheInside.{Inside as BzFields}
+use Rattle.contract_status.specs.declared.Outs.TheInside.{Inside as OutsFields}
+use Rattle.trace_feed.specs.declared.Readings.TheInside.{Inside as ReadingsFields}
+use Rattle.r2u2_monitor.specs.declared.bytes.TheConstants.{NUMBER_BYTES, READER_BYTES, READING_BYTES, SIZE_BYTES, TIME_BYTES}
+use Rattle.r2u2_monitor.specs.declared.monitor.Monitor.TheInside.{Inside as MonitorFields}
+use Rattle.r2u2_monitor.specs.declared.state.State.{State}
+use Rattle.r2u2_monitor.specs.Bytes.{bytes_of_program, bytes_of_running}
+
+-- the best and the worst delays
+abbrev pub bytes_in_delays : Delays → ℕ
+bytes_in_delays delays =
+    let record { best = best; worst = worst } = delays in
+    SIZE_BYTES * room (length best) + SIZE_BYTES * room (length worst)
+
+-- a checked program: its lists, its delays, and the signal that each instruction of the Booleanizer reads
+abbrev pub bytes_in_checked : CheckedFields → ℕ
+bytes_in_checked checked =
+    let record { program = program; delays = delays; signal_numbers = readers } = checked in
+    bytes_of_program program + bytes_in_delays delays + READER_BYTES * room (length readers)
+
+-- the Booleanizer: its numbers
+abbrev pub bytes_in_booleanizer : BzFields → ℕ
+bytes_in_booleanizer bz =
+    let record { numbers = numbers } = bz in
+    NUMBER_BYTES * length numbers
+
+-- the outputs: their next times
+abbrev pub bytes_in_outputs : OutsFields → ℕ
+bytes_in_outputs outs =
+    let record { times = next_times } = outs in
+    TIME_BYTES * length next_times
+
+-- how columns are read
+abbrev pub bytes_in_readings : ReadingsFields → ℕ
+bytes_in_readings readings =
+    let record { columns = columns } = readings in
+    READING_BYTES * length columns
+
+-- what contracts see of a monitor
+abbrev pub bytes_in_state : State → ℕ
+bytes_in_state state =
+    let record { running = running; last = last; read = read } = state in
+    bytes_of_running running + NUMBER_BYTES * length last + NUMBER_BYTES * length read
+
+-- a monitor
+abbrev pub bytes_in_monitor : MonitorFields → ℕ
+bytes_in_monitor monitor =
+    let record { state = state; readings = readings; cursor = cursor } = monitor in
+    bytes_in_state state + READING_BYTES * length readings
