@@ -1,6 +1,6 @@
 -- Runs by what the words ask for: help, nothing, or what it is out of memory for.
 
-use Rattle.std.proofs.Common.{◌≡◌, ◌≢◌, ◌↔◌, ℕ, Bool, List, [], ◌∷◌, refl, sym, ◌∙◌, ap, subst}
+use Rattle.std.proofs.Common.{◌≡◌, ◌≢◌, ◌↔◌, ℕ, Bool, List, [], ◌∷◌, refl, sym, ◌∙◌, ap, subst, arith}
 use Rattle.std.proofs.lemmas.List.{append-nil}
 use Rattle.tool_io.specs.declared.host.Place.TheVariants as at
 use Rattle.tool_io.specs.Log.{Event, given, names_of, Writes}
@@ -48,7 +48,7 @@ tries_none nothing answer = tt
 
 memory_none : (asked : Ask) → OutcomeOf answers.Memory asked []
 memory_none help = refl
-memory_none (make asked) = (refl, refl)
+memory_none (make asked) = (omega arith, refl, refl)
 memory_none nothing = refl
 
 run_none : (asked : Ask) (answer : status.Status) → OutcomeOf answer asked [] → OpensAsTold answer [] → Ran asked answer []

@@ -25,7 +25,7 @@ use Rattle.c2po_cli.specs.declared.make.Form.{Form}
 use Rattle.c2po_cli.specs.declared.make.Product.{Product}
 use Rattle.c2po_cli.specs.declared.make.Product.TheVariants.{Compiled, Upgrade, Show}
 use Rattle.c2po_cli.specs.Asking.{MakeAsked, file_kind, place_named, read_names}
-use Rattle.c2po_cli.specs.Images.{WritesImage, GivesImage, asked_header}
+use Rattle.c2po_cli.specs.Images.{WritesImage, GivesFile, asked_header}
 use Rattle.c2po_cli.specs.Made.{first_line, made, made_of_text}
 use Rattle.c2po_cli.specs.Run.{Seen, seen, input_place, is_tried, HasFaultlessText, IsHeaded, MakesFile, MakeOutcome}
 use Rattle.c2po_cli.specs.Phases.{IsRefusal, RefusesAlone, HeaderLog, RefusedLog, MadeLog, SpecLog, TextLog, FileMadeLog, AfterLog, OnlySources, Gathered, NotGathered, GatherLog}
@@ -168,7 +168,7 @@ refusal_outcome : (answer : status.Status) (asked : MakeAsked) (run : Seen) → 
 refusal_outcome (answers.Refused line why) asked run speaks none untried makes = record { refused = makes; none_out = none }
 refusal_outcome (answers.BadProgram fault) asked run speaks none untried makes = record { refused = makes; none_out = none }
 refusal_outcome (answers.TextTooLong at.Out) asked run speaks none untried makes = record { refused = makes; none_out = none }
-refusal_outcome answers.Memory asked run speaks none untried makes = (none, untried)
+refusal_outcome answers.Memory asked run speaks none untried makes = (makes.whole.within, none, untried)
 refusal_outcome answer asked run speaks none untried makes = absurd speaks
 
 -- a header too, where it was begun
@@ -177,7 +177,7 @@ headed_outcome (answers.BadHeader why) asked run speaks begun none untried makes
 headed_outcome (answers.Refused line why) asked run speaks begun none untried makes = refusal_outcome (answers.Refused line why) asked run speaks none untried makes
 headed_outcome (answers.BadProgram fault) asked run speaks begun none untried makes = refusal_outcome (answers.BadProgram fault) asked run speaks none untried makes
 headed_outcome (answers.TextTooLong at.Out) asked run speaks begun none untried makes = refusal_outcome (answers.TextTooLong at.Out) asked run speaks none untried makes
-headed_outcome answers.Memory asked run speaks begun none untried makes = (none, untried)
+headed_outcome answers.Memory asked run speaks begun none untried makes = (makes.whole.within, none, untried)
 headed_outcome answer asked run speaks begun none untried makes = absurd speaks
 
 -- a status that refuses without a header tells of no call
@@ -210,23 +210,23 @@ module _ (asked : MakeAsked) (bytes : List ℕ) (first second : List Event) (rea
   refused_alone : (answer : status.Status) → RefusedLog (Err answer) (made asked bytes []) second → NotGathered asked answer (first ++ second)
   refused_alone answers.Memory is =
       gather_not asked bytes true first second [] [] false read (after_none asked second is) answers.Memory no_front
-      (refl, out_untried (file_kind asked.product) asked.file) (λ tried. absurd (cc)) tt
+      (within, refl, out_untried (file_kind asked.product) asked.file) (λ tried. absurd (cc)) tt
   refused_alone answer is =
       gather_not asked bytes true first second [] [] false read (after_none asked second is.0) answer no_front
-      (refusal_outcome answer asked alone is.1 refl (out_untried (file_kind asked.product) asked.file) (record { whole = record { ended = refl; within = within }; is = is.2; image = tt }))
+      (refusal_outcome answer asked alone is.1 refl (out_untried (file_kind asked.product) asked.file) (record { whole = record { ended = refl; within = within }; is = is.2; gives = tt }))
       (λ tried. absurd (cc)) (alone_opened answer (first ++ second) is.1)
 
   -- or its bytes are made of it
-  made_alone : (result : Result (Vec ℕ Global) status.Status) → place_named at.Header asked.header ≡ [] → MadeLog result (made asked bytes []) second → IfOk result (λ made_bytes. GivesImage asked.product asked.header bytes [] made_bytes.items)
+  made_alone : (result : Result (Vec ℕ Global) status.Status) → place_named at.Header asked.header ≡ [] → MadeLog result (made asked bytes []) second → IfOk result (λ made_bytes. GivesFile asked.product asked.header bytes [] made_bytes.items)
       → GatherLog result asked (first ++ second)
   made_alone (Ok bytes_made) none is image =
       gather_ok asked bytes true first second [] [] false read (after_none asked second is.0) bytes_made.items (sym none)
-      (record { whole = record { ended = refl; within = within }; is = is.1; image = image }) (λ tried. absurd (cc))
+      (record { whole = record { ended = refl; within = within }; is = is.1; gives = image }) (λ tried. absurd (cc))
   made_alone (Err answer) none is image = refused_alone answer is
 
   -- a header file comes after it, which a specification without a fault names
   module _ (form : Form) (name : List ℕ) (named : asked.header ≡ Some name) (is_made : (lines : List (List ℕ)) → made asked bytes lines ≡ made_of_text form (Some name) bytes lines) (none : first_refusal bytes ≡ None)
-      (images : (lines : List (List ℕ)) (made_bytes : List ℕ) → WritesImage form bytes (Some (first_line lines)) made_bytes → GivesImage asked.product asked.header bytes lines made_bytes) where
+      (images : (lines : List (List ℕ)) (made_bytes : List ℕ) → WritesImage form bytes (Some (first_line lines)) made_bytes → GivesFile asked.product asked.header bytes lines made_bytes) where
     faultless : (lines : List (List ℕ)) (over : Bool) → HasFaultlessText asked (headed name lines over)
     faultless lines over = record { whole = record { ended = refl; within = within }; faultless = none }
 
@@ -265,7 +265,7 @@ module _ (asked : MakeAsked) (bytes : List ℕ) (first second : List Event) (rea
         let line = is.2 in
         let lines = lines_of line.ended line.bytes in
         gather_ok asked bytes true first second ((at.Header, name) ∷ []) lines line.ended read (after_header asked name line.bytes line.ended is.0 second is.1 line.takes) made_bytes.items all_named
-        (record { whole = record { ended = refl; within = within }; is = is_made lines ∙ line.makes name; image = images lines made_bytes.items line.image }) (λ tried. faultless lines line.ended)
+        (record { whole = record { ended = refl; within = within }; is = is_made lines ∙ line.makes name; gives = images lines made_bytes.items line.image }) (λ tried. faultless lines line.ended)
     header_made (Err (answers.OpenFault at.Header)) (inl is) = header_missed is
     header_made (Err (answers.OpenFault at.Header)) (inr is) = header_untold is
     header_made (Err (answers.ReadFault at.Header)) is =
@@ -277,34 +277,34 @@ module _ (asked : MakeAsked) (bytes : List ℕ) (first second : List Event) (rea
         let line = is.2 in
         let lines = lines_of line.ended line.bytes in
         gather_not asked bytes true first second ((at.Header, name) ∷ []) lines line.ended read (after_header asked name line.bytes line.ended is.0 second is.1 line.takes) answers.Memory whole_front
-        (refl, out_untried_header (file_kind asked.product) asked.file name) (λ tried. faultless lines line.ended) tt
+        (within, refl, out_untried_header (file_kind asked.product) asked.file name) (λ tried. faultless lines line.ended) tt
     header_made (Err (answers.TextTooLong at.Header)) is =
         let line = is.2 in
         let lines = lines_of line.ended line.bytes in
         gather_not asked bytes true first second ((at.Header, name) ∷ []) lines line.ended read (after_header asked name line.bytes line.ended is.0 second is.1 line.takes) (answers.TextTooLong at.Header) whole_front
-        (record { refused = record { whole = record { ended = refl; within = within }; is = is_made lines ∙ line.makes name; image = tt }; none_out = refl }) (λ tried. faultless lines line.ended) tt
+        (record { refused = record { whole = record { ended = refl; within = within }; is = is_made lines ∙ line.makes name; gives = tt }; none_out = refl }) (λ tried. faultless lines line.ended) tt
     header_made (Err answer) is =
         let speaks = is.2.0 in
         let line = is.2.1 in
         let lines = lines_of line.ended line.bytes in
         gather_not asked bytes true first second ((at.Header, name) ∷ []) lines line.ended read (after_header asked name line.bytes line.ended is.0 second is.1 line.takes) answer whole_front
-        (headed_outcome answer asked (headed name lines line.ended) speaks (record { tried = header_tried; begun = line.begun }) refl (out_untried_header (file_kind asked.product) asked.file name) (record { whole = record { ended = refl; within = within }; is = is_made lines ∙ line.makes name; image = tt }))
+        (headed_outcome answer asked (headed name lines line.ended) speaks (record { tried = header_tried; begun = line.begun }) refl (out_untried_header (file_kind asked.product) asked.file name) (record { whole = record { ended = refl; within = within }; is = is_made lines ∙ line.makes name; gives = tt }))
         (λ tried. faultless lines line.ended) (refuses_opened answer (first ++ second) speaks)
 
   spec_made : (header : Option (List ℕ)) (form : Form) (result : Result (Vec ℕ Global) status.Status) → asked.header ≡ header → ((lines : List (List ℕ)) → made asked bytes lines ≡ made_of_text form header bytes lines) → first_refusal bytes ≡ None
-      → ((lines : List (List ℕ)) (made_bytes : List ℕ) → WritesImage form bytes (asked_header header lines) made_bytes → GivesImage asked.product asked.header bytes lines made_bytes) → SpecLog result form header bytes second → GatherLog result asked (first ++ second)
+      → ((lines : List (List ℕ)) (made_bytes : List ℕ) → WritesImage form bytes (asked_header header lines) made_bytes → GivesFile asked.product asked.header bytes lines made_bytes) → SpecLog result form header bytes second → GatherLog result asked (first ++ second)
   spec_made None form result named is_made none images is =
       made_alone result (ap (place_named at.Header) named) (subst (λ found. MadeLog result found second) (sym (is_made [])) is.0)
       (IfOk-weaker result _ _ (λ made_bytes image. images [] made_bytes.items image) is.1)
   spec_made (Some name) form result named is_made none images is = header_made form name named is_made none images result is
 
   text_made : (form : Form) (result : Result (Vec ℕ Global) status.Status) → ((lines : List (List ℕ)) → made asked bytes lines ≡ made_of_text form asked.header bytes lines)
-      → ((lines : List (List ℕ)) (made_bytes : List ℕ) → WritesImage form bytes (asked_header asked.header lines) made_bytes → GivesImage asked.product asked.header bytes lines made_bytes) → TextLog result form asked.header bytes second → GatherLog result asked (first ++ second)
+      → ((lines : List (List ℕ)) (made_bytes : List ℕ) → WritesImage form bytes (asked_header asked.header lines) made_bytes → GivesFile asked.product asked.header bytes lines made_bytes) → TextLog result form asked.header bytes second → GatherLog result asked (first ++ second)
   text_made form (Ok made_bytes) is_made images (inl is) = absurd is
   text_made form (Err answer) is_made images (inl is) = refused_alone answer (subst (λ found. RefusedLog (Err answer) found second) (sym (is_made [])) is)
   text_made form result is_made images (inr is) = spec_made asked.header form result refl is_made is.0 images is.1
 
--- of what isn't compiled nothing is said
+-- of a text nothing is said
 nothing_said : (result : Result (Vec ℕ Global) status.Status) → IfOk result (λ made_bytes. ⊤)
 nothing_said (Ok made_bytes) = tt
 nothing_said (Err answer) = tt
@@ -317,7 +317,7 @@ unfolding made
 file_made (Compiled form) name header out bytes result first second no_header read within is =
     text_made (record { product = Compiled form; file = name; header = header; out = out }) bytes first second read within form result (λ lines. refl) (λ lines made_bytes image. image) is
 file_made Upgrade name header out bytes result first second no_header read within is =
-    made_alone (record { product = Upgrade; file = name; header = header; out = out }) bytes first second read within result (ap (place_named at.Header) (no_header refl)) is (nothing_said result)
+    made_alone (record { product = Upgrade; file = name; header = header; out = out }) bytes first second read within result (ap (place_named at.Header) (no_header refl)) is.0 is.1
 file_made Show name header out bytes result first second no_header read within is =
     made_alone (record { product = Show; file = name; header = header; out = out }) bytes first second read within result (ap (place_named at.Header) (no_header refl)) is (nothing_said result)
 
@@ -389,5 +389,5 @@ gather_unread asked (answers.TextTooLong p) events is =
     subst (λ q. NotGathered asked (answers.TextTooLong q) events) (sym is.0)
     (read_alone asked (answers.TextTooLong (input_place asked)) is.2 is.1 events is.3 is.4 (long_outcome asked.product asked (read_so asked is.2 false [] [] false) refl is.5 refl) tt)
 gather_unread asked answers.Memory events is =
-    read_alone asked answers.Memory is.1 is.0 events is.2 is.3 (refl, out_untried (file_kind asked.product) asked.file) tt
+    read_alone asked answers.Memory is.1 is.0 events is.2 is.3 (is.4, refl, out_untried (file_kind asked.product) asked.file) tt
 gather_unread asked answer events is = absurd is

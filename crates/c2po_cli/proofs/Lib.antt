@@ -7,3 +7,5 @@ pub mod MakingLaws
 pub mod HeadLaws
 pub mod WrittenImages
 pub mod ShownRuns
+pub mod UpgradedFiles
+pub mod SmallerPrograms

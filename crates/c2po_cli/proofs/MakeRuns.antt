@@ -72,7 +72,7 @@ module _ (asked : MakeAsked) (bytes : List ℕ) (answer : status.Status) (first 
 
   -- the file and the header say the same
   makes_after : (found : Result (List ℕ) status.Status) → MakesFile asked before found → MakesFile asked after found
-  makes_after found makes = record { whole = record { ended = makes.whole.ended; within = makes.whole.within }; is = makes.is; image = makes.image }
+  makes_after found makes = record { whole = record { ended = makes.whole.ended; within = makes.whole.within }; is = makes.is; gives = makes.gives }
 
   outcome_after : (answer : status.Status) → PutOutcome answer asked.out bytes (given at.Out second) (is_attached at.Out second) → MakeOutcome answer asked after
   outcome_after answers.Done is = record { bytes = subst (λ b. MakesFile asked after (Ok b)) (sym is.0) (makes_after (Ok bytes) gathered.makes); attached = is.1 }

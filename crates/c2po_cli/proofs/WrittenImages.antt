@@ -50,5 +50,5 @@ pub compiles_image : (asked : Ask) (answer : status.Status) (events : List Event
 compiles_image help answer events outcome = tt
 compiles_image (make asked) answer events outcome = λ done.
     let is = subst (λ s. MakeOutcome s asked (seen asked events)) done outcome in
-    is.bytes.image
+    is.bytes.gives
 compiles_image nothing answer events outcome = tt

@@ -1,4 +1,4 @@
--- What is written of a specification: a file that is its image.
+-- What is written of a specification, or of a program that is upgraded: a program file.
 
 use Rattle.std.specs.Prelude.{◌≡◌, ℕ, Bool, true, false, Option, Some, None, Ok, List, ⊤}
 use Rattle.mltl_base.specs.declared.program.Columns.{Columns}
@@ -9,6 +9,7 @@ use Rattle.c2po_cli.specs.declared.make.Form.{Form}
 use Rattle.c2po_cli.specs.declared.make.Product.{Product}
 use Rattle.c2po_cli.specs.declared.make.Product.TheVariants.{Compiled, Upgrade, Show}
 use Rattle.c2po_cli.specs.Made.{first_line}
+use Rattle.c2po_cli.specs.Upgrading.{IsUpgraded}
 
 -- a file has the bytes of the image of a text, plain or in simplified form
 abbrev pub IsFileBy : Bool → List ℕ → Columns → List ℕ → Type 0
@@ -30,8 +31,8 @@ asked_header (Some name) lines = Some (first_line lines)
 abbrev pub WritesImage : Form → List ℕ → Option (List ℕ) → List ℕ → Type 0
 WritesImage form text header file = form.table ≡ false → IsFileUnder form.simplify text header file
 
--- so are the bytes that are made by a compilation; of those of an upgrade and of a text nothing is said here
-abbrev pub GivesImage : Product → Option (List ℕ) → List ℕ → List (List ℕ) → List ℕ → Type 0
-GivesImage (Compiled form) header file lines bytes = WritesImage form file (asked_header header lines) bytes
-GivesImage Upgrade header file lines bytes = ⊤
-GivesImage Show header file lines bytes = ⊤
+-- so are the bytes that are made by a compilation; those of an upgrade are of version 2; of a text nothing is said here
+abbrev pub GivesFile : Product → Option (List ℕ) → List ℕ → List (List ℕ) → List ℕ → Type 0
+GivesFile (Compiled form) header file lines bytes = WritesImage form file (asked_header header lines) bytes
+GivesFile Upgrade header file lines bytes = IsUpgraded file bytes
+GivesFile Show header file lines bytes = ⊤

@@ -19,6 +19,7 @@ use Rattle.c2po_cli.specs.declared.make.Product.TheVariants.{Compiled, Upgrade, 
 use Rattle.c2po_cli.specs.Asking.{MakeAsked, read_names, place_named}
 use Rattle.c2po_cli.specs.Images.{WritesImage}
 use Rattle.c2po_cli.specs.Made.{made_bytes, first_line, made_of_text, opened_as, text_within}
+use Rattle.c2po_cli.specs.Upgrading.{IsUpgraded}
 use Rattle.obs_files.specs.Faults.{opened}
 use Rattle.c2po_cli.specs.Run.{seen, is_tried, HasFaultlessText, MakesFile, MakeOutcome, WritesAttached}
 
@@ -102,7 +103,8 @@ TextLog result form header text events =
 -- after the bytes of a file
 abbrev pub FileMadeLog : Product → Result (Vec ℕ Global) status.Status → Option (List ℕ) → List ℕ → List Event → Type 0
 FileMadeLog (Compiled form) result header file events = TextLog result form header file events
-FileMadeLog Upgrade result header file events = MadeLog result (opened_as made_bytes (opened file)) events
+FileMadeLog Upgrade result header file events =
+    MadeLog result (opened_as made_bytes (opened file)) events × IfOk result (λ bytes. IsUpgraded file bytes.items)
 FileMadeLog Show result header file events = MadeLog result (opened_as text_within (opened file)) events
 
 -- after the bytes of the file that the arguments name

@@ -17,7 +17,7 @@ use Rattle.tool_words.specs.FirstLine.{HasBegun}
 use Rattle.tool_words.specs.Telling.{is_used, ToldWhole, MessageLast}
 use Rattle.c2po_cli.specs.Asking.{Ask, help, make, nothing, MakeAsked, file_kind, asked_names}
 use Rattle.c2po_cli.specs.Made.{made}
-use Rattle.c2po_cli.specs.Images.{GivesImage}
+use Rattle.c2po_cli.specs.Images.{GivesFile}
 
 -- What a log says of a run that makes something: the places that were tried with their names, the bytes of the file and
 -- whether its end was met, the lines of the header file that were read and whether its end was met, what is out, and
@@ -69,11 +69,12 @@ pub record HasFaultlessText (asked : MakeAsked) (run : Seen) : Type 0 where
   pub whole : IsReadWhole asked run
   pub faultless : first_refusal run.file ≡ None
 
--- what was read gives these bytes, or this refusal; the bytes of a compilation are those of an image
+-- what was read gives these bytes, or this refusal; the bytes of a compilation are those of an image, and those of an
+-- upgrade are of version 2
 pub record MakesFile (asked : MakeAsked) (run : Seen) (found : Result (List ℕ) status.Status) : Type 0 where
   pub whole : IsReadWhole asked run
   pub is : made asked run.file run.header ≡ found
-  pub image : IfOk found (GivesImage asked.product asked.header run.file run.header)
+  pub gives : IfOk found (GivesFile asked.product asked.header run.file run.header)
 
 -- a result of a run that has tried Out: all was written, or its open or a write failed
 abbrev pub IsOfOut : status.Status → Type 0
@@ -150,7 +151,9 @@ MakeOutcome (status.TheVariants.Refused line why) asked run = IsRefused (status.
 MakeOutcome (status.TheVariants.BadProgram fault) asked run = IsRefused (status.TheVariants.BadProgram fault) asked run
 MakeOutcome (status.TheVariants.BadHeader why) asked run =
     IsRefused (status.TheVariants.BadHeader why) asked run × IsHeaded run
-MakeOutcome status.TheVariants.Memory asked run = (run.out ≡ []) × (is_tried place.TheVariants.Out run.names ≡ false)
+MakeOutcome status.TheVariants.Memory asked run =
+    (length run.file ≤ file_limit (file_kind asked.product)) × (run.out ≡ [])
+    × (is_tried place.TheVariants.Out run.names ≡ false)
 MakeOutcome answer asked run = ⊥
 
 -- the usage line is out whole, or a proper prefix of it
@@ -172,11 +175,12 @@ OutcomeOf answer help events = HelpOutcome answer (given place.TheVariants.Out e
 OutcomeOf answer (make asked) events = MakeOutcome answer asked (seen asked events)
 OutcomeOf answer nothing events = NothingOutcome answer (given place.TheVariants.Out events)
 
--- what is written of a specification without `--table` is its image, in simplified form where the arguments say so
+-- what is written of a specification without `--table` is its image, in simplified form where the arguments say so; and
+-- of a program that is upgraded, the program in version 2
 abbrev pub CompilesImage : Ask → status.Status → List Event → Type 0
 CompilesImage (make asked) answer events =
     answer ≡ status.TheVariants.Done
-    → GivesImage asked.product asked.header (file_in asked events) (seen asked events).header
+    → GivesFile asked.product asked.header (file_in asked events) (seen asked events).header
     (given place.TheVariants.Out events)
 CompilesImage other answer events = ⊤
 

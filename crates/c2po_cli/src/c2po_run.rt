@@ -10,6 +10,7 @@ ghost use Rattle.tool_words.specs.Causes.{CauseAt, RunCause};
 ghost use Rattle.c2po_cli.specs.Asking.{ask, file_kind as kind_of, help, make as made_so, make_of, nothing, served};
 ghost use Rattle.c2po_cli.specs.Run.{IsMade, Ran};
 ghost use Rattle.c2po_cli.specs.Showing.{ShowsProgram};
+ghost use Rattle.c2po_cli.specs.Written.{NeedsNoMore, UpgradesProgram};
 
 use crate::inputs::gather;
 use crate::make::{Make, compilation, showing, upgrading};
@@ -64,7 +65,8 @@ fn run<H: Host>(alloc: Global, words: &Words, host: &mut H) -> Status
 /// It writes the image of a specification or its instruction table, possibly in simplified form; a program in version
 /// 2, or its text; or it prints help. The output is attached, and written, only once all bytes are there; so an older
 /// file is left unchanged where something is refused. The text of an image is a specification without a fault, whose
-/// image over the stored columns is the file.
+/// image over the stored columns is the file. A program in version 2 has the formulas of the old one, and one in
+/// simplified form needs no more slots and boxes than in plain form.
 pub fn c2po_main<H: Host>(alloc: Global, words: &Words, host: &mut H) -> Status
     ensures usage { result ≢ Status.Memory → (result ≡ Status.Usage) ↔ (ask words.now ≡ nothing) }
     ensures helped { result ≡ Status.Helped → ask words.now ≡ help }
@@ -74,6 +76,10 @@ pub fn c2po_main<H: Host>(alloc: Global, words: &Words, host: &mut H) -> Status
         (IsMade (ask words.now) result (H.faults host.old) (H.faults host.new)) }
     ensures returns { OnLog (H.log host.old) (H.log host.new)
         (ShowsProgram (ask words.now) result) }
+    ensures upgraded { OnLog (H.log host.old) (H.log host.new)
+        (UpgradesProgram (ask words.now) result) }
+    ensures smaller { OnLog (H.log host.old) (H.log host.new)
+        (NeedsNoMore (ask words.now) result) }
 {
     let status = run(alloc, words, host);
     tell_user(Tool::C2po, &status, host);

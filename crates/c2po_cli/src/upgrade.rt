@@ -1,11 +1,12 @@
 //! From the bytes of a program file to what is written of its program in version 2: the bytes, or the text.
 
-ghost use Rattle.std.specs.Prelude.{◌≡◌, ◌≢◌, Err, IfErr, IfOk, Ok};
+ghost use Rattle.std.specs.Prelude.{◌≡◌, ◌≢◌, Err, IfErr, IfOk, None, Ok, OnOk};
 ghost use Rattle.obs_files.specs.Faults.{opened};
 ghost use Rattle.obs_files.specs.Names.{NamesFit};
-ghost use Rattle.obs_verify.specs.Upgrade.{clash_of};
+ghost use Rattle.obs_verify.specs.Upgrade.{clash_of, up};
 ghost use Rattle.c2po_cli.specs.Made.{Making, made_bytes, opened_as, raised_as, show_status, text_within};
 ghost use Rattle.c2po_cli.specs.Phases.{RefusesAlone};
+ghost use Rattle.c2po_cli.specs.Upgrading.{IsRaisedFrom, IsUpgraded};
 
 use crate::compiled::written;
 use c2po_compile::Refusal;
@@ -22,6 +23,8 @@ fn raised(alloc: Global, checked: Checked) -> Result<Checked, Status>
     requires names { NamesFit checked }
     ensures made { IfOk result (λ raised. (gives : Making)
         → raised_as gives checked (clash_of checked) ≡ gives raised) }
+    ensures up { IfOk result (λ raised. raised ≡ up checked) }
+    ensures one_way { OnOk result (clash_of checked ≡ None) }
     ensures version { IfOk result (λ raised. raised.version ≡ 2) }
     ensures names { IfOk result NamesFit }
     ensures refused { IfErr result (λ status. status ≢ Status.Memory →
@@ -40,9 +43,11 @@ fn raised(alloc: Global, checked: Checked) -> Result<Checked, Status>
 }
 
 /// The program of a file, in version 2.
+#[tactic(auto, using(crate::proofs::UpgradedFiles::raised_from))]
 fn program_in(alloc: Global, bytes: &[u8]) -> Result<Checked, Status>
     ensures made { IfOk result (λ checked. (gives : Making)
         → opened_as gives (opened bytes.now) ≡ gives checked) }
+    ensures raised { IfOk result (IsRaisedFrom bytes.now) }
     ensures version { IfOk result (λ checked. checked.version ≡ 2) }
     ensures names { IfOk result NamesFit }
     ensures refused { IfErr result (λ status. status ≢ Status.Memory →
@@ -56,6 +61,7 @@ fn program_in(alloc: Global, bytes: &[u8]) -> Result<Checked, Status>
 /// The bytes of the program of a file, in version 2.
 pub(crate) fn upgraded_bytes(alloc: Global, bytes: &[u8]) -> Result<Vec<u8>, Status>
     ensures made { IfOk result (λ made. opened_as made_bytes (opened bytes.now) ≡ Ok made.items) }
+    ensures upgraded { IfOk result (λ made. IsUpgraded bytes.now made.items) }
     ensures refused { IfErr result (λ status. status ≢ Status.Memory
         → opened_as made_bytes (opened bytes.now) ≡ Err status) }
     ensures refuses { IfErr result RefusesAlone }
