@@ -4,3 +4,4 @@ pub mod WatchLaws
 pub mod WatchEnds
 pub mod FoundLaws
 pub mod LineTurns
+pub mod Completing

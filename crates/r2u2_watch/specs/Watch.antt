@@ -106,3 +106,9 @@ WatchCause watched.TheVariants.WriteFault before now = RoseAt before now Out
 -- no count of a fault rose
 abbrev pub NoneRose : (Place → ℕ) → (Place → ℕ) → Type 0
 NoneRose before now = (place : Place) → ¬ Rose (before place) (now place)
+
+-- the result is success, where the rows of all lines that were taken end clean
+abbrev pub EndsDone : watched.Watched → (List (List ℕ) → TraceRows) → Cutting → Cutting → List Event → Type 0
+EndsDone answer rows_in start cut events =
+    (rows_in (lines_of cut.ended (start.pending ++ taken Trace events))).stop ≡ Clean
+    → answer ≡ watched.TheVariants.Done

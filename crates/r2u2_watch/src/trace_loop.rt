@@ -6,7 +6,7 @@ ghost use Rattle.tool_io.specs.Log.{OnLog};
 ghost use Rattle.r2u2_monitor.specs.Monitoring.{program_of, IsDrained, IsSame, Stands};
 ghost use Rattle.r2u2_watch.specs.Feed.{Feed, text_meaning};
 ghost use Rattle.r2u2_watch.specs.Trace.{is_marked, fed_rows, trace_rows, stamped_rows};
-ghost use Rattle.r2u2_watch.specs.Watch.{CanWatch, IsWatch, WatchCause, first_of};
+ghost use Rattle.r2u2_watch.specs.Watch.{CanWatch, EndsDone, IsWatch, NoneRose, WatchCause, first_of};
 ghost use Rattle.r2u2_watch.specs.Endings.{told_as};
 ghost use Rattle.r2u2_watch.specs.Telling.{StepCause};
 ghost use Rattle.r2u2_watch.specs.Turns.{CanTake, Finds, IfRow, IsAtStart, IsUnderWay, LineSteps, MovesReader, ReaderIsAt, TakesCut, Turns, begins_at, cut_text};
@@ -225,6 +225,9 @@ pub fn watch<H: Host>(
     ensures log { OnLog (H.log host.old) (H.log host.new) (IsWatch (program_of monitor.old) style
         (trace_rows (program_of monitor.old) mission (first_of cut.old))
         cut.old cut.new monitor.new result) }
+    ensures completes { NoneRose (H.faults host.old) (H.faults host.new)
+        → OnLog (H.log host.old) (H.log host.new) (EndsDone result
+        (trace_rows (program_of monitor.old) mission (first_of cut.old)) cut.old cut.new) }
     ensures program { program_of monitor.new ≡ program_of monitor.old }
 {
     let course = Course::new(mission, style, Reader::Plain);
@@ -245,6 +248,9 @@ pub fn watch_timed<H: Host>(
     ensures log { OnLog (H.log host.old) (H.log host.new) (IsWatch (program_of monitor.old) style
         (stamped_rows (program_of monitor.old) mission (first_of cut.old))
         cut.old cut.new monitor.new result) }
+    ensures completes { NoneRose (H.faults host.old) (H.faults host.new)
+        → OnLog (H.log host.old) (H.log host.new) (EndsDone result
+        (stamped_rows (program_of monitor.old) mission (first_of cut.old)) cut.old cut.new) }
     ensures program { program_of monitor.new ≡ program_of monitor.old }
 {
     let course = Course::new(mission, style, Reader::Stamped(None));

@@ -1,0 +1,13 @@
+use Rattle.r2u2_monitor.specs.Monitoring.{program_of}
+use Rattle.r2u2_watch.specs.Trace.{fed_rows}
+use Rattle.r2u2_watch.specs.Turns.{begins_at}
+use Rattle.r2u2_watch.specs.Watch.{first_of}
+use Rattle.r2u2_watch.proofs.Completing.{completes_on}
+use Rattle.r2u2_watch.proofs.trace_loop.watch.Goals as goal
+
+pub returns-clause-completes : goal.returns-clause-completes
+returns-clause-completes g c =
+    rw (c.new-course.ensures.reader, c.new-course.ensures.mission) at
+    (completes_on c.turns.result (program_of c.args.monitor.now) c.new-course.result.style
+    (fed_rows (begins_at c.new-course.result.reader) (program_of c.args.monitor.now) c.new-course.result.mission (first_of c.args.cut.now))
+    c.args.cut.now c.turns.new.cut c.turns.new.monitor _ _ _ _ c.turns.ensures.cause c.turns.ensures.log)
