@@ -5,7 +5,7 @@ ghost use Rattle.mltl_base.specs.Subformulas.{IsTensed};
 ghost use Rattle.c2po_nodes.specs.Nodes.{AreSound, trees};
 ghost use Rattle.c2po_nodes.specs.Outputs.{NamesFormulas, asked};
 
-use c2po_nodes::{Expanded, Nodes, Plain, PlainOut};
+use c2po_nodes::{Expanded, NodeList, Plain, PlainOut};
 use core_graph::{GraphFault, to_core};
 use mltl_base::{Columns, CompareOp, Engine, List, Name};
 use std::alloc::{AllocError, Global};
@@ -17,7 +17,7 @@ fn comparisons(alloc: Global, name: &Name, count: u32) -> Result<Expanded, Alloc
     ensures outs { IfOk result (λ spec. All (NamesFormulas (trees spec.nodes)) spec.outs) }
     ensures tensed { IfOk result (λ spec. All IsTensed (asked spec)) }
 {
-    let mut nodes = Nodes::new(alloc);
+    let mut nodes = NodeList::new(alloc);
     let mut outs = List::new(alloc);
     let signal = nodes.push(Plain::Signal(0))?;
     let mut other = signal;

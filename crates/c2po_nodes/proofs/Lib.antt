@@ -1,4 +1,3 @@
 pub mod Places
 pub mod Pushing
-pub mod Knowing
 pub mod NoFaults

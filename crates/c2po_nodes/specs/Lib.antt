@@ -2,4 +2,3 @@ pub mod Nodes
 pub mod Outputs
 pub mod Faults
 pub mod Tenses
-pub mod Facts

@@ -7,7 +7,7 @@ use mltl_base::List;
 use std::alloc::{AllocError, Global};
 use std::marker::Model;
 
-/// A list of nodes, which contracts see as that list. Nothing else is kept of them, unlike of `Nodes`.
+/// A list of nodes, which contracts see as that list.
 #[derive(Drop)]
 pub struct NodeList {
     list: List<Plain>,

@@ -3,9 +3,11 @@
 use Rattle.std.proofs.Common.{◌≡◌, ℕ, Bool, true, false, List, [], length, inl, inr, ◌⊎◌, refl, sym, subst, ap, ◌∙◌, Bor}
 use Rattle.mltl_base.specs.Tables.{Table}
 use Rattle.c2po_ast.specs.declared.tree.Expr.{Expr}
-use Rattle.c2po_ast.specs.Shape.{shape}
+use Rattle.c2po_ast.specs.Shape as tree
+use Rattle.c2po_ast.specs.Shape.{Shape, shape}
+use Rattle.c2po_nodes.specs.declared.nodes.Plain.{Plain}
 use Rattle.c2po_unfold.specs.Values.{members, picked}
-use Rattle.c2po_unfold.specs.Environment.{signal_value}
+use Rattle.c2po_unfold.specs.Environment.{Env, signal_value, value_of}
 use Rattle.c2po_unfold.proofs.Members.{values_count}
 use Rattle.c2po_unfold.proofs.Parts.{leaf_members, leaf_picked}
 use Rattle.set_expand.specs.declared.names.Declared.{Declared}
@@ -13,7 +15,10 @@ use Rattle.set_expand.specs.declared.nodes.Made.{Made}
 use Rattle.set_expand.specs.declared.scope.Scope.{Scope}
 use Rattle.set_expand.specs.declared.scope.Head.{Head}
 use Rattle.set_expand.specs.declared.scope.Head.TheVariants as head
-use Rattle.set_expand.specs.Heads.{IsHead, env_in, head_value}
+use Rattle.set_expand.specs.declared.scope.Named.{Named}
+use Rattle.set_expand.specs.Heads.{IsHead, NamedBelow, env_in, head_value, is_build, leads_on, named_value}
+use Rattle.set_expand.specs.Names.{SignalsBelow}
+use Rattle.set_expand.specs.Nodes.{HaveNodes, NamedKept}
 
 module _ (names : Table Declared) where
   -- a set has as many members as its expression
@@ -25,11 +30,7 @@ module _ (names : Table Declared) where
   signal_members true n = refl
   signal_members false n = refl
 
-  signal_picked : (b : Bool) (n : ℕ) (fields : List ℕ → List (List ℕ)) (f : List ℕ) → picked fields f (signal_value b n) ≡ signal_value b n
-  signal_picked true n fields f = refl
-  signal_picked false n fields f = refl
-
-  -- other heads than sets have no members, and other heads than structs have no parts
+  -- other heads than sets have no members
   pub other_members : (h : Head) →
       (h ≡ head.Nothing) ⊎ (((b : Bool) × (n : ℕ) × (h ≡ head.Signal b n))
       ⊎ (((x : Scope) × (y : Bor (List ℕ)) × (z : Bor (List Expr)) × (h ≡ head.Struct x y z))
@@ -54,24 +55,29 @@ module _ (names : Table Declared) where
     ]
   ]
 
-  pub other_picked : (h : Head) (fields : List ℕ → List (List ℕ)) (f : List ℕ) →
-      (h ≡ head.Nothing) ⊎ (((b : Bool) × (n : ℕ) × (h ≡ head.Signal b n))
-      ⊎ (((x : Scope) × (z : Bor (List Expr)) × (h ≡ head.Set x z))
-      ⊎ (((x : Scope) × (y : Bor Expr) × (h ≡ head.Leaf x y))
-      ⊎ ((m : Made) × (x : Scope) × (y : Bor Expr) × (h ≡ head.Kept m x y))))) →
-      IsHead h → head_value names h ≡ picked fields f (head_value names h)
-  other_picked h fields f e is = elim e [
-    | inl n ↦ subst (λ x. head_value names x ≡ picked fields f (head_value names x)) (sym n) refl
-    | inr m ↦ elim m [
-      | inl s ↦ subst (λ x. head_value names x ≡ picked fields f (head_value names x)) (sym s.2) (sym (signal_picked s.0 s.1 fields f))
-      | inr k ↦ elim k [
-        | inl s ↦ subst (λ x. head_value names x ≡ picked fields f (head_value names x)) (sym s.2) refl
-        | inr o ↦ elim o [
-          | inl l ↦ subst (λ x. head_value names x ≡ picked fields f (head_value names x)) (sym l.2)
-              (sym (leaf_picked (shape l.1.now) (env_in names l.0) _ fields f refl (subst IsHead l.2 is)))
-          | inr l ↦ subst (λ x. head_value names x ≡ picked fields f (head_value names x)) (sym l.3)
-              (sym (leaf_picked (shape l.2.now) (env_in names l.1) _ fields f refl (subst IsHead l.3 is)))
-        ]
-      ]
-    ]
-  ]
+-- what is no name, no picked field and no struct's value is its own part
+pub unbuilt_picked : (e : Shape) (env : Env) (fields : List ℕ → List (List ℕ)) (f : List ℕ) → leads_on e ≡ false → is_build e ≡ false →
+    value_of e env ≡ picked fields f (value_of e env)
+unbuilt_picked (tree.number line n) env fields f a b = refl
+unbuilt_picked (tree.truth line v) env fields f a b = refl
+unbuilt_picked (tree.named line x) env fields f a b = absurd (cc)
+unbuilt_picked (tree.build line x es) env fields f a b = absurd (cc)
+unbuilt_picked (tree.group line es) env fields f a b = refl
+unbuilt_picked (tree.pick line e x) env fields f a b = absurd (cc)
+unbuilt_picked (tree.minus line e) env fields f a b = refl
+unbuilt_picked (tree.negation line e) env fields f a b = refl
+unbuilt_picked (tree.arith line op e g) env fields f a b = refl
+unbuilt_picked (tree.compare line op e g) env fields f a b = refl
+unbuilt_picked (tree.logic line op e g) env fields f a b = refl
+unbuilt_picked (tree.window line op m n e) env fields f a b = refl
+unbuilt_picked (tree.between line op m n e g) env fields f a b = refl
+unbuilt_picked (tree.each line x s e) env fields f a b = sym (leaf_picked (tree.each line x s e) env _ fields f refl refl)
+unbuilt_picked (tree.exists line x s e) env fields f a b = sym (leaf_picked (tree.exists line x s e) env _ fields f refl refl)
+unbuilt_picked (tree.count line op x s m e) env fields f a b = sym (leaf_picked (tree.count line op x s m e) env _ fields f refl refl)
+
+-- what an expression leads to so far: it has the expression's value, its signal is one of the names', and its node
+-- is there
+pub record LeadsTo (names : Table Declared) (scope : Scope) (e : Expr) (found : Named) : Type 0 where
+  pub value : named_value names found ≡ value_of (shape e) (env_in names scope)
+  pub below : (n : ℕ) → SignalsBelow n names → NamedBelow n found
+  pub kept : (nodes : List Plain) → HaveNodes nodes names → NamedKept nodes names found

@@ -1,11 +1,13 @@
 -- What scopes, names and heads stand for.
 
-use Rattle.std.specs.Prelude.{ℕ, ◌≡◌, ◌<◌, true, false, ⊤}
+use Rattle.std.specs.Prelude.{ℕ, ◌≡◌, ◌<◌, Bool, true, false, map, ⊤}
 use Rattle.mltl_base.specs.Tables.{Table}
-use Rattle.c2po_ast.specs.Shape.{shape, shapes}
+use Rattle.c2po_ast.specs.Shape as tree
+use Rattle.c2po_ast.specs.Shape.{Shape, shape, shapes}
+use Rattle.c2po_ast.specs.ItemShape.{field_shape}
 use Rattle.c2po_unfold.specs.Heads.{is_operator}
 use Rattle.c2po_unfold.specs.Values.{Value, truth_value, built, grouped}
-use Rattle.c2po_unfold.specs.Environment.{Env, Known, nothing, fields, value, bind, signal_value, value_of, values_of}
+use Rattle.c2po_unfold.specs.Environment.{Env, Known, nothing, fields, value, bind, signal_value, value_in, value_of, values_of}
 use Rattle.set_expand.specs.declared.names.Declared.{Declared}
 use Rattle.set_expand.specs.declared.scope.Scope.{Scope, First, Member'}
 use Rattle.set_expand.specs.declared.scope.Named.{Named}
@@ -23,9 +25,29 @@ env_in names (Member' x e _ within _ outer) =
 -- what a name that was looked up means
 abbrev pub named_meaning : Table Declared → Named → Known
 named_meaning names named.Nothing = nothing
-named_meaning names (named.Struct fs) = fields fs.now
+named_meaning names (named.Struct fs) = fields (map (λ f. f.name) (map field_shape fs.now))
 named_meaning names (named.Signal b n) = value (signal_value b n)
 named_meaning names (named.Open scope e made) = value (value_of (shape e.now) (env_in names scope))
+
+-- the value of what was found: any value where it has none
+abbrev pub named_value : Table Declared → Named → Value
+named_value names found = value_in (named_meaning names found)
+
+-- a name or a picked field, which leads to another expression
+abbrev pub leads_on : Shape → Bool
+leads_on (tree.named line x) = true
+leads_on (tree.pick line e x) = true
+leads_on _ = false
+
+-- the value of a struct, written with its parts
+abbrev pub is_build : Shape → Bool
+is_build (tree.build line x es) = true
+is_build _ = false
+
+-- names and picked fields lead no further than this
+abbrev pub IsReached : Named → Type 0
+IsReached (named.Open scope e made) = leads_on (shape e.now) ≡ false
+IsReached _ = ⊤
 
 -- the value of a head
 abbrev pub head_value : Table Declared → Head → Value

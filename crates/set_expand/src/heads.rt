@@ -1,11 +1,11 @@
 //! What names and picked fields lead to, without a look at what they leave aside.
 
-ghost use Rattle.std.specs.Prelude.{◌≡◌, ◌+◌, ℕ, List as Seq, Some, length, position, slice_get, IfOk};
+ghost use Rattle.std.specs.Prelude.{◌≡◌, ◌+◌, ℕ, true, false, List as Seq, Some, None, length, position, slice_get, IfOk, IfSome};
 ghost use Rattle.std.specs.Str.{bytes_eq};
-ghost use Rattle.c2po_ast.specs.Shape.{shape};
-ghost use Rattle.c2po_unfold.specs.Environment.{bind, fields_in, value_of};
-ghost use Rattle.c2po_unfold.specs.Values.{Value, members, picked};
-ghost use Rattle.set_expand.specs.Heads.{HeadBelow, IsHead, NamedBelow, env_in, head_value, named_meaning};
+ghost use Rattle.c2po_ast.specs.Shape.{shape, shapes};
+ghost use Rattle.c2po_unfold.specs.Environment.{Env, bind, fields_in, value_of, values_of};
+ghost use Rattle.c2po_unfold.specs.Values.{Value, built, members, picked};
+ghost use Rattle.set_expand.specs.Heads.{HeadBelow, IsHead, IsReached, NamedBelow, env_in, head_value, is_build, leads_on, named_meaning, named_value};
 ghost use Rattle.c2po_nodes.specs.declared.nodes.Plain.{Plain};
 ghost use Rattle.c2po_unfold.specs.Heads.{is_operator};
 ghost use Rattle.set_expand.specs.Names.{SignalsBelow};
@@ -34,9 +34,43 @@ pub(crate) fn is_operator(e: &Expr) -> bool
     }
 }
 
+/// Whether an expression is a name or a picked field, which lead to another expression.
+fn leads_on(e: &Expr) -> bool
+    ensures { result ≡ leads_on (shape e.now) }
+{
+    match &e.node {
+        Node::Ref(_) | Node::Pick(..) => true,
+        _ => false,
+    }
+}
+
+/// The name and the parts of a struct's value that is written with them.
+fn built_parts<'b>(e: &'b Expr) -> Option<(&'b Name, &'b [Expr])>
+    ensures built { IfSome result (λ r. (env : Env) → value_of (shape e.now) env
+        ≡ built r.0.now (values_of (shapes r.1.now) env)) }
+    ensures none { result ≡ None → is_build (shape e.now) ≡ false }
+{
+    match &e.node {
+        Node::Build(name, parts) => Some((name, parts.as_slice())),
+        _ => None,
+    }
+}
+
+/// Whether a name or a picked field leads no further than this.
+fn is_reached(found: &Named<'_>) -> bool
+    ensures { result ≡ true → IsReached found.now }
+{
+    match found {
+        Named::Open(_, expr, _) => !leads_on(expr),
+        Named::Nothing | Named::Struct(_) | Named::Signal(..) => true,
+    }
+}
+
 impl<'a> Names<'a> {
     /// The meaning of a name: the innermost variable of that name, else what is declared.
-    fn look<'b>(&'b self, scope: &Scope<'b>, name: &Name) -> Named<'b>
+    fn look<'b>(&self, scope: &Scope<'b>, name: &Name) -> Named<'b>
+    where
+        'a: 'b,
         ensures means { named_meaning self.now result ≡ env_in self.now scope.now name.now }
         ensures below { (n : ℕ) → SignalsBelow n self.now → NamedBelow n result }
         ensures kept { (nodes : Seq Plain) → HaveNodes nodes self.now
@@ -64,20 +98,108 @@ impl<'a> Names<'a> {
         ensures { result ≡ position (bytes_eq field.now)
             (fields_in (env_in self.now scope.now whole.now)) }
     {
-        match self.look(scope, whole) {
-            Named::Struct(fields) => fields.place(field),
-            Named::Nothing | Named::Signal(..) | Named::Open(..) => None,
+        match scope {
+            Scope::First(count) => self.place_of(*count, whole, field),
+            Scope::Member { name, outer, .. } => {
+                if whole.bytes() == name.bytes() {
+                    None
+                } else {
+                    self.field_place(outer, whole, field)
+                }
+            }
         }
     }
 
-    /// What an expression leads to.
+    /// What an expression leads to: names and picked fields are followed one after another.
     #[cycle(heading)]
+    pub(crate) fn follow<'b>(
+        &self,
+        levels: u32,
+        scope: &Scope<'b>,
+        e: &'b Expr,
+    ) -> Result<Named<'b>, AllocError>
+    where
+        'a: 'b,
+        ensures value { IfOk result (λ found. named_value self.now found
+            ≡ value_of (shape e.now) (env_in self.now scope.now)) }
+        ensures reached { IfOk result IsReached }
+        ensures below { (n : ℕ) → SignalsBelow n self.now → IfOk result (NamedBelow n) }
+        ensures kept { (nodes : Seq Plain) → HaveNodes nodes self.now
+            → IfOk result (NamedKept nodes self.now) }
+    {
+        let levels = deeper(levels)?;
+        let mut found = Named::Open(*scope, e, None);
+        for _ in 0..levels {
+            if is_reached(&found) {
+                return Ok(found);
+            }
+            found = self.step(levels, found)?;
+        }
+        Err(AllocError)
+    }
+
+    /// What a name means, or the part that a picked field names; another expression is what it leads to.
+    #[cycle(heading)]
+    fn step<'b>(&self, levels: u32, found: Named<'b>) -> Result<Named<'b>, AllocError>
+    where
+        'a: 'b,
+        ensures value { IfOk result (λ next. named_value self.now next
+            ≡ named_value self.now found.entry) }
+        ensures below { (n : ℕ) → SignalsBelow n self.now → NamedBelow n found.entry
+            → IfOk result (NamedBelow n) }
+        ensures kept { (nodes : Seq Plain) → HaveNodes nodes self.now
+            → NamedKept nodes self.now found.entry → IfOk result (NamedKept nodes self.now) }
+    {
+        let Named::Open(scope, expr, _) = found else {
+            return Ok(found);
+        };
+        match &expr.node {
+            Node::Ref(name) => Ok(self.look(&scope, name)),
+            Node::Pick(whole, field) => {
+                let whole = self.follow(levels, &scope, whole)?;
+                Ok(self.part(&scope, whole, field))
+            }
+            _ => Ok(found),
+        }
+    }
+
+    /// The part that a field names; what has no such part is its own.
+    fn part<'b>(&self, scope: &Scope<'b>, whole: Named<'b>, field: &Name) -> Named<'b>
+    where
+        'a: 'b,
+        requires { IsReached whole }
+        ensures value { named_value self.now result ≡ picked
+            (λ y. fields_in (env_in self.now scope.now y)) field.now
+            (named_value self.now whole.entry) }
+        ensures below { (n : ℕ) → SignalsBelow n self.now → NamedBelow n whole.entry
+            → NamedBelow n result }
+        ensures kept { (nodes : Seq Plain) → HaveNodes nodes self.now
+            → NamedKept nodes self.now whole.entry → NamedKept nodes self.now result }
+    {
+        let Named::Open(within, expr, _) = whole else {
+            return whole;
+        };
+        let Some((name, parts)) = built_parts(expr) else {
+            return whole;
+        };
+        let Some(place) = self.field_place(scope, name, field) else {
+            return whole;
+        };
+        match parts.get(place) {
+            Some(part) => Named::Open(within, part, None),
+            None => whole,
+        }
+    }
+
+    /// What an expression leads to, as a value that is looked at.
     pub(crate) fn head<'b>(
-        &'b self,
+        &self,
         levels: u32,
         scope: &Scope<'b>,
         e: &'b Expr,
     ) -> Result<Head<'b>, AllocError>
+    where
+        'a: 'b,
         ensures head { IfOk result (λ h. head_value self.now h
             ≡ value_of (shape e.now) (env_in self.now scope.now)) }
         ensures is { IfOk result IsHead }
@@ -85,59 +207,32 @@ impl<'a> Names<'a> {
         ensures kept { (nodes : Seq Plain) → HaveNodes nodes self.now
             → IfOk result (HeadKept nodes self.now) }
     {
-        let levels = deeper(levels)?;
-        match &e.node {
-            Node::Ref(name) => match self.look(scope, name) {
-                Named::Open(within, expr, Some(made)) if is_operator(expr) => {
-                    Ok(Head::Kept(made, within, expr))
-                }
-                Named::Open(within, expr, _) => self.head(levels, &within, expr),
-                Named::Signal(truth, number) => Ok(Head::Signal(truth, number)),
-                Named::Nothing | Named::Struct(_) => Ok(Head::Nothing),
-            },
-            Node::Pick(whole, field) => {
-                let whole = self.head(levels, scope, whole)?;
-                self.part(levels, scope, whole, field)
-            }
-            Node::Build(name, parts) => Ok(Head::Struct(*scope, name, parts.as_slice())),
-            Node::Group(members) => Ok(Head::Set(*scope, members.as_slice())),
-            _ => Ok(Head::Leaf(*scope, e)),
-        }
+        let found = self.follow(levels, scope, e)?;
+        Ok(self.head_of(found))
     }
 
-    /// What the part that a field names leads to; what has no such part is its own.
-    #[cycle(heading)]
-    fn part<'b>(
-        &'b self,
-        levels: u32,
-        scope: &Scope<'b>,
-        whole: Head<'b>,
-        field: &Name,
-    ) -> Result<Head<'b>, AllocError>
-        requires { IsHead whole }
-        ensures head { IfOk result (λ h. head_value self.now h ≡ picked
-            (λ y. fields_in (env_in self.now scope.now y)) field.now
-            (head_value self.now whole.entry)) }
-        ensures is { IfOk result IsHead }
-        ensures below { (n : ℕ) → SignalsBelow n self.now → HeadBelow n whole.entry
-            → IfOk result (HeadBelow n) }
-        ensures kept { (nodes : Seq Plain) → HaveNodes nodes self.now
-            → HeadKept nodes self.now whole.entry → IfOk result (HeadKept nodes self.now) }
+    /// What was reached, as a value that is looked at.
+    fn head_of<'b>(&self, found: Named<'b>) -> Head<'b>
+    where
+        'a: 'b,
+        requires { IsReached found }
+        ensures head { head_value self.now result ≡ named_value self.now found.entry }
+        ensures is { IsHead result }
+        ensures below { (n : ℕ) → NamedBelow n found.entry → HeadBelow n result }
+        ensures kept { (nodes : Seq Plain) → NamedKept nodes self.now found.entry
+            → HeadKept nodes self.now result }
     {
-        let levels = deeper(levels)?;
-        match whole {
-            Head::Struct(within, name, parts) => {
-                let Some(place) = self.field_place(scope, name, field) else {
-                    return Ok(whole);
-                };
-                match parts.get(place) {
-                    Some(part) => self.head(levels, &within, part),
-                    None => Ok(whole),
-                }
-            }
-            Head::Nothing | Head::Signal(..) | Head::Set(..) | Head::Leaf(..) | Head::Kept(..) => {
-                Ok(whole)
-            }
+        match found {
+            Named::Nothing | Named::Struct(_) => Head::Nothing,
+            Named::Signal(truth, number) => Head::Signal(truth, number),
+            Named::Open(scope, expr, made) => match &expr.node {
+                Node::Build(name, parts) => Head::Struct(scope, name, parts.as_slice()),
+                Node::Group(members) => Head::Set(scope, members.as_slice()),
+                _ => match made {
+                    Some(made) => Head::Kept(made, scope, expr),
+                    None => Head::Leaf(scope, expr),
+                },
+            },
         }
     }
 

@@ -1,9 +1,10 @@
 //! Names, each with what it stands for.
 
-ghost use Rattle.std.specs.Prelude.{◌≡◌, ◌<◌, ℕ, List as Seq, [], length, map, OnOk, IfOk};
+ghost use Rattle.std.specs.Prelude.{◌≡◌, ◌<◌, ℕ, List as Seq, [], length, map, position, OnOk, IfOk};
+ghost use Rattle.std.specs.Str.{bytes_eq};
 ghost use Rattle.c2po_ast.specs.Shape.{shape};
 ghost use Rattle.c2po_ast.specs.ItemShape.{field_shape};
-ghost use Rattle.c2po_unfold.specs.Environment.{declare, fields, no_names, signal_value, value, value_of};
+ghost use Rattle.c2po_unfold.specs.Environment.{declare, fields, fields_in, no_names, signal_value, value, value_of};
 ghost use Rattle.c2po_nodes.specs.declared.nodes.Plain.{Plain};
 ghost use Rattle.set_expand.specs.Heads.{NamedBelow, named_meaning};
 ghost use Rattle.set_expand.specs.Nodes.{HaveNodes, IsKept, MadeAs, NamedKept};
@@ -11,7 +12,7 @@ ghost use Rattle.set_expand.specs.Names.{EntryBelow, HasFields, IsEarly, Signals
 
 use crate::nodes::Made;
 use crate::scope::{Named, Scope};
-use c2po_ast::{Expr, FieldDecl, Node, field_names};
+use c2po_ast::{Expr, FieldDecl, field_names};
 use c2po_unfold::fields::Fields;
 use mltl_base::{List, Name, NameTable};
 use std::alloc::{AllocError, Global};
@@ -105,7 +106,7 @@ impl<'a> Names<'a> {
     }
 
     /// What a name means to the first names, of which there are so many.
-    pub fn find<'b>(&'b self, before: u32, name: &Name) -> Named<'b>
+    pub fn find(&self, before: u32, name: &Name) -> Named<'a>
         ensures means { named_meaning self.now result ≡ env_of self.now before name.now }
         ensures below { (n : ℕ) → SignalsBelow n self.now → NamedBelow n result }
         ensures kept { (nodes : Seq Plain) → HaveNodes nodes self.now
@@ -113,7 +114,7 @@ impl<'a> Names<'a> {
     {
         match self.table.find(name) {
             Some(declared) if declared.number < before => match declared.entry {
-                Entry::Struct(_, number) => Named::Struct(self.structs.get(number as usize)),
+                Entry::Struct(fields, _) => Named::Struct(fields),
                 Entry::Signal(truth, number) => Named::Signal(truth, number),
                 Entry::Defined(expr, count, made) => Named::Open(Scope::First(count), expr, made),
             },
@@ -121,32 +122,47 @@ impl<'a> Names<'a> {
         }
     }
 
-    /// What a definition's name stands for, with what it is made of nodes, if it is. That of a name alone is what that
-    /// name stands for.
-    fn entry_of(&self, e: &'a Expr, count: u32, made: Option<Made>) -> Entry<'a>
+    /// The place of a field among those of a struct, where the first names have it.
+    pub fn place_of(&self, before: u32, whole: &Name, field: &Name) -> Option<usize>
+        ensures { result ≡ position (bytes_eq field.now)
+            (fields_in (env_of self.now before whole.now)) }
+    {
+        let Some(declared) = self.table.find(whole) else {
+            return None;
+        };
+        if declared.number >= before {
+            return None;
+        }
+        match declared.entry {
+            Entry::Struct(_, number) => self.structs.get(number as usize).place(field),
+            Entry::Signal(..) | Entry::Defined(..) => None,
+        }
+    }
+
+    /// What a definition's name stands for, with what it is made of nodes, if it is: what its expression leads to.
+    fn entry_of(&self, e: &'a Expr, count: u32, made: Option<Made>) -> Result<Entry<'a>, AllocError>
         requires count { count ≡ length self.now }
         requires all { env_of self.now count ≡ env_now self.now }
-        ensures means { meaning self.now result
-            ≡ value (value_of (shape e.now) (env_now self.now)) }
-        ensures early { IsEarly (length self.now) result }
-        ensures fields { (structs : Seq (Seq (Seq ℕ))) → HasFields structs result }
-        ensures below { (n : ℕ) → SignalsBelow n self.now → EntryBelow n result }
+        ensures means { IfOk result (λ entry. meaning self.now entry
+            ≡ value (value_of (shape e.now) (env_now self.now))) }
+        ensures early { IfOk result (IsEarly (length self.now)) }
+        ensures fields { (structs : Seq (Seq (Seq ℕ))) → IfOk result (HasFields structs) }
+        ensures below { (n : ℕ) → SignalsBelow n self.now → IfOk result (EntryBelow n) }
         ensures kept { (nodes : Seq Plain) → HaveNodes nodes self.now
             → MadeAs nodes (value_of (shape e.now) (env_now self.now)) made
-            → IsKept nodes self.now result }
+            → IfOk result (IsKept nodes self.now) }
     {
         if made.is_some() {
-            return Entry::Defined(e, count, made);
+            return Ok(Entry::Defined(e, count, made));
         }
-        if let Node::Ref(name) = &e.node {
-            if let Some(declared) = self.table.find(name) {
-                match declared.entry {
-                    Entry::Struct(..) => {}
-                    entry => return entry,
-                }
+        let scope = Scope::First(count);
+        match self.follow(u32::MAX, &scope, e)? {
+            Named::Signal(truth, number) => Ok(Entry::Signal(truth, number)),
+            Named::Open(Scope::First(before), expr, made) if before <= count => {
+                Ok(Entry::Defined(expr, before, made))
             }
+            _ => Ok(Entry::Defined(e, count, None)),
         }
-        Entry::Defined(e, count, None)
     }
 
     /// The names with a struct. A name that is known keeps its meaning.
@@ -210,7 +226,7 @@ impl<'a> Names<'a> {
             → IfOk result (HaveNodes nodes) }
     {
         let count = self.count()?;
-        let entry = self.entry_of(e, count, made);
+        let entry = self.entry_of(e, count, made)?;
         let Names { mut table, structs } = self;
         put(&mut table, alloc, name, entry)?;
         Ok(Names { table, structs })

@@ -1,9 +1,8 @@
 //! Scopes of expressions, and what names and picked fields lead to.
 
 use crate::nodes::Made;
-use c2po_ast::Expr;
-use c2po_unfold::fields::Fields;
-use mltl_base::Name;
+use c2po_ast::{Expr, FieldDecl};
+use mltl_base::{List, Name};
 use std::alloc::Global;
 
 /// The names and the variables that an expression sees, the innermost first.
@@ -28,12 +27,12 @@ pub struct Site<'a> {
     pub scope: &'a Scope<'a>,
 }
 
-/// The meaning of a name.
+/// The meaning of a name, or what an expression leads to.
 #[derive(Clone, Copy)]
 pub enum Named<'a> {
     Nothing,
     /// A struct, by its fields.
-    Struct(&'a Fields),
+    Struct(&'a List<FieldDecl>),
     /// A signal, of kind bool or int, by its number.
     Signal(bool, u32),
     /// The value of an expression, and what it is made of nodes, if it is.
