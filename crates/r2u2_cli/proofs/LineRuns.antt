@@ -1,6 +1,6 @@
 -- A run over the lines of a trace: the first line, and then the loop.
 
-use Rattle.std.proofs.Common.{◌≡◌, ℕ, ◌<◌, ◌⊎◌, Bool, true, false, if◌then◌else◌, Option, Some, None, Result, Ok, Err, List, [], ◌∷◌, ◌++◌, length, map, refl, sym, ◌∙◌, ap, subst, append_assoc, inl, inr}
+use Rattle.std.proofs.Common.{◌≡◌, ◌≢◌, ℕ, ◌<◌, ◌⊎◌, Bool, true, false, if◌then◌else◌, Option, Some, None, Result, Ok, Err, List, [], ◌∷◌, ◌++◌, length, map, refl, sym, ◌∙◌, ap, subst, append_assoc, inl, inr}
 use Rattle.std.proofs.lemmas.List.{append-nil}
 use Rattle.mltl_base.specs.declared.program.Program.{Program}
 use Rattle.mltl_base.specs.Programs.{outputs, output_names}
@@ -75,26 +75,31 @@ first_ended : (cut : Cutting) (events : List Event) (has : FirstRead cut events)
 first_ended cut events has = Reads-ended false Trace has.pieces events has.reads ∙ sym has.ended
 
 -- the lines of a trace whose first line stands in front: more bytes come only where the end wasn't met
-pub record HasFirst (row : Option (List ℕ)) (lines : List (List ℕ)) : Type 0 where
+pub record HasFirst (row : Option (List ℕ)) (ended : Bool) (lines : List (List ℕ)) : Type 0 where
   pub short : begins_long lines ≡ false
   pub header : header_in lines ≡ header_of_row row
+  pub begun : HasBegun ended lines
 
-first_of_lines : (row : Option (List ℕ)) (pending : List ℕ) (ended_first : Bool) → StandsFirst row pending ended_first → (ended : Bool) (more : List ℕ) → (ended_first ≡ true → (ended ≡ true) × (more ≡ [])) → HasFirst row (lines_of ended (pending ++ more))
+first_of_lines : (row : Option (List ℕ)) (pending : List ℕ) (ended_first : Bool) → StandsFirst row pending ended_first → (ended : Bool) (more : List ℕ) → (ended_first ≡ true → (ended ≡ true) × (more ≡ [])) → HasFirst row ended (lines_of ended (pending ++ more))
 first_of_lines None pending ended_first stands ended more follows =
     let at_end = follows stands.1 in
     let none : lines_of ended (pending ++ more) ≡ [] = ap (λ b. lines_of ended (b ++ more)) stands.0 ∙ ap (lines_of ended) at_end.1 ∙ ap (λ v. lines_of v []) at_end.0 in
-    record { short = ap begins_long none; header = ap header_in none }
+    record { short = ap begins_long none; header = ap header_in none; begun = inl at_end.0 }
 first_of_lines (Some raw) pending ended_first stands ended more follows =
     let rest = stands.0 in
     let behind : Cutting = record { pending = rest; row = None; kept = false; ended = ended_first; number = 0 } in
     let split : lines_of ended (pending ++ more) ≡ raw ∷ lines_of ended (rest ++ more) = ap (λ b. lines_of ended (b ++ more)) stands.1 ∙ ap (lines_of ended) (append_assoc raw rest more)
     ∙ row_line raw behind ended (rest ++ more) stands.3 (λ met. ((follows met).0, ap (λ b. rest ++ b) (follows met).1 ∙ append-nil rest)) in
-    record { short = ap begins_long split ∙ is_long-row raw rest ended_first stands.2 stands.3; header = ap header_in split }
+    record {
+      short = ap begins_long split ∙ is_long-row raw rest ended_first stands.2 stands.3;
+      header = ap header_in split;
+      begun = inr (λ none. let is : raw ∷ lines_of ended (rest ++ more) ≡ [] = sym split ∙ none in cc);
+    }
 
 -- the program over such lines is that of the header
-found_over : (kind : FileKind) (bytes : List ℕ) (row : Option (List ℕ)) (lines : List (List ℕ)) → file_refusal kind bytes ≡ None → HasFirst row lines → program_over kind bytes lines ≡ program_by kind bytes (header_of_row row)
+found_over : (kind : FileKind) (bytes : List ℕ) (row : Option (List ℕ)) (ended : Bool) (lines : List (List ℕ)) → file_refusal kind bytes ≡ None → HasFirst row ended lines → program_over kind bytes lines ≡ program_by kind bytes (header_of_row row)
 unfolding program_over
-found_over kind bytes row lines none has =
+found_over kind bytes row ended lines none has =
     ap (λ o. unless_refused o (unless_long (begins_long lines) (program_by kind bytes (header_in lines)))) none
     ∙ ap (λ b. unless_long b (program_by kind bytes (header_in lines))) has.short
     ∙ ap (program_by kind bytes) has.header
@@ -103,20 +108,24 @@ found_over kind bytes row lines none has =
 told_all : (program : Program) (asked : RunAsked) (ended : Bool) (bytes out : List ℕ) (monitor : State) → IsTold program asked.style (rows_by asked program 1) ended bytes out monitor → AllTold asked (Ok program) ended bytes out (Some monitor)
 told_all program asked ended bytes out monitor told = record { out_is = told.told; keeps = told.kept }
 
-lines_outcome : (answer : watched.Watched) (program : Program) (asked : RunAsked) (ended : Bool) (bytes out : List ℕ) (monitor : State) → Outcome answer program asked.style (rows_by asked program 1) ended bytes out monitor → LinesOutcome (ending_status answer) asked (Ok program) ended bytes out (Some monitor)
-lines_outcome watched.TheVariants.Done program asked ended bytes out monitor is = (is.0, is.1, told_all program asked ended bytes out monitor is.2)
-lines_outcome watched.TheVariants.TooLong program asked ended bytes out monitor is = (is.0, told_all program asked ended bytes out monitor is.1)
-lines_outcome (watched.TheVariants.BadTrace number why) program asked ended bytes out monitor is = inr (is.0, told_all program asked ended bytes out monitor is.1)
-lines_outcome watched.TheVariants.ReadFault program asked ended bytes out monitor is = (is.0, inr (is.1, told_all program asked false bytes out monitor is.2))
-lines_outcome watched.TheVariants.WriteFault program asked ended bytes out monitor is = (is.0, is.1)
+-- where the end wasn't met, a trace that has begun has a line
+some_line : (ended : Bool) (bytes : List ℕ) → ended ≡ false → HasBegun ended (lines_of ended bytes) → lines_of false bytes ≢ []
+some_line ended bytes unmet (inl met) = absurd (cc)
+some_line ended bytes unmet (inr some) = subst (λ v. lines_of v bytes ≢ []) unmet some
+
+lines_outcome : (answer : watched.Watched) (program : Program) (asked : RunAsked) (ended : Bool) (bytes out : List ℕ) (monitor : State) → HasBegun ended (lines_of ended bytes) → Outcome answer program asked.style (rows_by asked program 1) ended bytes out monitor → LinesOutcome (ending_status answer) asked (Ok program) ended bytes out (Some monitor)
+lines_outcome watched.TheVariants.Done program asked ended bytes out monitor begun is = (is.0, is.1, told_all program asked ended bytes out monitor is.2)
+lines_outcome watched.TheVariants.TooLong program asked ended bytes out monitor begun is = (is.0, told_all program asked ended bytes out monitor is.1)
+lines_outcome (watched.TheVariants.BadTrace number why) program asked ended bytes out monitor begun is = inr (is.0, told_all program asked ended bytes out monitor is.1)
+lines_outcome watched.TheVariants.ReadFault program asked ended bytes out monitor begun is =
+    (is.0, inr (record { begun = some_line ended bytes is.0 begun; clean = is.1; told = told_all program asked false bytes out monitor is.2 }))
+lines_outcome watched.TheVariants.WriteFault program asked ended bytes out monitor begun is = (is.0, is.1)
 
 -- where the first line stands in front, or the trace has none, it has begun
 first_begun : (row : Option (List ℕ)) (pending : List ℕ) (ended : Bool) → StandsFirst row pending ended → HasBegun ended (lines_of ended pending)
-first_begun None pending ended stands = inl stands.1
-first_begun (Some raw) pending ended stands =
-    let behind : Cutting = record { pending = stands.0; row = None; kept = false; ended = ended; number = 0 } in
-    let split : lines_of ended pending ≡ raw ∷ lines_of ended stands.0 = ap (lines_of ended) stands.1 ∙ row_line raw behind ended stands.0 stands.3 (λ met. (met, refl)) in
-    inr (λ none. let is : raw ∷ lines_of ended stands.0 ≡ [] = sym split ∙ none in cc)
+first_begun row pending ended stands =
+    let has = first_of_lines row pending ended stands ended [] (λ met. (met, refl)) in
+    subst (λ b. HasBegun ended (lines_of ended b)) (append-nil pending) has.begun
 
 has_begun : (start : Cutting) (events : List Event) → FirstRead start events → IsFirst start → HasBegun (trace_ended events) (lines_in events)
 has_begun start events has first =
@@ -168,7 +177,7 @@ row_marked (Some raw) =
 found_first : (asked : RunAsked) (bytes : List ℕ) (start : Cutting) (events : List Event) → FirstRead start events → IsFirst start → file_refusal asked.kind bytes ≡ None → program_over asked.kind bytes (lines_in events) ≡ program_by asked.kind bytes (cut_header start)
 found_first asked bytes start events has first none =
     let are : lines_in events ≡ lines_of start.ended (start.pending ++ []) = ap (λ v. lines_of v (taken Trace events)) (first_ended start events has) ∙ ap (lines_of start.ended) (first_taken start events has ∙ sym (append-nil start.pending)) in
-    ap (program_over asked.kind bytes) are ∙ found_over asked.kind bytes start.row (lines_of start.ended (start.pending ++ [])) none (first_of_lines start.row start.pending start.ended first.stands start.ended [] (λ met. (met, refl)))
+    ap (program_over asked.kind bytes) are ∙ found_over asked.kind bytes start.row start.ended (lines_of start.ended (start.pending ++ [])) none (first_of_lines start.row start.pending start.ended first.stands start.ended [] (λ met. (met, refl)))
 
 -- the header or a limit refused the program
 lines_refused : (asked : RunAsked) (bytes : List ℕ) (start : Cutting) (answer : status.Status) (events : List Event) → FirstRead start events → IsFirst start → file_refusal asked.kind bytes ≡ None → program_by asked.kind bytes (cut_header start) ≡ Err answer → RanLines asked bytes answer None events
@@ -208,10 +217,18 @@ module _ (asked : RunAsked) (bytes : List ℕ) (start : Cutting) (answer : statu
   all_ended : ran.cut.ended ≡ trace_ended all
   all_ended = ran.watch.ended ∙ ap (λ v. ended_from v Trace second) (sym (first_ended start first has)) ∙ sym (ended_from-append false Trace first second)
 
+  begins : HasFirst start.row ran.cut.ended (lines_of ran.cut.ended (start.pending ++ taken Trace second))
+  begins = first_of_lines start.row start.pending start.ended is_first.stands ran.cut.ended (taken Trace second) ran.watch.no_more
+
+  all_begun : HasBegun (trace_ended all) (lines_of (trace_ended all) (trace_of all))
+  all_begun =
+      subst (λ v. HasBegun v (lines_of v (trace_of all))) all_ended
+      (subst (λ b. HasBegun ran.cut.ended (lines_of ran.cut.ended b)) all_taken begins.begun)
+
   found_is : program_over asked.kind bytes (lines_in all) ≡ Ok program
   found_is =
       let are : lines_in all ≡ lines_of ran.cut.ended (start.pending ++ taken Trace second) = ap (λ v. lines_of v (trace_of all)) (sym all_ended) ∙ ap (lines_of ran.cut.ended) (sym all_taken) in
-      ap (program_over asked.kind bytes) are ∙ found_over asked.kind bytes start.row (lines_of ran.cut.ended (start.pending ++ taken Trace second)) none (first_of_lines start.row start.pending start.ended is_first.stands ran.cut.ended (taken Trace second) ran.watch.no_more) ∙ is
+      ap (program_over asked.kind bytes) are ∙ found_over asked.kind bytes start.row ran.cut.ended (lines_of ran.cut.ended (start.pending ++ taken Trace second)) none begins ∙ is
 
   loop_outcome : Outcome ran.ended_so program asked.style rows_in (trace_ended all) (trace_of all) (given Out all) ran.monitor
   loop_outcome =
@@ -235,7 +252,7 @@ module _ (asked : RunAsked) (bytes : List ℕ) (start : Cutting) (answer : statu
         subst (λ f. LinesOutcome answer asked f (trace_ended all) (trace_of all) (given Out all) kept) (sym found_is)
         (subst (λ k. LinesOutcome answer asked (Ok program) (trace_ended all) (trace_of all) (given Out all) k) (sym ran.kept_is)
         (subst (λ s. LinesOutcome s asked (Ok program) (trace_ended all) (trace_of all) (given Out all) (Some ran.monitor)) (sym ran.is)
-        (lines_outcome ran.ended_so program asked (trace_ended all) (trace_of all) (given Out all) ran.monitor loop_outcome)));
+        (lines_outcome ran.ended_so program asked (trace_ended all) (trace_of all) (given Out all) ran.monitor all_begun loop_outcome)));
     begun = subst (λ s. BegunFor s (trace_ended all) (lines_in all)) (sym ran.is) (loop_begun ran.ended_so (trace_ended all) (lines_in all));
     early = λ memory. absurd (never_memory ran.ended_so (sym ran.is ∙ memory));
   }

@@ -1,6 +1,6 @@
 -- How the result of a run follows from the lines of its trace, with what is out and the monitor that is kept.
 
-use Rattle.std.specs.Prelude.{◌≡◌, ℕ, ◌⊎◌, Bool, true, false, if◌then◌else◌, Option, Some, None}
+use Rattle.std.specs.Prelude.{◌≡◌, ◌≢◌, ℕ, ◌⊎◌, Bool, true, false, if◌then◌else◌, Option, Some, None}
 use Rattle.std.specs.Prelude.{Result, Ok, Err, List, []}
 use Rattle.mltl_base.specs.declared.program.Program.{Program}
 use Rattle.tool_io.specs.declared.host.Place.TheVariants.{Trace, Out}
@@ -62,6 +62,13 @@ pub record NotBegun (bytes out : List ℕ) (kept : Option State) : Type 0 where
   pub no_line : lines_of false bytes ≡ []
   pub silent : Silent out kept
 
+-- the trace broke off after a line: its lines so far are clean rows of a program, and the lines of these rows are out
+pub record BrokenOff (asked : RunAsked) (found : Result Program Status) (bytes out : List ℕ)
+    (kept : Option State) : Type 0 where
+  pub begun : lines_of false bytes ≢ []
+  pub clean : StopsBy Clean asked found false bytes
+  pub told : AllTold asked found false bytes out kept
+
 -- there is no program to run, by this status, and nothing came of it
 pub record NeverRan (status : Status) (found : Result Program Status) (out : List ℕ)
     (kept : Option State) : Type 0 where
@@ -80,8 +87,7 @@ LinesOutcome (BadTrace number why) asked found ended bytes out kept =
 LinesOutcome (Refused line refusal) asked found ended bytes out kept = NeverRan (Refused line refusal) found out kept
 LinesOutcome (BadProgram fault) asked found ended bytes out kept = NeverRan (BadProgram fault) found out kept
 LinesOutcome (ReadFault Trace) asked found ended bytes out kept =
-    (ended ≡ false)
-    × (NotBegun bytes out kept ⊎ StopsBy Clean asked found false bytes × AllTold asked found false bytes out kept)
+    (ended ≡ false) × (NotBegun bytes out kept ⊎ BrokenOff asked found bytes out kept)
 LinesOutcome (WriteFault Out) asked found ended bytes out kept =
     IsProperFront out (due_by asked found ended bytes) × KeepsFront kept asked found ended bytes out
 LinesOutcome Memory asked found ended bytes out kept = Silent out kept

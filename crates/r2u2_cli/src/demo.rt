@@ -1,6 +1,6 @@
 //! The run of the demo.
 
-ghost use Rattle.std.specs.Prelude.{◌≡◌, None, Some};
+ghost use Rattle.std.specs.Prelude.{◌≡◌, ◌≢◌, None, Some};
 ghost use Rattle.tool_io.specs.Log.{OnLog};
 ghost use Rattle.tool_words.specs.Causes.{RunCause};
 ghost use Rattle.r2u2_cli.specs.Demo.{DemoLog, SummaryLog};
@@ -21,6 +21,7 @@ pub(crate) fn give_demo<H: Host>(
 ) -> Status
     requires none_kept { kept.old ≡ None }
     ensures cause { RunCause result (H.faults host.old) (H.faults host.new) }
+    ensures memory { result ≡ Status.Memory → kept.new ≡ None }
     ensures log { OnLog (H.log host.old) (H.log host.new) (DemoLog result seed rows kept.new) }
 {
     match run_demo(alloc, seed, rows) {
@@ -33,6 +34,7 @@ pub(crate) fn give_demo<H: Host>(
 fn give_summary<H: Host>(demo: Demo, host: &mut H, kept: &mut Option<Monitor>) -> Status
     ensures kept { kept.new ≡ Some demo.monitor }
     ensures cause { RunCause result (H.faults host.old) (H.faults host.new) }
+    ensures memory { result ≢ Status.Memory }
     ensures log { OnLog (H.log host.old) (H.log host.new) (SummaryLog result demo.summary.items) }
 {
     let Demo { monitor, summary } = demo;

@@ -26,6 +26,7 @@ fn run_file<H: Host>(
     requires mission { asked.now.mission ≤ MAX_MISSION }
     requires none_kept { kept.old ≡ None }
     ensures cause { RunCause result (H.faults host.old) (H.faults host.new) }
+    ensures memory { result ≡ Status.Memory → kept.new ≡ None }
     ensures log { OnLog (H.log host.old) (H.log host.new)
         (Ran (run_over (run_of asked.now)) result kept.new) }
 {
@@ -45,6 +46,7 @@ fn run_asked<H: Host>(
     requires bounds { IsInBounds asked }
     requires none_kept { kept.old ≡ None }
     ensures cause { RunCause result (H.faults host.old) (H.faults host.new) }
+    ensures memory { result ≡ Status.Memory → kept.new ≡ None }
     ensures log { OnLog (H.log host.old) (H.log host.new)
         (Ran (asked_of asked.entry) result kept.new) }
 {
@@ -62,6 +64,7 @@ fn run<H: Host>(alloc: Global, words: &Words, host: &mut H, kept: &mut Option<Mo
     ensures usage { result ≢ Status.Memory → (result ≡ Status.Usage) ↔ (ask words.now ≡ nothing) }
     ensures helped { result ≡ Status.Helped → ask words.now ≡ help }
     ensures cause { RunCause result (H.faults host.old) (H.faults host.new) }
+    ensures memory { result ≡ Status.Memory → kept.new ≡ None }
     ensures log { OnLog (H.log host.old) (H.log host.new) (Ran (ask words.now) result kept.new) }
 {
     match r2u2_ask(alloc, words) {
@@ -85,6 +88,7 @@ pub fn r2u2_main<H: Host>(
     ensures helped { result ≡ Status.Helped → ask words.now ≡ help }
     ensures cause { (p : Where) → p ≢ Err →
         CauseAt result p (H.faults host.old p) (H.faults host.new p) }
+    ensures memory { result ≡ Status.Memory → kept.new ≡ None }
     ensures log { OnLog (H.log host.old) (H.log host.new)
         (IsRun (ask words.now) result kept.new (H.faults host.old) (H.faults host.new)) }
 {

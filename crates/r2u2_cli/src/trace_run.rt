@@ -1,6 +1,6 @@
 //! A run over a trace, from the bytes of its file to its end.
 
-ghost use Rattle.std.specs.Prelude.{◌≡◌, ◌≤◌, ◌^◌, List as Seq, ℕ, None, [], is_some, length};
+ghost use Rattle.std.specs.Prelude.{◌≡◌, ◌≢◌, ◌≤◌, ◌^◌, List as Seq, ℕ, None, [], is_some, length};
 ghost use Rattle.mltl_base.specs.declared.limits.TheConstants.{MAX_MISSION};
 ghost use Rattle.tool_io.specs.Log.{OnLog};
 ghost use Rattle.tool_words.specs.R2u2Words.{run_of};
@@ -32,6 +32,7 @@ pub fn run_bytes<H: Host>(
     requires mission { asked.now.mission ≤ MAX_MISSION }
     requires none_kept { kept.old ≡ None }
     ensures cause { RunCause result (H.faults host.old) (H.faults host.new) }
+    ensures memory { result ≡ Status.Memory → kept.new ≡ None }
     ensures log { OnLog (H.log host.old) (H.log host.new)
         (RanFile (run_of asked.now) bytes.items result kept.new) }
 {
@@ -54,6 +55,7 @@ fn run_trace<H: Host>(
     requires mission { asked.now.mission ≤ MAX_MISSION }
     requires none_kept { kept.old ≡ None }
     ensures cause { RunCause result (H.faults host.old) (H.faults host.new) }
+    ensures memory { result ≡ Status.Memory → kept.new ≡ None }
     ensures log { (bytes : Seq ℕ) → OpensFile opened asked.now.kind bytes →
         OnLog (H.log host.old) (H.log host.new)
         (RanTrace (run_of asked.now) bytes result kept.new) }
@@ -75,6 +77,7 @@ fn run_lines<H: Host>(
     requires mission { asked.now.mission ≤ MAX_MISSION }
     requires none_kept { kept.old ≡ None }
     ensures cause { RunCause result (H.faults host.old) (H.faults host.new) }
+    ensures memory { result ≡ Status.Memory → kept.new ≡ None }
     ensures log { (bytes : Seq ℕ) → OpensFile opened asked.now.kind bytes →
         OnLog (H.log host.old) (H.log host.new)
         (RanLines (run_of asked.now) bytes result kept.new) }
@@ -104,6 +107,7 @@ fn run_rows<H: Host>(
     requires any { any ≡ is_some cut.old.row }
     requires none_kept { kept.old ≡ None }
     ensures cause { RunCause result (H.faults host.old) (H.faults host.new) }
+    ensures memory { result ≡ Status.Memory → kept.new ≡ None }
     ensures log { (bytes : Seq ℕ) → OpensFile opened asked.now.kind bytes →
         OnLog (H.log host.old) (H.log host.new)
         (RanRows (run_of asked.now) bytes cut.old result kept.new) }
@@ -127,6 +131,7 @@ fn watch_rows<H: Host>(
     requires numbered { cut.old.number ≤ 1 }
     requires none_kept { kept.old ≡ None }
     ensures cause { RunCause result (H.faults host.old) (H.faults host.new) }
+    ensures memory { result ≡ Status.Memory → kept.new ≡ None }
     ensures log { OnLog (H.log host.old) (H.log host.new)
         (LoopLog checked (run_of asked.now) cut.old result kept.new) }
 {
@@ -149,6 +154,7 @@ fn watch_loaded<H: Host>(
     requires mission { asked.now.mission ≤ MAX_MISSION }
     requires numbered { cut.old.number ≤ 1 }
     ensures cause { RunCause result (H.faults host.old) (H.faults host.new) }
+    ensures memory { result ≢ Status.Memory }
     ensures log { OnLog (H.log host.old) (H.log host.new)
         (RanLoop (program_of monitor) (run_of asked.now) cut.old result kept.new) }
 {
@@ -183,7 +189,8 @@ fn watch_asked<H: Host>(
 }
 
 fn status_after(watched: Watched) -> Status
-    ensures { result ≡ ending_status watched }
+    ensures status { result ≡ ending_status watched }
+    ensures memory { result ≢ Status.Memory }
 {
     match watched {
         Watched::Done => Status::Done,

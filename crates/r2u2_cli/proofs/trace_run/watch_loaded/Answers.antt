@@ -9,7 +9,7 @@ returns-clause-log g c =
       cut = c.watch_asked-watched.new.cut;
       monitor = c.watch_asked-watched.new.monitor;
       ended_so = c.watch_asked-watched.result;
-      is = c.status_after.ensures;
+      is = c.status_after.ensures.status;
       watch = watch;
       kept_is = refl;
     })
