@@ -15,7 +15,7 @@ _r2u2_options() {
             --time-unit --start --snap --stamps --hold --delimiter --decimal-comma --skip --comment --format --long -o --help ;;
         r2u2-verdicts) echo --json --junit --ignore --spec --log --exercised --fail-untried --fail-undecided --diff --merge --help ;;
         r2u2-watch) echo --timed --on-false --stop-at-first --keep --quiet --help ;;
-        r2u2-why) echo --timed --html --help ;;
+        r2u2-why) echo --timed --begin --html --help ;;
     esac
 }
 

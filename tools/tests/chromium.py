@@ -1,5 +1,6 @@
 """A headless Chromium, driven by its own protocol over a pipe."""
 
+import base64
 import json
 import os
 import shutil
@@ -7,8 +8,16 @@ import subprocess
 import tempfile
 import time
 import unittest
+from pathlib import Path
 
 SECONDS = 120
+READY = "document.documentElement.dataset.ready !== undefined"
+MIDDLE = """(() => {
+  const it = document.querySelector(%s);
+  it.scrollIntoView({block: "center", inline: "center"});
+  const box = it.getBoundingClientRect();
+  return [box.x + box.width / 2, box.y + box.height / 2];
+})()"""
 
 
 def path():
@@ -20,9 +29,9 @@ def path():
 
 
 class Page:
-    """One page in one browser."""
+    """One page in one browser, opened where an expression says that it is ready. `errors` has what its scripts threw."""
 
-    def __init__(self, case, url, width=1200, height=600):
+    def __init__(self, case, url, width=1200, height=600, scheme=None, ready=READY):
         folder = tempfile.mkdtemp(prefix="chromium-")
         case.addCleanup(shutil.rmtree, folder, True)
         to_child, self.to = os.pipe()
@@ -36,12 +45,15 @@ class Page:
         os.close(to_child)
         os.close(from_child)
         case.addCleanup(self.close)
-        self.rest, self.count, self.session = b"", 0, None
+        self.rest, self.count, self.session, self.errors = b"", 0, None, []
         target = self.ask("Target.createTarget", url="about:blank")["targetId"]
         self.session = self.ask("Target.attachToTarget", targetId=target, flatten=True)["sessionId"]
         self.ask("Page.enable")
+        self.ask("Runtime.enable")
+        if scheme:
+            self.ask("Emulation.setEmulatedMedia", features=[{"name": "prefers-color-scheme", "value": scheme}])
         self.ask("Emulation.setDeviceMetricsOverride", width=width, height=height, deviceScaleFactor=1, mobile=False)
-        self.open(url)
+        self.open(url, ready)
 
     def close(self):
         self.child.kill()
@@ -62,31 +74,37 @@ class Page:
                 self.rest += block
             text, _, self.rest = self.rest.partition(b"\0")
             came = json.loads(text)
+            if came.get("method") == "Runtime.exceptionThrown":
+                self.errors.append(json.dumps(came["params"]["exceptionDetails"])[:600])
             if came.get("id") == self.count:
                 if "error" in came:
                     raise RuntimeError(f"{method}: {came['error']}")
                 return came["result"]
 
-    def open(self, url):
+    def open(self, url, ready=READY):
         """Opens a page, and waits until it says that it is ready."""
         self.ask("Page.navigate", url=url)
-        self.until("document.documentElement.dataset.ready !== undefined")
+        self.until(ready)
 
-    def run(self, text):
-        """Returns what an expression is in the page, after pictures that were asked for are drawn."""
-        settled = f"new Promise((done) => requestAnimationFrame(() => requestAnimationFrame(() => done({text}))))"
-        came = self.ask("Runtime.evaluate", expression=settled, awaitPromise=True, returnByValue=True)
+    def value(self, text):
+        """Returns what an expression is in the page, at once."""
+        came = self.ask("Runtime.evaluate", expression=text, awaitPromise=True, returnByValue=True)
         if "exceptionDetails" in came:
             raise RuntimeError(came["exceptionDetails"]["exception"].get("description"))
         return came["result"].get("value")
 
+    def run(self, text):
+        """Returns what an expression is in the page, after pictures that were asked for are drawn."""
+        return self.value(f"new Promise((done) => requestAnimationFrame(() => requestAnimationFrame(() => done({text}))))")
+
     def until(self, text):
-        for _ in range(SECONDS * 10):
-            came = self.ask("Runtime.evaluate", expression=text, returnByValue=True)["result"]
-            if came.get("value"):
+        """Waits until an expression is true."""
+        end = time.monotonic() + SECONDS
+        while time.monotonic() < end:
+            if self.ask("Runtime.evaluate", expression=text, returnByValue=True)["result"].get("value"):
                 return
-            time.sleep(0.1)
-        raise TimeoutError(text)
+            time.sleep(0.05)
+        raise TimeoutError(f"never true: {text}; {self.value('document.body.innerText')[:2000]}")
 
     def mouse(self, kind, x, y, **more):
         self.ask("Input.dispatchMouseEvent", type=kind, x=x, y=y, **more)
@@ -95,6 +113,18 @@ class Page:
         self.mouse("mouseMoved", x, y)
         for kind in ("mousePressed", "mouseReleased"):
             self.mouse(kind, x, y, button="left", clickCount=1)
+
+    def press(self, place):
+        """A click on the middle of what a selector finds."""
+        self.click(*self.value(MIDDLE % json.dumps(place)))
+
+    def type(self, place, text):
+        """Puts the pointer into a field, empties it, and types a text."""
+        self.value(f"(() => {{ const it = document.querySelector({json.dumps(place)}); it.focus(); it.select(); }})()")
+        self.ask("Input.insertText", text=text)
+
+    def picture(self, path):
+        Path(path).write_bytes(base64.b64decode(self.ask("Page.captureScreenshot", format="png")["data"]))
 
     def wheel(self, x, y, across=0, down=0, modifiers=0):
         self.mouse("mouseWheel", x, y, deltaX=across, deltaY=down, modifiers=modifiers)

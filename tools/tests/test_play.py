@@ -9,7 +9,7 @@ import socket
 import subprocess
 import sys
 
-from devtools import Page
+import chromium
 from support import ROOT, TOOLS, Case, program, tool
 from r2u2tools.common.cli import Trouble
 from r2u2tools.play import runs
@@ -209,10 +209,8 @@ class Browser(Served):
     words = (ROOT / "examples/grant.c2po", ROOT / "examples/grant.csv")
 
     def open(self, dark=False, fragment=""):
-        page = Page(self.url + fragment, dark)
-        self.addCleanup(page.close)
-        page.wait("document.readyState === 'complete' && document.querySelectorAll('button.v').length > 0")
-        return page
+        ready = "document.readyState === 'complete' && document.querySelectorAll('button.v').length > 0"
+        return chromium.Page(self, self.url + fragment, 1300, 1000, "dark" if dark else "light", ready)
 
     def picture(self, page, name):
         """A picture of the page, where the variable PICTURES names a folder for them."""
@@ -222,59 +220,59 @@ class Browser(Served):
     def test_types_sees_clicks_reads(self):
         page = self.open()
         self.assertEqual(page.value(WORDS), "TTFTTT")
-        page.wait("document.querySelector('#costs').innerText.includes('granted')")
+        page.until("document.querySelector('#costs').innerText.includes('granted')")
         page.type("#spec", "INPUT p, q: bool;\nFTSPEC f: p -> F[0,2] q;\n")
         page.type("#trace", "# p,q\n1,0\n0,0\n0,0\n0,1\n1,1\n")
-        page.wait(WORDS + " === 'FTTTT'")
-        page.click('button.v[data-name="f"][data-time="0"]')
-        page.wait("document.querySelector('#reason').textContent.includes('f is F at 0')")
+        page.until(WORDS + " === 'FTTTT'")
+        page.press('button.v[data-name="f"][data-time="0"]')
+        page.until("document.querySelector('#reason').textContent.includes('f is F at 0')")
         text = page.value("document.querySelector('#reason').textContent")
         self.assertIn("p holds at row 0", text)
         self.assertEqual(page.value("document.querySelector('button.v[aria-pressed=true]').dataset.time"), "0")
-        page.wait("document.querySelector('#costs').innerText.includes('f\\t2\\t')")
+        page.until("document.querySelector('#costs').innerText.includes('f\\t2\\t')")
         self.picture(page, "verdicts")
         self.assertEqual(page.errors, [])
 
     def test_marks_at_faults(self):
         page = self.open()
         page.type("#spec", "-- größer\nINPUT p, q: bool;\nFTSPEC f: p -> F[0,2] r;\n  g: p & q;\n")
-        page.wait("document.querySelectorAll('#faults li').length === 2")
+        page.until("document.querySelectorAll('#faults li').length === 2")
         self.assertEqual(page.value("[...document.querySelectorAll('mark')].map((it) => it.textContent)"), ["r", "&"])
         self.assertIn("unknown name 'r'", page.value("document.querySelector('#faults').innerText"))
-        page.click("#faults button")
+        page.press("#faults button")
         self.assertEqual(page.value(CHOSEN), "r")
         self.assertEqual(page.value(ALIKE), [True] * 4)
         self.picture(page, "faults")
         page.type("#spec", "INPUT p: bool;\nFTSPEC f: p;\n")
-        page.wait("document.querySelectorAll('#faults li').length === 0")
+        page.until("document.querySelectorAll('#faults li').length === 0")
         self.assertEqual(page.errors, [])
 
     def test_a_trace_that_is_refused(self):
         page = self.open()
         page.type("#trace", "# request,grant\n1,0\n1,2\n")
-        page.wait("document.querySelector('#refused').textContent === 'trace line 3: out of range in column 2'")
+        page.until("document.querySelector('#refused').textContent === 'trace line 3: out of range in column 2'")
 
     def test_examples_random_and_links(self):
         page = self.open(dark=True)
         page.value(POWER)
-        page.wait("document.querySelectorAll('#lanes tbody tr').length > 12")
+        page.until("document.querySelectorAll('#lanes tbody tr').length > 12")
         self.picture(page, "dark")
         self.assertEqual(page.value("document.querySelector('#theme').textContent"), "Light")
-        page.click("#theme")
+        page.press("#theme")
         self.assertEqual(page.value("document.querySelector('#theme').textContent"), "Dark")
         self.assertEqual(page.value("getComputedStyle(document.body).backgroundColor"), "rgb(255, 255, 255)")
         page.type("#rows", "300")
-        page.click("#random")
-        page.wait("document.querySelector('#window').textContent === '0 to 119 of 300'")
+        page.press("#random")
+        page.until("document.querySelector('#window').textContent === '0 to 119 of 300'")
         trace = page.value("document.querySelector('#trace').value")
         self.assertEqual(len(trace.splitlines()), 301)
-        page.wait("document.querySelectorAll('button.v.F').length > 0")
-        page.click("#next")
-        page.wait("document.querySelector('#reason').textContent.includes(' is F at ')")
-        page.click("#on")
-        page.wait("document.querySelector('#window').textContent.startsWith('120 to')")
-        page.click("#random")
-        page.wait("document.querySelector('#window').textContent.startsWith('0 to')")
+        page.until("document.querySelectorAll('button.v.F').length > 0")
+        page.press("#next")
+        page.until("document.querySelector('#reason').textContent.includes(' is F at ')")
+        page.press("#on")
+        page.until("document.querySelector('#window').textContent.startsWith('120 to')")
+        page.press("#random")
+        page.until("document.querySelector('#window').textContent.startsWith('0 to')")
         self.assertEqual(page.value("document.querySelector('#trace').value"), trace)
         spec, fragment = page.value("document.querySelector('#spec').value"), page.value("location.hash")
         self.assertEqual(page.errors, [])
@@ -290,30 +288,29 @@ class Browser(Served):
             self.addCleanup(child.kill)
             url = child.stdout.readline().strip()
             self.assertTrue(url.endswith(f"/{fragment}"))
-        page = Page(url)
-        self.addCleanup(page.close)
-        page.wait("document.querySelector('#reason')?.textContent.startsWith('linked is F at 1: p is false at row 1')")
+        told = "document.querySelector('#reason')?.textContent.startsWith('linked is F at 1: p is false at row 1')"
+        chromium.Page(self, url, ready=told)
 
     def test_stamps_format_and_a_file(self):
         page = self.open()
         page.type("#trace", "# request,grant\n@0,1,0\n@6,0,1\n")
-        page.click("#timed")
-        page.wait(WORDS + " === 'FFFTTTT'")
+        page.press("#timed")
+        page.until(WORDS + " === 'FFFTTTT'")
         page.type("#spec", "INPUT request,grant:bool;\nFTSPEC granted:request->F[0,3]grant;")
-        page.click("#format")
-        page.wait("document.querySelector('#spec').value === 'INPUT request, grant: bool;\\nFTSPEC granted: request -> F[0,3] grant;\\n'")
+        page.press("#format")
+        page.until("document.querySelector('#spec').value === 'INPUT request, grant: bool;\\nFTSPEC granted: request -> F[0,3] grant;\\n'")
         page.value(DROP)
-        page.wait("document.querySelector('#trace').value === '# request,grant\\n1,1\\n' && !document.querySelector('#timed').checked")
-        page.wait("document.querySelectorAll('button.v').length === 1")
+        page.until("document.querySelector('#trace').value === '# request,grant\\n1,1\\n' && !document.querySelector('#timed').checked")
+        page.until("document.querySelectorAll('button.v').length === 1")
         self.assertEqual(page.errors, [])
 
     def test_hostile_texts_stay_texts(self):
         page = self.open()
         page.type("#spec", "INPUT p: bool;\nFTSPEC f: <img src=x onerror=window.bad=1> && p;\n")
-        page.wait("document.querySelectorAll('#faults li').length > 0")
+        page.until("document.querySelectorAll('#faults li').length > 0")
         page.type("#trace", "# <script>window.bad=1</script>\n<b>1</b>\n")
         page.type("#spec", "INPUT p: bool;\nFTSPEC f: p;\n")
-        page.wait("document.querySelector('#refused').textContent.length > 0")
+        page.until("document.querySelector('#refused').textContent.length > 0")
         self.assertIsNone(page.value("window.bad"))
         self.assertEqual(page.value("document.querySelectorAll('main img, main b').length"), 0)
 
@@ -321,7 +318,7 @@ class Browser(Served):
         page = self.open()
         self.end()
         page.type("#spec", GRANT + "\n")
-        page.wait("document.querySelector('#said').textContent.includes('start r2u2-play again')")
+        page.until("document.querySelector('#said').textContent.includes('start r2u2-play again')")
 
     def test_contrast(self):
         """Each text of a verdict has a contrast of at least 4.5 to 1, light and dark."""

@@ -98,6 +98,7 @@ class Notations(Telemetry):
         self.assertEqual(self.made(text, "--missing", "9", "--missing", "b=hold"), "# t,a,b\n0,1,5\n1,9,5\n2,9,7\n")
         self.assertEqual(self.made(text, "--missing", "skip", remarks="trace: 2 lines left out for fields without a value\n"), "# t,a,b\n0,1,5\n")
         self.assertEqual(self.refused(text, "--missing", "refuse"), "line 3, column 2 (a): an empty field")
+        self.assertEqual(self.refused("a\nNaN\n", "--missing", "refuse"), "line 2, column 1 (a): 'NaN' is no value")
         self.assertEqual(self.made("a\nnone\n1\n", "--missing", "0", "--map", "a=none:7,1:1"), "# a\n7\n1\n")
         for words in (["--missing", "maybe"], ["--missing", "z=0"], ["--missing", "0", "--missing", "1"]):
             self.refused(text, *words, status=2)

@@ -110,7 +110,21 @@ class Watch(Live):
     def test_keep(self):
         status, _, _ = tool("watch", "--keep", "2", "--on-false", COMMAND, GRANT, TRACE, env={"OUT": str(self.out)})
         self.assertEqual(status, 1)
-        self.assertEqual(self.alarms()[0], "granted 2 F granted:2,F: no reason: more rows than --keep 2")
+        line = "granted 2 F granted:2,F: no reason: its rows came before the latest 2, which --keep keeps"
+        self.assertEqual(self.alarms()[0], line)
+
+    def test_reasons_after_many_rows(self):
+        """Those of the latest rows are found, however many came before, in rows and in stamps."""
+        rows = self.file("rows.csv", "# request,grant\n" + "0,0\n" * 5000 + "1,0\n0,0\n0,0\n0,0\n")
+        told = tool("watch", "--keep", "20", "--on-false", COMMAND, GRANT, rows, env={"OUT": str(self.out)})
+        self.assertEqual((told[0], told[2]), (1, ""))
+        reason = "granted is F at 5000: request holds at row 5000; grant is false at rows 5000, 5001, 5002 and 5003"
+        self.assertEqual(self.alarms()[0], f"granted 5000 F {reason}")
+        stamped = self.file("stamped.csv", "".join(f"@{7 * k},0,0\n" for k in range(5000)) + "@40000,1,0\n@40009,0,0\n")
+        self.out.unlink()
+        words = ["--timed", "--keep", "20", "--on-false", COMMAND, GRANT, stamped]
+        self.assertEqual(tool("watch", *words, env={"OUT": str(self.out)})[0], 1)
+        self.assertTrue(self.alarms()[0].startswith("granted 40000 F granted is F at 40000: request holds at time 40000"))
 
     def test_stamps(self):
         rows = self.file("rows.csv", "@0,1,0\n@9,0,1\n")

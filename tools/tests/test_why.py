@@ -305,6 +305,21 @@ class Sentences(Case):
         self.assertEqual((status, out.splitlines()[0]), (0, self.first(*GRANT, "granted:2")))
         self.assertEqual(errors, "why: the line has T, and over this trace the verdict is F\n")
 
+    def test_the_rest_of_a_trace(self):
+        """Its first row has the number that is given; the reasons are those over the whole trace."""
+        rows = ["1,0\n", *["0,0\n"] * 40, "1,0\n", *["0,0\n"] * 9]
+        whole, rest = self.file("whole.csv", "".join(rows)), self.file("rest.csv", "".join(rows[30:]))
+        self.assertEqual(self.told("--begin", "30", GRANT[0], rest, "granted:41"), self.told(GRANT[0], whole, "granted:41"))
+        past = self.file("past.c2po", "INPUT request, grant: bool;\nPTSPEC p: O[2,8] request;\n")
+        self.assertEqual(self.told("--begin", "30", past, rest, "p:40"), self.told(past, whole, "p:40"))
+        stamps = self.file("stamps.csv", "@40,0,0\n@41,1,0\n@60,0,0\n")
+        line = "granted is F at 41: request holds at time 41; grant is false at times 41, 42, 43 and 44"
+        self.assertEqual(self.first("--timed", "--begin", "40", GRANT[0], stamps, "granted:41"), line)
+        status, _, errors = tool("why", "--begin", "30", past, rest, "p:31")
+        self.assertEqual(status, 2)
+        self.assertIn("the verdict needs the rows from 23 on, and the first is 30", errors)
+        self.assertEqual(tool("why", "--timed", "--begin", "30", GRANT[0], stamps, "granted:41")[0], 2)
+
     def test_a_fault_in_a_row_that_counts(self):
         rows = self.file("rows.csv", "# request,grant\n" + "0,0\n" * 50 + "x,0\n")
         status, _, errors = tool("why", GRANT[0], rows, "granted:48")

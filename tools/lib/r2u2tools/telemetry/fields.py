@@ -250,20 +250,21 @@ class Columns:
                 continue
             text = text.strip()
             if column.is_missing(text):
-                self.without(column, number)
+                self.without(column, number, text)
                 continue
             try:
                 column.put(column.convert(text))
             except Unfit as unfit:
                 raise self.refused(number, column.place, unfit) from None
 
-    def without(self, column: Column, number: Any) -> None:
+    def without(self, column: Column, number: Any, text: str) -> None:
         """Takes a field without a value, by the rule of its column."""
         if column.missing is not None and column.missing not in RULES:
             column.put(str(int(column.missing)))
         elif column.missing == "refuse" or (column.missing is None and not self.hold):
             hint = "" if column.missing else ": --hold takes the last value"
-            raise self.refused(number, column.place, f"an empty field{hint}")
+            what = f"{shown(text)} is no value" if text else "an empty field"
+            raise self.refused(number, column.place, f"{what}{hint}")
 
     def text(self, number: Any, held: bool = False) -> str:
         """Returns the row, or what holds after it."""

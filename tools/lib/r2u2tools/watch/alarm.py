@@ -30,16 +30,16 @@ class Event:
 
 
 class Reasons:
-    """Reasons of verdicts, from the rows that were kept."""
+    """Reasons of verdicts, from the rows that are kept; `trace` is a file for them."""
 
-    def __init__(self, spec: str, trace: str, rows: Rows, timed: bool):
+    def __init__(self, spec: str, trace: Path, rows: Rows, timed: bool):
         self.spec, self.trace, self.rows, self.timed = spec, trace, rows, timed
 
     def of(self, event: Event) -> str:
         """What decides the verdict, in one line as r2u2-why prints it, or why that can't be said."""
-        if not self.rows.all_kept():
-            return f"{event.line()}: no reason: more rows than --keep {self.rows.most}"
-        words = [sys.executable, str(WHY), *["--timed"] * self.timed, "--", self.spec, self.trace, f"{event.name}:{event.time}"]
+        begin = self.rows.write(self.trace, self.timed)
+        words = [sys.executable, str(WHY), *["--timed"] * self.timed, "--begin", str(begin), "--"]
+        words += [self.spec, str(self.trace), f"{event.name}:{event.time}"]
         try:
             ran = subprocess.run(
                 words, stdin=subprocess.DEVNULL, stdout=subprocess.PIPE, stderr=subprocess.PIPE, timeout=SECONDS,
@@ -47,6 +47,8 @@ class Reasons:
             )
         except (OSError, subprocess.TimeoutExpired):
             return f"{event.line()}: no reason within {SECONDS} seconds"
+        if ran.returncode and begin:
+            return f"{event.line()}: no reason: its rows came before the latest {self.rows.most}, which --keep keeps"
         found = (ran.stdout or ran.stderr).decode("utf-8", "replace").splitlines()
         return found[0] if found else event.line()
 

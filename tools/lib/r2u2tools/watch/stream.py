@@ -3,10 +3,13 @@
 import os
 import subprocess
 import threading
-from typing import IO, Any, BinaryIO, Callable, List, Optional
+from collections import deque
+from pathlib import Path
+from typing import IO, Any, Callable, Deque, List, Optional
 
 from r2u2tools.common.cli import Trouble
 from r2u2tools.common.programs import message, program
+from r2u2tools.common.traces import stamp_of
 from r2u2tools.common.verdict_lines import Reader
 
 BLOCK = 1 << 16
@@ -15,32 +18,39 @@ Heard = Callable[[str, int, int, str], None]
 
 
 class Rows:
-    """The rows that passed: how many, and the first of them in a file, from which reasons are found."""
+    """The rows that passed: how many, and the latest of them, from which reasons are found."""
 
-    def __init__(self, kept: BinaryIO, most: int):
-        self.kept, self.most, self.count, self.rest = kept, most, 0, b""
+    def __init__(self, most: int):
+        self.most, self.count, self.rest = most, 0, b""
+        self.header: List[bytes] = []
+        self.kept: Deque[bytes] = deque(maxlen=most)
         self.is_first = True
+        self.lock = threading.Lock()
 
     def take(self, block: bytes) -> None:
-        """Counts the rows of a block, and keeps them while there are few; a header and blank lines are none."""
+        """Counts the rows of a block, and keeps the latest; a header and blank lines are none."""
         lines = (self.rest + block).split(b"\n")
         self.rest = lines.pop()
-        for line in lines:
-            is_header = self.is_first and line.startswith(b"#")
+        if self.is_first and lines:
             self.is_first = False
-            if is_header or line.strip():
-                self.count += not is_header
-                if self.count <= self.most:
-                    self.kept.write(line + b"\n")
-        self.kept.flush()
+            self.header = lines[:1] if lines[0].startswith(b"#") else []
+            del lines[: len(self.header)]
+        rows = [line for line in lines if line.strip()]
+        with self.lock:
+            self.kept.extend(rows)
+            self.count += len(rows)
 
     def end(self) -> None:
         """The stream has ended: a last line without its newline counts."""
         if self.rest.strip():
             self.take(b"\n")
 
-    def all_kept(self) -> bool:
-        return self.count <= self.most
+    def write(self, path: Path, timed: bool) -> int:
+        """Writes the rows that are kept, with the header; the time of the first."""
+        with self.lock:
+            kept, first = list(self.kept), self.count - len(self.kept)
+        path.write_bytes(b"\n".join([*self.header, *kept, b""]))
+        return stamp_of(kept[0], 1)[0] if timed and kept else first
 
 
 class Stream:

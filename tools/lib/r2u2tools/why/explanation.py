@@ -144,10 +144,10 @@ class Explainer:
         """The signals that the output reads, with their kinds."""
         return {name: self.shown.signals[name] for name in self.parts.signals}
 
-    def window(self, path: str, time: int, timed: bool) -> TraceWindow:
-        """The rows of a trace that may matter to the verdict of a time."""
+    def window(self, path: str, time: int, timed: bool, begin: int = 0) -> TraceWindow:
+        """The rows of a trace that may matter to the verdict of a time; `begin` is the time of its first row."""
         low, high = max(0, time - self.parts.ahead - self.parts.back), time + self.parts.ahead
-        window = read_window(path, low, high, timed)
+        window = read_window(path, low, high, timed, begin)
         if self.made.old:
             window.header = None
         return window
@@ -155,6 +155,7 @@ class Explainer:
     def explain(self, window: TraceWindow, time: int) -> Explanation:
         """The reasons of the verdict of a time for which the window has a row."""
         first = self.parts.first(time, window.rows)
+        window.reach(max(0, first - self.parts.back))
         spans = self.parts.spans(first, time)
         verdicts = self.over(window, spans)
         words = [verdicts.word(at) for at in range(first, time + 1)]

@@ -25,13 +25,20 @@ class Line:
 
 @dataclass
 class TraceWindow:
-    """The rows that hold from one time to another. `rows` is the first time without one, or the first after what was read."""
+    """The rows that hold from one time to another. `rows` is the first time without one, or the first after what was read;
+    `begin` is the time of the first row of the file: above 0 for the rest of a longer trace."""
 
     path: str
     header: Optional[bytes] = None
     lines: list[Line] = field(default_factory=list)
     rows: int = 0
+    begin: int = 0
     stamped: bool = False
+
+    def reach(self, first: int) -> None:
+        """Refuses to explain what depends on rows from a time on, where the file begins after it."""
+        if first < self.begin:
+            raise Trouble(f"{self.path}: the verdict needs the rows from {first} on, and the first is {self.begin}")
 
     def since(self, first: int) -> Iterator[tuple[int, bytes]]:
         """One row for each time from `first` on, with its number in the file."""
@@ -65,14 +72,14 @@ class Cells:
 
 def rows_of(file: IO[bytes], window: TraceWindow, timed: bool) -> Iterator[tuple[int, int, bytes]]:
     """The number, the time and the fields of each row; the header goes into the window."""
-    time = -1
+    time = window.begin - 1
     for number, line in lines_of(file, LONGEST):
         if number == 1 and line[:1] == b"#":
             window.header = line
         elif line.strip(BLANK):
             if timed:
                 at, line = stamp_of(line, number)
-                if at <= time or (time < 0 and at):
+                if at <= time or (time < window.begin and at != window.begin):
                     raise Trouble(f"line {number}: times not rising")
                 time = at
             else:
@@ -95,9 +102,9 @@ def kept_rows(rows: Iterable[tuple[int, int, bytes]], low: int, high: int) -> It
         yield Line(before[0], before[1], before[1], before[2])
 
 
-def read_window(path: str, low: int, high: int, timed: bool) -> TraceWindow:
+def read_window(path: str, low: int, high: int, timed: bool, begin: int = 0) -> TraceWindow:
     """The rows of a file, or of the standard input for `-`, from `low` to `high`; what follows isn't read."""
-    window = TraceWindow(path)
+    window = TraceWindow(path, begin=begin)
     try:
         with opened(path) as file:
             window.lines = list(kept_rows(rows_of(file, window, timed), low, high))
