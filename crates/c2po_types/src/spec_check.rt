@@ -3,7 +3,8 @@
 ghost use Rattle.std.specs.Prelude.{◌≡◌, ◌≢◌, None, Some, map, IfOk, IfErr, OnOk};
 ghost use Rattle.c2po_ast.specs.Names.{ArePlainItems};
 ghost use Rattle.c2po_ast.specs.ItemShape.{item_shape, spec_shape};
-ghost use Rattle.c2po_types.specs.FirstFault.{checked, first_fault};
+ghost use Rattle.c2po_types.specs.FirstFault.{first_fault};
+ghost use Rattle.c2po_types.specs.Stepwise.{checked};
 ghost use Rattle.c2po_types.specs.Reaching.{Comes};
 
 use crate::progress::Progress;
