@@ -18,13 +18,13 @@ use Rattle.c2po_types.specs.Outputs.{with_signals}
 use Rattle.c2po_types.proofs.Ruling.{rule_is}
 
 -- no fault is found
-pub no-fault : (items : List ItemShape) (s : State) → checked items ≡ Ok s → first_fault items ≡ None
-no-fault items s h = sym (rule_is items) ∙ ap fault_of h
+pub no_fault : (items : List ItemShape) (s : State) → checked items ≡ Ok s → first_fault items ≡ None
+no_fault items s h = sym (rule_is items) ∙ ap fault_of h
 
 -- a fault is the first one
-pub a-fault : (items : List ItemShape) (fault : TypeFault) → Fails fault (checked items) → fault ≢ Memory → first_fault items ≡ Some fault
-a-fault items Memory h other = absurd (other refl)
-a-fault items fault h other = sym (rule_is items) ∙ ap fault_of h
+pub a_fault : (items : List ItemShape) (fault : TypeFault) → Fails fault (checked items) → fault ≢ Memory → first_fault items ≡ Some fault
+a_fault items Memory h other = absurd (other refl)
+a_fault items fault h other = sym (rule_is items) ∙ ap fault_of h
 
 -- one signal more
 pub signals-more : (ss : List Signal) (n : ℕ) (s : Signal) (env : Env) → n < length ss → s ≡ get_or ss n s
