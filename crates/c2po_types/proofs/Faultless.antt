@@ -18,11 +18,13 @@ use Rattle.c2po_nodes.specs.Faults.{HasRanges, formula_fault}
 use Rattle.c2po_unfold.specs.Faults.{value_fault}
 use Rattle.c2po_unfold.specs.Values.{weight, formula_of}
 use Rattle.c2po_unfold.specs.Environment.{Env, declare, fields, value, value_of}
-use Rattle.c2po_types.specs.FirstFault.{State, start, when_ranged, one_tense, with_signals, with_out, body_step, item_step, checked, first_fault}
+use Rattle.c2po_types.specs.FirstFault.{first_fault}
+use Rattle.c2po_types.specs.Stepwise.{State, start, when_ranged, one_tense, with_out, body_step, item_step, checked}
 use Rattle.c2po_types.specs.Signals.{body_signals}
-use Rattle.c2po_types.proofs.Parts.{is-ok, bind-ok, unless-ok, not-passed, when-ok, when_ranged-ok, ok-inj}
+use Rattle.c2po_types.proofs.Parts.{bind-ok, unless-ok, not-passed, when-ok, when_ranged-ok, ok-inj}
 use Rattle.c2po_types.proofs.SignalLaws.{body-signals}
-use Rattle.c2po_types.specs.Outputs.{Place, before, values_after, asked_at, place_after, asked_from, outputs_of}
+use Rattle.c2po_types.specs.Outputs.{Place, before, values_after, asked_at, place_after, asked_from, outputs_of, with_signals}
+use Rattle.c2po_types.proofs.Ruling.{all-checked}
 use Rattle.c2po_types.proofs.Tensing.{of_tense}
 
 -- no whole number lacks a range
@@ -140,7 +142,7 @@ items-right (i ∷ items) s t p a h =
 faultless-right : (items : List ItemShape) → first_fault items ≡ None → All IsRight (outputs_of items)
 unfolding checked outputs_of
 faultless-right items h =
-    let q = is-ok (checked items) h in
+    let q = all-checked items h in
     items-right items start q.0 before (record { values = refl; signals = refl }) q.1
 
 -- outputs of a specification without a fault have ranges, and are of one tense

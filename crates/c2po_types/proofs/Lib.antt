@@ -1,5 +1,7 @@
 pub mod Parts
 pub mod SignalLaws
+pub mod Found
+pub mod Ruling
 pub mod Outcome
 pub mod Tensing
 pub mod Faultless

@@ -6,22 +6,25 @@ use Rattle.c2po_ast.specs.ItemShape.{ItemShape, item_shape}
 use Rattle.mltl_base.specs.declared.signal.Signal.{Signal}
 use Rattle.c2po_types.specs.declared.fault.TypeFault.{TypeFault}
 use Rattle.c2po_types.specs.declared.fault.TypeFault.TheVariants.{Memory}
-use Rattle.c2po_types.specs.Checking.{Fails, in_turn}
+use Rattle.c2po_types.specs.Checking.{Fails, in_turn, fault_of}
 use Rattle.c2po_types.proofs.Turns.{drop-first, turn-map}
 use Rattle.c2po_ast.specs.declared.item.Item.{Item}
 use Rattle.c2po_types.specs.declared.progress.Progress.{Progress}
 use Rattle.c2po_types.specs.Reaching.{state_of}
 use Rattle.c2po_unfold.specs.Environment.{Env, no_names, declare, value, signal_value}
-use Rattle.c2po_types.specs.FirstFault.{State, start, item_step, checked, fault_of, first_fault, with_signals}
+use Rattle.c2po_types.specs.FirstFault.{first_fault}
+use Rattle.c2po_types.specs.Stepwise.{State, start, item_step, checked}
+use Rattle.c2po_types.specs.Outputs.{with_signals}
+use Rattle.c2po_types.proofs.Ruling.{rule_is}
 
 -- no fault is found
-pub no-fault : (items : List ItemShape) (s : State) → checked items ≡ Ok s → first_fault items ≡ None
-no-fault items s h = ap fault_of h
+pub no_fault : (items : List ItemShape) (s : State) → checked items ≡ Ok s → first_fault items ≡ None
+no_fault items s h = sym (rule_is items) ∙ ap fault_of h
 
 -- a fault is the first one
-pub a-fault : (items : List ItemShape) (fault : TypeFault) → Fails fault (checked items) → fault ≢ Memory → first_fault items ≡ Some fault
-a-fault items Memory h other = absurd (other refl)
-a-fault items fault h other = ap fault_of h
+pub a_fault : (items : List ItemShape) (fault : TypeFault) → Fails fault (checked items) → fault ≢ Memory → first_fault items ≡ Some fault
+a_fault items Memory h other = absurd (other refl)
+a_fault items fault h other = sym (rule_is items) ∙ ap fault_of h
 
 -- one signal more
 pub signals-more : (ss : List Signal) (n : ℕ) (s : Signal) (env : Env) → n < length ss → s ≡ get_or ss n s

@@ -21,9 +21,11 @@ use Rattle.mltl_base.specs.Ranges.{NoRange}
 use Rattle.c2po_unfold.specs.Environment.{value_of}
 use Rattle.c2po_unfold.specs.Values as values
 use Rattle.c2po_unfold.specs.Faults.{value_fault}
-use Rattle.c2po_types.specs.FirstFault.{State, start, with_out, body_step, item_step, checked, first_fault}
+use Rattle.c2po_types.specs.FirstFault.{first_fault}
+use Rattle.c2po_types.specs.Stepwise.{State, start, with_out, body_step, item_step, checked}
 use Rattle.c2po_types.specs.Signals.{signals_of}
-use Rattle.c2po_types.proofs.Parts.{is-ok, bind-ok, unless-ok, when-ok, when_ranged-ok, ok-inj}
+use Rattle.c2po_types.proofs.Parts.{bind-ok, unless-ok, when-ok, when_ranged-ok, ok-inj}
+use Rattle.c2po_types.proofs.Ruling.{all-checked}
 use Rattle.c2po_types.proofs.SignalLaws.{checked-signals, signal_added}
 use Rattle.mltl_base.specs.Kinds.{HaveOwnNames}
 
@@ -156,7 +158,7 @@ none-apart = record {
 
 declared-apart : (items : List ItemShape) → first_fault items ≡ None → (t : State) × (checked items ≡ Ok t) × IsApart t.declared
 unfolding checked
-declared-apart items h = let p = is-ok (checked items) h in (p.0, p.1, items-apart items start p.0 p.1 none-apart)
+declared-apart items h = let p = all-checked items h in (p.0, p.1, items-apart items start p.0 p.1 none-apart)
 
 pub own_names : (items : List ItemShape) → first_fault items ≡ None → HaveOwnNames (signals_of items)
 own_names items h = let p = declared-apart items h in subst HaveOwnNames (checked-signals items p.0 p.1) p.2.own

@@ -3,9 +3,9 @@ use Rattle.std.proofs.Common.{◌≡◌, Bool, true, false, Result, Ok, Err, ref
 use Rattle.std.proofs.Common.{ℕ, Option, Some, None}
 use Rattle.std.specs.Result.{MatchResult, IsErrAnd}
 use Rattle.mltl_base.specs.Ranges.{NoRange}
-use Rattle.c2po_types.specs.FirstFault.{State, when_ranged, fault_of}
+use Rattle.c2po_types.specs.Stepwise.{State, when_ranged}
 use Rattle.c2po_types.specs.declared.fault.TypeFault.{TypeFault}
-use Rattle.c2po_types.specs.Checking.{Checked, ◌>>=◌, Fails}
+use Rattle.c2po_types.specs.Checking.{Checked, ◌>>=◌, Fails, fault_of}
 use Rattle.c2po_types.proofs.Turns.{fails-bind}
 
 pub ok-inj : {X : Type 0} (x y : X) → ◌≡◌ {A = Checked X} (Ok x) (Ok y) → x ≡ y

@@ -20,7 +20,7 @@ use Rattle.c2po_types.specs.Items.{Labels, new, with_field, signal_kind, struct_
 use Rattle.c2po_unfold.specs.Environment.{value_of}
 use Rattle.c2po_unfold.specs.Values as values
 use Rattle.c2po_unfold.specs.Faults.{value_fault}
-use Rattle.c2po_types.specs.FirstFault.{State, start, checked, defined, with_out, body_step, item_step}
+use Rattle.c2po_types.specs.Stepwise.{State, start, checked, defined, with_out, body_step, item_step}
 use Rattle.c2po_types.specs.Signals.{is_bool, body_signals, signals_of}
 use Rattle.c2po_types.proofs.Parts.{ok-inj, bind-ok, unless-ok, not-passed, when-ok, when_ranged-ok}
 
@@ -106,7 +106,7 @@ is_truth-named line d x k b h t = here (bytes_eq x (codes "int")) (bytes_eq x (c
     here false true not m e = let q : truth ≡ k = cc in let r : signal_truth line truth ≡ Ok b = ap (signal_truth line) q ∙ t in let s : true ≡ b = cc in sym s
     here false false not m e = of-struct m e
 
-is_truth : (line : ℕ) (d : Declarations) (t : TypeShape) (k : Kind) (b : Bool) → type_kind line d t ≡ Ok k → signal_truth line k ≡ Ok b → b ≡ is_bool t
+pub is_truth : (line : ℕ) (d : Declarations) (t : TypeShape) (k : Kind) (b : Bool) → type_kind line d t ≡ Ok k → signal_truth line k ≡ Ok b → b ≡ is_bool t
 is_truth line d (type_named x) k b h e = is_truth-named line d x k b h e
 is_truth line d (set_of t) k b h e =
     let p = bind-ok (type_kind line d t) (λ j. Ok (set_kind j)) k h in

@@ -1,12 +1,17 @@
 -- Checks that find something, or the first fault.
 
-use Rattle.std.specs.Prelude.{◌≡◌, List, [], ◌∷◌, Result, Ok, Err, ⊤}
+use Rattle.std.specs.Prelude.{◌≡◌, List, [], ◌∷◌, Option, Some, None, Result, Ok, Err, ⊤}
 use Rattle.c2po_types.specs.declared.fault.TypeFault.{TypeFault}
 use Rattle.c2po_types.specs.declared.fault.TypeFault.TheVariants.{Memory}
 
 -- What is found, or the first fault.
 abbrev pub Checked : Type 0 → Type 0
 Checked X = Result X TypeFault
+
+-- the fault that a check has found, if any
+abbrev pub fault_of : {X : Type 0} → Checked X → Option TypeFault
+fault_of (Ok x) = None
+fault_of (Err fault) = Some fault
 
 infixl 10 ◌>>=◌
 -- the first fault decides

@@ -1,54 +1,57 @@
--- The first fault of a specification: items in the order of the text, within an item names and kinds first, then the
--- weight of what it unfolds to, divisors and ranges, and tenses.
+-- The first fault of a specification. Items are taken in the order of the text, each where those before it are
+-- declared. In an item the faults below are looked for in the order of their list, in an expression operands first and
+-- from the left.
 
-use Rattle.std.specs.Prelude.{ℕ, suc, ◌+◌, nat_le, Bool, ◌||◌, List, [], ◌∷◌, map, length, drop, Option, Some, None, Ok}
-use Rattle.std.specs.Prelude.{Err, if◌then◌else◌}
-use Rattle.mltl_base.specs.declared.limits.TheConstants.{MAX_WEIGHT}
+use Rattle.std.specs.Prelude.{ℕ, ◌+◌, nat_le, Bool, ◌||◌, List, [], ◌∷◌, ◌++◌, length, map, sum, Option, Some, None}
+use Rattle.std.specs.Prelude.{if◌then◌else◌}
+use Rattle.std.specs.List.{list_any}
+use Rattle.std.specs.Option.{option_or, option_map}
+use Rattle.std.specs.Str.{bytes_eq}
+use Rattle.mltl_base.specs.declared.limits.TheConstants.{MAX_WEIGHT, MAX_SIGNALS}
 use Rattle.mltl_base.specs.declared.interval.Engine.{Engine}
 use Rattle.mltl_base.specs.declared.interval.Engine.TheVariants.{Ft, Pt}
 use Rattle.mltl_base.specs.Formula.{Formula}
 use Rattle.mltl_base.specs.Ranges.{NoRange, divisor, wide}
+use Rattle.mltl_base.specs.Tables.{is_named}
 use Rattle.c2po_ast.specs.Shape.{Shape}
 use Rattle.c2po_ast.specs.ItemShape.{TypeShape, FieldShape, BodyShape, ItemShape, structure, input, define, formula}
 use Rattle.c2po_ast.specs.ItemShape.{contract}
-use Rattle.mltl_base.specs.declared.signal.Signal.{Signal}
+use Rattle.c2po_nodes.specs.Faults.{formula_fault}
+use Rattle.c2po_nodes.specs.Tenses.{has_past, has_future}
+use Rattle.c2po_unfold.specs.Environment.{value_of}
+use Rattle.c2po_unfold.specs.Values.{weight, formula_of}
+use Rattle.c2po_unfold.specs.Faults.{value_fault}
 use Rattle.c2po_types.specs.declared.declarations.Declarations.{Declarations}
 use Rattle.c2po_types.specs.declared.fault.TypeFault.{TypeFault}
 use Rattle.c2po_types.specs.declared.fault.TypeFault.TheVariants as fault
-use Rattle.c2po_types.specs.Checking.{Checked, ◌>>=◌, in_turn}
-use Rattle.c2po_types.specs.Items.{Labels, nothing, with_struct, with_input, define_kind, with_value, with_label}
-use Rattle.c2po_types.specs.Items.{formula_kind, contract_kind}
-use Rattle.c2po_nodes.specs.Faults.{formula_fault, or_later}
-use Rattle.c2po_nodes.specs.Tenses.{has_past, has_future}
-use Rattle.c2po_unfold.specs.Environment.{Env, no_names, declare, fields, value, signal_value, value_of}
-use Rattle.c2po_unfold.specs.Values.{Value, weight, formula_of}
-use Rattle.c2po_unfold.specs.Faults.{value_fault}
+use Rattle.c2po_types.specs.Checking.{◌>>=◌, fault_of}
+use Rattle.c2po_types.specs.Kinds.{truth}
+use Rattle.c2po_types.specs.Scopes.{outside}
+use Rattle.c2po_types.specs.Expressions.{kind_of, of_one}
+use Rattle.c2po_types.specs.Items.{type_kind, signal_truth}
+use Rattle.c2po_types.specs.Declares.{after_others, declarations_of, values_by, labels_in, weights_of, total_weight}
 
--- What is known after some items: what they declare, the names of outputs, the values of names, and the weight of the
--- outputs together.
-pub record State : Type 0 where
-  pub declared : Declarations
-  pub labels : Labels
-  pub values : Env
-  pub total : ℕ
+-- the first of the faults that are there
+abbrev pub earliest : List (Option TypeFault) → Option TypeFault
+earliest [] = None
+earliest (o ∷ os) = option_or o (earliest os)
 
--- before the first item
-abbrev pub start : State
-start = record { declared = nothing; labels = []; values = no_names; total = 0 }
+-- a fault where a test holds
+abbrev pub fault_if : Bool → TypeFault → Option TypeFault
+fault_if b fault = if b then Some fault else None
 
--- a weight within the limit
-abbrev pub not_wide : ℕ → ℕ → Checked State → Checked State
-not_wide line w rest = if nat_le w MAX_WEIGHT then rest else Err (fault.Wide line)
+-- a fault where a test fails
+abbrev pub fault_unless : Bool → TypeFault → Option TypeFault
+fault_unless b fault = if b then None else Some fault
+
+-- whether a name is among names
+abbrev pub is_among : List ℕ → List (List ℕ) → Bool
+is_among x xs = list_any (bytes_eq x) xs
 
 -- the fault of a line with an integer that has no range
 abbrev pub range_fault : ℕ → NoRange → TypeFault
 range_fault line divisor = fault.Divisor line
 range_fault line wide = fault.Range line
-
--- integers that have ranges
-abbrev pub when_ranged : ℕ → Option NoRange → Checked State → Checked State
-when_ranged line None rest = rest
-when_ranged line (Some why) rest = Err (range_fault line why)
 
 -- whether the tense that isn't an engine's occurs: the past for future time, the future for past time
 abbrev pub other_tense : Engine → Bool → Bool → Bool
@@ -59,97 +62,71 @@ other_tense Pt past future = future
 abbrev pub is_mixed : Engine → Formula → Bool
 is_mixed engine p = other_tense engine (has_past p) (has_future p)
 
--- a formula of one tense
-abbrev pub one_tense : ℕ → Bool → Checked State → Checked State
-one_tense line mixed rest = if mixed then Err (fault.Tense line) else rest
+-- a field after others: its name twice, a type that isn't known
+abbrev pub field_faults : ℕ → Declarations → List FieldShape → FieldShape → List (Option TypeFault)
+field_faults line d before f =
+    fault_if (is_among f.name (map (λ g. g.name) before)) (fault.Twice line)
+    ∷ fault_of (type_kind line d f.kind)
+    ∷ []
 
--- the values of signals are their numbers
-abbrev pub with_signals : ℕ → List Signal → Env → Env
-with_signals n [] env = env
-with_signals n (s ∷ ss) env = with_signals (suc n) ss (declare s.name (value (signal_value s.truth n)) env)
+-- a struct: its name twice, then its fields
+abbrev pub struct_faults : ℕ → List ℕ → List FieldShape → Declarations → List (Option TypeFault)
+struct_faults line x fs d =
+    fault_if (is_named x d.names) (fault.Twice line)
+    ∷ after_others (field_faults line d) fs
 
--- a definition has a value
-abbrev pub defined : ℕ → List ℕ → Declarations → Value → State → Checked State
-defined line x d v s = not_wide line (weight v) (when_ranged line (value_fault v)
-    (Ok (record { declared = d; labels = s.labels; values = declare x (value v) s.values; total = s.total })))
+-- a signal after others: its name twice, one signal too many
+abbrev pub signal_faults : ℕ → Declarations → List (List ℕ) → List ℕ → List (Option TypeFault)
+signal_faults line d before x =
+    fault_if (is_named x d.names || is_among x before) (fault.Twice line)
+    ∷ fault_if (nat_le MAX_SIGNALS (length d.signals + length before)) (fault.Signals line)
+    ∷ []
 
--- an output with so much weight
-abbrev pub with_out : ℕ → Labels → ℕ → Option NoRange → Bool → State → Checked State
-with_out line labels w why mixed s = not_wide line (s.total + w) (when_ranged line why (one_tense line mixed
-    (Ok (record { declared = s.declared; labels = labels; values = s.values; total = s.total + w }))))
+-- signals: a type that isn't known, or neither `bool` nor `int`; then each signal
+abbrev pub input_faults : ℕ → List (List ℕ) → TypeShape → Declarations → List (Option TypeFault)
+input_faults line xs t d =
+    fault_of (type_kind line d t >>= signal_truth line)
+    ∷ after_others (signal_faults line d) xs
 
--- an output with a formula
-abbrev pub one_out : ℕ → Engine → Labels → Value → State → Checked State
-one_out line engine labels v s =
-    with_out line labels (weight v) (formula_fault (formula_of v)) (is_mixed engine (formula_of v)) s
+-- a definition: its expression, its name twice, its weight, its integers
+abbrev pub define_faults : ℕ → List ℕ → Shape → List ItemShape → List (Option TypeFault)
+define_faults line x e before =
+    fault_of (kind_of e (outside (declarations_of before)))
+    ∷ fault_if (is_named x (declarations_of before).names) (fault.Twice line)
+    ∷ fault_unless (nat_le (weight (value_of e (values_by before))) MAX_WEIGHT) (fault.Wide line)
+    ∷ option_map (range_fault line) (value_fault (value_of e (values_by before)))
+    ∷ []
 
--- an output with a contract
-abbrev pub two_out : ℕ → Engine → Labels → Value → Value → State → Checked State
-two_out line engine labels v w s =
-    with_out line labels (weight v + weight w) (or_later (formula_fault (formula_of v)) (formula_fault (formula_of w)))
-    (is_mixed engine (formula_of v) || is_mixed engine (formula_of w)) s
+-- an output's label twice
+abbrev pub label_fault : ℕ → Option (List ℕ) → List ItemShape → Option TypeFault
+label_fault line None before = None
+label_fault line (Some x) before = fault_if (is_among x (labels_in before)) (fault.Twice line)
 
--- what is known after one more struct, or its first fault
-abbrev pub struct_step : ℕ → List ℕ → List FieldShape → State → Checked State
-struct_step line x fs s = with_struct line x fs s.declared >>= λ d.
-    Ok (record {
-      declared = d;
-      labels = s.labels;
-      values = declare x (fields (map (λ f. f.name) fs)) s.values;
-      total = s.total;
-    })
+-- an output: its label; its expressions; one that is no formula; the weight of all outputs so far; its integers; its
+-- tense
+abbrev pub output_faults : ℕ → Engine → Option (List ℕ) → List Shape → List ItemShape → List (Option TypeFault)
+output_faults line engine label es before =
+    let seen = outside (declarations_of before) in
+    let env = values_by before in
+    label_fault line label before
+    ∷ map (λ e. fault_of (kind_of e seen)) es
+    ++ map (λ e. fault_of (kind_of e seen >>= of_one line truth truth)) es
+    ++ fault_unless (nat_le (total_weight before + sum (weights_of es env)) MAX_WEIGHT) (fault.Wide line)
+    ∷ map (λ e. option_map (range_fault line) (formula_fault (formula_of (value_of e env)))) es
+    ++ map (λ e. fault_if (is_mixed engine (formula_of (value_of e env))) (fault.Tense line)) es
 
--- what is known after one more declaration of signals, or its first fault
-abbrev pub input_step : ℕ → List (List ℕ) → TypeShape → State → Checked State
-input_step line xs t s = with_input line xs t s.declared >>= λ d. let n = length s.declared.signals in
-    Ok (record {
-      declared = d;
-      labels = s.labels;
-      values = with_signals n (drop n d.signals) s.values;
-      total = s.total;
-    })
+-- an item of any sort, on a line
+abbrev pub body_faults : ℕ → BodyShape → List ItemShape → List (Option TypeFault)
+body_faults line (structure x fs) before = struct_faults line x fs (declarations_of before)
+body_faults line (input xs t) before = input_faults line xs t (declarations_of before)
+body_faults line (define x e) before = define_faults line x e before
+body_faults line (formula engine label e) before = output_faults line engine label (e ∷ []) before
+body_faults line (contract engine label e f) before = output_faults line engine label (e ∷ f ∷ []) before
 
--- what is known after one more definition, or its first fault
-abbrev pub define_step : ℕ → List ℕ → Shape → State → Checked State
-define_step line x e s = do
-  k ← define_kind line x e s.declared
-  defined line x (with_value x k s.declared) (value_of e s.values) s
-
--- what is known after one more output with a formula, or its first fault
-abbrev pub formula_step : ℕ → Engine → Option (List ℕ) → Shape → State → Checked State
-formula_step line engine label e s = do
-  labels ← with_label line label s.labels
-  _ ← formula_kind line e s.declared
-  one_out line engine labels (value_of e s.values) s
-
--- what is known after one more output with a contract, or its first fault
-abbrev pub contract_step : ℕ → Engine → Option (List ℕ) → Shape → Shape → State → Checked State
-contract_step line engine label e f s = do
-  labels ← with_label line label s.labels
-  _ ← contract_kind line e f s.declared
-  two_out line engine labels (value_of e s.values) (value_of f s.values) s
-
--- what is known after one more item of any sort on a line, or its first fault
-abbrev pub body_step : ℕ → BodyShape → State → Checked State
-body_step line (structure x fs) s = struct_step line x fs s
-body_step line (input xs t) s = input_step line xs t s
-body_step line (define x e) s = define_step line x e s
-body_step line (formula engine label e) s = formula_step line engine label e s
-body_step line (contract engine label e f) s = contract_step line engine label e f s
-
--- what is known after one more item, or its first fault
-abbrev pub item_step : ItemShape → State → Checked State
-item_step item s = body_step item.line item.body s
-
--- what is known after all items, or the first fault
-unfoldable pub checked : List ItemShape → Checked State
-checked items = in_turn item_step items start
-
--- the fault that a check has found, if any
-abbrev pub fault_of : {X : Type 0} → Checked X → Option TypeFault
-fault_of (Ok x) = None
-fault_of (Err fault) = Some fault
+-- an item after others
+abbrev pub item_faults : List ItemShape → ItemShape → List (Option TypeFault)
+item_faults before i = body_faults i.line i.body before
 
 -- the first fault of a specification
-abbrev pub first_fault : List ItemShape → Option TypeFault
-first_fault items = fault_of (checked items)
+unfoldable pub first_fault : List ItemShape → Option TypeFault
+first_fault items = earliest (after_others item_faults items)

@@ -1,5 +1,7 @@
 pub mod Faultless
 pub mod FirstFault
+pub mod Declares
+pub mod Stepwise
 pub mod Signals
 pub mod Outputs
 pub mod Reaching

@@ -1,14 +1,14 @@
 -- The outputs of a specification: the plain formulas of their expressions.
 
-use Rattle.std.specs.Prelude.{ℕ, ◌+◌, Option, Some, None, List, [], ◌∷◌, ◌++◌, length, map, decimal}
+use Rattle.std.specs.Prelude.{ℕ, suc, ◌+◌, Option, Some, None, List, [], ◌∷◌, ◌++◌, length, map, fold, decimal}
+use Rattle.mltl_base.specs.declared.signal.Signal.{Signal}
 use Rattle.mltl_base.specs.Reports.{formula, contract}
 use Rattle.mltl_base.specs.Subformulas.{Asked}
 use Rattle.c2po_ast.specs.ItemShape as item
 use Rattle.c2po_ast.specs.ItemShape.{BodyShape, ItemShape}
 use Rattle.c2po_ast.specs.Names.{IsPlainName}
 use Rattle.c2po_unfold.specs.Values.{formula_of}
-use Rattle.c2po_unfold.specs.Environment.{Env, no_names, declare, fields, value, value_of}
-use Rattle.c2po_types.specs.FirstFault.{with_signals}
+use Rattle.c2po_unfold.specs.Environment.{Env, no_names, declare, fields, value, signal_value, value_of}
 use Rattle.c2po_types.specs.Signals.{body_signals}
 
 -- What is known between two items: the values of names, and the numbers of signals and of outputs before it.
@@ -20,6 +20,11 @@ pub record Place : Type 0 where
 -- before the first item
 abbrev pub before : Place
 before = record { values = no_names; signals = 0; outputs = 0 }
+
+-- the values of signals are their numbers
+abbrev pub with_signals : ℕ → List Signal → Env → Env
+with_signals n [] env = env
+with_signals n (s ∷ ss) env = with_signals (suc n) ss (declare s.name (value (signal_value s.truth n)) env)
 
 -- the value of a name is that of its definition, and signals are numbered in the order of declaration
 abbrev pub values_after : BodyShape → Place → Env
@@ -57,6 +62,10 @@ place_after body p = record {
   signals = p.signals + length (body_signals body);
   outputs = p.outputs + length (asked_at body p);
 }
+
+-- what is known after items
+abbrev pub place_by : List ItemShape → Place
+place_by items = fold (λ p i. place_after i.body p) before items
 
 -- the outputs of items from a place on
 unfoldable pub asked_from : List ItemShape → Place → List Asked

@@ -10,7 +10,7 @@ use Rattle.c2po_types.specs.Checking.{Checked, Fails}
 use Rattle.c2po_unfold.specs.Environment.{Env}
 use Rattle.c2po_unfold.specs.Holding.{StandsFor}
 use Rattle.c2po_types.specs.declared.progress.Progress.{Progress}
-use Rattle.c2po_types.specs.FirstFault.{State}
+use Rattle.c2po_types.specs.Stepwise.{State}
 
 -- what is known, where the unfolding represents the values of names
 abbrev pub state_of : Progress → Env → State

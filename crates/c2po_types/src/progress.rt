@@ -3,7 +3,7 @@
 ghost use Rattle.std.specs.Prelude.{◌≡◌};
 ghost use Rattle.c2po_unfold.specs.Environment.{no_names};
 ghost use Rattle.c2po_unfold.specs.Holding.{StandsFor};
-ghost use Rattle.c2po_types.specs.FirstFault.{start};
+ghost use Rattle.c2po_types.specs.Stepwise.{start};
 
 use crate::{Declarations, NameTable};
 use c2po_unfold::Unfolding;

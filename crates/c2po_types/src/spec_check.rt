@@ -3,7 +3,8 @@
 ghost use Rattle.std.specs.Prelude.{◌≡◌, ◌≢◌, None, Some, map, IfOk, IfErr, OnOk};
 ghost use Rattle.c2po_ast.specs.Names.{ArePlainItems};
 ghost use Rattle.c2po_ast.specs.ItemShape.{item_shape, spec_shape};
-ghost use Rattle.c2po_types.specs.FirstFault.{checked, first_fault};
+ghost use Rattle.c2po_types.specs.FirstFault.{first_fault};
+ghost use Rattle.c2po_types.specs.Stepwise.{checked};
 ghost use Rattle.c2po_types.specs.Reaching.{Comes};
 
 use crate::progress::Progress;
@@ -28,6 +29,7 @@ fn run(alloc: Global, items: &[Item]) -> Result<Progress, TypeFault>
 /// from left to right; then the weight of what it unfolds to, divisors and ranges, and tenses.
 ///
 /// Errors: the first fault with its line; `Memory` when out of memory.
+#[tactic(auto, using(crate::proofs::Outcome::no_fault, crate::proofs::Outcome::a_fault))]
 pub fn check(alloc: Global, tree: &SpecTree) -> Result<TypedSpec, TypeFault>
     requires plain { ArePlainItems (spec_shape tree.now) }
     ensures unchanged { IfOk result (λ spec. spec_shape spec ≡ spec_shape tree.now) }

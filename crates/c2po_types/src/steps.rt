@@ -9,7 +9,9 @@ ghost use Rattle.c2po_unfold.specs.Facts.{told_fault};
 ghost use Rattle.c2po_unfold.specs.Environment.{Env, value_of};
 ghost use Rattle.c2po_unfold.specs.Holding.{StandsFor, Weighs};
 ghost use Rattle.c2po_unfold.specs.Values.{Value};
-ghost use Rattle.c2po_types.specs.FirstFault.{item_step, struct_step, input_step, define_step, formula_step, contract_step, one_out, two_out, with_out, other_tense, range_fault, with_signals};
+ghost use Rattle.c2po_types.specs.FirstFault.{other_tense, range_fault};
+ghost use Rattle.c2po_types.specs.Stepwise.{item_step, struct_step, input_step, define_step, formula_step, contract_step, one_out, two_out, with_out};
+ghost use Rattle.c2po_types.specs.Outputs.{with_signals};
 ghost use Rattle.c2po_types.specs.Reaching.{Reaches, state_of, unfold_fault};
 
 use crate::progress::Progress;

@@ -6,7 +6,7 @@ use Rattle.std.proofs.lemmas.List.{map-append, length-map, length-append}
 use Rattle.std.proofs.lemmas.List.Elements.{All-nil, All-cons, All-append}
 use Rattle.c2po_ast.specs.ItemShape.{BodyShape, ItemShape, structure, input, define, formula, contract}
 use Rattle.mltl_base.specs.declared.signal.Signal.{Signal}
-use Rattle.c2po_types.specs.FirstFault.{with_signals}
+use Rattle.c2po_types.specs.Outputs.{with_signals}
 use Rattle.c2po_types.specs.Signals.{body_signals, signals_of}
 use Rattle.c2po_unfold.specs.Values.{formula_of}
 use Rattle.c2po_unfold.specs.Environment.{Env, declare, fields, value, signal_value, value_of}

@@ -22,8 +22,8 @@ use Rattle.c2po_ast.specs.declared.item.Item.{Item}
 use Rattle.c2po_ast.specs.Shape.{Shape}
 use Rattle.c2po_ast.specs.ItemShape as item
 use Rattle.c2po_ast.specs.ItemShape.{BodyShape, ItemShape, item_shape}
-use Rattle.c2po_types.specs.FirstFault.{first_fault, with_signals}
-use Rattle.c2po_types.specs.Outputs.{Place, before, name_of, values_after, asked_at, place_after, asked_from, outputs_of}
+use Rattle.c2po_types.specs.FirstFault.{first_fault}
+use Rattle.c2po_types.specs.Outputs.{Place, before, name_of, values_after, asked_at, place_after, asked_from, outputs_of, with_signals}
 use Rattle.c2po_types.specs.Signals.{body_signals, signals_of}
 use Rattle.c2po_types.proofs.Faultless.{faultless-tensed}
 use Rattle.c2po_types.proofs.Turns.{drop-first}

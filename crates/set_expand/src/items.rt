@@ -4,8 +4,7 @@ ghost use Rattle.std.specs.Prelude.{◌≡◌, ◌++◌, ◌+◌, [], List as Se
 ghost use Rattle.c2po_ast.specs.Shape.{shape};
 ghost use Rattle.c2po_ast.specs.ItemShape.{body_shape, contract, define, field_shape, formula, input, structure, type_shape};
 ghost use Rattle.c2po_nodes.specs.Nodes.{Has, formula as formula_tree};
-ghost use Rattle.c2po_types.specs.FirstFault.{with_signals};
-ghost use Rattle.c2po_types.specs.Outputs.{before};
+ghost use Rattle.c2po_types.specs.Outputs.{before, with_signals};
 ghost use Rattle.c2po_types.specs.Signals.{body_signals, is_bool};
 ghost use Rattle.c2po_unfold.specs.Environment.{value_of};
 ghost use Rattle.c2po_unfold.specs.Values.{formula_of};

@@ -18,12 +18,14 @@ use Rattle.c2po_types.specs.declared.declarations.Declarations.{Declarations}
 use Rattle.c2po_types.specs.declared.fault.TypeFault.{TypeFault}
 use Rattle.c2po_types.specs.Checking.{Checked, ◌>>=◌, in_turn}
 use Rattle.c2po_types.specs.Items.{Labels, new, with_signal, with_input, with_value, with_label, define_kind, formula_kind, contract_kind, signal_kind}
-use Rattle.c2po_types.specs.FirstFault.{State, start, when_ranged, one_tense, defined, with_out, item_step, checked, fault_of, first_fault, define_step, input_step, formula_step, contract_step, with_signals, is_mixed}
+use Rattle.c2po_types.specs.FirstFault.{first_fault, is_mixed}
+use Rattle.c2po_types.specs.Stepwise.{State, start, when_ranged, one_tense, defined, with_out, item_step, checked, define_step, input_step, formula_step, contract_step}
 use Rattle.c2po_nodes.specs.Faults.{formula_fault, or_later}
 use Rattle.c2po_unfold.specs.Values as values
 use Rattle.c2po_unfold.specs.Faults.{value_fault}
 use Rattle.c2po_unfold.specs.Environment.{Env, Known, nothing, value, declare, or_else, signal_value, value_of}
-use Rattle.c2po_types.specs.Outputs.{Place, before, place_after}
+use Rattle.c2po_types.specs.Outputs.{Place, before, place_after, with_signals}
+use Rattle.c2po_types.proofs.Ruling.{all-checked}
 use Rattle.obs_show.specs.Lines.{Reference, Form, Line, input, define, formula, contract}
 use Rattle.show_roundtrip.specs.Said.{reference_shape, form_shape, kind_name, line_body, line_item, line_items}
 use Rattle.show_roundtrip.specs.Unfolded.{IsNew, AreNew}
@@ -195,13 +197,9 @@ lines_ok (l ∷ ls) n s t p e h =
     let step = line_ok n l s e1.0 p e1.1 h in
     (step.new, lines_ok ls (n + 1) e1.0 t (place_after (line_body n l) p) e1.2 step.together)
 
-without_fault : (r : Checked State) → fault_of r ≡ None → (s : State) × (r ≡ Ok s)
-without_fault (Ok s) e = (s, refl)
-without_fault (Err fault) e = absurd (cc)
-
 -- lines without a fault declare new names
 pub lines_are_new : (ls : List Line) → first_fault (line_items 1 ls) ≡ None → AreNew 1 ls before
 unfolding checked
 lines_are_new ls e =
-    let done = without_fault (in_turn item_step (line_items 1 ls) start) e in
+    let done = all-checked (line_items 1 ls) e in
     lines_ok ls 1 start done.0 before done.1 (record { values = refl; signals = refl; agrees = λ x g. refl })

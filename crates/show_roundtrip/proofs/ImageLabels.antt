@@ -25,8 +25,10 @@ use Rattle.c2po_types.specs.Items.{Labels, with_struct, with_input, define_kind,
 use Rattle.mltl_base.specs.Ranges.{NoRange}
 use Rattle.c2po_unfold.specs.Environment.{value_of}
 use Rattle.c2po_unfold.specs.Faults.{value_fault}
-use Rattle.c2po_types.specs.FirstFault.{State, start, with_out, body_step, item_step, checked, fault_of, first_fault}
+use Rattle.c2po_types.specs.FirstFault.{first_fault}
+use Rattle.c2po_types.specs.Stepwise.{State, start, with_out, body_step, item_step, checked}
 use Rattle.c2po_types.proofs.Parts.{bind-ok, unless-ok, when-ok, when_ranged-ok, ok-inj}
+use Rattle.c2po_types.proofs.Ruling.{all-checked}
 use Rattle.c2po_types.specs.Outputs.{Place, before, place_after, name_of, asked_at, asked_from, outputs_of}
 use Rattle.c2po_compile.specs.Front.{items_in, first_refusal}
 use Rattle.c2po_compile.specs.Compiled.{signals_in, outputs_in}
@@ -120,11 +122,7 @@ items_new (i ∷ items) s t h =
 
 source_new : (items : List ItemShape) → first_fault items ≡ None → AreNewLabels [] (labels_of items)
 unfolding checked
-source_new items h = go (in_turn item_step items start) refl h
-  where
-    go : (r : Checked State) → in_turn item_step items start ≡ r → fault_of r ≡ None → AreNewLabels [] (labels_of items)
-    go (Ok t) e g = items_new items start t e
-    go (Err why) e g = absurd (cc)
+source_new items h = let p = all-checked items h in items_new items start p.0 p.1
 
 -- ---- the names of a source's outputs
 

@@ -12,15 +12,17 @@ use Rattle.mltl_base.specs.Ranges.{NoRange}
 use Rattle.c2po_types.specs.declared.kind.Kind.{Kind}
 use Rattle.c2po_types.specs.declared.declarations.Declarations.{Declarations}
 use Rattle.c2po_types.specs.declared.fault.TypeFault.TheVariants as fault
-use Rattle.c2po_types.specs.Checking.{Checked, ◌>>=◌, in_turn}
+use Rattle.c2po_types.specs.Checking.{Checked, ◌>>=◌, in_turn, fault_of}
 use Rattle.c2po_types.specs.Items.{Labels, nothing, with_value, with_label, formula_kind, contract_kind}
-use Rattle.c2po_types.specs.FirstFault.{State, when_ranged, one_tense, defined, with_out, one_out, two_out, item_step, checked, fault_of, first_fault, with_signals, is_mixed}
+use Rattle.c2po_types.specs.FirstFault.{first_fault, is_mixed}
+use Rattle.c2po_types.specs.Stepwise.{State, when_ranged, one_tense, defined, with_out, one_out, two_out, item_step, checked}
 use Rattle.c2po_nodes.specs.Faults.{formula_fault, or_later}
 use Rattle.c2po_unfold.specs.Values as values
 use Rattle.c2po_unfold.specs.Values.{Value, formula_of}
 use Rattle.c2po_unfold.specs.Faults.{value_fault}
 use Rattle.c2po_unfold.specs.Environment.{Env, value, declare, signal_value}
-use Rattle.c2po_types.specs.Outputs.{Place, before, place_after}
+use Rattle.c2po_types.specs.Outputs.{Place, before, place_after, with_signals}
+use Rattle.c2po_types.proofs.Ruling.{rule_is}
 use Rattle.obs_show.specs.Lines.{Reference, Form, Line, input, define, formula, contract}
 use Rattle.show_roundtrip.specs.Said.{reference_shape, line_body, line_item, line_items}
 use Rattle.show_roundtrip.proofs.Fresh.{signal_added, signal_ok}
@@ -160,4 +162,4 @@ lines_go (l ∷ ls) n d labels p total count kinds names passes =
 -- lines that pass have no fault
 pub lines_pass : (ls : List Line) → KindsPass 1 ls nothing → LabelsPass 1 ls [] → ValuesPass 1 ls before 0 → first_fault (line_items 1 ls) ≡ None
 unfolding checked
-lines_pass ls kinds names passes = ap fault_of (lines_go ls 1 nothing [] before 0 refl kinds names passes).1
+lines_pass ls kinds names passes = sym (rule_is (line_items 1 ls)) ∙ ap fault_of (lines_go ls 1 nothing [] before 0 refl kinds names passes).1

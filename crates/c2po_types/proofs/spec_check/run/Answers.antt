@@ -4,7 +4,7 @@ use Rattle.c2po_ast.specs.ItemShape.{item_shape}
 use Rattle.c2po_types.specs.Checking.{Fails}
 use Rattle.c2po_types.proofs.Turns.{turn-more, turn-fails, turn-end}
 use Rattle.c2po_unfold.specs.Environment.{no_names}
-use Rattle.c2po_types.specs.FirstFault.{State, item_step}
+use Rattle.c2po_types.specs.Stepwise.{State, item_step}
 use Rattle.c2po_types.specs.Reaching.{state_of}
 use Rattle.c2po_types.proofs.Outcome.{checked-from}
 use Rattle.c2po_types.proofs.spec_check.run.Goals as goal

@@ -4,7 +4,7 @@ use Rattle.c2po_ast.specs.ItemShape.{item_shape}
 use Rattle.c2po_types.specs.Checking.{in_turn}
 use Rattle.c2po_unfold.specs.Environment.{Env}
 use Rattle.c2po_unfold.specs.Holding.{StandsFor}
-use Rattle.c2po_types.specs.FirstFault.{item_step, checked}
+use Rattle.c2po_types.specs.Stepwise.{item_step, checked}
 use Rattle.c2po_types.specs.Reaching.{state_of}
 use Rattle.c2po_types.proofs.spec_check.run.Given as goal
 

@@ -1,7 +1,7 @@
 use Rattle.std.proofs.Common.{◌≡◌, drop}
 use Rattle.c2po_unfold.specs.Environment.{Env}
 use Rattle.c2po_unfold.specs.Holding.{StandsFor}
-use Rattle.c2po_types.specs.FirstFault.{with_signals}
+use Rattle.c2po_types.specs.Outputs.{with_signals}
 use Rattle.c2po_types.proofs.steps.add_signals.Given as goal
 
 -- the signals so far stand for their numbers, and those that are left make the whole

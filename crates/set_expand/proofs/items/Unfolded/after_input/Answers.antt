@@ -3,7 +3,7 @@ use Rattle.std.proofs.Common.{◌≡◌, ◌∙◌, ℕ, List, Bool, refl, ap, m
 use Rattle.std.proofs.lemmas.List.{length-map}
 use Rattle.mltl_base.specs.declared.signal.Signal.{Signal}
 use Rattle.c2po_ast.specs.ItemShape.{input, type_shape}
-use Rattle.c2po_types.specs.FirstFault.{with_signals}
+use Rattle.c2po_types.specs.Outputs.{with_signals}
 use Rattle.c2po_types.specs.Signals.{body_signals, is_bool}
 use Rattle.set_expand.specs.declared.items.Unfolded.{Unfolded}
 use Rattle.set_expand.specs.Names.{env_now}

@@ -1,5 +1,5 @@
 use Rattle.std.proofs.Common.{◌≡◌, ◌+◌, ◌∙◌, Some, drop, slice_get, refl, sym, ap, subst, arith}
-use Rattle.c2po_types.specs.FirstFault.{with_signals}
+use Rattle.c2po_types.specs.Outputs.{with_signals}
 use Rattle.c2po_unfold.specs.Environment.{declare, value, signal_value}
 use Rattle.c2po_unfold.proofs.Members.{found_at}
 use Rattle.set_expand.specs.Names.{SignalsBelow, env_now}

@@ -1,6 +1,6 @@
 use Rattle.std.proofs.Common.{◌≡◌, ◌+◌, List, drop}
 use Rattle.c2po_nodes.specs.declared.nodes.Plain.{Plain}
-use Rattle.c2po_types.specs.FirstFault.{with_signals}
+use Rattle.c2po_types.specs.Outputs.{with_signals}
 use Rattle.set_expand.specs.Names.{SignalsBelow, env_now}
 use Rattle.set_expand.specs.Nodes.{HaveNodes}
 use Rattle.set_expand.proofs.Stepping.{signals_named}
