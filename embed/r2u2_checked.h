@@ -167,9 +167,9 @@ static inline uint32_t r2u2_checked_delay(struct r2u2 *it, uint32_t k) {
     return r2u2_is_struct(it) ? r2u2_delay(it, k) : 0u;
 }
 
-static inline uint64_t r2u2_checked_steps(struct r2u2 *it) { return r2u2_is_struct(it) ? r2u2_steps(it) : 0u; }
+static inline uint64_t r2u2_checked_steps(const struct r2u2 *it) { return r2u2_is_struct(it) ? r2u2_steps(it) : 0u; }
 
-static inline uint64_t r2u2_checked_most_reports(struct r2u2 *it) {
+static inline uint64_t r2u2_checked_most_reports(const struct r2u2 *it) {
     return r2u2_is_struct(it) ? r2u2_most_reports(it) : 0u;
 }
 

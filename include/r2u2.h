@@ -46,6 +46,7 @@ struct r2u2 {
     void *at;
     uint64_t rows;
     uint32_t width, outputs, signals;
+    uint64_t steps, most_reports;
 };
 
 /* What the calls answer. */
@@ -159,13 +160,21 @@ uint32_t r2u2_bytes(const uint8_t *program, size_t count, uint64_t *bytes, struc
 
 /* Queries of an open monitor. Each returns 0 where none is open. */
 
-/* How many numbers a row has, how many outputs there are, how many signals the program stores (one of version 1 stores none),
- * and how many rows were taken. These four only read: several threads may make them at once, while no other call uses the
- * struct. */
+/* The next six only read: several threads may make them at once, while no other call uses the struct.
+ *
+ * How many numbers a row has, how many outputs there are, how many signals the program stores (one of version 1 stores none),
+ * and how many rows were taken. */
 uint32_t r2u2_width(const struct r2u2 *it);
 uint32_t r2u2_outputs(const struct r2u2 *it);
 uint32_t r2u2_signals(const struct r2u2 *it);
 uint64_t r2u2_rows(const struct r2u2 *it);
+
+/* Returns the most steps of one row, which are reads and writes of queues and boxes. */
+uint64_t r2u2_steps(const struct r2u2 *it);
+
+/* The most reports that one row brings, of all outputs together: between two rows r2u2_next gives no more, in either style.
+ * Size the telemetry of a row by it. */
+uint64_t r2u2_most_reports(const struct r2u2 *it);
 
 /* The calls from here to r2u2_signal change nothing, but they write to the struct while they run: it isn't const, and no
  * other call uses it meanwhile. Make them once, after opening, and keep their results. */
@@ -178,13 +187,6 @@ uint32_t r2u2_name(struct r2u2 *it, uint32_t k, char *buffer, size_t count);
 /* Returns the worst-case delay of output `k` in rows: the row at time t + delay reports its time t at the latest. 0 also
  * where there isn't such an output. */
 uint32_t r2u2_delay(struct r2u2 *it, uint32_t k);
-
-/* Returns the most steps of one row, which are reads and writes of queues and boxes. */
-uint64_t r2u2_steps(struct r2u2 *it);
-
-/* The most reports that one row brings, of all outputs together: between two rows r2u2_next gives no more, in either style.
- * Size the telemetry of a row by it. */
-uint64_t r2u2_most_reports(struct r2u2 *it);
 
 /* What an output is; 0 is neither. */
 enum r2u2_output_kind { R2U2_FORMULA = 1, R2U2_CONTRACT = 2 };

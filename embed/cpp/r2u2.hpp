@@ -117,10 +117,10 @@ public:
     std::uint32_t width() const noexcept { return r2u2_width(&it); }
     std::uint32_t outputs() const noexcept { return r2u2_outputs(&it); }
     std::uint64_t rows() const noexcept { return r2u2_rows(&it); }
-    std::uint64_t steps() noexcept { return r2u2_steps(&it); }
+    std::uint64_t steps() const noexcept { return r2u2_steps(&it); }
 
     // The most reports that one row brings, in either style.
-    std::uint64_t most_reports() noexcept { return r2u2_most_reports(&it); }
+    std::uint64_t most_reports() const noexcept { return r2u2_most_reports(&it); }
 
     // Whether an output is an assume-guarantee contract; else it is a formula, or there is no such output.
     bool is_contract(std::uint32_t k) noexcept { return r2u2_output_kind(&it, k) == R2U2_CONTRACT; }

@@ -28,7 +28,8 @@ MANY = 64
 
 class _Struct(ctypes.Structure):
     _fields_ = [("at", ctypes.c_void_p), ("rows", ctypes.c_uint64), ("width", ctypes.c_uint32),
-                ("outputs", ctypes.c_uint32), ("signals", ctypes.c_uint32)]
+                ("outputs", ctypes.c_uint32), ("signals", ctypes.c_uint32), ("steps", ctypes.c_uint64),
+                ("most_reports", ctypes.c_uint64)]
 
 
 class _Fault(ctypes.Structure):

@@ -13,6 +13,8 @@ use Rattle.r2u2_monitor.specs.declared.row_fault.RowFault.{RowFault}
 use Rattle.r2u2_monitor.specs.declared.row_fault.RowFault.TheVariants.{ReportsLeft, NotARow, TooManyRows}
 use Rattle.r2u2_monitor.specs.Monitoring.{IsDrained, program_of, taken_by}
 use Rattle.r2u2_monitor.specs.RowFaults.{IsRowCause}
+use Rattle.r2u2_monitor.specs.Running.{row_work}
+use Rattle.r2u2_monitor.specs.Bursts.{most_reports}
 use Rattle.r2u2_c.specs.declared.codes.TheConstants.{DONE, NOT_OPEN, REPORTS_LEFT, NOT_A_ROW, TOO_MANY_ROWS, NO_REPORT}
 use Rattle.r2u2_c.specs.declared.report.Told.{Told}
 use Rattle.r2u2_c.specs.declared.row_why.RowWhy.{RowWhy}
@@ -108,15 +110,17 @@ delay_told m before k found told is finds tells =
     ∙ ap (λ (o : Option State). slice_index (open_delays o) k) (sym is)
 
 -- what may be read of a monitor stays where its program does, and the number of its rows
-pub told_still : (m n : State) (before : Option State) (taken columns outs stored : ℕ) → before ≡ Some m → MirrorsMonitor before taken columns outs stored
-    → program_of n ≡ program_of m → taken_by n ≡ taken_by m → MirrorsMonitor (Some n) taken columns outs stored
-told_still m n before taken columns outs stored is told same as_many =
-    let old : MirrorsMonitor (Some m) taken columns outs stored = subst (λ (o : Option State). MirrorsMonitor o taken columns outs stored) is told in
+pub told_still : (m n : State) (before : Option State) (taken columns outs stored work most : ℕ) → before ≡ Some m → MirrorsMonitor before taken columns outs stored work most
+    → program_of n ≡ program_of m → taken_by n ≡ taken_by m → MirrorsMonitor (Some n) taken columns outs stored work most
+told_still m n before taken columns outs stored work most is told same as_many =
+    let old : MirrorsMonitor (Some m) taken columns outs stored work most = subst (λ (o : Option State). MirrorsMonitor o taken columns outs stored work most) is told in
     record {
       rows = old.rows ∙ sym as_many;
       width = old.width ∙ ap (λ (p : Program). p.width) (sym same);
       outputs = old.outputs ∙ ap (λ (p : Program). length (output_names p)) (sym same);
       signals = old.signals ∙ ap (λ (p : Program). length p.signals) (sym same);
+      steps = old.steps ∙ ap (λ (p : Program). row_work p) (sym same);
+      reports = old.reports ∙ ap (λ (p : Program). most_reports p) (sym same);
     }
 
 -- reports that were told one after another leave the program and the number of rows

@@ -12,7 +12,7 @@ use Rattle.r2u2_monitor.specs.Monitoring.{program_of, taken_by}
 use Rattle.r2u2_monitor.specs.Running.{row_work}
 use Rattle.r2u2_monitor.specs.Bursts.{most_reports}
 use Rattle.r2u2_monitor.specs.Bytes.{monitor_bytes}
-use Rattle.r2u2_c.specs.declared.bytes.TheConstants.{MONITOR_BYTES}
+use Rattle.r2u2_monitor.specs.declared.bytes.TheConstants.{MONITOR_BYTES}
 use Rattle.r2u2_c.specs.declared.opened.OpeningFault.{OpeningFault}
 
 -- the number of columns of a row
@@ -45,13 +45,15 @@ abbrev pub open_signals : Option State → List StoredSignal
 open_signals (Some monitor) = (program_of monitor).signals
 open_signals None = []
 
--- what may be read of a monitor without it: how many rows it has taken, and how many columns, outputs and signals its
--- program has; 0 where none is open
-pub record MirrorsMonitor (monitor : Option State) (taken columns outs stored : ℕ) : Type 0 where
+-- what may be read of a monitor without it: how many rows it has taken, how many columns, outputs and signals its
+-- program has, and how many steps and reports a row takes and brings at most; 0 where none is open
+pub record MirrorsMonitor (monitor : Option State) (taken columns outs stored work most : ℕ) : Type 0 where
   pub rows : taken ≡ open_rows monitor
   pub width : columns ≡ open_width monitor
   pub outputs : outs ≡ length (open_names monitor)
   pub signals : stored ≡ length (open_signals monitor)
+  pub steps : work ≡ steps_of monitor
+  pub reports : most ≡ open_most_reports monitor
 
 -- the worst-case delays of the outputs
 abbrev pub open_delays : Option State → List ℕ

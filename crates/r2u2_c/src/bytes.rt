@@ -10,14 +10,9 @@ use crate::exports::refuse;
 use crate::fault::Fault;
 use crate::opened::OpeningFault;
 use obs_files::open;
-use r2u2_monitor::{Monitor, monitor_bytes};
+use r2u2_monitor::bytes::MONITOR_BYTES;
+use r2u2_monitor::monitor_bytes;
 use std::alloc::Global;
-use std::mem::size_of;
-
-/// The bytes of the block of a monitor, without those of its lists.
-pub const MONITOR_BYTES: usize = 512;
-
-const _: () = prove!(size_of::<Monitor>() == MONITOR_BYTES);
 
 /// Tells how many bytes a monitor of the program that these bytes spell holds while it is open, in all its blocks
 /// together.

@@ -1,10 +1,10 @@
 //! What C keeps of a monitor.
 
 ghost use Rattle.std.specs.Prelude.{◌≡◌, Some, length};
-ghost use Rattle.r2u2_c.specs.Queries.{MirrorsMonitor, open_names, open_signals, open_width};
+ghost use Rattle.r2u2_c.specs.Queries.{MirrorsMonitor, open_most_reports, open_names, open_signals, open_width, steps_of};
 
 use crate::handle::Handle;
-use r2u2_monitor::Monitor;
+use r2u2_monitor::{Monitor, most_reports, row_steps};
 use std::alloc::Global;
 use std::mem;
 
@@ -17,7 +17,9 @@ pub struct R2u2 {
     width: u32,
     outputs: u32,
     signals: u32,
-    pub ghost told: { MirrorsMonitor handle.value rows width outputs signals },
+    steps: u64,
+    most_reports: u64,
+    pub ghost told: { MirrorsMonitor handle.value rows width outputs signals steps most_reports },
 }
 
 impl R2u2 {
@@ -33,6 +35,8 @@ impl R2u2 {
             width: 0,
             outputs: 0,
             signals: 0,
+            steps: 0,
+            most_reports: 0,
         }
     }
 
@@ -43,12 +47,16 @@ impl R2u2 {
         let width = width_in(&monitor);
         let outputs = outputs_in(&monitor);
         let signals = signals_in(&monitor);
+        let steps = row_steps(monitor.checked());
+        let most = most_reports(monitor.checked());
         R2u2 {
             handle: Handle::with(monitor),
             rows,
             width,
             outputs,
             signals,
+            steps,
+            most_reports: most,
         }
     }
 
@@ -62,6 +70,8 @@ impl R2u2 {
             width: _,
             outputs: _,
             signals: _,
+            steps: _,
+            most_reports: _,
         } = self;
         handle.into_box(alloc)
     }
@@ -131,6 +141,20 @@ impl R2u2 {
         ensures { result ≡ length (open_signals self.now.handle.value) }
     {
         self.signals
+    }
+
+    /// The most steps of one row; 0 where none is open.
+    pub(crate) fn steps(&self) -> u64
+        ensures { result ≡ steps_of self.now.handle.value }
+    {
+        self.steps
+    }
+
+    /// The most reports of one row; 0 where none is open.
+    pub(crate) fn most_reports(&self) -> u64
+        ensures { result ≡ open_most_reports self.now.handle.value }
+    {
+        self.most_reports
     }
 }
 

@@ -7,7 +7,7 @@ use crate::c_monitor::R2u2;
 use crate::names::write_name;
 use crate::version::VERSION;
 use mltl_base::{Out, StoredSignal};
-use r2u2_monitor::{Monitor, delay_of, most_reports, row_steps};
+use r2u2_monitor::{Monitor, delay_of};
 use std::alloc::Global;
 
 /// The version of the library.
@@ -80,34 +80,18 @@ pub extern "C" fn r2u2_delay(it: &mut R2u2, alloc: Global, k: u32) -> u32
 
 /// The most steps of one row, which are reads and writes of queues and boxes; 0 where none is open.
 #[unsafe(no_mangle)]
-pub extern "C" fn r2u2_steps(it: &mut R2u2, alloc: Global) -> u64
-    ensures steps { result ≡ steps_of it.old.handle.value }
-    ensures kept { it.new.handle.value ≡ it.old.handle.value }
+pub extern "C" fn r2u2_steps(it: &R2u2) -> u64
+    ensures { result ≡ steps_of it.now.handle.value }
 {
-    match it.handle.take(alloc) {
-        None => 0,
-        Some(monitor) => {
-            let steps = row_steps(monitor.checked());
-            it.handle.put(monitor);
-            steps
-        }
-    }
+    it.steps()
 }
 
 /// The most reports that one row brings, in either style; 0 where none is open.
 #[unsafe(no_mangle)]
-pub extern "C" fn r2u2_most_reports(it: &mut R2u2, alloc: Global) -> u64
-    ensures most { result ≡ open_most_reports it.old.handle.value }
-    ensures kept { it.new.handle.value ≡ it.old.handle.value }
+pub extern "C" fn r2u2_most_reports(it: &R2u2) -> u64
+    ensures { result ≡ open_most_reports it.now.handle.value }
 {
-    match it.handle.take(alloc) {
-        None => 0,
-        Some(monitor) => {
-            let most = most_reports(monitor.checked());
-            it.handle.put(monitor);
-            most
-        }
-    }
+    it.most_reports()
 }
 
 /// The kind of output `k`: 1 a formula, 2 an assume-guarantee contract; 0 where none is open or there is no such output.

@@ -26,6 +26,14 @@ struct Struct {
     width: u32,
     outputs: u32,
     signals: u32,
+    steps: u64,
+    most_reports: u64,
+}
+
+impl Struct {
+    const fn closed() -> Struct {
+        Struct { at: core::ptr::null_mut(), rows: 0, width: 0, outputs: 0, signals: 0, steps: 0, most_reports: 0 }
+    }
 }
 
 #[repr(C)]
@@ -94,8 +102,8 @@ extern "C" {
     fn r2u2_outputs(it: *const Struct) -> u32;
     fn r2u2_rows(it: *const Struct) -> u64;
     fn r2u2_delay(it: *mut Struct, k: u32) -> u32;
-    fn r2u2_steps(it: *mut Struct) -> u64;
-    fn r2u2_most_reports(it: *mut Struct) -> u64;
+    fn r2u2_steps(it: *const Struct) -> u64;
+    fn r2u2_most_reports(it: *const Struct) -> u64;
     fn r2u2_output_kind(it: *mut Struct, k: u32) -> u32;
     fn r2u2_signals(it: *const Struct) -> u32;
     fn r2u2_signal(it: *mut Struct, k: u32, column: *mut u32, kind: *mut u32, name: *mut u8, count: usize) -> u32;
@@ -301,7 +309,7 @@ impl Monitor {
     }
 
     fn by(call: impl FnOnce(*mut Struct, *mut RawFault) -> u32) -> Result<Monitor, Error> {
-        let mut monitor = Monitor { it: Struct { at: core::ptr::null_mut(), rows: 0, width: 0, outputs: 0, signals: 0 } };
+        let mut monitor = Monitor { it: Struct::closed() };
         let mut fault = RawFault::none();
         let code = call(&raw mut monitor.it, &raw mut fault);
         fault.unless_done(code).map(|()| monitor)
@@ -347,15 +355,17 @@ impl Monitor {
     }
 
     /// Returns the most steps of one row.
-    pub fn steps(&mut self) -> u64 {
+    #[must_use]
+    pub fn steps(&self) -> u64 {
         // SAFETY: as above.
-        unsafe { r2u2_steps(&raw mut self.it) }
+        unsafe { r2u2_steps(&raw const self.it) }
     }
 
     /// Returns the most reports that one row brings, in either style.
-    pub fn most_reports(&mut self) -> u64 {
+    #[must_use]
+    pub fn most_reports(&self) -> u64 {
         // SAFETY: as above.
-        unsafe { r2u2_most_reports(&raw mut self.it) }
+        unsafe { r2u2_most_reports(&raw const self.it) }
     }
 
     /// Returns whether an output is an assume-guarantee contract; else it is a formula, or there is no such output.

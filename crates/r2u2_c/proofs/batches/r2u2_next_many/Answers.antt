@@ -11,6 +11,6 @@ invariant_of-it-in-Some c =
     let held = is_open_as c.deref_mut.result.now c.in-Some.monitor.value it.handle.value c.in-Some.ensures.taken c.deref_mut.ensures.value in
     let kept = kept_by_reports (style_of c.args.runs) (take c.fill.result c.fill.new.reports) c.deref_mut.result.now c.fill.new.monitor c.fill.ensures.tells in
     record {
-      told = subst (λ (o : Option State). MirrorsMonitor o it.rows it.width it.outputs it.signals) (sym c.put.ensures)
-          (told_still c.deref_mut.result.now c.fill.new.monitor it.handle.value it.rows it.width it.outputs it.signals held it.told kept.0 kept.1);
+      told = subst (λ (o : Option State). MirrorsMonitor o it.rows it.width it.outputs it.signals it.steps it.most_reports) (sym c.put.ensures)
+          (told_still c.deref_mut.result.now c.fill.new.monitor it.handle.value it.rows it.width it.outputs it.signals it.steps it.most_reports held it.told kept.0 kept.1);
     }
