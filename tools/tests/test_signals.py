@@ -109,7 +109,8 @@ class Ended(Case):
     def test_ignored_signals_stay_ignored(self):
         words = [sys.executable, str(TOOLS / "trace")]
         ignore = lambda: signal.signal(signal.SIGHUP, signal.SIG_IGN)
-        child = subprocess.Popen(words, stdin=subprocess.PIPE, stdout=subprocess.PIPE, preexec_fn=ignore)
+        pipes = {"stdin": subprocess.PIPE, "stdout": subprocess.PIPE, "bufsize": 0}
+        child = subprocess.Popen(words, preexec_fn=ignore, **pipes)
         self.addCleanup(self.stop, child)
         child.stdin.write(b"a\n1\n")
         child.stdin.flush()
