@@ -114,6 +114,14 @@ def chained(number):
     return 'd%d:=foreach(v0:s)(foreach(w:s)(%s));\n' % (number, body.replace('v0', 'w'))
 
 
+def different_picks(definitions):
+    """Chains of picked fields in bodies over pairs of numbers and of structs, which are all different."""
+    structs = ''.join('e%d := t%d(d%d);\n' % (k, DEEPEST, DEEPEST - 1) for k in range(60))
+    chain = '.f' * (DEEPEST + 1)
+    users = ''.join('a%d := foreach(n: s)(foreach(v: w)(n > 0 || v%s));\n' % (k, chain) for k in range(definitions))
+    return '%s%sw := {%s};\n%sFTSPEC p;\n' % (DEEP, structs, members(60, 'e#'), users)
+
+
 def declared(names):
     """Signals of these names, as many to an item as its words and signs allow."""
     lists = (','.join(names[k:k + 500]) for k in range(0, len(names), 500))
@@ -140,6 +148,7 @@ TEXTS = [
            numbered('a#:=foreach(v:s)(foreach(w:s)(v<w));\n'), 'FTSPEC p;\n'),
     filled('number-picks', 'chains of picked fields in bodies over pairs of numbers', DEEP,
            numbered('DEFINE a#:=foreach(n:s)(foreach(v:u)(n>0||v%s));\n' % ('.f' * (DEEPEST + 1))), 'FTSPEC p;\n'),
+    Text('different-picks', 'the same over different structs, 8 definitions in 28 KB', lambda: different_picks(8)),
     filled('single', 'quantifiers over one member each, within one over pairs', LARGEST + 'DEFINE\n', chained, 'FTSPEC p;\n'),
     Text('nested-picks', '23 quantifiers within one another over picked fields', lambda: picked_within(23)),
     Text('spacecraft', '27 requirements over pairs of 78 spacecraft', lambda: spacecraft(78, 27)),
