@@ -77,7 +77,7 @@ def equivalences():
 def picked_within(levels):
     """One output of quantifiers within one another, each over the set that a picked field of the last variable holds."""
     kinds = 'STRUCT t0: { a: bool; };\n' + ''.join(
-        'STRUCT t%d: { f: {t%d}; };\n' % (k + 1, k) for k in range(levels))
+        'STRUCT t%d: { f: set<t%d>; };\n' % (k + 1, k) for k in range(levels))
     values = 'd0 := t0(p);\n' + ''.join('d%d := t%d({d%d, d%d});\n' % (k + 1, k + 1, k, k) for k in range(13))
     more = ''.join('d%d := t%d({d%d});\n' % (k + 1, k + 1, k) for k in range(13, levels))
     body = 'v%d.a' % levels
@@ -114,6 +114,14 @@ def chained(number):
     return 'd%d:=foreach(v0:s)(foreach(w:s)(%s));\n' % (number, body.replace('v0', 'w'))
 
 
+def different_picks(definitions):
+    """Chains of picked fields in bodies over pairs of numbers and of structs, which are all different."""
+    structs = ''.join('e%d := t%d(d%d);\n' % (k, DEEPEST, DEEPEST - 1) for k in range(60))
+    chain = '.f' * (DEEPEST + 1)
+    users = ''.join('a%d := foreach(n: s)(foreach(v: w)(n > 0 || v%s));\n' % (k, chain) for k in range(definitions))
+    return '%s%sw := {%s};\n%sFTSPEC p;\n' % (DEEP, structs, members(60, 'e#'), users)
+
+
 def declared(names):
     """Signals of these names, as many to an item as its words and signs allow."""
     lists = (','.join(names[k:k + 500]) for k in range(0, len(names), 500))
@@ -139,7 +147,8 @@ TEXTS = [
     filled('number-pairs', 'unused definitions over pairs of numbers', NUMBERS + 'DEFINE\n',
            numbered('a#:=foreach(v:s)(foreach(w:s)(v<w));\n'), 'FTSPEC p;\n'),
     filled('number-picks', 'chains of picked fields in bodies over pairs of numbers', DEEP,
-           numbered('DEFINE a#:=foreach(x:s)(foreach(v:u)(x>0||v%s));\n' % ('.f' * (DEEPEST + 1))), 'FTSPEC p;\n'),
+           numbered('DEFINE a#:=foreach(n:s)(foreach(v:u)(n>0||v%s));\n' % ('.f' * (DEEPEST + 1))), 'FTSPEC p;\n'),
+    Text('different-picks', 'the same over different structs, 8 definitions in 28 KB', lambda: different_picks(8)),
     filled('single', 'quantifiers over one member each, within one over pairs', LARGEST + 'DEFINE\n', chained, 'FTSPEC p;\n'),
     Text('nested-picks', '23 quantifiers within one another over picked fields', lambda: picked_within(23)),
     Text('spacecraft', '27 requirements over pairs of 78 spacecraft', lambda: spacecraft(78, 27)),

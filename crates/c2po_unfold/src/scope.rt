@@ -64,8 +64,8 @@ impl<'a> Scope<'a> {
     /// The scope in which a variable is a value, by what that leads to: this is found once, however often the variable
     /// is used.
     pub(crate) fn bound(name: &'a Name, head: Head<'a>, outer: &'a Scope<'a>) -> Scope<'a>
-        ensures { (u : Unfolding) (env : Env) (v : Value) → Fits u outer.now env → Heads u head.entry v
-            → Fits u result (bind name.now v env) }
+        ensures { (u : Unfolding) (env : Env) (v : Value) → Fits u outer.now env
+            → Heads u head.entry v → Fits u result (bind name.now v env) }
     {
         match head {
             Head::Nothing(within, expr)
