@@ -9,3 +9,4 @@ pub mod Numbering
 pub mod Placing
 pub mod Ending
 pub mod Signals
+pub mod InPlace

@@ -1,9 +1,10 @@
 -- The simplified outputs of a specification.
 -- A reader of the contracts needs this file.
 
-use Rattle.std.specs.Prelude.{List, map}
+use Rattle.std.specs.Prelude.{◌≡◌, ℕ, Some, List, map, slice_get}
+use Rattle.mltl_base.specs.Formula.{Formula}
 use Rattle.mltl_base.specs.Reports.{Output, formula, contract}
-use Rattle.mltl_base.specs.Subformulas.{Asked}
+use Rattle.mltl_base.specs.Subformulas.{Asked, formulas_of}
 use Rattle.mltl_simplify.specs.Simplify.{simp}
 
 -- the output over the simplified forms of its formulas
@@ -18,3 +19,16 @@ simple_asked a = record { engine = a.engine; name = a.name; output = simple_outp
 -- all outputs, simplified
 abbrev pub simple_outputs : List Asked → List Asked
 simple_outputs outs = map simple_asked outs
+
+-- a formula of output k: of a contract the left one at side 0, and the right one at side 1
+pub record IsFormulaOf (outs : List Asked) (k side : ℕ) (p : Formula) : Type 0 where
+  pub out : Asked
+  pub there : slice_get outs k ≡ Some out
+  pub is : slice_get (formulas_of out.output) side ≡ Some p
+
+-- Formula q of a result is in the place of formula p of a specification: in the same output, on the same side.
+pub record InPlaceOf (outs result : List Asked) (p q : Formula) : Type 0 where
+  pub k : ℕ
+  pub side : ℕ
+  pub was : IsFormulaOf outs k side p
+  pub is : IsFormulaOf result k side q

@@ -8,8 +8,7 @@ ghost use Rattle.mltl_base.specs.Settled.{IsOrdered, Settled};
 ghost use Rattle.c2po_nodes.specs.Faults.{HasRanges};
 ghost use Rattle.c2po_nodes.specs.Outputs.{IsSound, asked};
 ghost use Rattle.mltl_simplify.specs.Nodes.{ReadsNodes, out_over};
-ghost use Rattle.mltl_simplify.specs.Outputs.{simple_outputs};
-ghost use Rattle.mltl_simplify.specs.Simplify.{simp};
+ghost use Rattle.mltl_simplify.specs.Outputs.{InPlaceOf, simple_outputs};
 
 use crate::proxies::{Proxy, place_at, read};
 use c2po_nodes::{Expanded, NodeList, PlainOut};
@@ -54,7 +53,6 @@ fn outs_of(
 /// goes over each node once, shared ones too; no clause bounds the nodes that it makes.
 ///
 /// Errors: out of memory.
-#[tactic(auto, using(crate::proofs::Meaning::simp_sat, crate::proofs::Delays::simp_wpd, crate::proofs::Delays::simp_settled))]
 pub fn simplify(alloc: Global, spec: &Expanded) -> Result<Expanded, AllocError>
     requires sound { (signals : ℕ) × IsSound spec.now signals }
     requires ranged { All HasRanges (asked spec.now) }
@@ -63,12 +61,16 @@ pub fn simplify(alloc: Global, spec: &Expanded) -> Result<Expanded, AllocError>
         IfOk result (λ simple. IsSound simple signals) }
     ensures ranged { IfOk result (λ simple. All HasRanges (asked simple)) }
 
-    // A simplified formula means what its formula does, no later; what is settled for it is settled for the formula.
-    ensures meaning { (rows : Seq Row) (p : Formula) (t : ℕ) →
-        IsOrdered p → sat rows (simp p) t ≡ sat rows p t }
-    ensures delay { (p : Formula) → wpd (simp p) ≤ wpd p }
-    ensures settled { (rows : Seq Row) (p : Formula) (t : ℕ) (v : Bool) →
-        IsOrdered p → Settled rows (simp p) t v → Settled rows p t v }
+    // A formula of the result means what the formula in its place does, no later; what is settled for the one is settled
+    // for the other.
+    ensures meaning { IfOk result (λ simple. (p q : Formula) (rows : Seq Row) (t : ℕ) →
+        InPlaceOf (asked spec.now) (asked simple) p q → IsOrdered p →
+        sat rows q t ≡ sat rows p t) }
+    ensures delay { IfOk result (λ simple. (p q : Formula) →
+        InPlaceOf (asked spec.now) (asked simple) p q → wpd q ≤ wpd p) }
+    ensures settled { IfOk result (λ simple. (p q : Formula) (rows : Seq Row) (t : ℕ) (v : Bool) →
+        InPlaceOf (asked spec.now) (asked simple) p q → IsOrdered p →
+        Settled rows q t v → Settled rows p t v) }
 {
     let mut simple = NodeList::new(alloc);
     let proxies = read(alloc, &mut simple, spec.nodes.as_slice())?;
