@@ -38,6 +38,7 @@ use Rattle.r2u2_cli.proofs.ImageFiles.{program_told}
 use Rattle.r2u2_cli.proofs.Telling.{over_found}
 use Rattle.mltl_tools.specs.Sentence.{HasCompiled, HasWatched, ReportsFormulas, ReportsText, lines_at}
 use Rattle.mltl_tools.proofs.Outputs.{reports_below}
+use Rattle.mltl_tools.proofs.Styles.{in_style}
 
 -- ---- the compilation
 
@@ -68,7 +69,7 @@ module _ (asked : RunAsked) (text bytes : List ℕ) (own_header header : Option 
   -- the columns are found, and the lines after any rows tell the formulas
   record TellsAfter : Type 0 where
     placed : columns_by (signals_in text) (option_or header own_header) ≡ Ok (stored_columns program)
-    told : (rows : List Row) (out : List ℕ) → out ≡ lines asked.style (output_names program) (outputs program) rows → ReportsFormulas text (stored_columns program) rows out
+    told : (rows : List Row) (out : List ℕ) → out ≡ lines asked.style (output_names program) (outputs program) rows → ReportsFormulas asked.style text (stored_columns program) rows out
 
   tells : (rows : List Row) → TellsProgram asked.style bytes header program rows
   tells rows = program_told asked.style bytes header program rows runs
@@ -83,6 +84,7 @@ module _ (asked : RunAsked) (text bytes : List ℕ) (own_header header : Option 
           told_so = reports asked.style (plain_outputs columns (outputs_in text)) rows;
           lines_are = due ∙ says.lines_are;
           only = subst (λ n. All (λ (r : Report). r.out < n) (reports asked.style (plain_outputs columns (outputs_in text)) rows)) (names_count columns (outputs_in text)) (reports_below asked.style (plain_outputs columns (outputs_in text)) rows);
+          styled = λ k less. in_style asked.style k (plain_outputs columns (outputs_in text)) rows (subst (λ n. k < n) (sym (names_count columns (outputs_in text))) less);
           words = λ k o at. record {
             in_order = says.settled.in_order k o at;
             settled = λ t w has. says.settled.settled o t w (ap (λ ws. slice_get ws t) (sym (says.settled.each_once k o at)) ∙ has);
@@ -100,6 +102,7 @@ module _ (asked : RunAsked) (text bytes : List ℕ) (own_header header : Option 
           told_so = reports asked.style (outputs program) rows;
           lines_are = due ∙ ap (λ names. lines_of_reports names (reports asked.style (outputs program) rows)) says.names;
           only = subst (λ n. All (λ (r : Report). r.out < n) (reports asked.style (outputs program) rows)) (counted says.names) (reports_below asked.style (outputs program) rows);
+          styled = λ k less. in_style asked.style k (outputs program) rows (subst (λ n. k < n) (sym (counted says.names)) less);
           words = says.told;
         };
   }

@@ -1,27 +1,30 @@
 //! The monitor `r2u2`: verdicts of requirements on a running system, as its trace comes in.
 #![tactic(auto)]
 
-ghost use Rattle.r2u2.specs.Ending.{EndsByRun};
+ghost use Rattle.std.specs.Process.{exit_status};
+ghost use Rattle.r2u2.specs.Ending.{EndsBy};
 
 use mltl_tools::{Status, Words, r2u2_main, words_of};
-use std::alloc::Global;
+use std::alloc::{AllocError, Global};
 use std::process::ExitCode;
 use tool_io::{Host, RealHost};
 
-/// Runs the command line. Returns the exit code of the program.
-fn run<H: Host>(alloc: Global, words: &Words, host: &mut H) -> u8
-    ensures { EndsByRun words.now result (H.faults host.old) (H.faults host.new)
+/// Runs the command line of these arguments, unless out of memory for them. Returns how the program ends.
+fn run<H: Host>(alloc: Global, words: Result<Words, AllocError>, host: &mut H) -> ExitCode
+    ensures { EndsBy words (exit_status result) (H.faults host.old) (H.faults host.new)
         (H.log host.old) (H.log host.new) }
 {
     let mut kept = None;
-    r2u2_main(alloc, words, host, &mut kept).code()
+    match words {
+        Ok(words) => ExitCode::from(r2u2_main(alloc, &words, host, &mut kept).code()),
+        Err(_) => ExitCode::from(Status::Memory.code()),
+    }
 }
 
 fn main(rt: HostRuntime) -> ExitCode {
-    let alloc = rt.alloc();
-    let Ok(words) = words_of(alloc, &rt) else {
-        return ExitCode::from(Status::Memory.code());
-    };
-    let mut host = RealHost::new(rt);
-    ExitCode::from(run(alloc, &words, &mut host))
+    run(
+        rt.alloc(),
+        words_of(rt.alloc(), &rt),
+        &mut RealHost::new(rt),
+    )
 }
