@@ -58,9 +58,9 @@ row_steps until reads_at old new =
 abbrev pub steps_by_runs : Until → ℕ → ℕ
 steps_by_runs until reads_at = 2 * operand_runs until.left reads_at + 4 * operand_runs until.right reads_at + 3
 
--- The most steps that are left of a row, with a queue up to time t: two for each run of the left operand from the reading
--- time on and four for each run of the right one that isn't seen, two where what is seen is ahead, one where it covers the
--- window of t, and two for the stop.
+-- The most steps that are left of a row, with a queue up to time t: two for each run of the left operand from the
+-- reading time on and four for each run of the right one that isn't seen, two where what is seen is ahead, one where
+-- it covers the window of t, and two for the stop.
 abbrev pub steps_left : Until → ℕ → ℕ → ℕ → ℕ
 steps_left until t reads_at seen =
     2 * operand_runs until.left reads_at + 4 * operand_runs until.right seen

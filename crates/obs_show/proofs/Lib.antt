@@ -1,4 +1,5 @@
 pub mod NameLaws
+pub mod NumberLaws
 pub mod TextLaws
 pub mod WeightLaws
 pub mod FreeLaws

@@ -1,14 +1,12 @@
 -- How the code keeps what instructions are called, and what it writes.
 
 use Rattle.std.specs.Prelude.{◌≡◌, ℕ, ◌+◌, ◌<◌, Bool, Option, Some, None, List, [], length, take, count_by, slice_index}
-use Rattle.std.specs.Prelude.{slice_index_or, MatchOption}
 use Rattle.mltl_base.specs.declared.interval.Part.{Part}
 use Rattle.mltl_base.specs.declared.interval.Part.TheVariants.{Bz, Ft, Pt}
 use Rattle.mltl_base.specs.declared.program.Program.{Program}
-use Rattle.mltl_base.specs.declared.program.StoredSignal.{StoredSignal}
 use Rattle.obs_show.specs.declared.instruction_names.Naming.{Naming as Kept}
 use Rattle.obs_show.specs.Lines.{Reference, Form, Line}
-use Rattle.obs_show.specs.Naming.{bz_operations, bz_reference, free_numbers, ft_operations, ft_reference, name_in}
+use Rattle.obs_show.specs.Naming.{bz_operations, bz_reference, free_numbers, ft_operations, ft_reference}
 use Rattle.obs_show.specs.Naming.{operations, pt_operations, pt_reference}
 use Rattle.obs_show.specs.Text.{form_text, shown_line}
 
@@ -26,21 +24,12 @@ shown_place program Bz i = bz_operations (take i program.bz)
 shown_place program Ft i = bz_operations program.bz + ft_operations (take i program.ft)
 shown_place program Pt i = bz_operations program.bz + ft_operations program.ft + pt_operations (take i program.pt)
 
--- the signal with a number has this name
-abbrev pub SignalHasName : List StoredSignal → ℕ → List ℕ → Type 0
-SignalHasName signals k name = (k < length signals) × ((d : StoredSignal) → (slice_index_or signals k d).name ≡ name)
-
--- what a table has for a column: the number of a signal with that column's name, where the column has one
-abbrev pub IsNamed : List StoredSignal → List ℕ → Option ℕ → Type 0
-IsNamed signals name entry = MatchOption entry (name ≡ []) (λ k. SignalHasName signals k name)
-
 -- what instructions of a program are called
 pub record NamesAll (program : Program) (kept : Kept) : Type 0 where
   pub numbers : kept.numbers.items ≡ free_numbers program.signals (operations program)
   pub bz : HasNumbers (length program.bz) (shown_place program Bz) kept.bz.items
   pub ft : HasNumbers (length program.ft) (shown_place program Ft) kept.ft.items
   pub pt : HasNumbers (length program.pt) (shown_place program Pt) kept.pt.items
-  pub signals : (c : ℕ) → IsNamed program.signals (name_in program.signals c) (slice_index_or kept.signals.items c None)
 
 -- the reference to instruction i of a part
 abbrev pub reference_at : Program → Part → ℕ → Reference

@@ -12,7 +12,8 @@ use crate::operation::Instruction;
 use crate::references::{add_defined_name, add_reference};
 use crate::shown::Shown;
 use itoa::Buffer;
-use mltl_base::{BzOp, Engine, FtOp, Interval, Name, Out, Part, Program, PtOp, StoredSignal};
+use mltl_base::{BzOp, Engine, FtOp, Interval, Name, Out, Part, PtOp, StoredSignal};
+use obs_verify::Checked;
 use std::alloc::AllocError;
 
 impl Shown for StoredSignal {
@@ -25,7 +26,7 @@ impl Shown for StoredSignal {
     fn add_line(
         &self,
         text: &mut Vec<u8>,
-        _program: &Program,
+        _checked: &Checked,
         _naming: &Naming,
         _k: usize,
     ) -> Result<(), AllocError> {
@@ -53,40 +54,40 @@ fn begin_define(text: &mut Vec<u8>, naming: &Naming, k: usize) -> Result<(), All
 /// Adds a sign and the reference after it.
 fn add_prefixed(
     text: &mut Vec<u8>,
-    program: &Program,
+    checked: &Checked,
     naming: &Naming,
     sign: &[u8],
     part: Part,
     i: u32,
 ) -> Result<(), AllocError>
-    requires { NamesAll program.now naming.now }
+    requires { NamesAll checked.now naming.now }
     ensures { OnOk result (text.new.items ≡ text.old.items
-        ++ (sign.now ++ reference_text (reference_at program.now part i))) }
+        ++ (sign.now ++ reference_text (reference_at checked.now part i))) }
 {
     text.extend_from_slice(sign)?;
-    add_reference(text, program, naming, part, i)
+    add_reference(text, checked, naming, part, i)
 }
 
 /// Adds an operator between two references.
 fn add_spaced(
     text: &mut Vec<u8>,
-    program: &Program,
+    checked: &Checked,
     naming: &Naming,
     part: Part,
     x: u32,
     operator: &[u8],
     y: u32,
 ) -> Result<(), AllocError>
-    requires { NamesAll program.now naming.now }
+    requires { NamesAll checked.now naming.now }
     ensures { OnOk result (text.new.items ≡ text.old.items
-        ++ spaced (reference_at program.now part x) operator.now
-        (reference_at program.now part y)) }
+        ++ spaced (reference_at checked.now part x) operator.now
+        (reference_at checked.now part y)) }
 {
-    add_reference(text, program, naming, part, x)?;
+    add_reference(text, checked, naming, part, x)?;
     text.extend_from_slice(b" ")?;
     text.extend_from_slice(operator)?;
     text.extend_from_slice(b" ")?;
-    add_reference(text, program, naming, part, y)
+    add_reference(text, checked, naming, part, y)
 }
 
 /// Adds an interval.
@@ -103,7 +104,7 @@ fn add_interval(text: &mut Vec<u8>, window: Interval) -> Result<(), AllocError>
 /// Adds an operator with its interval between two references.
 fn add_ranged(
     text: &mut Vec<u8>,
-    program: &Program,
+    checked: &Checked,
     naming: &Naming,
     part: Part,
     x: u32,
@@ -111,79 +112,79 @@ fn add_ranged(
     window: Interval,
     y: u32,
 ) -> Result<(), AllocError>
-    requires { NamesAll program.now naming.now }
+    requires { NamesAll checked.now naming.now }
     ensures { OnOk result (text.new.items ≡ text.old.items
-        ++ spaced (reference_at program.now part x) (letter.now ++ interval_text window)
-        (reference_at program.now part y)) }
+        ++ spaced (reference_at checked.now part x) (letter.now ++ interval_text window)
+        (reference_at checked.now part y)) }
 {
-    add_reference(text, program, naming, part, x)?;
+    add_reference(text, checked, naming, part, x)?;
     text.extend_from_slice(b" ")?;
     text.extend_from_slice(letter)?;
     add_interval(text, window)?;
     text.extend_from_slice(b" ")?;
-    add_reference(text, program, naming, part, y)
+    add_reference(text, checked, naming, part, y)
 }
 
 fn add_bz_form(
     text: &mut Vec<u8>,
-    program: &Program,
+    checked: &Checked,
     naming: &Naming,
     op: BzOp,
 ) -> Result<(), AllocError>
-    requires { NamesAll program.now naming.now }
+    requires { NamesAll checked.now naming.now }
     ensures { OnOk result (text.new.items ≡ text.old.items
-        ++ written_form (bz_form program.now op)) }
+        ++ written_form (bz_form checked.now op)) }
 {
     match op {
         BzOp::Column(_) | BzOp::IsTrue(_) | BzOp::Const(_) => Ok(()),
-        BzOp::Neg(a) => add_prefixed(text, program, naming, b"-", Part::Bz, a),
-        BzOp::Add(a, b) => add_spaced(text, program, naming, Part::Bz, a, b"+", b),
-        BzOp::Sub(a, b) => add_spaced(text, program, naming, Part::Bz, a, b"-", b),
-        BzOp::Mul(a, b) => add_spaced(text, program, naming, Part::Bz, a, b"*", b),
-        BzOp::Div(a, b) => add_spaced(text, program, naming, Part::Bz, a, b"/", b),
-        BzOp::Rem(a, b) => add_spaced(text, program, naming, Part::Bz, a, b"%", b),
-        BzOp::Eq(a, b) => add_spaced(text, program, naming, Part::Bz, a, b"==", b),
-        BzOp::Lt(a, b) => add_spaced(text, program, naming, Part::Bz, a, b"<", b),
-        BzOp::Le(a, b) => add_spaced(text, program, naming, Part::Bz, a, b"<=", b),
+        BzOp::Neg(a) => add_prefixed(text, checked, naming, b"-", Part::Bz, a),
+        BzOp::Add(a, b) => add_spaced(text, checked, naming, Part::Bz, a, b"+", b),
+        BzOp::Sub(a, b) => add_spaced(text, checked, naming, Part::Bz, a, b"-", b),
+        BzOp::Mul(a, b) => add_spaced(text, checked, naming, Part::Bz, a, b"*", b),
+        BzOp::Div(a, b) => add_spaced(text, checked, naming, Part::Bz, a, b"/", b),
+        BzOp::Rem(a, b) => add_spaced(text, checked, naming, Part::Bz, a, b"%", b),
+        BzOp::Eq(a, b) => add_spaced(text, checked, naming, Part::Bz, a, b"==", b),
+        BzOp::Lt(a, b) => add_spaced(text, checked, naming, Part::Bz, a, b"<", b),
+        BzOp::Le(a, b) => add_spaced(text, checked, naming, Part::Bz, a, b"<=", b),
     }
 }
 
 fn add_ft_form(
     text: &mut Vec<u8>,
-    program: &Program,
+    checked: &Checked,
     naming: &Naming,
     op: FtOp,
 ) -> Result<(), AllocError>
-    requires { NamesAll program.now naming.now }
+    requires { NamesAll checked.now naming.now }
     ensures { OnOk result (text.new.items ≡ text.old.items
-        ++ written_form (ft_form program.now op)) }
+        ++ written_form (ft_form checked.now op)) }
 {
     match op {
         FtOp::True | FtOp::Load(_) => Ok(()),
-        FtOp::Not(g) => add_prefixed(text, program, naming, b"!", Part::Ft, g),
-        FtOp::And(l, r) => add_spaced(text, program, naming, Part::Ft, l, b"&&", r),
+        FtOp::Not(g) => add_prefixed(text, checked, naming, b"!", Part::Ft, g),
+        FtOp::And(l, r) => add_spaced(text, checked, naming, Part::Ft, l, b"&&", r),
         FtOp::Until(l, r, window) => {
-            add_ranged(text, program, naming, Part::Ft, l, b"U", window, r)
+            add_ranged(text, checked, naming, Part::Ft, l, b"U", window, r)
         }
     }
 }
 
 fn add_pt_form(
     text: &mut Vec<u8>,
-    program: &Program,
+    checked: &Checked,
     naming: &Naming,
     op: PtOp,
 ) -> Result<(), AllocError>
-    requires { NamesAll program.now naming.now }
+    requires { NamesAll checked.now naming.now }
     ensures { OnOk result (text.new.items ≡ text.old.items
-        ++ written_form (pt_form program.now op)) }
+        ++ written_form (pt_form checked.now op)) }
 {
     match op {
         PtOp::True | PtOp::Load(_) => Ok(()),
-        PtOp::Not(g) => add_prefixed(text, program, naming, b"!", Part::Pt, g),
-        PtOp::And(l, r) => add_spaced(text, program, naming, Part::Pt, l, b"&&", r),
+        PtOp::Not(g) => add_prefixed(text, checked, naming, b"!", Part::Pt, g),
+        PtOp::And(l, r) => add_spaced(text, checked, naming, Part::Pt, l, b"&&", r),
         PtOp::Since(l, r, window) => {
-            add_ranged(text, program, naming, Part::Pt, l, b"S", window, r)
+            add_ranged(text, checked, naming, Part::Pt, l, b"S", window, r)
         }
     }
 }
@@ -198,7 +199,7 @@ impl Shown for BzOp {
     fn add_line(
         &self,
         text: &mut Vec<u8>,
-        program: &Program,
+        checked: &Checked,
         naming: &Naming,
         i: usize,
     ) -> Result<(), AllocError> {
@@ -206,7 +207,7 @@ impl Shown for BzOp {
             return Ok(());
         }
         begin_define(text, naming, naming.bz[i])?;
-        add_bz_form(text, program, naming, *self)?;
+        add_bz_form(text, checked, naming, *self)?;
         text.extend_from_slice(b";\n")
     }
 }
@@ -221,7 +222,7 @@ impl Shown for FtOp {
     fn add_line(
         &self,
         text: &mut Vec<u8>,
-        program: &Program,
+        checked: &Checked,
         naming: &Naming,
         i: usize,
     ) -> Result<(), AllocError> {
@@ -229,7 +230,7 @@ impl Shown for FtOp {
             return Ok(());
         }
         begin_define(text, naming, naming.ft[i])?;
-        add_ft_form(text, program, naming, *self)?;
+        add_ft_form(text, checked, naming, *self)?;
         text.extend_from_slice(b";\n")
     }
 }
@@ -244,7 +245,7 @@ impl Shown for PtOp {
     fn add_line(
         &self,
         text: &mut Vec<u8>,
-        program: &Program,
+        checked: &Checked,
         naming: &Naming,
         i: usize,
     ) -> Result<(), AllocError> {
@@ -252,7 +253,7 @@ impl Shown for PtOp {
             return Ok(());
         }
         begin_define(text, naming, naming.pt[i])?;
-        add_pt_form(text, program, naming, *self)?;
+        add_pt_form(text, checked, naming, *self)?;
         text.extend_from_slice(b";\n")
     }
 }
@@ -295,20 +296,20 @@ impl Shown for Out {
     fn add_line(
         &self,
         text: &mut Vec<u8>,
-        program: &Program,
+        checked: &Checked,
         naming: &Naming,
         k: usize,
     ) -> Result<(), AllocError> {
         match self {
             Out::Formula(engine, i, name) => {
                 begin_output(text, *engine, k, name)?;
-                add_reference(text, program, naming, part_of(*engine), *i)?;
+                add_reference(text, checked, naming, part_of(*engine), *i)?;
             }
             Out::Contract(engine, i, j, name) => {
                 begin_output(text, *engine, k, name)?;
-                add_reference(text, program, naming, part_of(*engine), *i)?;
+                add_reference(text, checked, naming, part_of(*engine), *i)?;
                 text.extend_from_slice(b" => ")?;
-                add_reference(text, program, naming, part_of(*engine), *j)?;
+                add_reference(text, checked, naming, part_of(*engine), *j)?;
             }
         }
         text.extend_from_slice(b";\n")

@@ -24,7 +24,7 @@ pub fn show(alloc: Global, checked: &Checked) -> Result<Vec<u8>, ShowFault>
     ensures fault { IfErr result (λ fault. fault ≢ ShowFault.Memory
         → show_fault checked.now ≡ Some fault) }
 {
-    let bytes = write(alloc, checked.program())?;
+    let bytes = write(alloc, checked)?;
     if weight(alloc, checked)? > MAX_WEIGHT {
         return Err(ShowFault::Wide);
     }

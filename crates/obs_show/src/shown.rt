@@ -5,7 +5,7 @@ ghost use Rattle.mltl_base.specs.declared.program.Program.{Program as Observer};
 ghost use Rattle.obs_show.specs.Showing.{NamesAll};
 
 use crate::instruction_names::Naming;
-use mltl_base::Program;
+use obs_verify::Checked;
 use std::alloc::AllocError;
 
 /// A member of a program that has a line, or none where it isn't an operation.
@@ -18,11 +18,11 @@ pub(crate) trait Shown {
     fn add_line(
         &self,
         text: &mut Vec<u8>,
-        program: &Program,
+        checked: &Checked,
         naming: &Naming,
         k: usize,
     ) -> Result<(), AllocError>
-        requires names { NamesAll program.now naming.now }
-        requires there { k < length (members program.now) }
-        ensures { OnOk result (text.new.items ≡ text.old.items ++ bytes program.now k self.now) };
+        requires names { NamesAll checked.now naming.now }
+        requires there { k < length (members checked.now) }
+        ensures { OnOk result (text.new.items ≡ text.old.items ++ bytes checked.now k self.now) };
 }

@@ -15,11 +15,11 @@ use Rattle.obs_verify.proofs.SoundLaws.{each}
 
 -- ---- the first signal in a column
 
-number_here : (s : StoredSignal) (signals : List StoredSignal) (c : ℕ) → s.column ≡ c → signal_in (s ∷ signals) c ≡ Some 0
+pub number_here : (s : StoredSignal) (signals : List StoredSignal) (c : ℕ) → s.column ≡ c → signal_in (s ∷ signals) c ≡ Some 0
 unfolding signal_in
 number_here s signals c at = rw (eq-eqb s.column c at) refl
 
-number_after : (s : StoredSignal) (signals : List StoredSignal) (c : ℕ) → (s.column ≡ c → ⊥) → signal_in (s ∷ signals) c ≡ option_map suc (signal_in signals c)
+pub number_after : (s : StoredSignal) (signals : List StoredSignal) (c : ℕ) → (s.column ≡ c → ⊥) → signal_in (s ∷ signals) c ≡ option_map suc (signal_in signals c)
 unfolding signal_in
 number_after s signals c other = elim (eqb_tells s.column c) [ inl p ↦ absurd (other p.1) | inr p ↦ rw p.0 refl ]
 
@@ -27,18 +27,18 @@ pub nowhere : (c : ℕ) → signal_in [] c ≡ None
 unfolding signal_in
 nowhere c = refl
 
-one_less : (o : Option ℕ) (k : ℕ) → option_map suc o ≡ Some k → (j : ℕ) × (o ≡ Some j) × (k ≡ suc j)
+pub one_less : (o : Option ℕ) (k : ℕ) → option_map suc o ≡ Some k → (j : ℕ) × (o ≡ Some j) × (k ≡ suc j)
 one_less None k h = absurd (cc)
 one_less (Some j) k h = (j, refl, cc)
 
-none_less : (o : Option ℕ) → option_map suc o ≡ None → o ≡ None
+pub none_less : (o : Option ℕ) → option_map suc o ≡ None → o ≡ None
 none_less None h = refl
 none_less (Some j) h = absurd (cc)
 
-same_number : (j k : ℕ) → Some j ≡ Some k → j ≡ k
+pub same_number : (j k : ℕ) → Some j ≡ Some k → j ≡ k
 same_number j k h = cc
 
-not_none : (k : ℕ) → Some k ≡ None → ⊥
+pub not_none : (k : ℕ) → Some k ≡ None → ⊥
 not_none k h = cc
 
 pub number_inside : (signals : List StoredSignal) (c k : ℕ) → signal_in signals c ≡ Some k → k < length signals

@@ -1,9 +1,10 @@
 //! Programs that were checked.
 
-ghost use Rattle.std.specs.Prelude.{◌≡◌, ◌≤◌, ◌<◌, [], None, All, IfOk, IfErr, OnOk, length};
+ghost use Rattle.std.specs.Prelude.{◌≡◌, ◌≤◌, ◌<◌, [], None, All, IfOk, IfErr, OnOk, length, slice_index_or};
 ghost use Rattle.mltl_base.specs.Queues.{best_delays, worst_delays};
 ghost use Rattle.obs_verify.specs.Bound.{AreDifferent, bound};
 ghost use Rattle.obs_verify.specs.Layout.{HasLayout};
+ghost use Rattle.obs_verify.specs.SignalNumbers.{signals_read};
 ghost use Rattle.obs_verify.specs.Upgrade.{NamesClash, clash_of, first_clash, raised, reads, signals_below, up};
 ghost use Rattle.obs_verify.specs.WellFormed.{IsAnswer, IsWellFormed, first_fault};
 
@@ -57,6 +58,16 @@ impl Checked {
         ensures in_time { All (λ rows. rows ≤ MAX_DELAY) result.now.worst }
     {
         &self.delays
+    }
+
+    /// The number of the stored signal that instruction `i` of the Booleanizer reads, if it reads one.
+    pub fn signal_number(&self, i: usize) -> Option<u32>
+        ensures { result ≡ slice_index_or (signals_read self.now) i None }
+    {
+        match self.signal_numbers.as_slice().get(i) {
+            Some(number) => *number,
+            None => None,
+        }
     }
 }
 

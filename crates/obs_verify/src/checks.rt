@@ -1,6 +1,8 @@
 //! The rules of well-formed programs that look at instructions of both engines, at outputs and at sizes.
 
-ghost use Rattle.std.specs.Prelude.{◌≡◌, ◌<◌, ◌^◌, Some, length, slice_get};
+ghost use Rattle.std.specs.Prelude.{◌≡◌, ◌<◌, ◌^◌, ℕ, Option, Some, length, slice_get};
+ghost use Rattle.mltl_base.specs.declared.program.Program.{Program as Observer};
+ghost use Rattle.obs_verify.specs.declared.fault.VerifyFault.{VerifyFault as Fault};
 ghost use Rattle.obs_verify.specs.WellFormed.{IsAnswer, first_in, ft_fault, has_future_operands, has_future_window, has_past_operands, has_past_window, is_truth, is_window, output_fault, pt_fault, reports_within, size_fault, width_fault};
 
 use crate::fault::VerifyFault;
@@ -17,27 +19,48 @@ pub fn check_width(program: &Program) -> Result<(), VerifyFault>
     Ok(())
 }
 
+/// A member of a program that a rule looks at.
+trait Ruled {
+    ghost fault_of: { Observer → ℕ → Self → Option Fault };
+
+    /// Checks it as number `i` of its kind.
+    fn check(&self, program: &Program, i: u32) -> Result<(), VerifyFault>
+        ensures { IsAnswer result (fault_of program.now i self.now) };
+}
+
+/// Checks all members of one kind.
+fn check_all<T: Ruled>(program: &Program, members: &[T]) -> Result<(), VerifyFault>
+    requires { length members.now < 2 ^ 32 }
+    ensures { IsAnswer result (first_in (T.fault_of program.now) 0 members.now) }
+{
+    for (i, member) in members.iter().enumerate() {
+        member.check(program, i as u32)?;
+    }
+    Ok(())
+}
+
 /// Whether instructions of the future-time engine read what they may read, over intervals within the limit.
 pub fn check_future(program: &Program) -> Result<(), VerifyFault>
     requires { length program.now.ft < 2 ^ 32 }
     ensures { IsAnswer result (first_in (ft_fault program.now) 0 program.now.ft) }
 {
-    for (i, op) in program.ft.as_slice().iter().enumerate() {
-        check_future_op(program, i as u32, op)?;
-    }
-    Ok(())
+    check_all(program, program.ft.as_slice())
 }
 
-fn check_future_op(program: &Program, i: u32, op: &FtOp) -> Result<(), VerifyFault>
-    ensures { IsAnswer result (ft_fault program.now i op.now) }
-{
-    if !reads_future(program, i, op) {
-        return Err(VerifyFault::Operand(Part::Ft, i));
+impl Ruled for FtOp {
+    ghost use Rattle.obs_verify.specs.WellFormed.{ft_fault};
+
+    ghost fault_of = { ft_fault };
+
+    fn check(&self, program: &Program, i: u32) -> Result<(), VerifyFault> {
+        if !reads_future(program, i, self) {
+            return Err(VerifyFault::Operand(Part::Ft, i));
+        }
+        if !keeps_future_bounds(self) {
+            return Err(VerifyFault::Interval(Part::Ft, i));
+        }
+        Ok(())
     }
-    if !keeps_future_bounds(op) {
-        return Err(VerifyFault::Interval(Part::Ft, i));
-    }
-    Ok(())
 }
 
 fn reads_future(program: &Program, i: u32, op: &FtOp) -> bool
@@ -65,22 +88,23 @@ pub fn check_past(program: &Program) -> Result<(), VerifyFault>
     requires { length program.now.pt < 2 ^ 32 }
     ensures { IsAnswer result (first_in (pt_fault program.now) 0 program.now.pt) }
 {
-    for (i, op) in program.pt.as_slice().iter().enumerate() {
-        check_past_op(program, i as u32, op)?;
-    }
-    Ok(())
+    check_all(program, program.pt.as_slice())
 }
 
-fn check_past_op(program: &Program, i: u32, op: &PtOp) -> Result<(), VerifyFault>
-    ensures { IsAnswer result (pt_fault program.now i op.now) }
-{
-    if !reads_past(program, i, op) {
-        return Err(VerifyFault::Operand(Part::Pt, i));
+impl Ruled for PtOp {
+    ghost use Rattle.obs_verify.specs.WellFormed.{pt_fault};
+
+    ghost fault_of = { pt_fault };
+
+    fn check(&self, program: &Program, i: u32) -> Result<(), VerifyFault> {
+        if !reads_past(program, i, self) {
+            return Err(VerifyFault::Operand(Part::Pt, i));
+        }
+        if !keeps_past_bounds(self) {
+            return Err(VerifyFault::Interval(Part::Pt, i));
+        }
+        Ok(())
     }
-    if !keeps_past_bounds(op) {
-        return Err(VerifyFault::Interval(Part::Pt, i));
-    }
-    Ok(())
 }
 
 fn reads_past(program: &Program, i: u32, op: &PtOp) -> bool
@@ -132,19 +156,20 @@ pub fn check_outputs(program: &Program) -> Result<(), VerifyFault>
     requires { length program.now.outs < 2 ^ 32 }
     ensures { IsAnswer result (first_in (output_fault program.now) 0 program.now.outs) }
 {
-    for (k, out) in program.outs.as_slice().iter().enumerate() {
-        check_output(program, k as u32, out)?;
-    }
-    Ok(())
+    check_all(program, program.outs.as_slice())
 }
 
-fn check_output(program: &Program, k: u32, out: &Out) -> Result<(), VerifyFault>
-    ensures { IsAnswer result (output_fault program.now k out.now) }
-{
-    if !reports_existing(out, program.ft.len(), program.pt.len()) {
-        return Err(VerifyFault::Output(k));
+impl Ruled for Out {
+    ghost use Rattle.obs_verify.specs.WellFormed.{output_fault};
+
+    ghost fault_of = { output_fault };
+
+    fn check(&self, program: &Program, k: u32) -> Result<(), VerifyFault> {
+        if !reports_existing(self, program.ft.len(), program.pt.len()) {
+            return Err(VerifyFault::Output(k));
+        }
+        Ok(())
     }
-    Ok(())
 }
 
 fn reports_existing(out: &Out, fts: usize, pts: usize) -> bool

@@ -16,8 +16,8 @@ use Rattle.mltl_base.specs.Programs.{formula_at}
 use Rattle.r2u2_monitor.specs.declared.state.State.{State}
 use Rattle.r2u2_monitor.specs.Monitoring.{Stands, open_in, program_of}
 
--- the most words that one row brings, where the first of two formulas decides a word at the earliest, and both do at the
--- latest
+-- the most words that one row brings, where the first of two formulas decides a word at the earliest, and both do at
+-- the latest
 abbrev pub spread : Core → Core → ℕ
 spread first second = max (core_wpd first) (core_wpd second) - bpd first + 1
 

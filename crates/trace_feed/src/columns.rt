@@ -11,10 +11,11 @@ ghost use Rattle.trace_feed.specs.Header.{AreDifferentNames, begins_header, boun
 ghost use Rattle.trace_feed.specs.Places.{AreColumnPlaces};
 
 use crate::header_fault::HeaderFault;
+use crate::named::Named;
 use crate::names::Places;
 use csv::{ByteRecord, ReaderBuilder};
 use mltl_base::limits::MAX_SIGNALS;
-use mltl_base::{Columns, List, Signal, StoredSignal};
+use mltl_base::{Columns, List, Signal};
 use obs_verify::{Checked, rebind};
 use std::alloc::{AllocError, Global};
 
@@ -75,43 +76,23 @@ fn read_header(alloc: Global, line: &[u8]) -> Result<NamedColumns, HeaderFault>
     }
 }
 
-fn columns_of_signals(
+/// The columns of signals, by their names.
+fn find_columns<T: Named>(
     alloc: Global,
     named: &NamedColumns,
-    signals: &[Signal],
+    signals: &[T],
 ) -> Result<Columns, HeaderFault>
     ensures columns { IfOk result (λ columns. (names : Items (Items ℕ)) →
         AreColumnPlaces names named.now.places → of_width named.now.width
-        (columns_of names (map (λ s. s.name) signals.now)) ≡ Ok columns) }
+        (columns_of names (map T.name_of signals.now)) ≡ Ok columns) }
     ensures fault { IfErr result (λ fault. fault ≢ HeaderFault.Memory
         → (names : Items (Items ℕ)) → AreColumnPlaces names named.now.places
-        → columns_of names (map (λ s. s.name) signals.now) ≡ Err fault) }
+        → columns_of names (map T.name_of signals.now) ≡ Err fault) }
 {
     let mut of_signal = List::new(alloc);
     for signal in signals {
-        of_signal.push(named.places.find(&signal.name)?)?;
-    }
-    Ok(Columns {
-        width: named.width,
-        of_signal,
-    })
-}
-
-fn columns_of_stored(
-    alloc: Global,
-    named: &NamedColumns,
-    signals: &[StoredSignal],
-) -> Result<Columns, HeaderFault>
-    ensures columns { IfOk result (λ columns. (names : Items (Items ℕ)) →
-        AreColumnPlaces names named.now.places → of_width named.now.width
-        (columns_of names (map (λ s. s.name) signals.now)) ≡ Ok columns) }
-    ensures fault { IfErr result (λ fault. fault ≢ HeaderFault.Memory
-        → (names : Items (Items ℕ)) → AreColumnPlaces names named.now.places
-        → columns_of names (map (λ s. s.name) signals.now) ≡ Err fault) }
-{
-    let mut of_signal = List::new(alloc);
-    for signal in signals {
-        of_signal.push(named.places.find(&signal.name)?)?;
+        let name = signal.name();
+        of_signal.push(named.places.find(name)?)?;
     }
     Ok(Columns {
         width: named.width,
@@ -138,7 +119,7 @@ pub fn header(alloc: Global, line: &[u8], signals: &List<Signal>) -> Result<Colu
         AreDifferentNames (map (λ s. s.name) signals.now) → AreDifferent columns.of_signal) }
 {
     let named = read_header(alloc, line)?;
-    columns_of_signals(alloc, &named, signals.as_slice())
+    find_columns(alloc, &named, signals.as_slice())
 }
 
 /// The same for the stored signals of a program, in their order.
@@ -157,7 +138,7 @@ pub fn header_of(alloc: Global, line: &[u8], checked: &Checked) -> Result<Column
     ensures different { IfOk result (λ columns. AreDifferent columns.of_signal) }
 {
     let named = read_header(alloc, line)?;
-    columns_of_stored(alloc, &named, checked.program().signals.as_slice())
+    find_columns(alloc, &named, checked.program().signals.as_slice())
 }
 
 /// The program with its stored signals in the columns that a header names.

@@ -9,6 +9,7 @@ mod columns;
 mod fields;
 mod header_fault;
 mod laws;
+mod named;
 mod names;
 mod readings;
 mod rows;

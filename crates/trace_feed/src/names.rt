@@ -59,6 +59,7 @@ impl Places {
             → AreColumnPlaces names self.old
             → AreColumnPlaces (names ++ name.now ∷ []) self.new) }
     {
+        // The bounds of a name come from its type, and only a call brings them.
         let _ = name.bytes();
         if !self.first.contains(name) {
             self.first.add(alloc, name, column)?;
@@ -85,6 +86,7 @@ impl Places {
         ensures { (names : List (List ℕ)) → AreColumnPlaces names self.now
             → result ≡ column_of names name.now }
     {
+        // The bounds of a name come from its type, and only a call brings them.
         let _ = name.bytes();
         if self.again.contains(name) {
             return Err(HeaderFault::Twice(name.copy()));

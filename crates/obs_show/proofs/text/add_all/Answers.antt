@@ -4,11 +4,11 @@ use Rattle.obs_show.proofs.TextLaws.{begun, grown, over_limit}
 use Rattle.obs_show.proofs.text.add_all.Goals as goal
 
 pub loop-k-init : goal.loop-k-init
-loop-k-init g c = record { text = begun (g.T.Shown.bytes c.args.program.now) c.args.text.now.items; short = c.requires.short }
+loop-k-init g c = record { text = begun (g.T.Shown.bytes c.args.checked.now) c.args.text.now.items; short = c.requires.short }
 
 pub loop-k-preserved : goal.loop-k-preserved
 loop-k-preserved g c =
-    let rule = g.T.Shown.bytes c.args.program.now in
+    let rule = g.T.Shown.bytes c.args.checked.now in
     let now : List ℕ = c.loop-k.text.items in
     record {
       text = grown rule c.args.text.now.items now c.add_line.new.text.items c.args.members.now c.loop-k.k c.index-members-k.result
@@ -18,7 +18,7 @@ loop-k-preserved g c =
 
 pub returns-then-len-gt-MAX_SHOWN_BYTES : goal.returns-then-len-gt-MAX_SHOWN_BYTES
 returns-then-len-gt-MAX_SHOWN_BYTES g c =
-    let rule = g.T.Shown.bytes c.args.program.now in
+    let rule = g.T.Shown.bytes c.args.checked.now in
     let old : List ℕ = c.args.text.now.items in
     let now : List ℕ = c.loop-k.text.items in
     let new : List ℕ = c.add_line.new.text.items in

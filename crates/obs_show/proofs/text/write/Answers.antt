@@ -23,14 +23,14 @@ from_bz P = written (bz_bytes P) 0 P.bz ++ from_ft P
 
 pub returns-in_err-add_all-clause-fault : goal.returns-in_err-add_all-clause-fault
 returns-in_err-add_all-clause-fault c =
-    let P : Program = c.args.program.now in
+    let P : Program = c.args.checked.now in
     let l0 = lacking_all P c.new-text.result.items c.new-text.ensures.items in
     let p = err_from_is_err_and c.from_residual-in_err-add_all.result c.from_residual-in_err-add_all.ensures.1 in
     rw (p.1, p.2) (too_long ⊤ (text_of P) c.new-text.result.items (written signal_bytes 0 P.signals) (from_bz P) c.add_all.new.text.items c.in_err-add_all.field-0.0 l0 c.in_err-add_all.ensures)
 
 pub returns-in_err-add_all-2-clause-fault : goal.returns-in_err-add_all-2-clause-fault
 returns-in_err-add_all-2-clause-fault c =
-    let P : Program = c.args.program.now in
+    let P : Program = c.args.checked.now in
     let l0 = lacking_all P c.new-text.result.items c.new-text.ensures.items in
     let l1 = lacking_less (text_of P) c.new-text.result.items (written signal_bytes 0 P.signals) (from_bz P) c.add_all.new.text.items l0 c.in_ok-add_all.ensures.0 in
     let p = err_from_is_err_and c.from_residual-in_err-add_all-2.result c.from_residual-in_err-add_all-2.ensures.1 in
@@ -38,7 +38,7 @@ returns-in_err-add_all-2-clause-fault c =
 
 pub returns-in_err-add_all-3-clause-fault : goal.returns-in_err-add_all-3-clause-fault
 returns-in_err-add_all-3-clause-fault c =
-    let P : Program = c.args.program.now in
+    let P : Program = c.args.checked.now in
     let l0 = lacking_all P c.new-text.result.items c.new-text.ensures.items in
     let l1 = lacking_less (text_of P) c.new-text.result.items (written signal_bytes 0 P.signals) (from_bz P) c.add_all.new.text.items l0 c.in_ok-add_all.ensures.0 in
     let l2 = lacking_less (text_of P) c.add_all.new.text.items (written (bz_bytes P) 0 P.bz) (from_ft P) c.add_all-2.new.text.items l1 c.in_ok-add_all-2.ensures.0 in
@@ -47,7 +47,7 @@ returns-in_err-add_all-3-clause-fault c =
 
 pub returns-in_err-add_all-4-clause-fault : goal.returns-in_err-add_all-4-clause-fault
 returns-in_err-add_all-4-clause-fault c =
-    let P : Program = c.args.program.now in
+    let P : Program = c.args.checked.now in
     let l0 = lacking_all P c.new-text.result.items c.new-text.ensures.items in
     let l1 = lacking_less (text_of P) c.new-text.result.items (written signal_bytes 0 P.signals) (from_bz P) c.add_all.new.text.items l0 c.in_ok-add_all.ensures.0 in
     let l2 = lacking_less (text_of P) c.add_all.new.text.items (written (bz_bytes P) 0 P.bz) (from_ft P) c.add_all-2.new.text.items l1 c.in_ok-add_all-2.ensures.0 in
@@ -57,7 +57,7 @@ returns-in_err-add_all-4-clause-fault c =
 
 pub returns-in_err-add_all-5-clause-fault : goal.returns-in_err-add_all-5-clause-fault
 returns-in_err-add_all-5-clause-fault c =
-    let P : Program = c.args.program.now in
+    let P : Program = c.args.checked.now in
     let l0 = lacking_all P c.new-text.result.items c.new-text.ensures.items in
     let l1 = lacking_less (text_of P) c.new-text.result.items (written signal_bytes 0 P.signals) (from_bz P) c.add_all.new.text.items l0 c.in_ok-add_all.ensures.0 in
     let l2 = lacking_less (text_of P) c.add_all.new.text.items (written (bz_bytes P) 0 P.bz) (from_ft P) c.add_all-2.new.text.items l1 c.in_ok-add_all-2.ensures.0 in
@@ -68,7 +68,7 @@ returns-in_err-add_all-5-clause-fault c =
 
 pub returns-clause-text : goal.returns-clause-text
 returns-clause-text c =
-    let P : Program = c.args.program.now in
+    let P : Program = c.args.checked.now in
     let l0 = lacking_all P c.new-text.result.items c.new-text.ensures.items in
     let l1 = lacking_less (text_of P) c.new-text.result.items (written signal_bytes 0 P.signals) (from_bz P) c.add_all.new.text.items l0 c.in_ok-add_all.ensures.0 in
     let l2 = lacking_less (text_of P) c.add_all.new.text.items (written (bz_bytes P) 0 P.bz) (from_ft P) c.add_all-2.new.text.items l1 c.in_ok-add_all-2.ensures.0 in
@@ -78,7 +78,7 @@ returns-clause-text c =
 
 pub returns-clause-short : goal.returns-clause-short
 returns-clause-short c =
-    let P : Program = c.args.program.now in
+    let P : Program = c.args.checked.now in
     let l0 = lacking_all P c.new-text.result.items c.new-text.ensures.items in
     let l1 = lacking_less (text_of P) c.new-text.result.items (written signal_bytes 0 P.signals) (from_bz P) c.add_all.new.text.items l0 c.in_ok-add_all.ensures.0 in
     let l2 = lacking_less (text_of P) c.add_all.new.text.items (written (bz_bytes P) 0 P.bz) (from_ft P) c.add_all-2.new.text.items l1 c.in_ok-add_all-2.ensures.0 in
