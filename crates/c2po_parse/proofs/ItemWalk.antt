@@ -21,7 +21,8 @@ use Rattle.c2po_parse.specs.declared.fault.ParseFault.TheVariants.{TooManyTokens
 use Rattle.c2po_parse.specs.declared.section.Section.{Section}
 use Rattle.c2po_parse.specs.declared.section.Section.TheVariants.{Struct, Input, Define, Output}
 use Rattle.c2po_parse.specs.Sections.{section_of, braces_after, Statement, item_of, unended_piece, is_end, chosen, pieces}
-use Rattle.c2po_parse.specs.Forms.{type_in, type_within, type_at, names_or, names_within, names_at, typed_at, fields_for, fields_or, fields_within, fields_at, struct_item, input_of, define_of, labelled, label_at, promise_at, contract_of, output_at, output_item, body_of}
+use Rattle.c2po_parse.specs.Grammar.{fields_for}
+use Rattle.c2po_parse.specs.Forms.{type_in, type_within, type_at, names_or, names_within, names_at, typed_at, fields_or, fields_within, fields_at, struct_item, input_of, define_of, labelled, label_at, promise_at, contract_of, output_at, output_item, body_of}
 use Rattle.c2po_parse.specs.Specification.{piece_body, with_line, piece_tree, first_or, piece_trees, spec_of}
 use Rattle.c2po_parse.proofs.Words.{AllHave, words-head, words-tail, words-cons, words-append, words-nil}
 

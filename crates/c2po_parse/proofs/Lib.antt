@@ -13,3 +13,6 @@ pub mod ClimbComplete
 pub mod SplitComplete
 pub mod Agree
 pub mod PlainNames
+pub mod SpelledReads
+pub mod SpelledFound
+pub mod ItemCuts

@@ -1,4 +1,4 @@
-use Rattle.std.specs.Prelude.{ℕ, zero, suc, ◌+◌, Bool, ◌&&◌, List, [], ◌∷◌, ◌++◌, length, take, drop, map, codes}
+use Rattle.std.specs.Prelude.{ℕ, zero, suc, ◌+◌, Bool, ◌&&◌, List, [], ◌∷◌, ◌++◌, length, take, drop, codes}
 use Rattle.std.specs.Prelude.{Option, Some, None, is_some, option_map, nat_eq, if◌then◌else◌}
 use Rattle.mltl_base.specs.declared.interval.Engine.{Engine}
 use Rattle.c2po_lexer.specs.declared.token.Sign.TheVariants as sign
@@ -10,6 +10,7 @@ use Rattle.c2po_ast.specs.ItemShape.{TypeShape, FieldShape, BodyShape, type_name
 use Rattle.c2po_ast.specs.ItemShape.{formula, contract}
 use Rattle.c2po_parse.specs.Tokens.{is_sign, depth_after}
 use Rattle.c2po_parse.specs.Fronts.{◌>>=◌, past, name_at}
+use Rattle.c2po_parse.specs.Grammar.{fields_for}
 use Rattle.c2po_parse.specs.Splitting.{parsed_tree, at_end}
 use Rattle.c2po_parse.specs.declared.section.Section.{Section}
 use Rattle.c2po_parse.specs.declared.section.Section.TheVariants.{Struct, Input, Define, Output}
@@ -75,10 +76,6 @@ typed_at ts = do
   us ← past sign.Colon xs.1
   k ← type_at us
   Some (xs.0, k.0, k.1)
-
--- a field for each name
-abbrev pub fields_for : List (List ℕ) → TypeShape → List FieldShape
-fields_for xs k = map (λ x. record { name = x; kind = k }) xs
 
 -- how fields are read up to the brace that closes them
 abbrev pub FieldsRead : Type 0

@@ -1,4 +1,6 @@
 pub mod Sections
+pub mod Grammar
+pub mod Items
 pub mod Forms
 pub mod Specification
 pub mod Gives

@@ -5,7 +5,8 @@ ghost use Rattle.c2po_parse.specs.declared.tree_fault.TreeFault.TheVariants.{NoT
 ghost use Rattle.c2po_parse.specs.Gives.{GivesTree};
 ghost use Rattle.c2po_ast.specs.ItemShape.{type_shape, field_shape, body_shape};
 ghost use Rattle.c2po_parse.specs.Splitting.{at_end};
-ghost use Rattle.c2po_parse.specs.Forms.{type_within, names_within, names_after, typed_at, fields_for, fields_within, fields_after, struct_item, input_of, define_of, label_at, contract_of, output_item, body_of};
+ghost use Rattle.c2po_parse.specs.Grammar.{fields_for};
+ghost use Rattle.c2po_parse.specs.Forms.{type_within, names_within, names_after, typed_at, fields_within, fields_after, struct_item, input_of, define_of, label_at, contract_of, output_item, body_of};
 
 use crate::front::{take_name, take_sign};
 use crate::section::{Section, promise_place};

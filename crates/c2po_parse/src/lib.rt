@@ -15,6 +15,7 @@ mod expression;
 pub mod fault;
 mod form;
 pub mod front;
+pub mod laws;
 mod node;
 pub mod operator;
 mod parser;

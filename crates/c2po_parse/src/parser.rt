@@ -1,10 +1,11 @@
 //! The items of a specification, in the order of the text.
 
-ghost use Rattle.std.specs.Prelude.{◌≡◌, ◌≢◌, ◌<◌, ◌≤◌, ◌++◌, ◌∷◌, [], true, Ok, Err, length, map, All, IfOk, IfErr};
+ghost use Rattle.std.specs.Prelude.{◌≡◌, ◌≢◌, ◌<◌, ◌≤◌, ◌++◌, ◌∷◌, [], true, List as Seq, Ok, Err, length, map, All, IfOk, IfErr};
 ghost use Rattle.c2po_lexer.specs.Tokens.{HasPlainLetters};
 ghost use Rattle.c2po_ast.specs.Names.{ArePlainItems};
-ghost use Rattle.c2po_ast.specs.ItemShape.{item_shape, body_shape, spec_shape};
+ghost use Rattle.c2po_ast.specs.ItemShape.{ItemShape, item_shape, body_shape, spec_shape};
 ghost use Rattle.c2po_parse.specs.Sections.{pieces, begins_item, ended_of, tail_of};
+ghost use Rattle.c2po_parse.specs.Items.{IsSpecification, HasFirstFault};
 ghost use Rattle.c2po_parse.specs.Specification.{piece_trees, with_first, reads_on, spec_of, with_line, piece_body};
 
 use crate::form::read_body;
@@ -99,21 +100,11 @@ fn read_front<'a>(
     Ok(rest)
 }
 
-/// The trees of the items of a specification, or the fault of its first faulty item.
-///
-/// The words `STRUCT`, `INPUT`, `DEFINE`, `FTSPEC` and `PTSPEC` begin sections wherever they occur; within a section
-/// an item ends at each `;` outside braces. The tree of an expression is defined by splitting its tokens at the
-/// loosest operator outside brackets, level by level; the tokens are read once, from the left.
-///
-/// Errors: `TooManyTokens` at an item of more than 1,024 tokens, else `Grammar` at an item that has no tree, each with
-/// the line of the item's first token, or of its `;` where it has no token; `Memory` when out of memory.
-pub fn parse(alloc: Global, tokens: &Tokens) -> Result<SpecTree, ParseFault>
-    // The trees of the definition, exactly where each item has one.
+/// The trees of the items of a token list, or the fault of the first piece that has none.
+fn read_pieces(alloc: Global, tokens: &Tokens) -> Result<SpecTree, ParseFault>
     ensures tree { IfOk result (λ tree. spec_of tokens.now ≡ Ok (spec_shape tree)) }
-    ensures first_fault { IfErr result (λ fault. fault ≢ ParseFault.Memory
+    ensures fault { IfErr result (λ fault. fault ≢ ParseFault.Memory
         → spec_of tokens.now ≡ Err fault) }
-
-    // The names of the tree are in the tokens: where those are made of letters, digits and `_`, these are.
     ensures names { All (λ token. HasPlainLetters token.what) tokens.now
         → IfOk result (λ tree. ArePlainItems (spec_shape tree)) }
 {
@@ -124,4 +115,36 @@ pub fn parse(alloc: Global, tokens: &Tokens) -> Result<SpecTree, ParseFault>
         rest = read_front(alloc, &mut items, &mut section, rest)?;
     }
     Ok(SpecTree { items })
+}
+
+/// The trees of the items of a specification, or the fault of its first faulty item.
+///
+/// The words `STRUCT`, `INPUT`, `DEFINE`, `FTSPEC` and `PTSPEC` begin sections wherever they occur; within a section
+/// an item ends at each `;` outside braces. The tree of an expression is defined by splitting its tokens at the
+/// loosest operator outside brackets, level by level; the tokens are read once, from the left.
+///
+/// Errors: `TooManyTokens` at an item of more than 1,024 tokens, else `Grammar` at an item that has no tree, each with
+/// the line of the item's first token, or of its `;` where it has no token; `Memory` when out of memory.
+pub fn parse(alloc: Global, tokens: &Tokens) -> Result<SpecTree, ParseFault>
+    // The trees that the grammar gives, and it gives no others.
+    ensures tree { IfOk result (λ tree. IsSpecification tokens.now (spec_shape tree)) }
+    ensures unique { IfOk result (λ tree. (items : Seq ItemShape) →
+        IsSpecification tokens.now items → items ≡ spec_shape tree) }
+
+    // A refusal: the grammar gives no trees, and the first faulty item has this fault.
+    ensures no_tree { IfErr result (λ fault. fault ≢ ParseFault.Memory →
+        (items : Seq ItemShape) → ¬ IsSpecification tokens.now items) }
+    ensures first_fault { IfErr result (λ fault. fault ≢ ParseFault.Memory →
+        HasFirstFault tokens.now fault) }
+
+    // The same by the function that finds the trees.
+    ensures found { IfOk result (λ tree. spec_of tokens.now ≡ Ok (spec_shape tree)) }
+    ensures found_fault { IfErr result (λ fault. fault ≢ ParseFault.Memory
+        → spec_of tokens.now ≡ Err fault) }
+
+    // The names of the tree are in the tokens: where those are made of letters, digits and `_`, these are.
+    ensures names { All (λ token. HasPlainLetters token.what) tokens.now
+        → IfOk result (λ tree. ArePlainItems (spec_shape tree)) }
+{
+    read_pieces(alloc, tokens)
 }

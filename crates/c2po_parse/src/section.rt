@@ -19,7 +19,7 @@ pub enum Section {
 }
 
 /// The section that a token begins.
-pub fn section_begun(what: &What) -> Option<Section>
+pub(crate) fn section_begun(what: &What) -> Option<Section>
     ensures { result ≡ section_of what.now }
 {
     match what {
@@ -60,7 +60,7 @@ fn next_depth(section: Option<Section>, depth: usize, what: &What) -> Option<usi
 
 /// How many tokens there are before the end of the piece at the start.
 #[tactic(auto, unfolding(crate::specs::Sections::piece_len))]
-pub fn piece_end(section: Option<Section>, tokens: &[Token]) -> usize
+pub(crate) fn piece_end(section: Option<Section>, tokens: &[Token]) -> usize
     ensures before { result ≡ piece_len section 0 tokens.now }
     ensures within { result ≤ length tokens.now }
 {
@@ -101,7 +101,7 @@ fn splits_contract(depth: usize, what: &What) -> bool
 
 /// The place of the first `=>` outside brackets.
 #[tactic(auto, unfolding(crate::specs::Forms::promise_at))]
-pub fn promise_place(tokens: &[Token]) -> Option<usize>
+pub(crate) fn promise_place(tokens: &[Token]) -> Option<usize>
     ensures first { result ≡ promise_at 0 0 tokens.now }
     ensures within { IfSome result (λ n. n < length tokens.now) }
 {

@@ -1,6 +1,6 @@
 use Rattle.std.proofs.Common.{◌≡◌, ◌++◌, map, take}
 use Rattle.c2po_ast.specs.ItemShape.{type_shape, field_shape}
-use Rattle.c2po_parse.specs.Forms.{fields_for}
+use Rattle.c2po_parse.specs.Grammar.{fields_for}
 use Rattle.c2po_parse.proofs.form.add_fields.Given as goal
 
 abbrev pub invariant-loop-name : goal.invariant-loop-name

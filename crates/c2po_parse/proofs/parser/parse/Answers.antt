@@ -1,23 +1,23 @@
-use Rattle.std.proofs.Common.{◌≡◌, length, map, sym, ◌∙◌, Ok, rules}
-use Rattle.c2po_ast.specs.ItemShape.{item_shape}
-use Rattle.c2po_lexer.specs.Tokens.{HasPlainLetters}
-use Rattle.c2po_parse.proofs.Words.{words-all}
-use Rattle.c2po_parse.specs.Specification.{spec_of}
-use Rattle.c2po_parse.proofs.Spans.{reads_all, reads_end}
-use Rattle.c2po_parse.proofs.ItemNames.{spec-names}
+use Rattle.std.proofs.lemmas.Result.{IfOk-weaker, IfErr-weaker}
+use Rattle.c2po_ast.specs.ItemShape.{spec_shape}
+use Rattle.c2po_parse.proofs.ItemCuts.{trees_sound, fault_sound, one_tree, no_tree}
 use Rattle.c2po_parse.proofs.parser.parse.Goals as goal
-
-pub loop-rest-init : goal.loop-rest-init
-loop-rest-init c = rw (c.new-items.ensures, c.as_slice-rest.ensures) (reads_all c.args.tokens.now)
 
 pub returns-clause-tree : goal.returns-clause-tree
 returns-clause-tree c =
-    let none : length c.loop-rest.rest.now ≡ 0 = search rules in
-    sym c.loop-rest.invariant ∙ reads_end (map item_shape c.loop-rest.items) c.loop-rest.section c.loop-rest.rest.now none
+    IfOk-weaker c.read_pieces.result _ _ (λ tree is. trees_sound c.args.tokens.now (spec_shape tree) is) c.read_pieces.ensures.tree
 
-pub returns-clause-names : goal.returns-clause-names
-returns-clause-names c =
-    λ all. let none : length c.loop-rest.rest.now ≡ 0 = search rules in
-    let tree : spec_of c.args.tokens.now ≡ Ok (map item_shape c.loop-rest.items) =
-    sym c.loop-rest.invariant ∙ reads_end (map item_shape c.loop-rest.items) c.loop-rest.section c.loop-rest.rest.now none in
-    spec-names c.args.tokens.now (map item_shape c.loop-rest.items) tree (words-all HasPlainLetters c.args.tokens.now all)
+pub returns-clause-unique : goal.returns-clause-unique
+returns-clause-unique c =
+    IfOk-weaker c.read_pieces.result _ _
+    (λ tree is items other. one_tree c.args.tokens.now items (spec_shape tree) other (trees_sound c.args.tokens.now (spec_shape tree) is))
+    c.read_pieces.ensures.tree
+
+pub returns-clause-no_tree : goal.returns-clause-no_tree
+returns-clause-no_tree c =
+    IfErr-weaker c.read_pieces.result _ _
+    (λ fault is lasting items. no_tree c.args.tokens.now items fault (fault_sound c.args.tokens.now fault (is lasting))) c.read_pieces.ensures.fault
+
+pub returns-clause-first_fault : goal.returns-clause-first_fault
+returns-clause-first_fault c =
+    IfErr-weaker c.read_pieces.result _ _ (λ fault is lasting. fault_sound c.args.tokens.now fault (is lasting)) c.read_pieces.ensures.fault
