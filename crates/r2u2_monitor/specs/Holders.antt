@@ -1,5 +1,6 @@
--- What contracts don't see of a monitor: the fields behind the values that they see, each of them by name, so that a type
--- with a further field doesn't compile. The laws `fields_hold_*` say that they hold just the bytes that `Bytes` counts.
+-- What contracts don't see of a monitor: the fields of the types whose values they see, each of them by name, so that a
+-- type with a further field doesn't compile. The laws `fields_hold_*` say that they hold just the bytes that `Bytes`
+-- counts.
 
 use Rattle.std.specs.Prelude.{ℕ, ◌+◌, ◌*◌, length}
 use Rattle.mltl_base.specs.Room.{room}
@@ -8,7 +9,8 @@ use Rattle.obs_verify.specs.declared.Checked.TheInside.{Inside as CheckedFields}
 use Rattle.booleanizer.specs.declared.Bz.TheInside.{Inside as BzFields}
 use Rattle.contract_status.specs.declared.Outs.TheInside.{Inside as OutsFields}
 use Rattle.trace_feed.specs.declared.Readings.TheInside.{Inside as ReadingsFields}
-use Rattle.r2u2_monitor.specs.declared.bytes.TheConstants.{NUMBER_BYTES, READER_BYTES, READING_BYTES, SIZE_BYTES, TIME_BYTES}
+use Rattle.r2u2_monitor.specs.declared.bytes.TheConstants.{NUMBER_BYTES, READER_BYTES, READING_BYTES}
+use Rattle.r2u2_monitor.specs.declared.bytes.TheConstants.{SIZE_BYTES, TIME_BYTES}
 use Rattle.r2u2_monitor.specs.declared.monitor.Monitor.TheInside.{Inside as MonitorFields}
 use Rattle.r2u2_monitor.specs.declared.state.State.{State}
 use Rattle.r2u2_monitor.specs.Bytes.{bytes_of_program, bytes_of_running}
