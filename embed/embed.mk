@@ -138,7 +138,8 @@ check-grants:
 	$(MAKE) -C examples/embed clean check CC='$(TARGET_CC)' RUN='$(RUN)' LIBRARY=$(abspath $(EMBED)/libr2u2.a) HEAP=$(abspath $(EMBED)/libr2u2_heap.a)
 	@if command -v python3 > /dev/null; then embed/workloads $(RUN) examples/embed/grants; fi
 
-# The part that flies without an operating system and a C library, on a machine that qemu-system emulates.
+# The part that flies without an operating system and a C library, on a machine that qemu-system emulates. Some versions
+# of it print what is written by semihosting on the error output.
 BARE = $(WARNED) -I$(TRIES) -Iembed/flight -O2 -ffreestanding -fno-builtin -nostdlib -static
 BARE_LINK = -T embed/bare/bare.ld -Wl,--build-id=none,--no-warn-rwx-segments
 
@@ -147,7 +148,7 @@ check-bare: | $(TRIES)
 	  $(TARGET_LINK) $(BARE) $(BARE_LINK) -o $(TRIES)/bare embed/bare/start.S embed/bare/ground.c embed/flight/flight.c \
 	    embed/arena.c embed/memory.c $(EMBED)/libr2u2.a -lgcc; \
 	  timeout 60 qemu-system-$(TARGET) -M virt -cpu cortex-a53 -nographic -nic none -semihosting -kernel $(TRIES)/bare \
-	    < /dev/null | tr -d '\r' | cmp - $(EXPECTED); \
+	    < /dev/null 2>&1 | tr -d '\r' | cmp - $(EXPECTED); \
 	else echo 'check-embed: no qemu-system-$(TARGET), so bare $(TARGET) is passed over'; fi
 
 # The examples for flight frameworks, over stand-ins for the calls that they make.
