@@ -1,5 +1,6 @@
 """The reading of traces as runs."""
 
+import random
 import time
 
 from support import Case
@@ -44,6 +45,20 @@ class Traces(Case):
         column = self.read("# a\n1\n1\n0\n0\n1\n").columns[0]
         self.assertEqual(list(column.between(1, 3)), [(1, 1, "1"), (2, 3, "0")])
         self.assertEqual([column.at(k) for k in range(6)], ["1", "1", "0", "0", "1", None])
+
+    def test_columns_are_their_fields(self):
+        """Each column and each stretch of it, over rows at random, has the fields that stand there."""
+        dice = random.Random(0)
+        for _ in range(30):
+            rows = [[str(dice.randint(0, 1)), str(dice.randint(0, 3) // 3), "7"] for _ in range(dice.randint(1, 30))]
+            columns = self.read("# a,b,c\n" + "".join(",".join(row) + "\n" for row in rows)).columns
+            first, last = sorted(dice.randint(0, 32) for _ in range(2))
+            for k, column in enumerate(columns):
+                fields = [row[k] for row in rows]
+                self.assertEqual([column.at(time) for time in range(len(rows))], fields)
+                self.assertEqual(len(column), 1 + sum(one != other for one, other in zip(fields, fields[1:])))
+                told = [(time, value) for begin, end, value in column.between(first, last) for time in range(begin, end + 1)]
+                self.assertEqual(told, list(enumerate(fields))[first : last + 1])
 
     def test_faults(self):
         for text, said in [("# a,b\n1\n", "line 2: too few"), ("@0,1\n@0,1\n", "line 2: times"), ("@x,1\n", "line 1: bad time")]:

@@ -299,6 +299,11 @@ class Sentences(Case):
         self.assertRegex(line, r"^  \S.* \|\| .* holds at time 0$")
         self.assertLess(len(line), 100)
 
+    def test_a_cell_of_two_windows_is_named_once(self):
+        spec = self.file("spec.c2po", "INPUT c, m: bool;\nDEFINE still := !m;\nFTSPEC f: c -> (m || F[0,3] m);\n")
+        rows = self.file("rows.csv", "# c,m\n1,0\n0,0\n0,0\n0,0\n")
+        self.assertEqual(self.first(spec, rows, "f:0"), "f is F at 0: c holds at row 0; still holds at rows 0, 1, 2 and 3")
+
     def test_a_pasted_line(self):
         self.assertEqual(self.first(*GRANT, "granted:2,F"), self.first(*GRANT, "granted:2"))
         status, out, errors = tool("why", *GRANT, "granted:2,T")

@@ -52,11 +52,15 @@ class Runs:
 
     def between(self, first: int, last: int) -> Iterator[tuple[int, int, Any]]:
         """The runs that meet a stretch of times, cut to it."""
-        for k in range(bisect_left(self.lasts, first), len(self.lasts)):
-            begin = self.lasts[k - 1] + 1 if k else self.first
+        lasts, values = self.lasts, self.values
+        start = bisect_left(lasts, first)
+        begin = lasts[start - 1] + 1 if start else self.first
+        for k in range(start, len(lasts)):
             if begin > last:
                 return
-            yield max(begin, first), min(self.lasts[k], last), self.values[k]
+            end = lasts[k]
+            yield first if begin < first else begin, last if end > last else end, values[k]
+            begin = end + 1
 
     def at(self, time: int) -> Any:
         """The value at a time, or None."""

@@ -121,9 +121,13 @@ class Sentences:
         return "; ".join(told[:MOST_LEAVES]) + more if told else "whatever the rows hold"
 
     def deciding(self, found: Explanation) -> Iterator[Reason]:
-        """The leaves at those times at which one of their cells decides the verdict."""
+        """The leaves at those times at which one of their cells decides the verdict, each once, also where several windows have it."""
+        alike: dict[tuple[str, int], list[Reason]] = {}
         for leaf in found.leaves:
-            cells = leaf.cells & found.cells
+            alike.setdefault(self.worded(leaf.ref, leaf.denied, leaf.word), []).append(leaf)
+        for leaves in alike.values():
+            leaf = leaves[0]
+            cells = frozenset(cell for it in leaves for cell in it.cells) & found.cells
             if times := sorted({time for _, time in cells}):
                 yield Reason(leaf.ref, leaf.denied, leaf.word, times, cells=cells)
 
