@@ -76,8 +76,12 @@ class Editor:
         return self.child.wait(20)
 
     def close(self):
-        self.child.kill()
-        self.child.wait()
+        self.child.terminate()
+        try:
+            self.child.wait(60)
+        except subprocess.TimeoutExpired:
+            self.child.kill()
+            self.child.wait()
         self.child.stdin.close()
         self.child.stdout.close()
 

@@ -8,7 +8,7 @@ import sys
 import xml.etree.ElementTree as ElementTree
 
 import chromium
-from support import ROOT, TOOLS, Case, program, shell, spent, tool
+from support import MEASURED, ROOT, TOOLS, Case, program, shell, spent, tool
 
 from r2u2tools.timeline import html_page
 from r2u2tools.timeline.model import Model, take_lines, take_trace
@@ -236,6 +236,8 @@ class Page(Pictures):
 
     def test_a_million_rows_open_within_three_seconds(self):
         chromium.path()
+        if MEASURED:
+            self.skipTest("a million rows take minutes while dev/coverage measures")
         trace = self.folder / "trace"
         with trace.open("w") as file:
             file.write("# p,q,x\n")
@@ -435,6 +437,8 @@ class Contrast(Case):
 
 class Large(Case):
     def test_a_million_rows_in_ten_seconds_and_200_mb(self):
+        if MEASURED:
+            self.skipTest("a million rows take minutes while dev/coverage measures")
         trace, lines = self.folder / "trace", self.folder / "lines"
         with trace.open("w") as file:
             file.write("# p,q,x\n")

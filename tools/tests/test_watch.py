@@ -10,8 +10,10 @@ import sys
 import threading
 import time
 import unittest
+from unittest import mock
 
 from support import ROOT, TOOLS, Case, program, tool
+from r2u2tools.watch import alarm
 from r2u2tools.watch.board import Board
 
 GRANT, TRACE = ROOT / "examples/grant.c2po", ROOT / "examples/grant.csv"
@@ -272,3 +274,27 @@ class Sources(Live):
             subprocess.run(["sh", "-c", f"mosquitto_pub {at} -q 1 -t telemetry/rows -m '{row}'"], check=True)
         told = heard.communicate(timeout=30)[0].decode()
         self.assertTrue(told.startswith("granted is F at 1: request holds at row 1"), told)
+
+
+class Alarms(Case):
+    """Commands that take too long, and more events than may wait."""
+
+    def test_limits(self):
+        told, begun, go = [], threading.Event(), threading.Event()
+
+        class Slow:
+            def of(self, event):
+                begun.set()
+                go.wait(60)
+                return event.line()
+
+        with mock.patch.multiple(alarm, note=told.append, SECONDS=0.2, MOST_WAITING=2):
+            alarms = alarm.Alarms("exec sleep 600", Slow())
+            alarms.put(alarm.Event("f", 0, "F"))
+            self.assertTrue(begun.wait(60))
+            for row in (1, 2, 3):
+                alarms.put(alarm.Event("f", row, "F"))
+            go.set()
+            alarms.finish(at_once=False)
+        self.assertEqual(told[:3], [f"f:{row},F: the command took more than 0.2 seconds" for row in range(3)])
+        self.assertEqual(told[3:], ["1 commands weren't run: more than 2 were waiting"])
